@@ -1,0 +1,7 @@
+pub mod Fault
+pub mod Kind
+pub mod Name
+pub mod Padded
+pub mod Priority
+pub mod Rows
+pub mod Setup
