@@ -1,0 +1,48 @@
+-- What befell a request, and what its caller is told (XATMI, tpgetrply and tpreturn; TPEXIT after Tuxedo; NOMEM is this project's own).
+use Rattle.std.specs.Prelude.{ℕ, Bool, true, false, not, Option, Some, None, if◌then◌else◌}
+use Rattle.xa_types.specs.declared.data.Data.{Data}
+use Rattle.xa_types.specs.declared.data.Kind.{Kind}
+use Rattle.xa_types.specs.declared.data.Kind.TheVariants.{Octet as OctetKind, Struct as StructKind}
+use Rattle.xa_types.specs.declared.fault.Fault.TheVariants.{SvcErr, OType, NoMemory}
+use Rattle.xa_types.specs.declared.reply.Answer.{Answer}
+use Rattle.xa_types.specs.declared.reply.Answer.TheVariants.{Success, Failed as FailedAnswer, Error}
+use Rattle.xa_types.specs.Kind.{kind_of}
+use Rattle.xa_types.specs.Setup.{same_name}
+use Rattle.xa_events.specs.declared.event.Outcome.{Outcome}
+use Rattle.xa_events.specs.declared.event.Outcome.TheVariants.{Returned, Failed, BadReturn, Died, Starved}
+
+-- the reply follows how the request ended
+abbrev pub reply_of : Outcome → Answer
+reply_of (Returned code payload) = Success code payload
+reply_of (Failed code payload) = FailedAnswer code payload
+reply_of BadReturn = Error SvcErr
+reply_of Died = Error SvcErr
+reply_of Starved = Error NoMemory
+
+-- whether the buffer's kind takes data of that kind; data that is absent fits every buffer
+abbrev pub kind_fits : Kind → Option Kind → Bool
+kind_fits wanted None = true
+kind_fits OctetKind (Some OctetKind) = true
+kind_fits (StructKind wanted) (Some (StructKind subtype)) = same_name wanted subtype
+kind_fits wanted (Some kind) = false
+
+-- under TPNOCHANGE a reply of another kind than the buffer's is TPEOTYPE
+abbrev pub under_kind : Option Kind → Data → Answer → Answer
+under_kind None payload answer = answer
+under_kind (Some wanted) payload answer = if kind_fits wanted (kind_of payload) then answer else Error OType
+
+-- what a caller with that TPNOCHANGE kind, if it has one, is told
+abbrev pub answer_to : Option Kind → Outcome → Answer
+answer_to wanted (Returned code payload) = under_kind wanted payload (Success code payload)
+answer_to wanted (Failed code payload) = under_kind wanted payload (FailedAnswer code payload)
+answer_to wanted outcome = reply_of outcome
+
+abbrev pub has_kind : Option Kind → Bool
+has_kind None = false
+has_kind (Some kind) = true
+
+-- whether the request came back with data, which may be of another kind than the caller's buffer
+abbrev pub has_payload : Outcome → Bool
+has_payload (Returned code payload) = has_kind (kind_of payload)
+has_payload (Failed code payload) = has_kind (kind_of payload)
+has_payload _ = false

@@ -1,0 +1,15 @@
+pub mod Words
+pub mod State
+pub mod Board
+pub mod Queue
+pub mod Server
+pub mod Caller
+pub mod Request
+pub mod Clock
+pub mod Befell
+pub mod Cases
+pub mod Run
+pub mod Order
+pub mod Laws
+pub mod Calls
+pub mod Said

@@ -1,0 +1,45 @@
+-- A queue, read off the events: what waits, how many requests were taken, whether it is down or closed.
+use Rattle.std.specs.Prelude.{ℕ, ◌==◌, Bool, true, false, List, [], ◌∷◌, Option, Some, None, if◌then◌else◌}
+use Rattle.std.specs.List.{list_any}
+use Rattle.xa_types.specs.declared.ids.RequestId.{RequestId}
+use Rattle.xa_types.specs.declared.setup.Setup.{Setup}
+use Rattle.xa_types.specs.Setup.{queue_of}
+use Rattle.xa_events.specs.declared.event.Event.{Event}
+use Rattle.xa_events.specs.declared.event.Event.TheVariants.{Accept, Take, Down, Close}
+use Rattle.xa_events.specs.Words.{count, kept}
+
+abbrev pub enters : ℕ → Event → Option RequestId
+enters queue (Accept a) = if a.queue.0 == queue then Some a.request else None
+enters queue _ = None
+
+abbrev pub leaves : Setup → ℕ → Event → Option RequestId
+leaves setup queue (Take t) = if queue_of setup t.server.0 == queue then Some t.request else None
+leaves setup queue _ = None
+
+-- the requests that wait at the queue, the oldest first
+unfoldable pub waiting : Setup → ℕ → List Event → List RequestId
+waiting setup queue past = kept (enters queue) (leaves setup queue) past
+
+abbrev pub takes_from : Setup → ℕ → Event → Bool
+takes_from setup queue (Take t) = queue_of setup t.server.0 == queue
+takes_from setup queue _ = false
+
+-- how many requests were taken from the queue
+unfoldable pub takes : Setup → ℕ → List Event → ℕ
+takes setup queue past = count (takes_from setup queue) past
+
+abbrev pub downs : ℕ → Event → Bool
+downs queue (Down q) = q.0 == queue
+downs queue _ = false
+
+-- whether the queue is down: it has no server left
+unfoldable pub is_down : ℕ → List Event → Bool
+is_down queue past = list_any (downs queue) past
+
+abbrev pub closes : ℕ → Event → Bool
+closes queue (Close q) = q.0 == queue
+closes queue _ = false
+
+-- whether the queue is closed: it accepts no more
+unfoldable pub is_closed : ℕ → List Event → Bool
+is_closed queue past = list_any (closes queue) past

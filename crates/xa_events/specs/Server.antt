@@ -1,0 +1,108 @@
+-- A server, read off the events: what it does, its starts, whether it is gone or was let go (Tuxedo, RESTART, MAXGEN and GRACE).
+use Rattle.std.specs.Prelude.{ℕ, ◌+◌, ◌-◌, ◌==◌, ◌&&◌, nat_lt, Bool, true, false, List, [], ◌∷◌, length, Option, Some, None, if◌then◌else◌}
+use Rattle.std.specs.List.{list_any, filter_map}
+use Rattle.xa_types.specs.declared.ids.Generation.{Generation}
+use Rattle.xa_types.specs.declared.setup.Setup.{Setup}
+use Rattle.xa_types.specs.declared.setup.ServerSetup.{ServerSetup}
+use Rattle.xa_types.specs.Setup.{numbered, queue_of}
+use Rattle.xa_events.specs.declared.event.Event.{Event}
+use Rattle.xa_events.specs.declared.event.Event.TheVariants.{Take, Gone, Start, StartFailed, End, Stop}
+use Rattle.xa_events.specs.declared.event.Outcome.{Outcome}
+use Rattle.xa_events.specs.declared.event.Outcome.TheVariants.{Returned, Failed, BadReturn, Died, Starved}
+use Rattle.xa_events.specs.declared.event.StopCause.{StopCause}
+use Rattle.xa_events.specs.declared.event.StopCause.TheVariants.{Shutdown}
+use Rattle.xa_events.specs.declared.event.Doing.{Doing}
+use Rattle.xa_events.specs.declared.event.Doing.TheVariants.{Off, Idle, Busy, Dying}
+use Rattle.xa_events.specs.Words.{latest, count}
+
+-- the event changes what this server does
+abbrev pub moves_server : ℕ → Event → Bool
+moves_server server (Take t) = t.server.0 == server
+moves_server server (Start s) = s.server.0 == server
+moves_server server (StartFailed s) = s.server.0 == server
+moves_server server (End e) = e.server.0 == server
+moves_server server (Stop x) = x.server.0 == server
+moves_server server _ = false
+
+-- after a death or want of memory a server can only stop
+abbrev pub after_end : Outcome → Generation → Doing
+after_end (Returned code payload) g = Idle g
+after_end (Failed code payload) g = Idle g
+after_end BadReturn g = Idle g
+after_end Died g = Dying g
+after_end Starved g = Dying g
+
+abbrev pub doing_after : Option Event → Doing
+doing_after (Some (Take t)) = Busy t.generation t.request
+doing_after (Some (Start s)) = Idle s.generation
+doing_after (Some (End e)) = after_end e.outcome e.generation
+doing_after _ = Off
+
+-- what the server does
+unfoldable pub doing : ℕ → List Event → Doing
+doing server past = doing_after (latest (moves_server server) past)
+
+abbrev pub start_in : ℕ → Event → Option ℕ
+start_in server (Start s) = if s.server.0 == server then Some s.tick else None
+start_in server (StartFailed s) = if s.server.0 == server then Some s.tick else None
+start_in server _ = None
+
+-- the ticks of the server's starts, of those that failed too, the newest first
+unfoldable pub starts : ℕ → List Event → List ℕ
+starts server past = filter_map (start_in server) past
+
+abbrev pub goes : ℕ → Event → Bool
+goes server (Gone s) = s.0 == server
+goes server _ = false
+
+-- whether the server takes no more
+unfoldable pub is_gone : ℕ → List Event → Bool
+is_gone server past = list_any (goes server) past
+
+abbrev pub stops_server : ℕ → Event → Bool
+stops_server server (Stop x) = x.server.0 == server
+stops_server server _ = false
+
+abbrev pub is_shutdown : StopCause → Bool
+is_shutdown Shutdown = true
+is_shutdown _ = false
+
+abbrev pub is_let_go_by : Option Event → Bool
+is_let_go_by (Some (Stop x)) = is_shutdown x.cause
+is_let_go_by _ = false
+
+-- whether the server's last stop was a shutdown
+unfoldable pub let_go : ℕ → List Event → Bool
+let_go server past = is_let_go_by (latest (stops_server server) past)
+
+abbrev pub ends_at : ℕ → Event → Bool
+ends_at server (End e) = e.server.0 == server
+ends_at server _ = false
+
+abbrev pub outcome_in : Option Event → Option Outcome
+outcome_in (Some (End e)) = Some e.outcome
+outcome_in _ = None
+
+-- how the last request that ended at this server ended
+unfoldable pub last_outcome : ℕ → List Event → Option Outcome
+last_outcome server past = outcome_in (latest (ends_at server) past)
+
+abbrev pub may_start_as : Option ServerSetup → List ℕ → ℕ → Bool
+may_start_as None made now = false
+may_start_as (Some server) [] now = true
+may_start_as (Some server) (last ∷ earlier) now =
+    server.restart && nat_lt (count (λ tick. nat_lt (now - tick) server.grace) (last ∷ earlier)) server.maxgen
+
+-- a server may start where no start was made, or where it is restarted and fewer than MAXGEN of its starts lie within GRACE
+abbrev pub may_start : Setup → ℕ → List ℕ → ℕ → Bool
+may_start setup server made now = may_start_as (numbered server setup.servers) made now
+
+-- whether each server of the queue is gone, of the servers from that number on
+abbrev pub all_gone_from : Setup → ℕ → ℕ → List ServerSetup → List Event → Bool
+all_gone_from setup queue server [] past = true
+all_gone_from setup queue server (first ∷ rest) past =
+    (if queue_of setup server == queue then is_gone server past else true) && all_gone_from setup queue (server + 1) rest past
+
+-- whether no server of the queue is left
+abbrev pub all_gone : Setup → ℕ → List Event → Bool
+all_gone setup queue past = all_gone_from setup queue 1 setup.servers past

@@ -1,0 +1,45 @@
+-- Words that read a list of events, the newest first. Each reading of the machine is made of these.
+use Rattle.std.specs.Prelude.{◌≡◌, ℕ, ◌+◌, ◌==◌, ◌&&◌, max, not, Bool, true, false, cond, List, [], ◌∷◌, ◌++◌, Option, Some, None}
+use Rattle.std.specs.List.{filter, filter_map, list_any}
+use Rattle.xa_types.specs.declared.ids.RequestId.{RequestId}
+
+-- the newest that passes
+abbrev pub latest : {X : Type 0} → (X → Bool) → List X → Option X
+latest p [] = None
+latest p (e ∷ past) = cond (p e) (Some e) (latest p past)
+
+-- how many pass
+abbrev pub count : {X : Type 0} → (X → Bool) → List X → ℕ
+count p [] = 0
+count p (e ∷ past) = cond (p e) (count p past + 1) (count p past)
+
+-- the greatest of the numbers, or this one
+abbrev pub greatest : ℕ → List ℕ → ℕ
+greatest least [] = least
+greatest least (n ∷ rest) = max n (greatest least rest)
+
+abbrev pub same_request : RequestId → RequestId → Bool
+same_request a b = (a.caller.0 == b.caller.0) && (a.number == b.number)
+
+-- the list with one more at its end
+abbrev pub added : Option RequestId → List RequestId → List RequestId
+added None requests = requests
+added (Some request) requests = requests ++ request ∷ []
+
+-- the list without that one
+abbrev pub without : Option RequestId → List RequestId → List RequestId
+without None requests = requests
+without (Some out) requests = filter (λ request. not (same_request request out)) requests
+
+abbrev pub has : RequestId → List RequestId → Bool
+has request requests = list_any (same_request request) requests
+
+-- the requests that went in and didn't come out since, the oldest first
+abbrev pub kept : {X : Type 0} → (X → Option RequestId) → (X → Option RequestId) → List X → List RequestId
+kept enters leaves [] = []
+kept enters leaves (e ∷ past) = added (enters e) (without (leaves e) (kept enters leaves past))
+
+-- P holds of each with those before it; the newest stands first
+abbrev pub AtEach : {X : Type 0} → (X → List X → Type 0) → List X → Type 0
+AtEach P [] = Unit {0}
+AtEach P (e ∷ past) = P e past × AtEach P past

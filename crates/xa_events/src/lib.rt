@@ -1,0 +1,11 @@
+//! The machine's meaning: its events, what is read off a list of them, when an event may come next, a run, the laws
+//! of every run, and what a call may have become. The definitions stand in `specs/`.
+#![tactic(auto)]
+
+mod event;
+pub mod laws;
+
+pub use event::{
+    Accepted, Advertised, Answered, Doing, Ended, Event, Evidence, Outcome, Refused, Started,
+    StopCause, Stopped, Taken, Withdrawn,
+};
