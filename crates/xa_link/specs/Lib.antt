@@ -1,0 +1,3 @@
+pub mod Told
+pub mod Files
+pub mod Memory
