@@ -1,5 +1,5 @@
 // Where octets go.
-ghost use Rattle.std.specs.Prelude.{◌≡◌, ◌≤◌, ◌<◌, ◌+◌, ℕ, List, [], take, drop, length, Option, IfOk, OnOk, OnErr, IsErr};
+ghost use Rattle.std.specs.Prelude.{◌⊎◌, ◌≡◌, ◌≤◌, ◌<◌, ◌+◌, ℕ, List, [], take, drop, length, Option, IfOk, OnOk, OnErr, IsErr};
 ghost use Rattle.xa_link.specs.Told.{Rose, Grew, GrewByPrefix};
 
 use crate::Failed;
@@ -25,7 +25,7 @@ pub trait Sink {
         ensures later { write_faults self.old ≤ write_faults self.new }
         ensures cause { IsErr result → Rose (write_faults self.old) (write_faults self.new) }
         ensures nothing { result ≡ Ok 0 → 0 < length from.now → Rose (write_faults self.old) (write_faults self.new) }
-        ensures quiet { IfOk result (λ n. 0 < n → write_faults self.new ≡ write_faults self.old) };
+        ensures quiet { IfOk result (λ n. (0 < n) ⊎ (from.now ≡ []) → write_faults self.new ≡ write_faults self.old) };
 }
 
 /// Writes the whole piece, in as many writes as that takes. Where one of them fails or takes nothing, it fails, and

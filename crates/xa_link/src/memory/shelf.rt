@@ -2,6 +2,7 @@
 ghost use Rattle.std.specs.Prelude.{◌≡◌, option_copied, option_map};
 ghost use Rattle.xa_link.specs.Files.{file_named};
 
+use crate::count::raise;
 use crate::{Shelf, ShelfRefused};
 use std::alloc::Global;
 use xa_types::Octets;
@@ -52,11 +53,11 @@ impl Shelf for MemoryShelf {
     fn read(&mut self, name: &[u8], limit: u32) -> Result<Octets, ShelfRefused> {
         self.calls = self.calls.saturating_add(1);
         if self.fails.contains(&self.calls) {
-            self.faults = self.faults.saturating_add(1);
+            raise(&mut self.faults);
             return Err(ShelfRefused::Failed);
         }
         let Some(octets) = find_file(self.files.as_slice(), name) else {
-            self.faults = self.faults.saturating_add(1);
+            raise(&mut self.faults);
             return Err(ShelfRefused::Failed);
         };
         if octets.slice().len() > limit as usize {

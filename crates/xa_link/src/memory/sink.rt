@@ -1,7 +1,7 @@
 // A sink in memory.
 ghost use Rattle.std.specs.Prelude.{◌≡◌, ◌≤◌, ◌<◌, ◌-◌, ◌+◌, ◌++◌, ℕ, take, length, Some, None, []};
-ghost use Rattle.xa_link.specs.Told.{Rose};
 
+use crate::count::raise;
 use crate::{Failed, Sink};
 use std::alloc::Global;
 
@@ -53,14 +53,6 @@ impl MemorySink {
         self.calls = 0;
         self.faults = 0;
     }
-
-    fn fault(&mut self)
-        ensures later { sink_faults self.old ≤ sink_faults self.new }
-        ensures rose { Rose (sink_faults self.old) (sink_faults self.new) }
-        ensures same { sink_took self.new ≡ sink_took self.old }
-    {
-        self.faults = self.faults.saturating_add(1);
-    }
 }
 
 impl Sink for MemorySink {
@@ -76,16 +68,18 @@ impl Sink for MemorySink {
     fn write(&mut self, from: &[u8]) -> Result<usize, Failed> {
         self.calls = self.calls.saturating_add(1);
         if self.fails.contains(&self.calls) {
-            self.fault();
+            raise(&mut self.faults);
             return Err(Failed);
         }
         if self.idle.contains(&self.calls) {
-            self.fault();
+            if !from.is_empty() {
+                raise(&mut self.faults);
+            }
             return Ok(0);
         }
         let n = from.len().min(self.most);
         if self.taken.extend_from_slice(&from[..n]).is_err() {
-            self.fault();
+            raise(&mut self.faults);
             return Err(Failed);
         }
         Ok(n)

@@ -1,6 +1,7 @@
 // A source in memory.
 ghost use Rattle.std.specs.Prelude.{◌≡◌, ◌≤◌, ◌<◌, ◌-◌, ◌+◌, ◌++◌, ℕ, take, drop, length, Some, None, []};
 
+use crate::count::raise;
 use crate::{Failed, Source};
 use xa_types::Octets;
 
@@ -93,7 +94,7 @@ impl Source for MemorySource {
     fn read(&mut self, into: &mut [u8]) -> Result<usize, Failed> {
         self.calls = self.calls.saturating_add(1);
         if self.fails.contains(&self.calls) {
-            self.faults = self.faults.saturating_add(1);
+            raise(&mut self.faults);
             return Err(Failed);
         }
         Ok(self.copy(into))

@@ -2,6 +2,7 @@
 ghost use Rattle.std.specs.Prelude.{◌≡◌};
 
 use super::MemoryLink;
+use crate::count::raise;
 use crate::{StartRefused, Starter, Yard};
 use std::alloc::Global;
 use std::mem;
@@ -34,7 +35,7 @@ impl Starter<MemoryLink> for MemoryStarter {
         generation: Generation,
     ) -> Result<MemoryLink, StartRefused> {
         let Some(mut link) = self.take(generation) else {
-            self.faults = self.faults.saturating_add(1);
+            raise(&mut self.faults);
             return Err(StartRefused::Failed);
         };
         link.rewind();
