@@ -1,0 +1,4 @@
+pub mod Told
+pub mod Files
+pub mod Memory
+pub mod Streams

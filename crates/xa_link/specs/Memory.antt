@@ -1,0 +1,41 @@
+-- What the forms in memory tell.
+use Rattle.std.specs.Prelude.{ℕ, List, take, drop}
+use Rattle.xa_link.specs.declared.memory.source.MemorySource.{MemorySource}
+use Rattle.xa_link.specs.declared.memory.sink.MemorySink.{MemorySink}
+use Rattle.xa_link.specs.declared.memory.link.MemoryLink.{MemoryLink}
+use Rattle.xa_link.specs.declared.memory.shelf.MemoryShelf.{MemoryShelf}
+
+-- the octets that are still to come
+abbrev pub source_left : MemorySource → List ℕ
+source_left s = drop s.at s.octets
+
+-- the octets that came
+abbrev pub source_gave : MemorySource → List ℕ
+source_gave s = take s.at s.octets
+
+-- how often a read failed
+abbrev pub source_faults : MemorySource → ℕ
+source_faults s = s.faults
+
+-- the octets that went in
+abbrev pub sink_took : MemorySink → List ℕ
+sink_took s = s.taken.items
+
+-- how often a write failed, or took nothing
+abbrev pub sink_faults : MemorySink → ℕ
+sink_faults s = s.faults
+
+-- the two directions of a link
+abbrev pub link_source : MemoryLink → MemorySource
+link_source l = l.source
+
+abbrev pub link_sink : MemoryLink → MemorySink
+link_sink l = l.sink
+
+-- the files, each with its name
+abbrev pub shelf_files : MemoryShelf → List (List ℕ × List ℕ)
+shelf_files s = s.files.items
+
+-- how often a read failed
+abbrev pub shelf_faults : MemoryShelf → ℕ
+shelf_faults s = s.faults

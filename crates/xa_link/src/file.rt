@@ -1,0 +1,80 @@
+// The files of the system.
+ghost use Rattle.std.specs.Prelude.{◌≡◌, ◌≤◌, ◌<◌, ◌-◌, ℕ, List, length, None, IfOk, IfSome, IsErrOf};
+ghost use Rattle.xa_link.specs.Told.{Rose, HasExactly, HasMore};
+
+use crate::count::raise;
+use crate::{ReadSource, Shelf, ShelfRefused, Source};
+use std::alloc::Global;
+use std::rt::Files;
+use std::{fs, io};
+use xa_types::Octets;
+
+// How many octets of a file one read asks for.
+const PIECE: usize = 4096;
+
+/// The files of the system, by their paths. It tells nothing of them. A path is UTF-8 without a zero octet.
+#[derive(Drop)]
+pub struct FileShelf<R: Files> {
+    rt: R,
+    alloc: Global,
+    faults: u64,
+}
+
+impl<R: Files> FileShelf<R> {
+    pub fn new(rt: R, alloc: Global) -> FileShelf<R> {
+        FileShelf {
+            rt,
+            alloc,
+            faults: 0,
+        }
+    }
+
+    fn open(&self, name: &[u8]) -> io::Result<R::File> {
+        let path = str::from_utf8(name).map_err(|_| io::Error::from(io::ErrorKind::InvalidInput))?;
+        fs::open(&self.rt, path)
+    }
+
+    fn read_file(&self, name: &[u8], limit: u32) -> Result<Octets, ShelfRefused>
+        ensures { IfOk result (λ octets. length octets ≤ limit) }
+    {
+        let file = self.open(name).map_err(|_| ShelfRefused::Failed)?;
+        let octets = read_all(&mut ReadSource::new(file), self.alloc, limit as usize)?;
+        Ok(Octets::from_vec(octets))
+    }
+}
+
+// What a source holds, if that is no more than the limit.
+fn read_all<S: Source>(source: &mut S, alloc: Global, limit: usize) -> Result<Vec<u8>, ShelfRefused>
+    ensures content { IfOk result (λ all. HasExactly (S.left source.old) all.items) }
+    ensures short { IfOk result (λ all. length all.items ≤ limit) }
+    ensures long { IsErrOf result ShelfRefused.TooLong → HasMore (S.left source.old) limit }
+    ensures cause { IsErrOf result ShelfRefused.Failed → Rose (S.read_faults source.old) (S.read_faults source.new) }
+{
+    let mut all = Vec::new(alloc);
+    let mut piece = [0u8; PIECE];
+    loop {
+        let n = source.read(&mut piece).map_err(|_| ShelfRefused::Failed)?;
+        if n == 0 {
+            return Ok(all);
+        }
+        if n > limit - all.len() {
+            return Err(ShelfRefused::TooLong);
+        }
+        all.extend_from_slice(&piece[..n])
+            .map_err(|_| ShelfRefused::NoMemory)?;
+    }
+}
+
+impl<R: Files> Shelf for FileShelf<R> {
+    ghost file = { λ _ _. None };
+
+    ghost shelf_faults = { λ s. s.faults };
+
+    fn read(&mut self, name: &[u8], limit: u32) -> Result<Octets, ShelfRefused> {
+        let read = self.read_file(name, limit);
+        if let Err(ShelfRefused::Failed) = read {
+            raise(&mut self.faults);
+        }
+        read
+    }
+}

@@ -1,0 +1,26 @@
+//! The outside as traits: files, streams, the processes of servers, and gates. Of each there is a form in memory, which
+//! tells all of its octets, and a real one, which tells none. A count of each says how often it failed.
+#![tactic(auto)]
+
+mod child;
+mod count;
+mod file;
+mod gate;
+mod link;
+mod memory;
+mod shelf;
+mod sink;
+mod source;
+mod starter;
+mod stream;
+
+pub use child::{ChildLink, ChildStarter, ChildYard};
+pub use file::FileShelf;
+pub use gate::{Gate, OpenGate, Point};
+pub use link::Link;
+pub use memory::{MemoryLink, MemoryShelf, MemorySink, MemorySource, MemoryStarter, MemoryYard};
+pub use shelf::{Shelf, ShelfRefused};
+pub use sink::{Sink, put};
+pub use source::{Failed, Source};
+pub use starter::{StartRefused, Starter, Yard};
+pub use stream::{ReadSource, WriteSink};

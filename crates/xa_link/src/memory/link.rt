@@ -1,0 +1,82 @@
+// A link in memory.
+ghost use Rattle.std.specs.Prelude.{◌≡◌, ◌++◌, []};
+
+use super::{MemorySink, MemorySource};
+use crate::{Failed, Link, Sink, Source};
+
+/// The two pipes of a life in memory. It tells all.
+#[derive(Debug, Drop)]
+pub struct MemoryLink {
+    source: MemorySource,
+    sink: MemorySink,
+}
+
+impl MemoryLink {
+    ghost use Rattle.xa_link.specs.Memory.{source_left, source_gave, source_faults, sink_took, sink_faults, link_source, link_sink};
+
+    pub fn new(source: MemorySource, sink: MemorySink) -> MemoryLink
+        ensures source { link_source result ≡ source }
+        ensures sink { link_sink result ≡ sink }
+    {
+        MemoryLink { source, sink }
+    }
+
+    /// The octets that it took.
+    pub fn taken(&self) -> &[u8]
+        ensures { result.now ≡ sink_took (link_sink self.now) }
+    {
+        self.sink.taken()
+    }
+
+    /// The same octets from the start, as if nothing had been read or written.
+    pub(super) fn rewind(&mut self)
+        ensures left { source_left (link_source self.new) ≡ source_gave (link_source self.old) ++ source_left (link_source self.old) }
+        ensures gave { source_gave (link_source self.new) ≡ [] }
+        ensures took { sink_took (link_sink self.new) ≡ [] }
+        ensures reads { source_faults (link_source self.new) ≡ 0 }
+        ensures writes { sink_faults (link_sink self.new) ≡ 0 }
+    {
+        self.source.rewind();
+        self.sink.rewind();
+    }
+}
+
+impl Source for MemoryLink {
+    ghost use Rattle.std.specs.Prelude.{Some};
+    ghost use Rattle.xa_link.specs.Memory.{source_left, source_gave, source_faults, sink_took, sink_faults};
+
+    ghost left = { λ l. Some (source_left l.source) };
+
+    ghost gave = { λ l. Some (source_gave l.source) };
+
+    ghost read_faults = { λ l. source_faults l.source };
+
+    ghost beside_reads = { λ l. (Some (sink_took l.sink), sink_faults l.sink) };
+
+    fn read(&mut self, into: &mut [u8]) -> Result<usize, Failed> {
+        self.source.read(into)
+    }
+}
+
+impl Sink for MemoryLink {
+    ghost use Rattle.std.specs.Prelude.{Some};
+    ghost use Rattle.xa_link.specs.Memory.{source_gave, source_faults, sink_took, sink_faults};
+
+    ghost took = { λ l. Some (sink_took l.sink) };
+
+    ghost write_faults = { λ l. sink_faults l.sink };
+
+    ghost beside_writes = { λ l. (Some (source_gave l.source), source_faults l.source) };
+
+    fn write(&mut self, from: &[u8]) -> Result<usize, Failed> {
+        self.sink.write(from)
+    }
+}
+
+impl Link for MemoryLink {
+    ghost use Rattle.std.specs.Prelude.{refl};
+
+    ghost reads_alone = { λ _. refl };
+
+    ghost writes_alone = { λ _. refl };
+}

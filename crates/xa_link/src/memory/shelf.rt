@@ -1,0 +1,69 @@
+// A shelf in memory.
+ghost use Rattle.std.specs.Prelude.{◌≡◌, option_copied, option_map};
+ghost use Rattle.xa_link.specs.Files.{file_named};
+
+use crate::count::raise;
+use crate::{Shelf, ShelfRefused};
+use std::alloc::Global;
+use xa_types::Octets;
+
+/// Has prepared files, and tells all.
+#[derive(Debug, Drop)]
+pub struct MemoryShelf {
+    files: Vec<(Octets, Octets)>,
+    fails: Vec<u64>,
+    calls: u64,
+    faults: u64,
+}
+
+impl MemoryShelf {
+    ghost use Rattle.xa_link.specs.Memory.{shelf_files, shelf_faults};
+
+    /// Each file is its name and its octets; of two with one name the first is read. `fails` has the numbers, from 1,
+    /// of the reads that fail.
+    pub fn new(files: Vec<(Octets, Octets)>, fails: Vec<u64>) -> MemoryShelf
+        ensures files { shelf_files result ≡ files.items }
+        ensures count { shelf_faults result ≡ 0 }
+    {
+        MemoryShelf {
+            files,
+            fails,
+            calls: 0,
+            faults: 0,
+        }
+    }
+}
+
+fn find_file<'a>(files: &'a [(Octets, Octets)], name: &[u8]) -> Option<&'a Octets>
+    ensures { option_copied result ≡ file_named files.now name.now }
+{
+    let (_, octets) = files.iter().find(|file| file.0.slice() == name)?;
+    Some(octets)
+}
+
+impl Shelf for MemoryShelf {
+    ghost use Rattle.std.specs.Prelude.{Some};
+    ghost use Rattle.xa_link.specs.Files.{file_named};
+    ghost use Rattle.xa_link.specs.Memory.{shelf_files, shelf_faults};
+
+    ghost file = { λ s name. Some (file_named (shelf_files s) name) };
+
+    ghost shelf_faults = { shelf_faults };
+
+    fn read(&mut self, name: &[u8], limit: u32) -> Result<Octets, ShelfRefused> {
+        self.calls = self.calls.saturating_add(1);
+        if self.fails.contains(&self.calls) {
+            raise(&mut self.faults);
+            return Err(ShelfRefused::Failed);
+        }
+        let Some(octets) = find_file(self.files.as_slice(), name) else {
+            raise(&mut self.faults);
+            return Err(ShelfRefused::Failed);
+        };
+        if octets.slice().len() > limit as usize {
+            return Err(ShelfRefused::TooLong);
+        }
+        let alloc = *self.files.allocator();
+        octets.copy(alloc).map_err(|_| ShelfRefused::NoMemory)
+    }
+}

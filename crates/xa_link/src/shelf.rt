@@ -1,0 +1,38 @@
+// Named files.
+ghost use Rattle.std.specs.Prelude.{◌≡◌, ◌≤◌, ◌<◌, ℕ, List, length, Option, IfOk, OnOk, IsErrOf};
+ghost use Rattle.xa_link.specs.Told.{Rose, Holds, HoldsMore};
+
+use thiserror::Error;
+use xa_types::Octets;
+
+/// Why a file was not read. `Failed` raised the shelf's count; it comes also where there is no such file. `TooLong`
+/// comes where the file has more octets than the limit.
+#[derive(Clone, Copy, Debug, PartialEq, Eq, Error)]
+pub enum ShelfRefused {
+    #[error("Failed")]
+    Failed,
+    #[error("TooLong")]
+    TooLong,
+    #[error("NoMemory")]
+    NoMemory,
+}
+
+/// Has named files.
+pub trait Shelf {
+    /// The file of that name, where the shelf tells it: `Some None` tells that there is none.
+    ghost file: { Self → List ℕ → Option (Option (List ℕ)) };
+
+    /// How often a read failed. It stands still at 2^64 - 1.
+    ghost shelf_faults: { Self → ℕ };
+
+    /// The whole file of that name, of at most `limit` octets.
+    fn read(&mut self, name: &[u8], limit: u32) -> Result<Octets, ShelfRefused>
+        ensures content { IfOk result (λ octets. Holds (file self.old name.now) octets) }
+        ensures short { IfOk result (λ octets. length octets ≤ limit) }
+        ensures long { IsErrOf result ShelfRefused.TooLong → HoldsMore (file self.old name.now) limit }
+        ensures kept { file self.new ≡ file self.old }
+
+        ensures later { shelf_faults self.old ≤ shelf_faults self.new }
+        ensures cause { IsErrOf result ShelfRefused.Failed → Rose (shelf_faults self.old) (shelf_faults self.new) }
+        ensures quiet { OnOk result (shelf_faults self.new ≡ shelf_faults self.old) };
+}

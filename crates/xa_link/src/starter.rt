@@ -1,0 +1,44 @@
+// How servers are started.
+ghost use Rattle.std.specs.Prelude.{◌≡◌, ◌≤◌, ◌<◌, ℕ, length, All, IfOk, OnOk, IsErrOf};
+ghost use Rattle.xa_link.specs.Told.{Rose, Empty};
+
+use crate::Link;
+use thiserror::Error;
+use xa_types::{Generation, Name, NoMemory, Setup};
+
+/// Why a server was not started. `Failed` raised the starter's count.
+#[derive(Clone, Copy, Debug, PartialEq, Eq, Error)]
+pub enum StartRefused {
+    #[error("Failed")]
+    Failed,
+    #[error("NoMemory")]
+    NoMemory,
+}
+
+/// Starts the lives of one server.
+pub trait Starter<L: Link> {
+    /// How often a start failed. It stands still at 2^64 - 1.
+    ghost start_faults: { Self → ℕ };
+
+    /// Starts the server, for the `generation`th time, and gives the pipes of that life. Nothing went through them,
+    /// and nothing failed.
+    fn start(&mut self, server: &Name, generation: Generation) -> Result<L, StartRefused>
+        ensures counts { IfOk result (λ link. (L.read_faults link ≡ 0) × (L.write_faults link ≡ 0)) }
+        ensures fresh { IfOk result (λ link. Empty (L.took link) × Empty (L.gave link)) }
+
+        ensures later { start_faults self.old ≤ start_faults self.new }
+        ensures cause { IsErrOf result StartRefused.Failed → Rose (start_faults self.old) (start_faults self.new) }
+        ensures quiet { OnOk result (start_faults self.new ≡ start_faults self.old) };
+}
+
+/// Where the starters of a domain come from.
+pub trait Yard {
+    type Line: Link + Send;
+
+    type Start: Starter<Self::Line> + Send;
+
+    /// One starter for each server of the setup, in its order. None of them failed yet.
+    fn starters(&mut self, setup: &Setup) -> Result<Vec<Self::Start>, NoMemory>
+        ensures each { IfOk result (λ all. length all.items ≡ length setup.now.servers) }
+        ensures counts { IfOk result (λ all. All (λ s. Self.Start.start_faults s ≡ 0) all.items) };
+}

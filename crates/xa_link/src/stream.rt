@@ -1,0 +1,107 @@
+// The standard streams, and other readers and writers.
+ghost use Rattle.std.specs.Prelude.{◌≡◌, ◌≤◌, ◌<◌, length, IfOk, None};
+
+use crate::count::raise;
+use crate::{Failed, Sink, Source};
+use std::io;
+use std::io::{ErrorKind, Read, Write};
+
+// How often a read or a write is tried again that a signal interrupted.
+const TRIES: u32 = 1_000_000;
+
+/// A reader, such as standard input. It tells nothing of its octets. A read that a signal interrupts is tried again;
+/// every other error of the system is a failure.
+#[derive(Drop)]
+pub struct ReadSource<R: Read> {
+    reader: R,
+    faults: u64,
+}
+
+impl<R: Read> ReadSource<R> {
+    ghost use Rattle.xa_link.specs.Streams.{reader_faults};
+
+    pub fn new(reader: R) -> ReadSource<R>
+        ensures { reader_faults result ≡ 0 }
+    {
+        ReadSource { reader, faults: 0 }
+    }
+}
+
+fn read_on<R: Read>(reader: &mut R, into: &mut [u8]) -> io::Result<usize>
+    ensures { IfOk result (λ n. n ≤ length into.new) }
+{
+    for _ in 0..TRIES {
+        match reader.read(into) {
+            Err(e) if e.kind() == ErrorKind::Interrupted => {}
+            done => return done,
+        }
+    }
+    Err(io::Error::from(ErrorKind::Interrupted))
+}
+
+impl<R: Read> Source for ReadSource<R> {
+    ghost left = { λ _. None };
+
+    ghost gave = { λ _. None };
+
+    ghost read_faults = { λ s. s.faults };
+
+    ghost beside_reads = { λ _. (None, 0) };
+
+    fn read(&mut self, into: &mut [u8]) -> Result<usize, Failed> {
+        let Ok(n) = read_on(&mut self.reader, into) else {
+            raise(&mut self.faults);
+            return Err(Failed);
+        };
+        Ok(n)
+    }
+}
+
+/// A writer, such as standard output. It tells nothing of its octets. A write that a signal interrupts is tried again;
+/// every other error of the system is a failure.
+#[derive(Drop)]
+pub struct WriteSink<W: Write> {
+    writer: W,
+    faults: u64,
+}
+
+impl<W: Write> WriteSink<W> {
+    ghost use Rattle.xa_link.specs.Streams.{writer_faults};
+
+    pub fn new(writer: W) -> WriteSink<W>
+        ensures { writer_faults result ≡ 0 }
+    {
+        WriteSink { writer, faults: 0 }
+    }
+}
+
+fn write_on<W: Write>(writer: &mut W, from: &[u8]) -> io::Result<usize>
+    ensures { IfOk result (λ n. n ≤ length from.now) }
+{
+    for _ in 0..TRIES {
+        match writer.write(from) {
+            Err(e) if e.kind() == ErrorKind::Interrupted => {}
+            done => return done,
+        }
+    }
+    Err(io::Error::from(ErrorKind::Interrupted))
+}
+
+impl<W: Write> Sink for WriteSink<W> {
+    ghost took = { λ _. None };
+
+    ghost write_faults = { λ s. s.faults };
+
+    ghost beside_writes = { λ _. (None, 0) };
+
+    fn write(&mut self, from: &[u8]) -> Result<usize, Failed> {
+        let Ok(n) = write_on(&mut self.writer, from) else {
+            raise(&mut self.faults);
+            return Err(Failed);
+        };
+        if n == 0 && !from.is_empty() {
+            raise(&mut self.faults);
+        }
+        Ok(n)
+    }
+}
