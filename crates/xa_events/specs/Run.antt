@@ -22,5 +22,5 @@ Run old (e ∷ es) new = Case old e × Run (noted old e) es new
 pub record IsFinal (s : State) : Type 0 where
   pub left : all_left s.clients s.past ≡ true
   pub ended : (request : RequestId) → count (is_end_of request) s.past ≡ count (is_accept_of request) s.past
-  pub off : (server : ℕ) → doing server s.past ≡ Off
+  pub off : (server : ℕ) → 0 < server → server < length s.setup.servers + 1 → doing server s.past ≡ Off
   pub closed : (queue : ℕ) → 0 < queue → queue < length s.setup.queues + 1 → is_closed queue s.past ≡ true
