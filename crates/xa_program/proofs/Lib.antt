@@ -1,1 +1,4 @@
 pub mod Play
+pub mod Told
+pub mod Served
+pub mod Ends

@@ -128,7 +128,7 @@ accepted_case service n payload past q sound = record {
 }
 
 -- the queue holds the request that was accepted
-waits_one : (service : List ℕ) (n : ℕ) (payload : Data) (past : List Event) → waiting (play_setup service) 1 past ≡ []
+pub waits_one : (service : List ℕ) (n : ℕ) (payload : Data) (past : List Event) → waiting (play_setup service) 1 past ≡ []
   → waiting (play_setup service) 1 (Accept (accept service n payload) ∷ past) ≡ request n ∷ []
 unfolding waiting
 waits_one service n payload past none = ap (λ (rs : List RequestId). rs ++ request n ∷ []) none

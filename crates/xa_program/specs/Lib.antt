@@ -1,1 +1,3 @@
+pub mod Line
 pub mod PlaySetup
+pub mod Spoken
