@@ -224,7 +224,7 @@ idle_stops cause _ = true
 
 pub record StopWorker (s : State) (x : Stopped) : Type 0 where
   pub alive : ((doing x.server.0 s.past ≡ Idle x.generation) × (idle_stops x.cause (last_outcome x.server.0 s.past) ≡ true))
-            ⊎ ((doing x.server.0 s.past ≡ Dying x.generation) × (dying_stops x.cause (last_outcome x.server.0 s.past) ≡ true))
+      ⊎ ((doing x.server.0 s.past ≡ Dying x.generation) × (dying_stops x.cause (last_outcome x.server.0 s.past) ≡ true))
   pub none : opened (s.clients + x.server.0) s.past ≡ []
 
 -- a server is shut down where its queue is closed and nothing waits
