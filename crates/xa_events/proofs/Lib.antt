@@ -1,2 +1,3 @@
 pub mod WordsLemmas
 pub mod Versions
+pub mod Stages

@@ -1,5 +1,5 @@
 -- What a caller reads of the board never gets older, and is never of the future.
-use Rattle.std.proofs.Common.{◌≡◌, ℕ, suc, ◌+◌, ◌<◌, ◌≤◌, ◌==◌, if◌then◌else◌, Bool, true, false, cond, List, [], ◌∷◌, length, Option, Some, None, inl, inr, ◌⊎◌, refl, sym, ◌∙◌, ap, subst, arith, eqb-true, le_trans, zero-le}
+use Rattle.std.proofs.Common.{◌≡◌, ℕ, ◌+◌, ◌≤◌, ◌==◌, true, cond, List, [], ◌∷◌, length, Some, inl, inr, ◌⊎◌, refl, sym, ◌∙◌, subst, arith, eqb-true, le_trans, zero-le}
 use Rattle.std.specs.List.{filter_map, cons_option}
 use Rattle.xa_types.specs.declared.fault.Fault.{Fault}
 use Rattle.xa_types.specs.declared.fault.Fault.TheVariants.{NoEnt}
@@ -8,7 +8,7 @@ use Rattle.xa_events.specs.declared.event.Event.{Event}
 use Rattle.xa_events.specs.declared.event.Event.TheVariants.{Advertise, Withdraw, Accept, Refuse}
 use Rattle.xa_events.specs.declared.event.Evidence.{Evidence}
 use Rattle.xa_events.specs.declared.event.Evidence.TheVariants.{Argument, Version}
-use Rattle.xa_events.specs.Words.{count, greatest, AtEach}
+use Rattle.xa_events.specs.Words.{count, greatest}
 use Rattle.xa_events.specs.State.{State, noted}
 use Rattle.xa_events.specs.Board.{change_in, changes, published, boot}
 use Rattle.xa_events.specs.Caller.{reads, floor, version_in}
