@@ -1,5 +1,5 @@
 -- What befell a request, and what its caller is told (XATMI, tpgetrply and tpreturn; TPEXIT after Tuxedo; NOMEM is this project's own).
-use Rattle.std.specs.Prelude.{ℕ, Bool, true, false, not, Option, Some, None, if◌then◌else◌}
+use Rattle.std.specs.Prelude.{Bool, true, false, Option, Some, None, if◌then◌else◌}
 use Rattle.xa_types.specs.declared.data.Data.{Data}
 use Rattle.xa_types.specs.declared.data.Kind.{Kind}
 use Rattle.xa_types.specs.declared.data.Kind.TheVariants.{Octet as OctetKind, Struct as StructKind}

@@ -1,5 +1,5 @@
 -- The board, read off the events: which services are advertised on which queues (XATMI, tpadvertise).
-use Rattle.std.specs.Prelude.{ℕ, Bool, true, false, List, [], ◌∷◌, length, Option, Some, None}
+use Rattle.std.specs.Prelude.{ℕ, Bool, List, length, Option, Some, None}
 use Rattle.std.specs.List.{filter_map}
 use Rattle.xa_types.specs.declared.setup.Setup.{Setup}
 use Rattle.xa_types.specs.declared.row.Row.{Row}

@@ -1,7 +1,6 @@
 -- When an event may come next. A case has up to three parts: what is asked of the list of the event's own home,
 -- what is asked of the list of its own worker, and which events stand before.
-use Rattle.std.specs.Prelude.{◌≡◌, ℕ, ◌+◌, ◌<◌, ◌≤◌, ◌⊎◌, Bool, true, false, List, [], ◌∷◌, length, Option, Some, None, IsSomeAnd, slice_get}
-use Rattle.xa_types.specs.declared.data.Data.{Data}
+use Rattle.std.specs.Prelude.{◌≡◌, ℕ, ◌+◌, ◌<◌, ◌≤◌, ◌⊎◌, Bool, true, false, List, [], length, Option, Some, None, IsSomeAnd, slice_get}
 use Rattle.xa_types.specs.declared.row.Row.{Row}
 use Rattle.xa_types.specs.declared.call.Mode.TheVariants.{Reply}
 use Rattle.xa_types.specs.declared.fault.Fault.{Fault}
@@ -30,7 +29,7 @@ use Rattle.xa_events.specs.declared.event.StopCause.{StopCause}
 use Rattle.xa_events.specs.declared.event.StopCause.TheVariants.{Shutdown, Exit, EndOfInput, ReadFault, WriteFault, BadBytes, OutOfTurn, Starved as StarvedStop}
 use Rattle.xa_events.specs.declared.event.Doing.TheVariants.{Off, Idle, Busy, Dying}
 use Rattle.xa_events.specs.Words.{has}
-use Rattle.xa_events.specs.State.{State, noted}
+use Rattle.xa_events.specs.State.{State}
 use Rattle.xa_events.specs.Board.{published, boot, rows_of_version}
 use Rattle.xa_events.specs.Queue.{waiting, takes, is_down, is_closed}
 use Rattle.xa_events.specs.Server.{doing, starts, is_gone, let_go, last_outcome, may_start, all_gone}
@@ -224,7 +223,7 @@ idle_stops cause _ = true
 
 pub record StopWorker (s : State) (x : Stopped) : Type 0 where
   pub alive : ((doing x.server.0 s.past ≡ Idle x.generation) × (idle_stops x.cause (last_outcome x.server.0 s.past) ≡ true))
-            ⊎ ((doing x.server.0 s.past ≡ Dying x.generation) × (dying_stops x.cause (last_outcome x.server.0 s.past) ≡ true))
+      ⊎ ((doing x.server.0 s.past ≡ Dying x.generation) × (dying_stops x.cause (last_outcome x.server.0 s.past) ≡ true))
   pub none : opened (s.clients + x.server.0) s.past ≡ []
 
 -- a server is shut down where its queue is closed and nothing waits

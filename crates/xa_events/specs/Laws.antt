@@ -1,12 +1,11 @@
 -- Laws of every run, by counts in the list of events. They share nothing with the cases.
-use Rattle.std.specs.Prelude.{◌≡◌, ℕ, ◌≤◌, Bool, true, false, List, [], ◌∷◌, ◌⊎◌, Option, Some, None}
+use Rattle.std.specs.Prelude.{◌≡◌, ℕ, ◌≤◌, Bool, true, false, List, [], ◌∷◌, ◌⊎◌, Some}
 use Rattle.std.specs.List.{filter_map}
 use Rattle.xa_types.specs.declared.ids.RequestId.{RequestId}
 use Rattle.xa_types.specs.declared.fault.Fault.TheVariants.{OType}
 use Rattle.xa_types.specs.declared.reply.Answer.TheVariants.{Error}
 use Rattle.xa_events.specs.declared.event.Event.{Event}
 use Rattle.xa_events.specs.declared.event.Event.TheVariants.{Advertise, Withdraw, Take, End, Answer}
-use Rattle.xa_events.specs.declared.event.Ended.{Ended}
 use Rattle.xa_events.specs.declared.event.Answered.{Answered}
 use Rattle.xa_events.specs.Words.{count, same_request, greatest, AtEach}
 use Rattle.xa_events.specs.Befell.{reply_of, has_payload}

@@ -1,5 +1,5 @@
 -- The order in which a queue is taken (this project's own; the use of priorities is after Tuxedo).
-use Rattle.std.specs.Prelude.{◌≡◌, ℕ, ◌%◌, ◌==◌, nat_le, Bool, List, [], ◌∷◌, Option, Some, None, if◌then◌else◌}
+use Rattle.std.specs.Prelude.{◌≡◌, ℕ, ◌%◌, ◌==◌, nat_le, List, Option, Some, if◌then◌else◌}
 use Rattle.std.specs.List.{find, list_all, slice_get}
 use Rattle.xa_types.specs.declared.ids.RequestId.{RequestId}
 use Rattle.xa_types.specs.declared.setup.Setup.{Setup}

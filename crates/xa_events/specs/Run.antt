@@ -1,11 +1,9 @@
 -- A run of the machine.
-use Rattle.std.specs.Prelude.{◌≡◌, ℕ, ◌&&◌, nat_le, Bool, true, List, [], ◌∷◌, ◌+◌, ◌<◌, length}
-use Rattle.xa_types.specs.declared.setup.Setup.{Setup}
+use Rattle.std.specs.Prelude.{◌≡◌, ℕ, true, List, [], ◌∷◌, ◌+◌, ◌<◌, length}
 use Rattle.xa_types.specs.declared.ids.RequestId.{RequestId}
 use Rattle.xa_events.specs.declared.event.Event.{Event}
-use Rattle.xa_events.specs.declared.event.Event.TheVariants.{Accept}
 use Rattle.xa_events.specs.declared.event.Doing.TheVariants.{Off}
-use Rattle.xa_events.specs.State.{State, noted, opening}
+use Rattle.xa_events.specs.State.{State, noted}
 use Rattle.xa_events.specs.Cases.{Case}
 use Rattle.xa_events.specs.Queue.{is_closed}
 use Rattle.xa_events.specs.Server.{doing}

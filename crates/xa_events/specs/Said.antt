@@ -1,8 +1,7 @@
 -- What a caller was told of a call: the reply that the call's last event shows.
-use Rattle.std.specs.Prelude.{ℕ, ◌==◌, ◌&&◌, Bool, true, false, List, [], ◌∷◌, Option, Some, None, if◌then◌else◌}
+use Rattle.std.specs.Prelude.{ℕ, ◌==◌, List, Option, Some, if◌then◌else◌}
 use Rattle.xa_types.specs.declared.reply.Reply.{Reply}
 use Rattle.xa_types.specs.declared.reply.Reply.TheVariants.{Done, Descriptor, Answered as AnsweredReply, Fault as FaultReply}
-use Rattle.xa_types.specs.declared.call.Mode.{Mode}
 use Rattle.xa_events.specs.declared.event.Event.{Event}
 use Rattle.xa_events.specs.declared.event.Event.TheVariants.{Accept, Answer, Refuse}
 use Rattle.xa_events.specs.declared.event.Answered.{Answered}

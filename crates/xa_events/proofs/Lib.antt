@@ -1,0 +1,4 @@
+pub mod WordsLemmas
+pub mod Versions
+pub mod Stages
+pub mod AnswersOnce
