@@ -139,6 +139,7 @@ pub record GoneCase (s : State) (server : ℕ) : Type 0 where
 -- ---- Down: the queue has no server left, and no row of it stands
 
 pub record DownHome (s : State) (queue : ℕ) : Type 0 where
+  pub known : 0 < capacity_of s.setup queue
   pub still : is_down queue s.past ≡ false
   pub gone : all_gone s.setup queue s.past ≡ true
 
