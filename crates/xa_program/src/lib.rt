@@ -1,2 +1,6 @@
 //! The top call.
 #![tactic(auto)]
+
+mod status;
+
+pub use status::{Input, Status};

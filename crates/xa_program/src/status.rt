@@ -1,0 +1,37 @@
+use xa_types::NoMemory;
+
+/// Which input was too long.
+#[derive(Clone, Copy, Debug, PartialEq, Eq)]
+pub enum Input {
+    Configuration,
+    Script,
+}
+
+/// How a command ended.
+#[derive(Clone, Copy, Debug, PartialEq, Eq)]
+pub enum Status {
+    /// The input was read to its end, and all is written.
+    Done,
+    /// The words of the command line aren't those of a command.
+    Usage,
+    /// The input failed.
+    ScriptRead,
+    /// The input has more octets than it may have.
+    TooLong(Input),
+    /// The script isn't built: its first line at fault, counted from 1.
+    BadLine { line: u32, cause: u8 },
+    /// The output failed.
+    WriteFault,
+    /// The input of a server's program is no frame, or no frame that it admits, at this place.
+    BadFrame(u64),
+    /// Memory ran out.
+    NoMemory,
+    /// A life of the server wasn't plain, which isn't built yet.
+    Unbuilt,
+}
+
+impl From<NoMemory> for Status {
+    fn from(_: NoMemory) -> Self {
+        Status::NoMemory
+    }
+}
