@@ -27,7 +27,7 @@ use Rattle.xa_events.specs.Queue.{waiting, takes, is_down, is_closed}
 use Rattle.xa_events.specs.Server.{doing, after_end, last_outcome}
 use Rattle.xa_events.specs.Caller.{last_op, accepted, opened, floor, has_left, just_accepted}
 use Rattle.xa_events.specs.Request.{ended, is_accept_of, is_end_of}
-use Rattle.xa_events.specs.Cases.{Case, AcceptCase, TakeCase, EndCase, AnswerCase, Tells}
+use Rattle.xa_events.specs.Cases.{Case, AcceptCase, TakeCase, EndCase, AnswerCase, is_sound_outcome}
 use Rattle.xa_program.specs.PlaySetup.{play_setup}
 
 -- the request of the n-th call of the one client
@@ -110,7 +110,7 @@ accepted_kind service Absent sound = refl
 accepted_kind service (Octet octets) sound = refl
 accepted_kind service (Struct subtype octets) sound = cc sound
 
-accepted_case : (service : List ℕ) (n : ℕ) (payload : Data) (past : List Event) → IsQuiet service 1 n past → is_sound (play_setup service) payload ≡ true
+pub accepted_case : (service : List ℕ) (n : ℕ) (payload : Data) (past : List Event) → IsQuiet service 1 n past → is_sound (play_setup service) payload ≡ true
   → AcceptCase (at service 1 past) (accept service (n + 1) payload)
 unfolding published
 accepted_case service n payload past q sound = record {
@@ -136,7 +136,7 @@ waits_one service n payload past none = ap (λ (rs : List RequestId). rs ++ requ
 has_one : (n : ℕ) → has (request n) (request n ∷ []) ≡ true
 has_one n = rw (same_request-self n) refl
 
-take_case : (service : List ℕ) (n : ℕ) (payload : Data) (past : List Event) → IsQuiet service 1 n past
+pub take_case : (service : List ℕ) (n : ℕ) (payload : Data) (past : List Event) → IsQuiet service 1 n past
   → TakeCase (at service 1 (Accept (accept service (n + 1) payload) ∷ past)) (take_of (n + 1))
 unfolding is_down takes doing opened
 take_case service n payload past q = record {
@@ -214,7 +214,10 @@ ends service n outcome past q = record {
   matched = λ r. sym (q.matched r);
 }
 
-answer_case : (service : List ℕ) (n : ℕ) (outcome : Outcome) (doing_now : Doing) (answer : Answer) (past : List Event) → IsEnded service n outcome doing_now past
+pub end_case : (service : List ℕ) (n : ℕ) (outcome : Outcome) (past : List Event) → IsServing service n past → is_sound_outcome (at service 1 past) outcome ≡ true → EndCase (at service 1 past) (end_with n outcome)
+end_case service n outcome past q sound = record { worker = record { busy = q.server; sound = sound } }
+
+pub answer_case : (service : List ℕ) (n : ℕ) (outcome : Outcome) (doing_now : Doing) (answer : Answer) (past : List Event) → IsEnded service n outcome doing_now past
   → answer ≡ reply_of outcome → AnswerCase (at service 1 past) (answer_of n answer)
 answer_case service n outcome doing_now answer past q told = record {
   worker = record { client = refl; stays = q.stays; op = inr (sym q.op, q.just); caller = refl; is_open = rw q.open_client (has_one n) };

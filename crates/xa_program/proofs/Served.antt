@@ -101,7 +101,7 @@ module _ (service : List ℕ) (n : ℕ) (payload : Data) (outcome : Outcome) (an
   unfolding events_of_op
   events_now none = rw (eq-eqb (n + 1) (n + 1) refl) (ap (λ es. Answers (answer_of (n + 1) answer) ∷ Accept (accept service (n + 1) payload) ∷ es) none)
 
-  keeps : IsFresh n past → Keeps (play_setup service) n past (served service (n + 1) payload outcome answer past)
+  pub keeps : IsFresh n past → Keeps (play_setup service) n past (served service (n + 1) payload outcome answer past)
   unfolding listed_in changes
   keeps fresh = record {
     events = λ m low. events_other m (other m n low);
@@ -114,13 +114,13 @@ module _ (service : List ℕ) (n : ℕ) (payload : Data) (outcome : Outcome) (an
     listed = λ v name none. none;
   }
 
-  fresh_more : IsFresh n past → IsFresh (n + 1) (served service (n + 1) payload outcome answer past)
+  pub fresh_more : IsFresh n past → IsFresh (n + 1) (served service (n + 1) payload outcome answer past)
   fresh_more fresh = record {
     events = λ m high. events_other m (later m n high) ∙ fresh.events m (omega arith);
     over = λ m high. ended_other (request m) (later m n high) ∙ fresh.over m (omega arith);
   }
 
-  answers_more : KnowsAnswers n past → KnowsAnswers (n + 1) (served service (n + 1) payload outcome answer past)
+  pub answers_more : KnowsAnswers n past → KnowsAnswers (n + 1) (served service (n + 1) payload outcome answer past)
   answers_more known m a newest = elim (cases_Bool ((n + 1) == m)) [
       inl is_so ↦
         let is : Some (Answers (answer_of (n + 1) answer)) ≡ Some (Answers a) = sym newest_now ∙ (ap (λ k. latest (is_op 1 k) (served service (n + 1) payload outcome answer past)) (eqb-true (n + 1) m is_so) ∙ newest) in
@@ -136,14 +136,14 @@ module _ (service : List ℕ) (n : ℕ) (payload : Data) (outcome : Outcome) (an
       ∙ (ap (λ op. AnsweredReply (if op == (n + 1) then 0 else (n + 1)) answer) sent_now ∙ ap (λ b. AnsweredReply (if b then 0 else (n + 1)) answer) (eq-eqb (n + 1) (n + 1) refl))
 
   -- the lines go on by this call's
-  lines_more : (name : List ℕ) → IsFresh n past → KnowsAnswers n past → lines_up_to name 1 (served service (n + 1) payload outcome answer past) (n + 1)
+  pub lines_more : (name : List ℕ) → IsFresh n past → KnowsAnswers n past → lines_up_to name 1 (served service (n + 1) payload outcome answer past) (n + 1)
       ≡ lines_up_to name 1 past n ++ line_text name (n + 1) (AnsweredReply 0 answer)
   lines_more name fresh known = last_line name (served service (n + 1) payload outcome answer past) n
       ∙ (ap (λ lines. lines ++ line_text name (n + 1) (reply_at (served service (n + 1) payload outcome answer past) 1 (n + 1))) (lines_kept (play_setup service) name n past (served service (n + 1) payload outcome answer past) (keeps fresh) known n (omega arith))
       ∙ ap (λ reply. lines_up_to name 1 past n ++ line_text name (n + 1) reply) reply_now)
 
   -- the calls go on by this one
-  calls_more : (ops : List Op) (ask : Ask) → length ops ≡ n → IsFresh n past → is_invalid_call (play_setup service) ask ≡ false → ask.service ≡ service → ask.payload ≡ payload
+  pub calls_more : (ops : List Op) (ask : Ask) → length ops ≡ n → IsFresh n past → is_invalid_call (play_setup service) ask ≡ false → ask.service ≡ service → ask.payload ≡ payload
       → answer ≡ answer_to ask.expect outcome → EachBecame (play_setup service) 1 1 ops past → EachBecame (play_setup service) 1 1 (ops ++ Call ask ∷ []) (served service (n + 1) payload outcome answer past)
   calls_more ops ask many fresh valid named carried told each =
       each_more (play_setup service) 1 ops (Call ask) (served service (n + 1) payload outcome answer past)
@@ -159,6 +159,6 @@ module _ (service : List ℕ) (n : ℕ) (payload : Data) (outcome : Outcome) (an
               told = subst (λ o. IsSomeAnd o (λ outcome. answer ≡ answer_to ask.expect outcome)) (sym ended_now) told;
             })))
 
-  order_more : waiting (play_setup service) 1 past ≡ [] → TakesInOrder (play_setup service) past → TakesInOrder (play_setup service) (served service (n + 1) payload outcome answer past)
+  pub order_more : waiting (play_setup service) 1 past ≡ [] → TakesInOrder (play_setup service) past → TakesInOrder (play_setup service) (served service (n + 1) payload outcome answer past)
   order_more none order =
       (tt, (tt, (rw (waits_one service (n + 1) payload past none) (next_is_one (priority_at (Accept (accept service (n + 1) payload) ∷ past)) (n + 1)), (tt, order))))
