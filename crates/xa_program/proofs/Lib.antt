@@ -1,3 +1,4 @@
+pub mod Frames
 pub mod Play
 pub mod Told
 pub mod Served

@@ -12,7 +12,7 @@ use Rattle.xa_events.specs.declared.event.Outcome.TheVariants.{Returned}
 use Rattle.xa_events.specs.Words.{count}
 use Rattle.xa_frame.specs.declared.frame.Frame.{Frame}
 use Rattle.xa_frame.specs.declared.frame.Body.TheVariants.{Invoke, Return, Shutdown}
-use Rattle.xa_program.specs.Pipes.{invocation, is_take_in, frames_out, frames_in, next_frame, lives_of}
+use Rattle.xa_program.specs.Pipes.{invocation, is_take_in, frames_out, frames_in, next_frame, invoke_frame, return_frame, shutdown_frame, lives_of}
 use Rattle.xa_program.proofs.Play.{accept, take_of, end_with, request, same_request-self}
 use Rattle.xa_program.proofs.Served.{served}
 use Rattle.xa_program.proofs.Ends.{closed}
@@ -20,15 +20,6 @@ use Rattle.xa_program.proofs.Ends.{closed}
 -- how many requests the one life took
 abbrev pub invocations : List Event → ℕ
 invocations past = count (is_take_in 1 1) past
-
-abbrev pub invoke_frame : List ℕ → ℕ → Data → Frame
-invoke_frame service n payload = record { tag = n; body = Invoke service service Reply payload }
-
-abbrev pub return_frame : ℕ → ℤ → Data → Frame
-return_frame n code payload = record { tag = n; body = Return Success code payload }
-
-abbrev pub shutdown_frame : Frame
-shutdown_frame = record { tag = 0; body = Shutdown }
 
 module _ (service : List ℕ) (n : ℕ) (payload : Data) (past : List Event) (many : invocations past ≡ n) (small : n + 1 < 2 ^ 32) where
   number_now : invocation 1 1 (Take (take_of (n + 1)) ∷ Accept (accept service (n + 1) payload) ∷ past) ≡ n + 1

@@ -27,13 +27,14 @@ use Rattle.xa_frame.specs.declared.frame.Frame.{Frame}
 use Rattle.xa_frame.specs.Spelling.{spelled, all_spelled}
 use Rattle.xa_program.specs.Line.{line_text}
 use Rattle.xa_program.specs.Pipe.{Piped, Wrote, HasRead}
-use Rattle.xa_program.specs.Pipes.{frames_out, frames_in, next_frame, lives_of}
+use Rattle.xa_program.specs.Pipes.{frames_out, frames_in, next_frame, invoke_frame, return_frame, lives_of}
 use Rattle.xa_program.specs.PlaySetup.{play_setup}
 use Rattle.xa_program.specs.Spoken.{lines_up_to}
+use Rattle.xa_program.proofs.Frames.{all_spelled-push}
 use Rattle.xa_program.proofs.Play.{at, request, accept, take_of, end_with, answer_of, IsQuiet, IsServing, IsEnded, accepted_case, take_case, serving, ends, answer_case, answered, end_case}
 use Rattle.xa_program.proofs.Told.{KnowsAnswers}
 use Rattle.xa_program.proofs.Served.{served, IsFresh, fresh_more, answers_more, lines_more, calls_more, order_more}
-use Rattle.xa_program.proofs.Pipes.{invocations, invoke_frame, return_frame, out_served, in_served, many_served, lives_served}
+use Rattle.xa_program.proofs.Pipes.{invocations, out_served, in_served, many_served, lives_served}
 
 -- n calls were made and served, and nothing is under way; past is the history, the newest event first
 pub record IsPlayingAt (service name : List ℕ) (clients n : ℕ) (ops : List Op) (history past : List Event) (lines : List ℕ) (pipe : Piped) : Type 0 where
@@ -71,10 +72,6 @@ in_order service n payload code back =
 
 reverse_order : (history : List Event) (a b c d : Event) → reverse (history ++ a ∷ b ∷ c ∷ d ∷ []) ≡ d ∷ c ∷ b ∷ a ∷ reverse history
 reverse_order history a b c d = reverse-append history (a ∷ b ∷ c ∷ d ∷ [])
-
-pub all_spelled-push : (frames : List Frame) (f : Frame) → all_spelled (frames ++ f ∷ []) ≡ all_spelled frames ++ spelled f
-all_spelled-push [] f = append-nil (spelled f)
-all_spelled-push (g ∷ frames) f = ap (λ octets. spelled g ++ octets) (all_spelled-push frames f) ∙ sym (append_assoc (spelled g) (all_spelled frames) (spelled f))
 
 pub wrote_more : (took now : Option (List ℕ)) (frames : List Frame) (f : Frame) → IfSome took (λ octets. octets ≡ all_spelled frames) → Grew took now (spelled f) → IfSome now (λ octets. octets ≡ all_spelled (frames ++ f ∷ []))
 wrote_more None now frames f wrote grew = subst (λ o. IfSome o (λ octets. octets ≡ all_spelled (frames ++ f ∷ []))) (sym grew) tt

@@ -1,5 +1,7 @@
 -- The octets that go through the pipes of a life, read off the events of the run.
-use Rattle.std.specs.Prelude.{◌≡◌, ℕ, ◌+◌, ◌%◌, ◌^◌, ◌==◌, ◌&&◌, Bool, true, false, cond, List, [], ◌∷◌, ◌++◌, Option, Some, None, IfSome, if◌then◌else◌}
+use Rattle.std.specs.Prelude.{◌≡◌, ℕ, ℤ, ◌%◌, ◌^◌, ◌==◌, ◌&&◌, Bool, true, false, cond, List, [], ◌∷◌, ◌++◌, Option, Some, None, IfSome, if◌then◌else◌}
+use Rattle.xa_types.specs.declared.data.Data.{Data}
+use Rattle.xa_types.specs.declared.call.Mode.TheVariants.{Reply}
 use Rattle.xa_types.specs.declared.call.Rval.TheVariants.{Success}
 use Rattle.xa_events.specs.declared.event.Event.{Event}
 use Rattle.xa_events.specs.declared.event.Event.TheVariants.{Accept, Take, End, Start, StartFailed, Stop}
@@ -25,6 +27,24 @@ is_take_in server g _ = false
 unfoldable pub invocation : ℕ → ℕ → List Event → ℕ
 invocation server g past = count (is_take_in server g) past % 2 ^ 32
 
+-- ---- the frames of a request
+
+abbrev pub next_frame : Frame
+next_frame = record { tag = 0; body = Next }
+
+abbrev pub ready_frame : List ℕ → Frame
+ready_frame name = record { tag = 0; body = Ready name }
+
+abbrev pub shutdown_frame : Frame
+shutdown_frame = record { tag = 0; body = ShutdownBody }
+
+-- the request to a routine that has its service's name
+abbrev pub invoke_frame : List ℕ → ℕ → Data → Frame
+invoke_frame service tag payload = record { tag = tag; body = Invoke service service Reply payload }
+
+abbrev pub return_frame : ℕ → ℤ → Data → Frame
+return_frame tag code payload = record { tag = tag; body = Return Success code payload }
+
 -- ---- what the monitor writes: an INVOKE for each take, and SHUTDOWN at a shutdown
 
 abbrev pub invoke_with : ℕ → Option Event → List Frame
@@ -32,7 +52,7 @@ invoke_with tag (Some (Accept a)) = (record { tag = tag; body = Invoke a.service
 invoke_with tag _ = []
 
 abbrev pub farewell : StopCause → List Frame
-farewell Shutdown = (record { tag = 0; body = ShutdownBody }) ∷ []
+farewell Shutdown = shutdown_frame ∷ []
 farewell _ = []
 
 -- what it writes at an event, with those before it
@@ -48,14 +68,11 @@ frames_out server g (e ∷ past) = frames_out server g past ++ written_at server
 
 -- ---- what the server's program writes in a life that is shut down: READY and NEXT, and for each request its RETURN and NEXT
 
-abbrev pub next_frame : Frame
-next_frame = record { tag = 0; body = Next }
-
 abbrev pub greeting : List ℕ → List Frame
-greeting name = (record { tag = 0; body = Ready name }) ∷ next_frame ∷ []
+greeting name = ready_frame name ∷ next_frame ∷ []
 
 abbrev pub return_with : ℕ → Outcome → List Frame
-return_with tag (Returned code payload) = (record { tag = tag; body = Return Success code payload }) ∷ next_frame ∷ []
+return_with tag (Returned code payload) = return_frame tag code payload ∷ next_frame ∷ []
 return_with tag _ = []
 
 abbrev pub given_at : ℕ → ℕ → Event → List Event → List Frame
