@@ -1,0 +1,8 @@
+//! The program around the machine: what it is asked, what its script says, and what it prints.
+#![tactic(auto)]
+
+mod line;
+mod words;
+
+pub use line::push_line;
+pub use words::{Command, read_words};
