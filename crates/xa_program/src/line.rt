@@ -176,16 +176,83 @@ fn push_call(out: &mut Vec<u8>, name: &Name, op: u32) -> Result<(), NoMemory>
 
 /// Puts one line of the transcript at the end: what the client of that name was told of its call with that number.
 /// Where memory runs out a part of the line may stand there.
-pub fn push_line(
-    out: &mut Vec<u8>,
-    name: &Name,
-    op: u32,
-    reply: &Reply,
-) -> Result<(), NoMemory>
+pub fn push_line(out: &mut Vec<u8>, name: &Name, op: u32, reply: &Reply) -> Result<(), NoMemory>
     ensures ok { OnOk result (out.new.items ≡ out.old.items ++ line_text name.now op reply.now) }
     ensures err { OnErr result (Begins out.old.items out.new.items) }
 {
     push_call(out, name, op)?;
     push_reply(out, reply)?;
     push_text(out, b"\n")
+}
+
+#[cfg(test)]
+mod tests {
+    use super::push_line;
+    use std::alloc::Global;
+    use std::test::Fail;
+    use xa_types::{Answer, ConvEvent, Data, Fault, Name, Octets, Reply};
+
+    fn told(alloc: Global) -> Result<[(Reply, &'static [u8]); 9], Fail> {
+        let entry = Name::read(b"entry")?;
+        Ok([
+            (
+                Reply::Answered(
+                    0,
+                    Answer::Success(0, Data::Octet(Octets::of(alloc, b"hello")?)),
+                ),
+                b"a 1 OK 0 octet 68656c6c6f\n",
+            ),
+            (
+                Reply::Answered(0, Answer::Success(0, Data::Absent)),
+                b"a 1 OK 0 none\n",
+            ),
+            (
+                Reply::Answered(0, Answer::Success(0, Data::Octet(Octets::of(alloc, b"")?))),
+                b"a 1 OK 0 octet -\n",
+            ),
+            (
+                Reply::Answered(0, Answer::Failed(7, Data::Octet(Octets::of(alloc, b"no")?))),
+                b"a 1 TPESVCFAIL 7 octet 6e6f\n",
+            ),
+            (
+                Reply::Answered(1, Answer::Error(Fault::OType)),
+                b"a 1 CD 1 TPEOTYPE\n",
+            ),
+            (
+                Reply::Answered(
+                    12,
+                    Answer::Success(
+                        -40,
+                        Data::Struct(entry, Octets::of(alloc, b"\x00\x7f\xff")?),
+                    ),
+                ),
+                b"a 1 CD 12 OK -40 c:entry 007fff\n",
+            ),
+            (
+                Reply::Event(
+                    ConvEvent::SvcSucc,
+                    3,
+                    Data::Octet(Octets::of(alloc, b"bye")?),
+                ),
+                b"a 1 TPEEVENT TPEV_SVCSUCC 3 octet 627965\n",
+            ),
+            (
+                Reply::Now(18446744073709551615),
+                b"a 1 NOW 18446744073709551615\n",
+            ),
+            (Reply::Done, b"a 1 DONE\n"),
+        ])
+    }
+
+    #[test]
+    fn lines_read_as_they_should(rt: HostRuntime) -> Result<(), Fail> {
+        let alloc = rt.alloc();
+        let name = Name::read(b"a")?;
+        for (reply, line) in told(alloc)? {
+            let mut out = Vec::new(alloc);
+            push_line(&mut out, &name, 1, &reply)?;
+            assert_eq!(rt; out.as_slice(), line);
+        }
+        Ok(())
+    }
 }
