@@ -1,2 +1,4 @@
 pub mod Line
+pub mod Script
+pub mod ScriptLine
 pub mod Words

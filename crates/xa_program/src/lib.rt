@@ -2,7 +2,10 @@
 #![tactic(auto)]
 
 mod line;
+mod script;
+mod script_line;
 mod words;
 
 pub use line::push_line;
+pub use script::{Client, Script, ScriptRefused};
 pub use words::{Command, read_words};
