@@ -1,3 +1,4 @@
+pub mod Draft
 pub mod Line
 pub mod Script
 pub mod ScriptLine
