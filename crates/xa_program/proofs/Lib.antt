@@ -5,3 +5,4 @@ pub mod Served
 pub mod Ends
 pub mod Pipes
 pub mod Playing
+pub mod ScriptText

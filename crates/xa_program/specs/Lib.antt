@@ -1,5 +1,9 @@
+pub mod Draft
 pub mod Line
 pub mod Pipe
 pub mod Pipes
 pub mod PlaySetup
+pub mod Script
+pub mod ScriptLine
 pub mod Spoken
+pub mod Words

@@ -1,9 +1,17 @@
-//! The top call.
+//! The program around the machine: what it is asked, what its script says, how it runs, and what it prints.
 #![tactic(auto)]
 
 mod halt;
 mod life;
+mod line;
 mod pipe;
+mod play;
+mod script;
+mod script_line;
 mod status;
+mod words;
 
+pub use line::push_line;
+pub use script::{Client, Script, ScriptRefused};
 pub use status::{Input, Status};
+pub use words::{Command, read_words};

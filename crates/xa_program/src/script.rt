@@ -1,0 +1,134 @@
+ghost use Rattle.std.specs.Prelude.{◌≡◌, ◌∷◌, [], ◌<◌, ◌^◌, length, IfOk, IfErr, MatchOption};
+ghost use Rattle.std.specs.Str.Lines.{lines, strip_carriage_return};
+ghost use Rattle.xa_program.specs.Script.{IsScript, Tells};
+ghost use Rattle.xa_program.specs.ScriptLine.{line_of};
+ghost use Rattle.xa_program.specs.Draft.{kept, begun, added, with_line, read_all};
+
+use crate::script_line::{Line, read_line};
+use std::alloc::{AllocError, AllocFailed, Global};
+use std::marker::Model;
+use xa_types::{Name, NoMemory, Op, Sequence};
+
+/// A client of a script: its name and its calls, in order.
+#[derive(Debug, Drop)]
+pub struct Client {
+    pub name: Name,
+    pub ops: Sequence<Op>,
+}
+
+/// A script: its clients, in order.
+#[derive(Debug, Drop)]
+pub struct Script {
+    pub clients: Sequence<Client>,
+}
+
+/// Why a script was not read. Lines count from 1.
+#[derive(Clone, Copy, Debug, PartialEq, Eq)]
+pub enum ScriptRefused {
+    BadLine { line: u32, cause: u8 },
+    NoMemory,
+}
+
+impl From<NoMemory> for ScriptRefused {
+    ghost use Rattle.std.specs.Prelude.{◌≡◌};
+    ghost use Rattle.xa_program.specs.declared.script.ScriptRefused.TheVariants.{NoMemory};
+
+    ghost from_gives = { λ _ e. e ≡ NoMemory };
+
+    fn from(_: NoMemory) -> Self {
+        ScriptRefused::NoMemory
+    }
+}
+
+// What is read so far, seen as the list of its clients, of which there is at most one.
+#[derive(Drop)]
+struct Draft {
+    name: Option<Name>,
+    ops: Vec<Op>,
+}
+
+impl Model for Draft {
+    ghost use Rattle.std.specs.Prelude.{List};
+    ghost use Rattle.xa_program.specs.declared.script.Client.{Client};
+    ghost use Rattle.xa_program.specs.Draft.{drafted, IsBegun};
+
+    ghost Value = { List Client };
+
+    ghost view = { λ d. drafted d.name d.ops.items };
+
+    ghost invariant = { λ d. IsBegun d.name d.ops.items };
+}
+
+impl Draft {
+    fn new(alloc: Global) -> Draft
+        ensures { result ≡ [] }
+    {
+        Draft {
+            name: None,
+            ops: Vec::new(alloc),
+        }
+    }
+
+    fn begin(&mut self, name: Name) -> bool
+        ensures { kept result self.new ≡ begun self.old name }
+    {
+        if self.name.is_some() {
+            return false;
+        }
+        self.name = Some(name);
+        true
+    }
+
+    fn add(&mut self, op: Op) -> Result<bool, NoMemory>
+        ensures { IfOk result (λ taken. kept taken self.new ≡ added self.old op) }
+    {
+        if self.name.is_none() {
+            return Ok(false);
+        }
+        self.ops.push(op)?;
+        Ok(true)
+    }
+
+    fn take(&mut self, said: Line) -> Result<bool, NoMemory>
+        ensures { IfOk result (λ taken. kept taken self.new ≡ with_line self.old (Some said)) }
+    {
+        match said {
+            Line::Skipped => Ok(true),
+            Line::Client(name) => Ok(self.begin(name)),
+            Line::Call(op) => self.add(op),
+        }
+    }
+
+    // Whether the line goes on with the script.
+    fn take_line(&mut self, alloc: Global, line: &[u8], service: &Name) -> Result<bool, NoMemory>
+        ensures { IfOk result (λ taken. kept taken self.new ≡ with_line self.old (line_of service.now line.now)) }
+    {
+        match read_line(alloc, line, service)? {
+            None => Ok(false),
+            Some(said) => self.take(said),
+        }
+    }
+
+    fn finish(self, alloc: Global) -> Result<Script, NoMemory>
+        ensures { IfOk result (λ script. script.clients ≡ self) }
+    {
+        let Draft { name, ops } = self;
+        let mut clients = Vec::new(alloc);
+        if let Some(name) = name {
+            let ops = Sequence::from_vec(ops);
+            clients.push(Client { name, ops })?;
+        }
+        Ok(Script {
+            clients: Sequence::from_vec(clients),
+        })
+    }
+}
+
+fn without_return(line: &[u8]) -> &[u8]
+    ensures { result.now ≡ strip_carriage_return line.now }
+{
+    match line {
+        [front @ .., b'\r'] => front,
+        _ => line,
+    }
+}
