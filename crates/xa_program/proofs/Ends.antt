@@ -22,9 +22,8 @@ use Rattle.xa_events.specs.Order.{TakesInOrder}
 use Rattle.xa_events.specs.Cases.{Case}
 use Rattle.xa_events.specs.Run.{Run, IsFinal}
 use Rattle.xa_program.specs.PlaySetup.{play_setup}
-use Rattle.xa_program.proofs.Play.{at, request, IsQuiet}
-use Rattle.xa_program.proofs.Told.{Keeps, KnowsAnswers}
-use Rattle.xa_program.proofs.Served.{IsFresh}
+use Rattle.xa_program.specs.Progress.{at, request, IsQuiet, IsFresh, KnowsAnswers}
+use Rattle.xa_program.proofs.Told.{Keeps}
 
 abbrev pub advertise : List ℕ → Advertised
 advertise service = record { by = record { 0 = 0 }; op = 0; service = service; queue = record { 0 = 1 }; routine = service; version = 1 }

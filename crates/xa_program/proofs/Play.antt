@@ -29,44 +29,7 @@ use Rattle.xa_events.specs.Caller.{last_op, accepted, opened, floor, has_left, j
 use Rattle.xa_events.specs.Request.{ended, is_accept_of, is_end_of}
 use Rattle.xa_events.specs.Cases.{Case, AcceptCase, TakeCase, EndCase, AnswerCase, is_sound_outcome}
 use Rattle.xa_program.specs.PlaySetup.{play_setup}
-
--- the request of the n-th call of the one client
-abbrev pub request : ℕ → RequestId
-request n = record { caller = record { 0 = 1 }; number = n }
-
-abbrev pub accept : List ℕ → ℕ → Data → Accepted
-accept service n payload = record {
-  by = record { 0 = 1 }; op = n; request = request n; version = 1; service = service; queue = record { 0 = 1 };
-  routine = service; priority = 50; mode = Reply; payload = payload;
-}
-
-abbrev pub take_of : ℕ → Taken
-take_of n = record { request = request n; server = record { 0 = 1 }; generation = record { 0 = 1 }; k = n }
-
-abbrev pub end_with : ℕ → Outcome → Ended
-end_with n outcome = record { request = request n; server = record { 0 = 1 }; generation = record { 0 = 1 }; outcome = outcome }
-
-abbrev pub answer_of : ℕ → Answer → Answered
-answer_of n answer = record { by = record { 0 = 1 }; op = n; request = request n; answer = answer }
-
-abbrev pub at : List ℕ → ℕ → List Event → State
-at service clients past = record { setup = play_setup service; clients = clients; past = past }
-
--- between two calls: the server is idle, nothing waits and nothing is open, after n calls
-pub record IsQuiet (service : List ℕ) (clients n : ℕ) (past : List Event) : Type 0 where
-  pub board : changes past ≡ Put service 1 service ∷ []
-  pub server : doing 1 past ≡ Idle (record { 0 = 1 })
-  pub waits : waiting (play_setup service) 1 past ≡ []
-  pub taken : takes (play_setup service) 1 past ≡ n
-  pub up : is_down 1 past ≡ false
-  pub still : is_closed 1 past ≡ false
-  pub op : last_op 1 past ≡ n
-  pub sent : accepted 1 past ≡ n
-  pub open_client : opened 1 past ≡ []
-  pub open_server : opened (clients + 1) past ≡ []
-  pub seen : floor (play_setup service) 1 past ≡ 1
-  pub stays : has_left 1 past ≡ false
-  pub matched : (r : RequestId) → count (is_end_of r) past ≡ count (is_accept_of r) past
+use Rattle.xa_program.specs.Progress.{request, accept, take_of, end_with, answer_of, at, IsQuiet}
 
 -- during the n-th call: the server has its request in hand
 pub record IsServing (service : List ℕ) (n : ℕ) (past : List Event) : Type 0 where

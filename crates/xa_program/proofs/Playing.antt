@@ -31,35 +31,10 @@ use Rattle.xa_program.specs.Pipes.{frames_out, frames_in, next_frame, invoke_fra
 use Rattle.xa_program.specs.PlaySetup.{play_setup}
 use Rattle.xa_program.specs.Spoken.{lines_up_to}
 use Rattle.xa_program.proofs.Frames.{all_spelled-push}
-use Rattle.xa_program.proofs.Play.{at, request, accept, take_of, end_with, answer_of, IsQuiet, IsServing, IsEnded, accepted_case, take_case, serving, ends, answer_case, answered, end_case}
-use Rattle.xa_program.proofs.Told.{KnowsAnswers}
-use Rattle.xa_program.proofs.Served.{served, IsFresh, fresh_more, answers_more, lines_more, calls_more, order_more}
-use Rattle.xa_program.proofs.Pipes.{invocations, out_served, in_served, many_served, lives_served}
-
--- n calls were made and served, and nothing is under way; past is the history, the newest event first
-pub record IsPlayingAt (service name : List ℕ) (clients n : ℕ) (ops : List Op) (history past : List Event) (lines : List ℕ) (pipe : Piped) : Type 0 where
-  pub run : Run (opening (play_setup service) clients) history (at service clients past)
-  pub quiet : IsQuiet service clients n past
-  pub fresh : IsFresh n past
-  pub knows : KnowsAnswers n past
-  pub order : TakesInOrder (play_setup service) past
-  pub each : EachBecame (play_setup service) 1 1 ops past
-  pub many : length ops ≡ n
-  pub said : lines ≡ lines_up_to name 1 past n
-  pub wrote : Wrote pipe (frames_out 1 1 past)
-  pub read : HasRead pipe (frames_in (83 ∷ []) 1 1 past)
-  pub invoked : invocations past ≡ n
-  pub lives : lives_of past ≡ (1, 1) ∷ []
-
-abbrev pub IsPlaying : List ℕ → List ℕ → ℕ → ℕ → List Op → List Event → List ℕ → Piped → Type 0
-IsPlaying service name clients n ops history lines pipe = IsPlayingAt service name clients n ops history (reverse history) lines pipe
-
--- a call that may be served: of that service, with sound data and no flag that refuses it
-pub record IsBuilt (service : List ℕ) (ask : Ask) : Type 0 where
-  pub valid : is_invalid_call (play_setup service) ask ≡ false
-  pub named : ask.service ≡ service
-  pub plain : ask.expect ≡ None
-  pub sound : is_sound (play_setup service) ask.payload ≡ true
+use Rattle.xa_program.specs.Progress.{at, request, accept, take_of, end_with, answer_of, IsQuiet, IsPlayingAt, IsPlaying, IsBuilt}
+use Rattle.xa_program.proofs.Play.{IsServing, IsEnded, accepted_case, take_case, serving, ends, answer_case, answered, end_case}
+use Rattle.xa_program.proofs.Served.{served, fresh_more, answers_more, lines_more, calls_more, order_more}
+use Rattle.xa_program.proofs.Pipes.{out_served, in_served, many_served, lives_served}
 
 run_push : (es : List Event) (old mid : State) (e : Event) → Run old es mid → Case mid e → Run old (es ++ e ∷ []) (noted mid e)
 run_push [] old mid e run case = (subst (λ (s : State). Case s e) run case, ap (λ s. noted s e) run)

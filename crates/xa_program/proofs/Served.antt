@@ -27,18 +27,14 @@ use Rattle.xa_events.specs.Order.{TakesInOrder, next_of, first_of_highest}
 use Rattle.xa_program.specs.PlaySetup.{play_setup}
 use Rattle.xa_program.specs.Line.{line_text}
 use Rattle.xa_program.specs.Spoken.{lines_up_to}
-use Rattle.xa_program.proofs.Play.{request, accept, take_of, end_with, answer_of, IsQuiet, same_request-self, waits_one}
-use Rattle.xa_program.proofs.Told.{Keeps, KnowsAnswers, lines_kept, each_kept, each_more}
+use Rattle.xa_program.specs.Progress.{request, accept, take_of, end_with, answer_of, IsQuiet, IsFresh, KnowsAnswers}
+use Rattle.xa_program.proofs.Play.{same_request-self, waits_one}
+use Rattle.xa_program.proofs.Told.{Keeps, lines_kept, each_kept, each_more}
 
 -- the events of one call that is served, in front of those before it
 abbrev pub served : List ℕ → ℕ → Data → Outcome → Answer → List Event → List Event
 served service n payload outcome answer past =
     Answers (answer_of n answer) ∷ End (end_with n outcome) ∷ Take (take_of n) ∷ Accept (accept service n payload) ∷ past
-
--- nothing is there of the calls after the n-th
-pub record IsFresh (n : ℕ) (past : List Event) : Type 0 where
-  pub events : (m : ℕ) → n < m → events_of_op 1 m past ≡ []
-  pub over : (m : ℕ) → n < m → ended (request m) past ≡ None
 
 other : (m n : ℕ) → m ≤ n → ((n + 1) == m) ≡ false
 other m n low = ne_eqb (n + 1) m (λ e. absurd (omega arith))

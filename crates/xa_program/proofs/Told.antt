@@ -24,6 +24,7 @@ use Rattle.xa_events.specs.Calls.{is_op, events_of_op, Became, CallRefused, Each
 use Rattle.xa_events.specs.Said.{reply_at, reply_in}
 use Rattle.xa_program.specs.Line.{line_text}
 use Rattle.xa_program.specs.Spoken.{lines_up_to}
+use Rattle.xa_program.specs.Progress.{KnowsAnswers}
 
 -- the later list has what the earlier one has of the client's first n calls: their events, how their requests ended, what the board listed for them
 pub record Keeps (setup : Setup) (n : ℕ) (before after : List Event) : Type 0 where
@@ -32,10 +33,6 @@ pub record Keeps (setup : Setup) (n : ℕ) (before after : List Event) : Type 0 
   pub over : (r : RequestId) (o : Outcome) → ended r before ≡ Some o → ended r after ≡ Some o
   pub sent : (r : RequestId) → r.number ≤ n → sent_by_op r after ≡ sent_by_op r before
   pub listed : (v : ℕ) (service : List ℕ) → listed_in setup before v service false ≡ [] → listed_in setup after v service false ≡ []
-
--- each answer to the first calls is of one of the first requests
-abbrev pub KnowsAnswers : ℕ → List Event → Type 0
-KnowsAnswers n past = (m : ℕ) (a : Answered) → latest (is_op 1 m) past ≡ Some (Answers a) → a.request.number ≤ n
 
 reply_kept : (setup : Setup) (n : ℕ) (before after : List Event) → Keeps setup n before after → (e : Option Event) → ((a : Answered) → e ≡ Some (Answers a) → a.request.number ≤ n) → reply_in after e ≡ reply_in before e
 reply_kept setup n before after k None own = refl

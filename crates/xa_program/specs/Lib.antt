@@ -3,6 +3,7 @@ pub mod Line
 pub mod Pipe
 pub mod Pipes
 pub mod PlaySetup
+pub mod Progress
 pub mod Script
 pub mod ScriptLine
 pub mod Spoken

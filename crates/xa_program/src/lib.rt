@@ -1,11 +1,12 @@
 //! The program around the machine: what it is asked, what its script says, how it runs, and what it prints.
 #![tactic(auto)]
 
+mod calls;
 mod halt;
 mod life;
 mod line;
 mod pipe;
-mod play;
+
 mod script;
 mod script_line;
 mod status;
