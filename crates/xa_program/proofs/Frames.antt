@@ -14,13 +14,13 @@ read_here octets before after frames f read stood =
 
 -- one more frame was read
 pub read_more : (gave now : Option (List ℕ)) (before after : List ℕ) (frames : List Frame) (f : Frame) → now ≡ gave → before ≡ spelled f ++ after
-  → IfSome gave (λ octets. octets ≡ all_spelled frames ++ before) → IfSome now (λ octets. octets ≡ all_spelled (frames ++ f ∷ []) ++ after)
+    → IfSome gave (λ octets. octets ≡ all_spelled frames ++ before) → IfSome now (λ octets. octets ≡ all_spelled (frames ++ f ∷ []) ++ after)
 read_more None now before after frames f same stood read = subst (λ o. IfSome o (λ octets. octets ≡ all_spelled (frames ++ f ∷ []) ++ after)) (sym same) tt
 read_more (Some octets) now before after frames f same stood read =
     subst (λ o. IfSome o (λ octets. octets ≡ all_spelled (frames ++ f ∷ []) ++ after)) (sym same) (read_here octets before after frames f read stood)
 
 -- what was read stays so where nothing more was
 pub read_same : (gave now : Option (List ℕ)) (before after : List ℕ) (frames : List Frame) → now ≡ gave → after ≡ before
-  → IfSome gave (λ octets. octets ≡ all_spelled frames ++ before) → IfSome now (λ octets. octets ≡ all_spelled frames ++ after)
+    → IfSome gave (λ octets. octets ≡ all_spelled frames ++ before) → IfSome now (λ octets. octets ≡ all_spelled frames ++ after)
 read_same gave now before after frames same rest read =
     subst (λ xs. IfSome now (λ octets. octets ≡ all_spelled frames ++ xs)) (sym rest) (subst (λ o. IfSome o (λ octets. octets ≡ all_spelled frames ++ before)) (sym same) read)

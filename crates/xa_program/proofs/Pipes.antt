@@ -37,7 +37,7 @@ module _ (service : List ℕ) (n : ℕ) (payload : Data) (past : List Event) (ma
 
   -- a RETURN and a NEXT for the end
   pub in_served : (name : List ℕ) (code : ℤ) (back : Data) (answer : Answer)
-    → frames_in name 1 1 (served service (n + 1) payload (Returned code back) answer past) ≡ frames_in name 1 1 past ++ return_frame (n + 1) code back ∷ next_frame ∷ []
+      → frames_in name 1 1 (served service (n + 1) payload (Returned code back) answer past) ≡ frames_in name 1 1 past ++ return_frame (n + 1) code back ∷ next_frame ∷ []
   in_served name code back answer = append-nil _ ∙ (rw (number_now, append-nil (frames_in name 1 1 past), append-nil (frames_in name 1 1 past)) refl)
 
 pub out_closed : (past : List Event) → frames_out 1 1 (closed past) ≡ frames_out 1 1 past ++ shutdown_frame ∷ []

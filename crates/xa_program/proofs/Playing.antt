@@ -65,11 +65,16 @@ module _ (service : List ℕ) (n : ℕ) (payload : Data) (code : ℤ) (back : Da
   cases_served =
       let held = serving service n payload past quiet in
       let over = ends service (n + 1) (Returned code back) (Take (take_of (n + 1)) ∷ Accept (accept service (n + 1) payload) ∷ past) held in
-      let booted : length (changes past) ≡ 1 = ap length quiet.board in
-      (record { boot = omega (arith, booted); kind = accepted_case service n payload past quiet carried },
-      (record { boot = omega (arith, booted); kind = take_case service n payload past quiet },
-      (record { boot = omega (arith, booted); kind = end_case service (n + 1) (Returned code back) (Take (take_of (n + 1)) ∷ Accept (accept service (n + 1) payload) ∷ past) held sound },
-      (record { boot = omega (arith, booted); kind = answer_case service (n + 1) (Returned code back) (Idle (record { 0 = 1 })) (Success code back) (End (end_with (n + 1) (Returned code back)) ∷ Take (take_of (n + 1)) ∷ Accept (accept service (n + 1) payload) ∷ past) over refl }, refl))))
+      let booted : length (changes past) ≡ 1 = ap length quiet.board in (
+        record { boot = omega (arith, booted); kind = accepted_case service n payload past quiet carried },
+        (
+          record { boot = omega (arith, booted); kind = take_case service n payload past quiet },
+          (
+            record { boot = omega (arith, booted); kind = end_case service (n + 1) (Returned code back) (Take (take_of (n + 1)) ∷ Accept (accept service (n + 1) payload) ∷ past) held sound },
+            (record { boot = omega (arith, booted); kind = answer_case service (n + 1) (Returned code back) (Idle (record { 0 = 1 })) (Success code back) (End (end_with (n + 1) (Returned code back)) ∷ Take (take_of (n + 1)) ∷ Accept (accept service (n + 1) payload) ∷ past) over refl }, refl),
+          ),
+        ),
+      )
 
   pub quiet_served : IsQuiet service 1 (n + 1) (served service (n + 1) payload (Returned code back) (Success code back) past)
   quiet_served =
@@ -92,18 +97,46 @@ playing_more service name n ops ask code back history lines before after old bui
     let told = Success code back in
     let now = served service (n + 1) ask.payload outcome told past in
     subst (λ (xs : List Event). IsPlayingAt service name 1 (n + 1) (ops ++ Call ask ∷ []) (history ++ in_order service (n + 1) ask.payload code back) xs (lines ++ line_text name (n + 1) (AnsweredReply 0 told)) after)
-      (sym (reverse_order history (Accept (accept service (n + 1) ask.payload)) (Take (take_of (n + 1))) (End (end_with (n + 1) outcome)) (Answers (answer_of (n + 1) told))))
-      (record {
-        run = run_append history (in_order service (n + 1) ask.payload code back) (opening (play_setup service) 1) (at service 1 past) (at service 1 now) old.run (cases_served service n ask.payload code back past old.quiet built.sound sound);
-        quiet = quiet_served service n ask.payload code back past old.quiet built.sound sound;
-        fresh = fresh_more service n ask.payload outcome told past old.fresh;
-        knows = answers_more service n ask.payload outcome told past old.knows;
-        order = order_more service n ask.payload outcome told past old.quiet.waits old.order;
-        each = calls_more service n ask.payload outcome told past ops ask old.many old.fresh built.valid built.named refl (told_plain ask.expect code back built.plain) old.each;
-        many = length_push ops (Call ask) ∙ ap (λ k. k + 1) old.many;
-        said = ap (λ front. front ++ line_text name (n + 1) (AnsweredReply 0 told)) old.said ∙ sym (lines_more service n ask.payload outcome told past name old.fresh old.knows);
-        wrote = subst (λ frames. Wrote after frames) (sym (out_served service n ask.payload past old.invoked small outcome told)) (wrote_more before.took after.took (frames_out 1 1 past) (invoke_frame service (n + 1) ask.payload) old.wrote took);
-        read = subst (λ frames. HasRead after frames) (sym (in_served service n ask.payload past old.invoked small (83 ∷ []) code back told)) (gave (frames_in (83 ∷ []) 1 1 past) old.read);
-        invoked = many_served service n ask.payload past old.invoked small outcome told;
-        lives = lives_served service (n + 1) ask.payload outcome told past ∙ old.lives;
-      })
+    (sym (reverse_order history (Accept (accept service (n + 1) ask.payload)) (Take (take_of (n + 1))) (End (end_with (n + 1) outcome)) (Answers (answer_of (n + 1) told))))
+    (record {
+      run = run_append history (in_order service (n + 1) ask.payload code back) (opening (play_setup service) 1) (at service 1 past) (at service 1 now) old.run (cases_served service n ask.payload code back past old.quiet built.sound sound);
+      quiet = quiet_served service n ask.payload code back past old.quiet built.sound sound;
+      fresh = fresh_more service n ask.payload outcome told past old.fresh;
+      knows = answers_more service n ask.payload outcome told past old.knows;
+      order = order_more service n ask.payload outcome told past old.quiet.waits old.order;
+      each = calls_more service n ask.payload outcome told past ops ask old.many old.fresh built.valid built.named refl (told_plain ask.expect code back built.plain) old.each;
+      many = length_push ops (Call ask) ∙ ap (λ k. k + 1) old.many;
+      said = ap (λ front. front ++ line_text name (n + 1) (AnsweredReply 0 told)) old.said ∙ sym (lines_more service n ask.payload outcome told past name old.fresh old.knows);
+      wrote = subst (λ frames. Wrote after frames) (sym (out_served service n ask.payload past old.invoked small outcome told)) (wrote_more before.took after.took (frames_out 1 1 past) (invoke_frame service (n + 1) ask.payload) old.wrote took);
+      read = subst (λ frames. HasRead after frames) (sym (in_served service n ask.payload past old.invoked small (83 ∷ []) code back told)) (gave (frames_in (83 ∷ []) 1 1 past) old.read);
+      invoked = many_served service n ask.payload past old.invoked small outcome told;
+      lives = lives_served service (n + 1) ask.payload outcome told past ∙ old.lives;
+    })
+
+-- what the steps of the call with that number did
+pub record IsCarried (service name : List ℕ) (number : ℕ) (ask : Ask) (code : ℤ) (back : Data) (history taken ended : List Event) (lines printed : List ℕ) (before after : Piped) : Type 0 where
+  pub small : number < 2 ^ 32
+  pub taken_so : taken ≡ history ++ Accept (accept service number ask.payload) ∷ Take (take_of number) ∷ []
+  pub ended_so : ended ≡ taken ++ End (end_with number (Returned code back)) ∷ Answers (answer_of number (Success code back)) ∷ []
+  pub printed_so : printed ≡ lines ++ line_text name number (AnsweredReply 0 (Success code back))
+  pub took : Grew before.took after.took (spelled (invoke_frame service number ask.payload))
+  pub gave : (frames : List Frame) → HasRead before frames → HasRead after (frames ++ return_frame number code back ∷ next_frame ∷ [])
+
+playing_carried : (service name : List ℕ) (n : ℕ) (ops : List Op) (ask : Ask) (code : ℤ) (back : Data) (history taken ended : List Event) (lines printed : List ℕ) (before after : Piped)
+    → IsBuilt service ask → is_sound (play_setup service) back ≡ true → IsPlaying service name 1 n ops history lines before → IsCarried service name (n + 1) ask code back history taken ended lines printed before after
+    → IsPlaying service name 1 (n + 1) (ops ++ Call ask ∷ []) ended printed after
+playing_carried service name n ops ask code back history taken ended lines printed before after built sound old step =
+    let whole : ended ≡ history ++ in_order service (n + 1) ask.payload code back =
+      (step.ended_so ∙ ap (λ (front : List Event). front ++ End (end_with (n + 1) (Returned code back)) ∷ Answers (answer_of (n + 1) (Success code back)) ∷ []) step.taken_so)
+      ∙ append_assoc history (Accept (accept service (n + 1) ask.payload) ∷ Take (take_of (n + 1)) ∷ []) (End (end_with (n + 1) (Returned code back)) ∷ Answers (answer_of (n + 1) (Success code back)) ∷ []) in
+    subst (λ (es : List Event). IsPlaying service name 1 (n + 1) (ops ++ Call ask ∷ []) es printed after) (sym whole)
+      (subst (λ (text : List ℕ). IsPlaying service name 1 (n + 1) (ops ++ Call ask ∷ []) (history ++ in_order service (n + 1) ask.payload code back) text after) (sym step.printed_so)
+        (playing_more service name n ops ask code back history lines before after old built sound step.small step.took step.gave))
+
+-- one call, by its number
+pub playing_call : (service name : List ℕ) (number n : ℕ) (ops : List Op) (ask : Ask) (code : ℤ) (back : Data) (history taken ended : List Event) (lines printed : List ℕ) (before after : Piped)
+    → number ≡ n + 1 → IsBuilt service ask → is_sound (play_setup service) back ≡ true → IsPlaying service name 1 n ops history lines before → IsCarried service name number ask code back history taken ended lines printed before after
+    → IsPlaying service name 1 (n + 1) (ops ++ Call ask ∷ []) ended printed after
+playing_call service name number n ops ask code back history taken ended lines printed before after is built sound old step =
+    playing_carried service name n ops ask code back history taken ended lines printed before after built sound old
+      (subst (λ (k : ℕ). IsCarried service name k ask code back history taken ended lines printed before after) is step)

@@ -38,8 +38,16 @@ request n = record { caller = record { 0 = 1 }; number = n }
 
 abbrev pub accept : List ℕ → ℕ → Data → Accepted
 accept service n payload = record {
-  by = record { 0 = 1 }; op = n; request = request n; version = 1; service = service; queue = record { 0 = 1 };
-  routine = service; priority = 50; mode = Reply; payload = payload;
+  by = record { 0 = 1 };
+  op = n;
+  request = request n;
+  version = 1;
+  service = service;
+  queue = record { 0 = 1 };
+  routine = service;
+  priority = 50;
+  mode = Reply;
+  payload = payload;
 }
 
 abbrev pub take_of : ℕ → Taken

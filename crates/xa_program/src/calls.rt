@@ -20,10 +20,12 @@ use xa_types::{
 };
 
 const CLIENT: CallerId = CallerId(1);
-const SERVER: ServerId = ServerId(1);
-const QUEUE: QueueId = QueueId(1);
-const LIFE: Generation = Generation(1);
 
+const SERVER: ServerId = ServerId(1);
+
+const QUEUE: QueueId = QueueId(1);
+
+const LIFE: Generation = Generation(1);
 
 // Notes that the queue accepts the request of a call, and that the server takes it.
 fn note_taken(
@@ -59,5 +61,109 @@ fn note_taken(
         generation: LIFE,
         k: u64::from(number),
     }))?;
+    Ok(())
+}
+
+// Notes that the request ended as its service returned and that its caller was told, and prints the call's line.
+fn note_answered(
+    alloc: Global,
+    history: &mut Vec<Event>,
+    lines: &mut Vec<u8>,
+    name: &Name,
+    number: u32,
+    code: i32,
+    payload: Data,
+) -> Result<(), Halt>
+    ensures history { OnOk result (history.new.items ≡ history.old.items ++ End (end_with number (Returned code payload)) ∷ AnswerEvent (answer_of number (Success code payload)) ∷ []) }
+    ensures lines { OnOk result (lines.new.items ≡ lines.old.items ++ line_text name.now number (AnsweredReply 0 (Success code payload))) }
+{
+    note_end(
+        history,
+        number,
+        Outcome::Returned(code, payload.copy(alloc)?),
+    )?;
+    say_success(alloc, lines, name, number, code, &payload)?;
+    note_answer(history, number, Answer::Success(code, payload))?;
+    Ok(())
+}
+
+fn say_success(
+    alloc: Global,
+    lines: &mut Vec<u8>,
+    name: &Name,
+    number: u32,
+    code: i32,
+    payload: &Data,
+) -> Result<(), Halt>
+    ensures { OnOk result (lines.new.items ≡ lines.old.items ++ line_text name.now number (AnsweredReply 0 (Success code payload.now))) }
+{
+    let reply = Reply::Answered(0, Answer::Success(code, payload.copy(alloc)?));
+    push_line(lines, name, number, &reply)?;
+    Ok(())
+}
+
+fn note_end(history: &mut Vec<Event>, number: u32, outcome: Outcome) -> Result<(), Halt>
+    ensures { OnOk result (history.new.items ≡ history.old.items ++ End (end_with number outcome) ∷ []) }
+{
+    history.push(Event::End(Ended {
+        request: RequestId {
+            caller: CLIENT,
+            number: u64::from(number),
+        },
+        server: SERVER,
+        generation: LIFE,
+        outcome,
+    }))?;
+    Ok(())
+}
+
+fn note_answer(history: &mut Vec<Event>, number: u32, answer: Answer) -> Result<(), Halt>
+    ensures { OnOk result (history.new.items ≡ history.old.items ++ AnswerEvent (answer_of number answer) ∷ []) }
+{
+    history.push(Event::Answer(Answered {
+        by: CLIENT,
+        op: number,
+        request: RequestId {
+            caller: CLIENT,
+            number: u64::from(number),
+        },
+        answer,
+    }))?;
+    Ok(())
+}
+
+/// What a run has come to: its events, and the lines that are due to the sink.
+#[derive(Drop)]
+pub struct Account {
+    pub history: Vec<Event>,
+    pub lines: Vec<u8>,
+}
+
+/// Makes one call: its request is accepted, taken, sent to the server's program, ended as that returns, and answered.
+pub fn call<L: Link>(
+    alloc: Global,
+    pipe: &mut Pipe<L>,
+    account: &mut Account,
+    service: &Name,
+    name: &Name,
+    number: u32,
+    ask: &Ask,
+) -> Result<(), Halt>
+    requires { IsBuilt service.now ask.now }
+    ensures { OnOk result ((n : ℕ) (ops : List Op) → number ≡ n + 1
+        → IsPlaying service.now name.now 1 n ops account.old.history.items account.old.lines.items pipe.old
+        → IsPlaying service.now name.now 1 (n + 1) (ops ++ CallOp ask.now ∷ []) account.new.history.items account.new.lines.items pipe.new) }
+{
+    note_taken(alloc, &mut account.history, service, number, &ask.payload)?;
+    let (code, payload) = pipe.invoke(alloc, service, number, &ask.payload)?;
+    note_answered(
+        alloc,
+        &mut account.history,
+        &mut account.lines,
+        name,
+        number,
+        code,
+        payload,
+    )?;
     Ok(())
 }

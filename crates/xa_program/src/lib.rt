@@ -6,7 +6,6 @@ mod halt;
 mod life;
 mod line;
 mod pipe;
-
 mod script;
 mod script_line;
 mod status;

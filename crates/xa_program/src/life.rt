@@ -1,5 +1,6 @@
 // What the monitor says to the program of a server in a life that is plain, and what it hears.
-ghost use Rattle.std.specs.Prelude.{◌≡◌, ◌++◌, ◌∷◌, [], ℕ, List, IfOk, OnOk, true};
+ghost use Rattle.std.specs.Prelude.{◌≡◌, ◌++◌, ◌∷◌, [], ℕ, List, IfOk, OnOk, true, FitsSigned};
+ghost use Rattle.std.specs.Int.{w32};
 ghost use Rattle.xa_link.specs.Told.{Grew};
 ghost use Rattle.xa_types.specs.Kind.{is_sound};
 ghost use Rattle.xa_frame.specs.declared.frame.Frame.{Frame};
@@ -55,6 +56,7 @@ impl<L: Link> Pipe<L> {
         ensures read { IfOk result (λ back. (frames : List Frame) → HasRead self.old frames
             → HasRead self.new (frames ++ return_frame number back.0 back.1 ∷ next_frame ∷ [])) }
         ensures sound { IfOk result (λ back. is_sound (play_setup service.now) back.1 ≡ true) }
+        ensures fits { IfOk result (λ back. FitsSigned w32 back.0) }
     {
         self.send(alloc, service, number, payload)?;
         let back = self.read_return(number)?;
@@ -130,6 +132,7 @@ impl<L: Link> Pipe<L> {
     fn read_return(&mut self, number: u32) -> Result<(i32, Data), Halt>
         ensures read { IfOk result (λ back. (frames : List Frame) → HasRead self.old frames → HasRead self.new (frames ++ return_frame number back.0 back.1 ∷ [])) }
         ensures sound { IfOk result (λ back. (service : List ℕ) → is_sound (play_setup service) back.1 ≡ true) }
+        ensures fits { IfOk result (λ back. FitsSigned w32 back.0) }
         ensures took { self.new.took ≡ self.old.took }
     {
         let Frame { tag, body } = self.read()?;

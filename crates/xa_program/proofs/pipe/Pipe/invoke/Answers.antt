@@ -11,5 +11,5 @@ returns-clause-took g c = (c.read_next.ensures.took ∙ c.read_return.ensures.to
 pub returns-clause-read : goal.returns-clause-read
 returns-clause-read g c frames read =
     subst (λ (fs : List Frame). HasRead c.read_next.new.self fs) (append_assoc frames (return_frame c.args.number c.in_ok-back.back.0 c.in_ok-back.back.1 ∷ []) (next_frame ∷ []))
-      (c.in_ok-read_next.ensures.read (frames ++ return_frame c.args.number c.in_ok-back.back.0 c.in_ok-back.back.1 ∷ []) (c.in_ok-back.ensures.read frames
-        (read_same c.args.self.now.gave c.send.new.self.gave c.args.self.now.rest c.send.new.self.rest frames c.in_ok-send.ensures.gave c.in_ok-send.ensures.rest read)))
+    (c.in_ok-read_next.ensures.read (frames ++ return_frame c.args.number c.in_ok-back.back.0 c.in_ok-back.back.1 ∷ []) (c.in_ok-back.ensures.read frames
+    (read_same c.args.self.now.gave c.send.new.self.gave c.args.self.now.rest c.send.new.self.rest frames c.in_ok-send.ensures.gave c.in_ok-send.ensures.rest read)))
