@@ -1,4 +1,5 @@
 pub mod Draft
+pub mod Headline
 pub mod Line
 pub mod Pipe
 pub mod Pipes

@@ -5,6 +5,7 @@ mod calls;
 mod halt;
 mod life;
 mod line;
+mod outcome;
 mod pipe;
 mod script;
 mod script_line;
@@ -12,6 +13,7 @@ mod status;
 mod words;
 
 pub use line::push_line;
+pub use outcome::{Life, Outcome};
 pub use script::{Client, Script, ScriptRefused};
 pub use status::{Input, Status};
 pub use words::{Command, read_words};
