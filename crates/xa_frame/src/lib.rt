@@ -33,3 +33,6 @@ pub use laws::one_frame;
 pub use reader::Reader;
 pub use writing::encode;
 
+
+#[cfg(test)]
+mod tests;
