@@ -3,12 +3,19 @@ ghost use Rattle.xa_frame.specs.declared.frame.Frame.{Frame};
 ghost use Rattle.xa_frame.specs.Spelling.{spelled, HasSpelling};
 ghost use Rattle.xa_frame.specs.Stream.{IsPartial, IsMalformed, Begins, Answered};
 
-use crate::fault::{NextRefused, ReadError};
 use crate::frame::Frame;
-use crate::reading::frame_after;
+use crate::reading::{ReadError, frame_after};
 use std::alloc::Global;
 use std::marker::Model;
 use xa_types::NoMemory;
+
+/// Why a reader gives no frame.
+#[derive(Clone, Copy, Debug, PartialEq, Eq)]
+pub enum NextRefused {
+    /// What stands at this place is no frame. The place counts the octets of the frames before it.
+    BadFrame(u64),
+    NoMemory,
+}
 
 /// Reads frames from a stream of octets that comes in pieces.
 #[derive(Debug, Drop)]
