@@ -1,8 +1,8 @@
 -- What stands first in octets: headers, and whole frames.
 use Rattle.std.proofs.Common.{◌≡◌, ℕ, ◌+◌, ◌^◌, ◌<◌, ◌≤◌, Bool, true, false, cond, ltb, leb, eqb, ◌&&◌, ◌||◌, List, [], ◌∷◌, ◌++◌, length, take, drop, Option, Some, None, Result, Ok, Err, refl, sym, ap, subst, ◌∙◌, append_assoc, arith, inl, inr}
-use Rattle.std.proofs.lemmas.Bool.{ltb-false, le-ltb, eqb-true, leb-true, le-leb, and_parts, or_cases, or_left, ltb-true, lt-ltb, eq-eqb, cond-true, cond-false}
+use Rattle.std.proofs.lemmas.Bool.{cases_lt, ltb-false, le-ltb, eqb-true, leb-true, le-leb, and_parts, or_cases, or_left, ltb-true, lt-ltb, eq-eqb, cond-true, cond-false}
 use Rattle.std.proofs.lemmas.Option.{cond_some}
-use Rattle.std.proofs.lemmas.List.{take_at, length-append, length-take, length-drop, take-append-drop, append_cancel_left, drop-drop}
+use Rattle.std.proofs.lemmas.List.{take-append-le, take_at, length-append, length-take, length-drop, take-append-drop, append_cancel_left, drop-drop}
 use Rattle.byteorder.specs.Endian.{big_bytes}
 use Rattle.xa_frame.specs.declared.frame.Frame.{Frame}
 use Rattle.xa_frame.specs.declared.frame.Body.{Body}
@@ -322,3 +322,42 @@ within octets taken n f le h =
     let all = ap length h.begins.whole in
     let parts = length-append (spelled f) (drop n (drop taken octets)) in
     omega (arith, h.size, length-drop taken octets, all, parts)
+
+-- ---- what follows changes nothing
+
+-- of two ways to cut one list, the longer front begins with the shorter
+prefixed : (a x b y : List ℕ) → a ++ x ≡ b ++ y → length b ≤ length a → a ≡ b ++ drop (length b) a
+prefixed a x b y e le =
+    let front : take (length b) a ≡ b = sym (take-append-le (length b) a x le) ∙ ap (take (length b)) e ∙ take_at b y (length b) refl in
+    sym (take-append-drop (length b) a) ∙ ap (λ (t : List ℕ). t ++ drop (length b) a) front
+
+headed_short : (octets more body : List ℕ) (kind size tag : ℕ) → allows kind size ≡ true → tag < 2 ^ 32 → octets ++ more ≡ header kind size tag ++ body → length octets < 12 + size → IsPartial octets
+headed_short octets more body kind size tag sound tag_fits e short =
+    elim (cases_lt (length octets) 12) [
+      | inl lt ↦ inl lt
+      | inr le ↦ inr (kind, size, tag, drop 12 octets, record { sound = sound; tag_fits = tag_fits; whole = prefixed octets more (header kind size tag) body e le; short = omega (arith, length-drop 12 octets) })
+    ]
+
+still_partial : (octets more : List ℕ) → IsPartial (octets ++ more) → IsPartial octets
+still_partial octets more (inl short) = inl (omega (arith, length-append octets more))
+still_partial octets more (inr h) =
+    let l = h.4 in
+    let all = ap length l.whole in
+    let parts = length-append octets more in
+    let text = length-append (header h.0 h.1 h.2) h.3 in
+    headed_short octets more h.3 h.0 h.1 h.2 l.sound l.tag_fits l.whole (omega (arith, l.short, all, parts, text))
+
+pub still_malformed : (octets more : List ℕ) → IsMalformed octets → IsMalformed (octets ++ more)
+still_malformed octets more h = record {
+  not_partial = λ p. h.not_partial (still_partial octets more p);
+  not_whole = λ f rest b. elim (cases_lt (length octets) (length (spelled f))) [
+    | inl lt ↦ h.not_partial (cut f rest b lt)
+    | inr le ↦ h.not_whole f (drop (length (spelled f)) octets) (record { spelling = b.spelling; whole = prefixed octets more (spelled f) rest b.whole le })
+  ];
+} where
+  cut : (f : Frame) (rest : List ℕ) → Begins (octets ++ more) f rest → length octets < length (spelled f) → IsPartial octets
+  cut f rest b lt =
+      let size = length (body_octets f.body) in
+      let sound : allows (kind_octet f.body) size ≡ true = ap (λ (k : ℕ). allows k size) (sym (kind_octets f.body)) ∙ allows_kind (kind_is f.body) size (body_short f.body b.spelling.body) in
+      let text = length-append (header (kind_octet f.body) size f.tag) (body_octets f.body) in
+      headed_short octets more (body_octets f.body ++ rest) (kind_octet f.body) size f.tag sound b.spelling.tag (b.whole ∙ append_assoc (header (kind_octet f.body) size f.tag) (body_octets f.body) rest) (omega (arith, lt, text))

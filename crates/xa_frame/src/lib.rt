@@ -27,7 +27,7 @@ mod reading;
 mod writing;
 
 pub use frame::{Body, Frame};
-pub use laws::one_frame;
+pub use laws::{malformed_for_ever, one_frame};
 pub use reader::{NextRefused, Reader};
 pub use writing::encode;
 

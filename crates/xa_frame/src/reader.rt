@@ -97,8 +97,9 @@ impl Reader {
         }
     }
 
-    /// The next frame; `None` where more octets are to come, for which it looks at a header alone. `BadFrame` comes
-    /// where no frame stands, whatever follows, and again at each later call.
+    /// The next frame, which is taken; `None` where it isn't whole, for which a look at the header is enough. `BadFrame`
+    /// comes where no frame stands, and by `malformed_for_ever` again at each later call. After an `Err` or `None` the
+    /// reader is as it was, and memory runs out only where a frame stands.
     pub fn next(&mut self) -> Result<Option<Frame>, NextRefused>
         ensures answered { Answered self.old self.new result }
         ensures partial { IsPartial self.old.rest → result ≡ Ok None }
