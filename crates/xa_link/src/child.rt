@@ -75,8 +75,7 @@ pub struct ChildStarter<R: Processes + Files + AllocGlobal> {
 }
 
 impl<R: Processes + Files + AllocGlobal> ChildStarter<R> {
-    // A path of the monitor that can't be started, as a word that is no path, is no failure: the system knows where
-    // its program is.
+    // A word of the monitor that can't be started is no failure, since the system knows where its program is.
     fn launch(&self, server: &Name) -> Result<ChildLink<R::Started>, StartRefused>
         ensures { IfOk result (λ l. (l.from.faults ≡ 0) × (l.to.faults ≡ 0)) }
     {

@@ -21,7 +21,9 @@ pub struct FileShelf<R: Files> {
 }
 
 impl<R: Files> FileShelf<R> {
-    pub fn new(rt: R, alloc: Global) -> FileShelf<R> {
+    pub fn new(rt: R, alloc: Global) -> FileShelf<R>
+        ensures { ⟦<FileShelf<R> as Shelf>⟧.shelf_faults result ≡ 0 }
+    {
         FileShelf {
             rt,
             alloc,

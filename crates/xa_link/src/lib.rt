@@ -13,6 +13,8 @@ mod sink;
 mod source;
 mod starter;
 mod stream;
+#[cfg(test)]
+mod tests;
 
 pub use child::{ChildLink, ChildStarter, ChildYard};
 pub use file::FileShelf;
