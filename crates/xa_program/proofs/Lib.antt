@@ -5,4 +5,5 @@ pub mod Served
 pub mod Ends
 pub mod Pipes
 pub mod Playing
+pub mod Over
 pub mod ScriptText

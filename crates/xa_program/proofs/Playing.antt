@@ -111,6 +111,7 @@ playing_more service name n ops ask code back history lines before after old bui
       read = subst (λ frames. HasRead after frames) (sym (in_served service n ask.payload past old.invoked small (83 ∷ []) code back told)) (gave (frames_in (83 ∷ []) 1 1 past) old.read);
       invoked = many_served service n ask.payload past old.invoked small outcome told;
       lives = lives_served service (n + 1) ask.payload outcome told past ∙ old.lives;
+        failed = old.failed;
     })
 
 -- what the steps of the call with that number did
