@@ -1,6 +1,9 @@
 -- From the boot to the first call, and from the last call to the end.
 use Rattle.std.proofs.Common.{◌≡◌, ℕ, ◌+◌, true, List, [], ◌∷◌, ◌++◌, length, reverse, Option, Some, None, refl, sym, ◌∙◌, ap, subst, append-nil, append_assoc, arith}
-use Rattle.std.specs.Prelude.{IfSome}
+use Rattle.std.specs.Prelude.{IfSome, MatchOption}
+use Rattle.std.specs.Option.{option_copied}
+use Rattle.std.specs.List.{slice_get}
+use Rattle.std.specs.Borrow.{Bor}
 use Rattle.std.proofs.lemmas.List.{reverse-append}
 use Rattle.xa_link.specs.Told.{Grew}
 use Rattle.xa_types.specs.declared.call.Op.{Op}
@@ -21,11 +24,11 @@ use Rattle.xa_program.specs.Headline.{IsHistoryAt, EachMadeCalls, names_of}
 use Rattle.xa_program.specs.Pipe.{Piped, Wrote, HasRead}
 use Rattle.xa_program.specs.Pipes.{frames_out, frames_in, shutdown_frame, greeting, lives_of, failed_starts, IsLife}
 use Rattle.xa_program.specs.PlaySetup.{play_setup}
-use Rattle.xa_program.specs.Progress.{at, advertise, start, stop, IsQuiet, IsPlaying, IsOver}
+use Rattle.xa_program.specs.Progress.{at, advertise, start, stop, closed, IsQuiet, IsLeft, IsPlaying, IsLeavingAt, IsLeaving, IsBuiltScript, IsOnly, IsOver}
 use Rattle.xa_program.specs.Spoken.{spoken, lines_up_to}
 use Rattle.xa_program.proofs.Frames.{read_same}
 use Rattle.xa_program.proofs.Told.{each_kept, lines_kept}
-use Rattle.xa_program.proofs.Ends.{begun, closed, advertise_case, start_case, quiet_begun, fresh_begun, knows_begun, order_begun, IsLeft, left_none, left_one, leave_case, close_case, stop_case, final, keeps_leave, keeps_closed, last_op_leave, last_op_closed}
+use Rattle.xa_program.proofs.Ends.{begun, advertise_case, start_case, quiet_begun, fresh_begun, knows_begun, order_begun, left_none, left_one, leave_case, close_case, stop_case, final, keeps_leave, keeps_closed, last_op_leave, last_op_closed}
 use Rattle.xa_program.proofs.Pipes.{out_closed, in_closed, lives_closed}
 use Rattle.xa_program.proofs.Playing.{run_append, wrote_more}
 
@@ -47,19 +50,10 @@ playing_begun service name clients pipe wrote read = record {
   failed = refl;
 }
 
--- all clients have left, and nothing is under way
-pub record IsLeaving (service : List ℕ) (clients : List Client) (history past : List Event) (lines : List ℕ) (pipe : Piped) : Type 0 where
-  pub run : Run (opening (play_setup service) (length clients)) history (at service (length clients) past)
-  pub left : IsLeft service (length clients) past
-  pub order : TakesInOrder (play_setup service) past
-  pub calls : EachMadeCalls (play_setup service) 1 clients (closed past)
-  pub said : lines ≡ spoken (names_of clients) (closed past)
-  pub wrote : Wrote pipe (frames_out 1 1 past)
-  pub read : HasRead pipe (frames_in (83 ∷ []) 1 1 past)
-  pub lives : lives_of past ≡ (1, 1) ∷ []
-  pub failed : failed_starts 1 past ≡ 0
+pub reverse_one : (history : List Event) (a : Event) → reverse (history ++ a ∷ []) ≡ a ∷ reverse history
+reverse_one history a = reverse-append history (a ∷ [])
 
-pub leaving_none : (service name : List ℕ) (history : List Event) (lines : List ℕ) (pipe : Piped) → IsPlaying service name 0 0 [] history lines pipe → IsLeaving service [] history (reverse history) lines pipe
+pub leaving_none : (service name : List ℕ) (history : List Event) (lines : List ℕ) (pipe : Piped) → IsPlaying service name 0 0 [] history lines pipe → IsLeaving service [] history lines pipe
 leaving_none service name history lines pipe old = record {
   run = old.run;
   left = left_none service 0 (reverse history) old.quiet;
@@ -73,11 +67,11 @@ leaving_none service name history lines pipe old = record {
 }
 
 pub leaving_one : (service name : List ℕ) (n : ℕ) (ops : List Op) (history : List Event) (lines : List ℕ) (pipe : Piped) → IsPlaying service name 1 n ops history lines pipe
-    → IsLeaving service ((record { name = name; ops = ops }) ∷ []) (history ++ Leave (record { 0 = 1 }) ∷ []) (Leave (record { 0 = 1 }) ∷ reverse history) lines pipe
+    → IsLeaving service ((record { name = name; ops = ops }) ∷ []) (history ++ Leave (record { 0 = 1 }) ∷ []) lines pipe
 leaving_one service name n ops history lines pipe old =
     let past = reverse history in
     let gone = Leave (record { 0 = 1 }) ∷ past in
-    record {
+    subst (λ (es : List Event). IsLeavingAt service ((record { name = name; ops = ops }) ∷ []) (history ++ Leave (record { 0 = 1 }) ∷ []) es lines pipe) (sym (reverse_one history (Leave (record { 0 = 1 })))) (record {
       run = run_append history (Leave (record { 0 = 1 }) ∷ []) (opening (play_setup service) 1) (at service 1 past) (at service 1 gone) old.run (leave_case service n past old.quiet, refl);
       left = left_one service n past old.quiet;
       order = (tt, old.order);
@@ -94,29 +88,27 @@ leaving_one service name n ops history lines pipe old =
       read = subst (λ frames. HasRead pipe frames) (sym (append-nil (frames_in (83 ∷ []) 1 1 past))) old.read;
       lives = append-nil (lives_of past) ∙ old.lives;
       failed = old.failed;
-    }
+    })
 
 reverse_two : (history : List Event) (a b : Event) → reverse (history ++ a ∷ b ∷ []) ≡ b ∷ a ∷ reverse history
 reverse_two history a b = reverse-append history (a ∷ b ∷ [])
-
-pub reverse_one : (history : List Event) (a : Event) → reverse (history ++ a ∷ []) ≡ a ∷ reverse history
-reverse_one history a = reverse-append history (a ∷ [])
 
 gave_life : (gave : Option (List ℕ)) (rest : List ℕ) (frames : List Frame) → IfSome gave (λ octets. octets ≡ all_spelled frames ++ rest) → IfSome gave (λ octets. (more : List ℕ) × (octets ≡ all_spelled frames ++ more))
 gave_life None rest frames read = tt
 gave_life (Some octets) rest frames read = (rest, read)
 
 -- the queue is closed and the server is shut down
-pub over : (service : List ℕ) (clients : List Client) (history past : List Event) (lines : List ℕ) (before now : Piped) → IsLeaving service clients history past lines before → past ≡ reverse history
+pub over : (service : List ℕ) (clients : List Client) (history : List Event) (lines : List ℕ) (before now : Piped) → IsLeaving service clients history lines before
     → Grew before.took now.took (spelled shutdown_frame) → now.gave ≡ before.gave → now.rest ≡ before.rest
     → IsOver service clients (history ++ Close (record { 0 = 1 }) ∷ Stop stop ∷ []) lines now
-over service clients history past lines before now old is took gave rest =
+over service clients history lines before now old took gave rest =
+    let past = reverse history in
     let ended = history ++ Close (record { 0 = 1 }) ∷ Stop stop ∷ [] in
     let count = length clients in
     let run : Run (opening (play_setup service) count) ended (at service count (closed past)) =
       run_append history (Close (record { 0 = 1 }) ∷ Stop stop ∷ []) (opening (play_setup service) count) (at service count past) (at service count (closed past)) old.run
         (close_case service count past old.left, (stop_case service count past old.left, refl)) in
-    let reversed : reverse ended ≡ closed past = reverse_two history (Close (record { 0 = 1 })) (Stop stop) ∙ ap (λ (es : List Event). closed es) (sym is) in
+    let reversed : reverse ended ≡ closed past = reverse_two history (Close (record { 0 = 1 })) (Stop stop) in
     record {
       machine = subst (λ (es : List Event). IsHistoryAt (play_setup service) clients ended es) (sym reversed) (record {
         run = run;
@@ -135,3 +127,41 @@ over service clients history past lines before now old is took gave rest =
       lives = subst (λ (es : List Event). lives_of es ≡ (1, 1) ∷ []) (sym reversed) (lives_closed past ∙ old.lives);
       failed = subst (λ (es : List Event). failed_starts 1 es ≡ 0) (sym reversed) old.failed;
     }
+
+-- where the first client isn't there, there is none, and else it is alone
+pub first_client : (service : List ℕ) (clients : List Client) (first : Option (Bor Client)) → IsBuiltScript service clients → option_copied first ≡ slice_get clients 0
+    → MatchOption first (clients ≡ []) (λ client. IsOnly service client.now clients)
+first_client service [] None built is = refl
+first_client service [] (Some client) built is = cc is
+first_client service (x ∷ rest) None built is = cc is
+first_client service (x ∷ []) (Some client) built is =
+    let same : Some client.now ≡ Some x = is in
+    let alike : client.now ≡ x = cc same in
+    subst (λ (y : Client). IsOnly service y (x ∷ [])) (sym alike) (record { alone = refl; built = built.0; few = built.1 })
+first_client service (x ∷ y ∷ rest) (Some client) built is = absurd built
+
+pub leaving_all : (service : List ℕ) (client : Client) (clients : List Client) (started made ended : List Event) (silent lines : List ℕ) (before pipe : Piped)
+    → clients ≡ client ∷ []
+    → (IsPlaying service client.name 1 0 [] started silent before → IsPlaying service client.name 1 (length client.ops) client.ops made lines pipe)
+    → ended ≡ made ++ Leave (record { 0 = 1 }) ∷ []
+    → ((name : List ℕ) (count : ℕ) → IsPlaying service name count 0 [] started silent before)
+    → IsLeaving service clients ended lines pipe
+leaving_all service client clients started made ended silent lines before pipe alone played is begun =
+    subst (λ (all : List Client). IsLeaving service all ended lines pipe) (sym alone)
+      (subst (λ (es : List Event). IsLeaving service (client ∷ []) es lines pipe) (sym is)
+        (leaving_one service client.name (length client.ops) client.ops made lines pipe (played (begun client.name 1))))
+
+-- the whole of a life
+pub over_all : (service : List ℕ) (clients : List Client) (started left ended : List Event) (silent lines : List ℕ) (start_pipe before now : Piped)
+    → started ≡ Advertise (advertise service) ∷ Start start ∷ [] → silent ≡ [] → Wrote start_pipe [] → HasRead start_pipe (greeting (83 ∷ []))
+    → (((name : List ℕ) (count : ℕ) → IsPlaying service name count 0 [] started silent start_pipe) → IsLeaving service clients left lines before)
+    → ended ≡ left ++ Close (record { 0 = 1 }) ∷ Stop stop ∷ []
+    → Grew before.took now.took (spelled shutdown_frame) → now.gave ≡ before.gave → now.rest ≡ before.rest
+    → IsOver service clients ended lines now
+over_all service clients started left ended silent lines start_pipe before now started_is silent_is wrote read leaving ended_is took gave rest =
+    subst (λ (es : List Event). IsOver service clients es lines now) (sym ended_is)
+      (over service clients left lines before now
+        (leaving (λ name count. subst (λ (es : List Event). IsPlaying service name count 0 [] es silent start_pipe) (sym started_is)
+          (subst (λ (text : List ℕ). IsPlaying service name count 0 [] (Advertise (advertise service) ∷ Start start ∷ []) text start_pipe) (sym silent_is)
+            (playing_begun service name count start_pipe wrote read))))
+        took gave rest)

@@ -11,7 +11,7 @@ use Rattle.xa_types.specs.declared.reply.Answer.{Answer}
 use Rattle.xa_types.specs.Kind.{is_sound}
 use Rattle.xa_types.specs.Rows.{Put}
 use Rattle.xa_events.specs.declared.event.Event.{Event}
-use Rattle.xa_events.specs.declared.event.Event.TheVariants.{Answer as Answers}
+use Rattle.xa_events.specs.declared.event.Event.TheVariants.{Answer as Answers, Close, Stop}
 use Rattle.xa_events.specs.declared.event.Accepted.{Accepted}
 use Rattle.xa_events.specs.declared.event.Advertised.{Advertised}
 use Rattle.xa_events.specs.declared.event.Started.{Started}
@@ -27,7 +27,7 @@ use Rattle.xa_events.specs.State.{State, opening}
 use Rattle.xa_events.specs.Board.{changes}
 use Rattle.xa_events.specs.Queue.{waiting, takes, is_down, is_closed}
 use Rattle.xa_events.specs.Server.{doing}
-use Rattle.xa_events.specs.Caller.{last_op, accepted, opened, floor, has_left}
+use Rattle.xa_events.specs.Caller.{last_op, accepted, opened, floor, has_left, all_left}
 use Rattle.xa_events.specs.Request.{ended, is_accept_of, is_end_of}
 use Rattle.xa_events.specs.Calls.{is_op, events_of_op, EachBecame, is_invalid_call}
 use Rattle.xa_events.specs.Order.{TakesInOrder}
@@ -144,6 +144,40 @@ abbrev pub IsBuiltScript : List ℕ → List Client → Type 0
 IsBuiltScript service [] = ⊤
 IsBuiltScript service (client ∷ []) = All (IsBuiltOp service) client.ops × (length client.ops < 2 ^ 32)
 IsBuiltScript service clients = ⊥
+
+abbrev pub closed : List Event → List Event
+closed past = Stop stop ∷ Close (record { 0 = 1 }) ∷ past
+
+-- all clients have left; the server is idle, and nothing waits
+pub record IsLeft (service : List ℕ) (clients : ℕ) (past : List Event) : Type 0 where
+  pub board : length (changes past) ≡ 1
+  pub server : doing 1 past ≡ Idle (record { 0 = 1 })
+  pub waits : waiting (play_setup service) 1 past ≡ []
+  pub still : is_closed 1 past ≡ false
+  pub open_server : opened (clients + 1) past ≡ []
+  pub matched : (r : RequestId) → count (is_end_of r) past ≡ count (is_accept_of r) past
+  pub left : all_left clients past ≡ true
+
+-- all clients have left, and nothing is under way; past is the history, the newest event first
+pub record IsLeavingAt (service : List ℕ) (clients : List Client) (history past : List Event) (lines : List ℕ) (pipe : Piped) : Type 0 where
+  pub run : Run (opening (play_setup service) (length clients)) history (at service (length clients) past)
+  pub left : IsLeft service (length clients) past
+  pub order : TakesInOrder (play_setup service) past
+  pub calls : EachMadeCalls (play_setup service) 1 clients (closed past)
+  pub said : lines ≡ spoken (names_of clients) (closed past)
+  pub wrote : Wrote pipe (frames_out 1 1 past)
+  pub read : HasRead pipe (frames_in (83 ∷ []) 1 1 past)
+  pub lives : lives_of past ≡ (1, 1) ∷ []
+  pub failed : failed_starts 1 past ≡ 0
+
+abbrev pub IsLeaving : List ℕ → List Client → List Event → List ℕ → Piped → Type 0
+IsLeaving service clients history lines pipe = IsLeavingAt service clients history (reverse history) lines pipe
+
+-- the script has that client alone, whose calls may all be served
+pub record IsOnly (service : List ℕ) (client : Client) (clients : List Client) : Type 0 where
+  pub alone : clients ≡ client ∷ []
+  pub built : All (IsBuiltOp service) client.ops
+  pub few : length client.ops < 2 ^ 32
 
 -- the run has come to its end, and all but the printing is done
 pub record IsOver (service : List ℕ) (clients : List Client) (history : List Event) (lines : List ℕ) (pipe : Piped) : Type 0 where

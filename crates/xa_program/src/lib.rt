@@ -9,6 +9,7 @@ mod outcome;
 mod pipe;
 mod script;
 mod script_line;
+mod serving;
 mod status;
 mod words;
 
