@@ -1,1 +1,4 @@
 pub mod ScriptText
+pub mod ScriptRead
+pub mod ScriptWords
+pub mod ScriptGrammar

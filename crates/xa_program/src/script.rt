@@ -1,5 +1,8 @@
-ghost use Rattle.std.specs.Prelude.{◌≡◌, ◌∷◌, [], ◌<◌, ◌^◌, length, IfOk, IfErr, MatchOption};
+ghost use Rattle.std.specs.Prelude.{◌≡◌, ◌∷◌, [], ◌<◌, ◌^◌, length, IfOk, IfErr, IfSome, MatchOption, Some};
+ghost use Rattle.std.specs.List.{position};
 ghost use Rattle.std.specs.Str.Lines.{lines, strip_carriage_return};
+ghost use Rattle.xa_types.specs.Name.{IsName};
+ghost use Rattle.xa_program.specs.Draft.{is_line_end};
 ghost use Rattle.xa_program.specs.Script.{IsScript, Tells};
 ghost use Rattle.xa_program.specs.ScriptLine.{line_of};
 ghost use Rattle.xa_program.specs.Draft.{kept, begun, added, with_line, read_all};
@@ -100,7 +103,7 @@ impl Draft {
     }
 
     // Whether the line goes on with the script.
-    fn take_line(&mut self, alloc: Global, line: &[u8], service: &Name) -> Result<bool, NoMemory>
+    fn take_line(&mut self, alloc: Global, line: &[u8], service: &[u8]) -> Result<bool, NoMemory>
         ensures { IfOk result (λ taken. kept taken self.new ≡ with_line self.old (line_of service.now line.now)) }
     {
         match read_line(alloc, line, service)? {
@@ -131,4 +134,55 @@ fn without_return(line: &[u8]) -> &[u8]
         [front @ .., b'\r'] => front,
         _ => line,
     }
+}
+
+fn line_len(octets: &[u8]) -> Option<usize>
+    ensures { result ≡ position is_line_end octets.now }
+{
+    octets.iter().position(|octet| *octet == b'\n')
+}
+
+// The first line, and what stands behind it.
+fn next_line(octets: &[u8]) -> Option<(&[u8], &[u8])>
+    ensures line { MatchOption result (lines octets.now ≡ []) (λ x. lines octets.now ≡ x.0.now ∷ lines x.1.now) }
+    ensures shorter { IfSome result (λ x. length x.1.now < length octets.now) }
+{
+    if octets.is_empty() {
+        return None;
+    }
+    match line_len(octets) {
+        Some(end) => Some((without_return(&octets[..end]), &octets[end + 1..])),
+        None => Some((octets, &octets[octets.len()..])),
+    }
+}
+
+fn read_lines(alloc: Global, octets: &[u8], service: &[u8]) -> Result<Draft, ScriptRefused>
+    requires short { length octets.now < 2 ^ 32 }
+    requires named { IsName service.now }
+    ensures found { IfOk result (λ draft. read_all service.now [] (lines octets.now) ≡ Some draft) }
+    ensures refused { IfErr result (Tells service.now octets.now) }
+{
+    let mut draft = Draft::new(alloc);
+    let mut rest = octets;
+    let mut line = 0;
+    while let Some((text, behind)) = next_line(rest) {
+        line += 1;
+        if !draft.take_line(alloc, text, service)? {
+            return Err(ScriptRefused::BadLine { line, cause: 9 });
+        }
+        rest = behind;
+    }
+    Ok(draft)
+}
+
+/// Reads a script whose calls go to that service. Each call becomes a tpcall without flags.
+///
+/// A refusal is for want of memory, or names with cause 9 the first line that breaks the form.
+pub fn read_script(alloc: Global, octets: &[u8], service: &Name) -> Result<Script, ScriptRefused>
+    requires { length octets.now < 2 ^ 32 }
+    ensures found { IfOk result (λ script. IsScript service.now octets.now script) }
+    ensures refused { IfErr result (Tells service.now octets.now) }
+{
+    let draft = read_lines(alloc, octets, service.octets())?;
+    Ok(draft.finish(alloc)?)
 }
