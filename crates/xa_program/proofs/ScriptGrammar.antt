@@ -185,3 +185,132 @@ name_is_word name h =
 
 pub name_printed : (name : List ℕ) → IsName name → list_all is_printed name ≡ true
 name_printed name h = all_so is_graphic is_printed graphic_printed name (name_graphic name h)
+
+-- a call
+
+pub call_takes : (service xs : List ℕ) (op : Op) → list_all is_printed xs ≡ true → call_in service xs ≡ Some op
+    → (payload : Data) × IsWritten payload × (op ≡ call_with service payload) × HasWords (service ∷ data_words payload) xs
+unfolding call_in
+call_takes service xs op printed h = elim (chosen (bytes_eq (next_word xs).0 service) (option_map (call_with service) (payload_in (next_word xs).1)) None (Some op) h) [
+    inl p ↦
+      let made = mapped (call_with service) (payload_in (next_word xs).1) op p.1 in
+      let found = payload_takes (next_word xs).1 made.0 (rest_printed xs printed) made.1 in
+      let word = (bytes_eq-Decides (next_word xs).0 service).0 p.0 in
+      (made.0, found.0, sym made.2, subst (λ w. HasWords (w ∷ data_words made.0) xs) word (words_take xs (data_words made.0) found.1))
+  | inr p ↦ absurd (some_of_none op p.1)
+  ]
+
+abbrev call_of : List ℕ → List ℕ × List ℕ → Option Op
+call_of service word = cond (bytes_eq word.0 service) (option_map (call_with service) (payload_in word.1)) None
+
+pub call_again : (service xs : List ℕ) (payload : Data) → IsName service → IsWritten payload → HasWords (service ∷ data_words payload) xs
+    → call_in service xs ≡ Some (call_with service payload)
+unfolding call_in
+call_again service xs payload named written has =
+    let found = words_again xs service (data_words payload) has (name_is_word service named) in
+    ap (call_of service) found.1
+    ∙ ap (λ b. cond b (option_map (call_with service) (payload_in found.0)) None) ((bytes_eq-Decides service service).1 refl)
+    ∙ ap (option_map (call_with service)) (payload_again found.0 payload written found.2)
+
+-- a client
+
+pub client_takes : (xs name : List ℕ) → client_in xs ≡ Some name → IsName name × HasWords (name ∷ []) xs
+unfolding client_in
+client_takes xs name h = elim (chosen (is_blank (next_word xs).1 && is_name (next_word xs).0) (Some (next_word xs).0) None (Some name) h) [
+    inl p ↦
+      let both = and_true (is_blank (next_word xs).1) (is_name (next_word xs).0) p.0 in
+      subst (λ w. IsName w × HasWords (w ∷ []) xs) (some_is (next_word xs).0 name p.1) (both.1, words_take xs [] (blank_takes (next_word xs).1 both.0))
+  | inr p ↦ absurd (some_of_none name p.1)
+  ]
+
+abbrev client_of : List ℕ × List ℕ → Option (List ℕ)
+client_of word = cond (is_blank word.1 && is_name word.0) (Some word.0) None
+
+pub client_again : (xs name : List ℕ) → IsName name → HasWords (name ∷ []) xs → client_in xs ≡ Some name
+unfolding client_in
+client_again xs name named has =
+    let found = words_again xs name [] has (name_is_word name named) in
+    ap client_of found.1 ∙ ap (λ b. cond (b && is_name name) (Some name) None) (blank_again found.0 found.2) ∙ ap (λ b. cond b (Some name) None) named
+
+-- a line
+
+abbrev said_by : List ℕ → List ℕ × List ℕ → Option Line
+said_by service word =
+    cond (bytes_eq word.0 (codes "client")) (option_map (λ name. Client name) (client_in word.1))
+      (cond (bytes_eq word.0 (codes "call")) (option_map (λ op. Call op) (call_in service word.1)) None)
+
+word_takes : (service line : List ℕ) (said : Line) → list_all is_printed line ≡ true → said_by service (next_word line) ≡ Some said → Says service line said
+word_takes service line said printed h = elim (chosen (bytes_eq (next_word line).0 (codes "client")) (option_map (λ name. Client name) (client_in (next_word line).1))
+    (cond (bytes_eq (next_word line).0 (codes "call")) (option_map (λ op. Call op) (call_in service (next_word line).1)) None) (Some said) h) [
+    inl p ↦
+      let made = mapped (λ name. Client name) (client_in (next_word line).1) said p.1 in
+      let found = client_takes (next_word line).1 made.0 made.1 in
+      let word = (bytes_eq-Decides (next_word line).0 (codes "client")).0 p.0 in
+      subst (Says service line) made.2 (found.0, subst (λ w. HasWords (w ∷ made.0 ∷ []) line) word (words_take line (made.0 ∷ []) found.1))
+  | inr q ↦ elim (chosen (bytes_eq (next_word line).0 (codes "call")) (option_map (λ op. Call op) (call_in service (next_word line).1)) None (Some said) q.1) [
+      inl p ↦
+        let made = mapped (λ op. Call op) (call_in service (next_word line).1) said p.1 in
+        let found = call_takes service (next_word line).1 made.0 (rest_printed line printed) made.1 in
+        let word = (bytes_eq-Decides (next_word line).0 (codes "call")).0 p.0 in
+        subst (Says service line) made.2
+          (found.0, found.1, found.2, subst (λ w. HasWords (w ∷ service ∷ data_words found.0) line) word (words_take line (service ∷ data_words found.0) found.3))
+    | inr p ↦ absurd (some_of_none said p.1)
+    ]
+  ]
+
+printed_takes : (service line : List ℕ) (said : Line) → list_all is_printed line ≡ true → cond (is_skipped line) (Some Skipped) (said_by service (next_word line)) ≡ Some said → Says service line said
+printed_takes service line said printed h = elim (chosen (is_skipped line) (Some Skipped) (said_by service (next_word line)) (Some said) h) [
+    inl p ↦ subst (Says service line) (some_is Skipped said p.1) (printed, skipped_takes line p.0)
+  | inr p ↦ word_takes service line said printed p.1
+  ]
+
+not_false : (b : Bool) → not b ≡ false → b ≡ true
+not_false true h = refl
+not_false false h = absurd cc
+
+-- what is read is what the line says
+pub line_takes : (service line : List ℕ) (said : Line) → line_of service line ≡ Some said → Says service line said
+unfolding line_of
+line_takes service line said h =
+    elim (chosen (not (list_all is_printed line)) None (cond (is_skipped line) (Some Skipped) (said_by service (next_word line))) (Some said) h) [
+      inl p ↦ absurd (some_of_none said p.1)
+    | inr p ↦ printed_takes service line said (not_false (list_all is_printed line) p.0) p.1
+    ]
+
+unskipped : (service line : List ℕ) (said : Line) → list_all is_printed line ≡ true → is_skipped line ≡ false → said_by service (next_word line) ≡ Some said → line_of service line ≡ Some said
+unfolding line_of
+unskipped service line said printed skipped h =
+    ap (λ b. cond (not b) None (cond (is_skipped line) (Some Skipped) (said_by service (next_word line)))) printed
+    ∙ ap (λ b. cond b (Some Skipped) (said_by service (next_word line))) skipped ∙ h
+
+skipped_line : (service line : List ℕ) → list_all is_printed line ≡ true → is_skipped line ≡ true → line_of service line ≡ Some Skipped
+unfolding line_of
+skipped_line service line printed skipped =
+    ap (λ b. cond (not b) None (cond (is_skipped line) (Some Skipped) (said_by service (next_word line)))) printed
+    ∙ ap (λ b. cond b (Some Skipped) (said_by service (next_word line))) skipped
+
+data_printed : (payload : Data) → IsWritten payload → list_all (λ word. list_all is_printed word) (data_words payload) ≡ true
+data_printed Absent written = refl
+data_printed (Octet text) written = ap (λ b. b && true) (quoted_printed text written.1)
+data_printed (Struct subtype octets) written = absurd written
+
+-- what the line says is what is read
+pub line_again : (service line : List ℕ) (said : Line) → IsName service → Says service line said → line_of service line ≡ Some said
+line_again service line Skipped named says = skipped_line service line says.0 (skipped_again line says.1)
+line_again service line (Client name) named says =
+    let words = codes "client" ∷ name ∷ [] in
+    let found = words_again line (codes "client") (name ∷ []) says.1 (record { some = omega arith; plain = refl }) in
+    let printed = printed_words words line says.1 (ap (λ b. b && true) (name_printed name says.0)) in
+    let unmarked = ap is_skipped says.1.2 ∙ not_skipped says.1.0 99 (codes "lient") says.1.1 refl refl in
+    unskipped service line (Client name) printed unmarked
+      (ap (said_by service) found.1 ∙ ap (option_map (λ other. Client other)) (client_again found.0 name says.0 found.2))
+line_again service line (Call op) named says =
+    let payload = says.0 in
+    let words = service ∷ data_words payload in
+    let found = words_again line (codes "call") words says.3 (record { some = omega arith; plain = refl }) in
+    let each = ap (λ b. b && list_all (λ word. list_all is_printed word) (data_words payload)) (name_printed service named) ∙ data_printed payload says.1 in
+    let printed = printed_words (codes "call" ∷ words) line says.3 each in
+    let unmarked = ap is_skipped says.3.2 ∙ not_skipped says.3.0 99 (codes "all") says.3.1 refl refl in
+    unskipped service line (Call op) printed unmarked
+      (ap (said_by service) found.1 ∙ ap (option_map (λ other. Call other)) (call_again service found.0 payload named says.1 found.2)
+       ∙ ap (λ other. Some (Call other)) (sym says.2))
