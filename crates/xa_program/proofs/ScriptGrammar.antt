@@ -30,7 +30,7 @@ mapped : {A B : Type 0} (f : A → B) (o : Option A) (y : B) → option_map f o 
 mapped f None y h = absurd cc
 mapped f (Some x) y h = (x, refl, some_is (f x) y h)
 
-some_of_none : {A : Type 0} (x : A) → None ≡ Some x → ⊥
+pub some_of_none : {A : Type 0} (x : A) → None ≡ Some x → ⊥
 some_of_none x h = cc
 
 -- the quoted text
