@@ -2,3 +2,4 @@ pub mod ScriptText
 pub mod ScriptRead
 pub mod ScriptWords
 pub mod ScriptGrammar
+pub mod ScriptCut

@@ -1,6 +1,7 @@
 -- The lines of a script, read one after another: what they read as.
 use Rattle.std.proofs.Common.{◌≡◌, ℕ, ◌+◌, ◌-◌, ◌≤◌, ◌<◌, length, List, [], ◌∷◌, ◌++◌, take, drop, Option, Some, None, option_and_then, ◌⊎◌, inl, inr, refl, ap, sym, ◌∙◌, subst, append_assoc, append-nil, length-drop, arith}
 use Rattle.std.proofs.Math.Seq.{take-add}
+use Rattle.std.proofs.lemmas.Bool.{cases_lt}
 use Rattle.std.proofs.lemmas.List.{drop-drop, take-append-drop}
 use Rattle.std.specs.Str.Lines.{lines}
 use Rattle.xa_types.specs.Name.{IsName}
@@ -147,3 +148,31 @@ no_fault service octets line script named h fault =
     let front = fronts_read service (take line (lines octets)) (drop line (lines octets)) script.clients named
       (subst (λ all. Reads service all script.clients) (sym (take-append-drop line (lines octets))) h) in
     fault.faulty front.0 front.1
+
+later_fault : (service octets : List ℕ) (l m : ℕ) → IsName service → IsFirstFault service octets l → IsFirstFault service octets m → l < m → ⊥
+later_fault service octets l m named first second less =
+    let k = m - 1 - l in
+    let far : m - 1 ≡ l + k = let low = less in omega (arith, low) in
+    let parts = ap (λ n. take n (lines octets)) far ∙ take-add l k (lines octets) in
+    let front = fronts_read service (take l (lines octets)) (take k (drop l (lines octets))) second.before.0 named
+      (subst (λ all. Reads service all second.before.0) parts second.before.1) in
+    first.faulty front.0 front.1
+
+pub one_fault : (service octets : List ℕ) (l m : ℕ) → IsName service → IsFirstFault service octets l → IsFirstFault service octets m → l ≡ m
+one_fault service octets l m named first second = elim (cases_lt l m) [
+    inl less ↦ absurd (later_fault service octets l m named first second less)
+  | inr most ↦ elim (cases_lt m l) [
+      inl less ↦ absurd (later_fault service octets m l named second first less)
+    | inr other ↦ omega (arith, most, other)
+    ]
+  ]
+
+-- at the beginning nothing is read, and at the end everything
+
+pub nothing_read : (service : List ℕ) (all : List (List ℕ)) → IsReadTo service all 0 [] all
+unfolding read_all
+nothing_read service all = record { so_far = refl; left = refl }
+
+pub all_read : (service : List ℕ) (all : List (List ℕ)) (n : ℕ) (clients : List Client) → IsReadTo service all n clients [] → read_all service [] all ≡ Some clients
+all_read service all n clients h =
+    ap (read_all service []) (sym (take-append-drop n all) ∙ ap (λ rest. take n all ++ rest) h.left ∙ append-nil (take n all)) ∙ h.so_far

@@ -7,5 +7,5 @@ mod script_line;
 mod words;
 
 pub use line::push_line;
-pub use script::{Client, Script, ScriptRefused};
+pub use script::{Client, Script, ScriptRefused, one_reading, read_script};
 pub use words::{Command, read_words};

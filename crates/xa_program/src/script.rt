@@ -3,7 +3,7 @@ ghost use Rattle.std.specs.List.{position};
 ghost use Rattle.std.specs.Str.Lines.{lines, strip_carriage_return};
 ghost use Rattle.xa_types.specs.Name.{IsName};
 ghost use Rattle.xa_program.specs.Draft.{is_line_end};
-ghost use Rattle.xa_program.specs.Script.{IsScript, Tells};
+ghost use Rattle.xa_program.specs.Script.{IsScript, Tells, OneScript, NoFaultyScript, OneFirstFault};
 ghost use Rattle.xa_program.specs.ScriptLine.{line_of};
 ghost use Rattle.xa_program.specs.Draft.{kept, begun, added, with_line, read_all};
 
@@ -185,4 +185,13 @@ pub fn read_script(alloc: Global, octets: &[u8], service: &Name) -> Result<Scrip
 {
     let draft = read_lines(alloc, octets, service.octets())?;
     Ok(draft.finish(alloc)?)
+}
+
+/// What `read_script` answers is determined: the octets are one script at most, and none where a line breaks the
+/// form; and one line at most is the first that does.
+pub fn one_reading()
+    ensures script { OneScript }
+    ensures fault { NoFaultyScript }
+    ensures line { OneFirstFault }
+{
 }
