@@ -15,9 +15,9 @@ parts_again x (y ∷ more) h = refl
 
 found_place : (octets : List ℕ) (end : ℕ) → position is_line_end octets ≡ Some end → (end ≡ position_or_len is_line_end octets) × (position_or_len is_line_end octets < length octets)
 found_place octets end h = elim (chosen (nat_lt (position_or_len is_line_end octets) (length octets)) (Some (position_or_len is_line_end octets)) None (Some end) h) [
-    inl p ↦ (sym (some_is (position_or_len is_line_end octets) end p.1), ltb-true (position_or_len is_line_end octets) (length octets) p.0)
+  | inl p ↦ (sym (some_is (position_or_len is_line_end octets) end p.1), ltb-true (position_or_len is_line_end octets) (length octets) p.0)
   | inr p ↦ absurd (some_of_none end p.1)
-  ]
+]
 
 -- a line that has its end
 pub lines_at : (octets : List ℕ) (end : ℕ) → position is_line_end octets ≡ Some end → lines octets ≡ strip_carriage_return (take end octets) ∷ lines (drop (end + 1) octets)
@@ -32,19 +32,19 @@ lines_at octets end h =
 one_part : (octets : List ℕ) → position_or_len is_line_end octets ≡ length octets → slice_split is_line_end octets ≡ octets ∷ []
 one_part [] h = refl
 one_part (x ∷ octets) h = elim (is_line_end x) as (λ b. cond (not b) (1 + position_or_len is_line_end octets) 0 ≡ suc (length octets)
-      → cond b ([] ∷ slice_split is_line_end octets) (onto_first x (slice_split is_line_end octets)) ≡ (x ∷ octets) ∷ []) [
-    true ↦ λ e. absurd (omega (arith, e))
-  | false ↦ λ e. ap (onto_first x) (one_part octets (omega (arith, e)))
-  ] h
+    → cond b ([] ∷ slice_split is_line_end octets) (onto_first x (slice_split is_line_end octets)) ≡ (x ∷ octets) ∷ []) [
+      | true ↦ λ e. absurd (omega (arith, e))
+      | false ↦ λ e. ap (onto_first x) (one_part octets (omega (arith, e)))
+    ] h
 
 no_place : (octets : List ℕ) → position is_line_end octets ≡ None → position_or_len is_line_end octets ≡ length octets
 no_place octets h = elim (chosen (nat_lt (position_or_len is_line_end octets) (length octets)) (Some (position_or_len is_line_end octets)) None None h) [
-    inl p ↦ absurd (some_of_none (position_or_len is_line_end octets) (sym p.1))
+  | inl p ↦ absurd (some_of_none (position_or_len is_line_end octets) (sym p.1))
   | inr p ↦
       let high = ltb-false (position_or_len is_line_end octets) (length octets) p.0 in
       let low = prefix_len-le-length (λ octet. not (is_line_end octet)) octets in
       omega (arith, high, low)
-  ]
+]
 
 -- a last line that lacks its end
 pub lines_last : (octets : List ℕ) → 0 < length octets → position is_line_end octets ≡ None → lines octets ≡ octets ∷ []

@@ -39,12 +39,12 @@ ended_takes : (text rest : List ℕ) (payload : Data) → ended text rest ≡ So
     → (more : List ℕ) × (rest ≡ 34 ∷ more) × HasWords [] more × (length text ≤ 65536) × (payload ≡ Octet text)
 ended_takes text [] payload h = absurd cc
 ended_takes text (x ∷ more) payload h = elim (chosen (x == 34 && (is_blank more && nat_le (length text) 65536)) (Some (Octet text)) None (Some payload) h) [
-    inl p ↦
+  | inl p ↦
       let quote = and_true (x == 34) (is_blank more && nat_le (length text) 65536) p.0 in
       let rest = and_true (is_blank more) (nat_le (length text) 65536) quote.1 in
       (more, ap (λ y. y ∷ more) (eqb-true x 34 quote.0), blank_takes more rest.0, leb-true (length text) 65536 rest.1, sym (some_is (Octet text) payload p.1))
   | inr p ↦ absurd (some_of_none payload p.1)
-  ]
+]
 
 quote_is : (text rest : List ℕ) → quoted text ++ rest ≡ 34 ∷ (flat_map escaped text ++ 34 ∷ rest)
 quote_is text rest = ap (λ ys. 34 ∷ ys) (append_assoc (flat_map escaped text) (34 ∷ []) rest)
@@ -53,13 +53,13 @@ from_takes : (xs : List ℕ) (payload : Data) → quoted_from xs ≡ Some payloa
     → (text : List ℕ) × (rest : List ℕ) × (xs ≡ quoted text ++ rest) × HasWords [] rest × (length text ≤ 65536) × (payload ≡ Octet text)
 from_takes [] payload h = absurd cc
 from_takes (x ∷ front) payload h = elim (chosen (x == 34) (ended (text_in_front front).0 (text_in_front front).1) None (Some payload) h) [
-    inl p ↦
+  | inl p ↦
       let text = (text_in_front front).0 in
       let end = ended_takes text (text_in_front front).1 payload p.1 in
       let is = ap (λ y. y ∷ front) (eqb-true x 34 p.0) ∙ ap (λ ys. 34 ∷ ys) (text_takes front ∙ ap (λ ys. flat_map escaped text ++ ys) end.1) in
       (text, end.0, is ∙ sym (quote_is text end.0), end.2, end.3, end.4)
   | inr p ↦ absurd (some_of_none payload p.1)
-  ]
+]
 
 end_of_spaces : (n : ℕ) → IsEnd (spaces n)
 end_of_spaces zero = tt
@@ -126,21 +126,21 @@ text_takes_data xs payload printed word h =
 none_takes_data : (xs : List ℕ) (payload : Data) → cond (bytes_eq (next_word xs).0 (codes "none") && is_blank (next_word xs).1) (Some Absent) None ≡ Some payload
     → IsWritten payload × HasWords (data_words payload) xs
 none_takes_data xs payload h = elim (chosen (bytes_eq (next_word xs).0 (codes "none") && is_blank (next_word xs).1) (Some Absent) None (Some payload) h) [
-    inl p ↦
+  | inl p ↦
       let both = and_true (bytes_eq (next_word xs).0 (codes "none")) (is_blank (next_word xs).1) p.0 in
       let word = (bytes_eq-Decides (next_word xs).0 (codes "none")).0 both.0 in
       let has = subst (λ w. HasWords (w ∷ []) xs) word (words_take xs [] (blank_takes (next_word xs).1 both.1)) in
       subst (λ p. IsWritten p × HasWords (data_words p) xs) (some_is Absent payload p.1) (tt, has)
   | inr p ↦ absurd (some_of_none payload p.1)
-  ]
+]
 
 pub payload_takes : (xs : List ℕ) (payload : Data) → list_all is_printed xs ≡ true → payload_in xs ≡ Some payload → IsWritten payload × HasWords (data_words payload) xs
 unfolding payload_in
 payload_takes xs payload printed h = elim (chosen (bytes_eq (next_word xs).0 (codes "text")) (quoted_in (next_word xs).1)
     (cond (bytes_eq (next_word xs).0 (codes "none") && is_blank (next_word xs).1) (Some Absent) None) (Some payload) h) [
-    inl p ↦ text_takes_data xs payload printed ((bytes_eq-Decides (next_word xs).0 (codes "text")).0 p.0) p.1
-  | inr p ↦ none_takes_data xs payload p.1
-  ]
+      | inl p ↦ text_takes_data xs payload printed ((bytes_eq-Decides (next_word xs).0 (codes "text")).0 p.0) p.1
+      | inr p ↦ none_takes_data xs payload p.1
+    ]
 
 pub payload_again : (xs : List ℕ) (payload : Data) → IsWritten payload → HasWords (data_words payload) xs → payload_in xs ≡ Some payload
 unfolding payload_in
@@ -175,7 +175,7 @@ all_so p q each (x ∷ xs) h =
 name_graphic : (name : List ℕ) → IsName name → list_all is_graphic name ≡ true
 name_graphic name h =
     (and_true (list_all is_graphic name) (not (begins_with_dot name))
-      (and_true (nat_le 1 (length name) && nat_le (length name) 31) (list_all is_graphic name && not (begins_with_dot name)) h).1).0
+    (and_true (nat_le 1 (length name) && nat_le (length name) 31) (list_all is_graphic name && not (begins_with_dot name)) h).1).0
 
 pub name_is_word : (name : List ℕ) → IsName name → IsWord name
 name_is_word name h =
@@ -192,13 +192,13 @@ pub call_takes : (service xs : List ℕ) (op : Op) → list_all is_printed xs �
     → (payload : Data) × IsWritten payload × (op ≡ call_with service payload) × HasWords (service ∷ data_words payload) xs
 unfolding call_in
 call_takes service xs op printed h = elim (chosen (bytes_eq (next_word xs).0 service) (option_map (call_with service) (payload_in (next_word xs).1)) None (Some op) h) [
-    inl p ↦
+  | inl p ↦
       let made = mapped (call_with service) (payload_in (next_word xs).1) op p.1 in
       let found = payload_takes (next_word xs).1 made.0 (rest_printed xs printed) made.1 in
       let word = (bytes_eq-Decides (next_word xs).0 service).0 p.0 in
       (made.0, found.0, sym made.2, subst (λ w. HasWords (w ∷ data_words made.0) xs) word (words_take xs (data_words made.0) found.1))
   | inr p ↦ absurd (some_of_none op p.1)
-  ]
+]
 
 abbrev call_of : List ℕ → List ℕ × List ℕ → Option Op
 call_of service word = cond (bytes_eq word.0 service) (option_map (call_with service) (payload_in word.1)) None
@@ -217,11 +217,11 @@ call_again service xs payload named written has =
 pub client_takes : (xs name : List ℕ) → client_in xs ≡ Some name → IsName name × HasWords (name ∷ []) xs
 unfolding client_in
 client_takes xs name h = elim (chosen (is_blank (next_word xs).1 && is_name (next_word xs).0) (Some (next_word xs).0) None (Some name) h) [
-    inl p ↦
+  | inl p ↦
       let both = and_true (is_blank (next_word xs).1) (is_name (next_word xs).0) p.0 in
       subst (λ w. IsName w × HasWords (w ∷ []) xs) (some_is (next_word xs).0 name p.1) (both.1, words_take xs [] (blank_takes (next_word xs).1 both.0))
   | inr p ↦ absurd (some_of_none name p.1)
-  ]
+]
 
 abbrev client_of : List ℕ × List ℕ → Option (List ℕ)
 client_of word = cond (is_blank word.1 && is_name word.0) (Some word.0) None
@@ -237,32 +237,32 @@ client_again xs name named has =
 abbrev said_by : List ℕ → List ℕ × List ℕ → Option Line
 said_by service word =
     cond (bytes_eq word.0 (codes "client")) (option_map (λ name. Client name) (client_in word.1))
-      (cond (bytes_eq word.0 (codes "call")) (option_map (λ op. Call op) (call_in service word.1)) None)
+    (cond (bytes_eq word.0 (codes "call")) (option_map (λ op. Call op) (call_in service word.1)) None)
 
 word_takes : (service line : List ℕ) (said : Line) → list_all is_printed line ≡ true → said_by service (next_word line) ≡ Some said → Says service line said
 word_takes service line said printed h = elim (chosen (bytes_eq (next_word line).0 (codes "client")) (option_map (λ name. Client name) (client_in (next_word line).1))
     (cond (bytes_eq (next_word line).0 (codes "call")) (option_map (λ op. Call op) (call_in service (next_word line).1)) None) (Some said) h) [
-    inl p ↦
-      let made = mapped (λ name. Client name) (client_in (next_word line).1) said p.1 in
-      let found = client_takes (next_word line).1 made.0 made.1 in
-      let word = (bytes_eq-Decides (next_word line).0 (codes "client")).0 p.0 in
-      subst (Says service line) made.2 (found.0, subst (λ w. HasWords (w ∷ made.0 ∷ []) line) word (words_take line (made.0 ∷ []) found.1))
-  | inr q ↦ elim (chosen (bytes_eq (next_word line).0 (codes "call")) (option_map (λ op. Call op) (call_in service (next_word line).1)) None (Some said) q.1) [
-      inl p ↦
-        let made = mapped (λ op. Call op) (call_in service (next_word line).1) said p.1 in
-        let found = call_takes service (next_word line).1 made.0 (rest_printed line printed) made.1 in
-        let word = (bytes_eq-Decides (next_word line).0 (codes "call")).0 p.0 in
-        subst (Says service line) made.2
-          (found.0, found.1, found.2, subst (λ w. HasWords (w ∷ service ∷ data_words found.0) line) word (words_take line (service ∷ data_words found.0) found.3))
-    | inr p ↦ absurd (some_of_none said p.1)
+      | inl p ↦
+          let made = mapped (λ name. Client name) (client_in (next_word line).1) said p.1 in
+          let found = client_takes (next_word line).1 made.0 made.1 in
+          let word = (bytes_eq-Decides (next_word line).0 (codes "client")).0 p.0 in
+          subst (Says service line) made.2 (found.0, subst (λ w. HasWords (w ∷ made.0 ∷ []) line) word (words_take line (made.0 ∷ []) found.1))
+      | inr q ↦ elim (chosen (bytes_eq (next_word line).0 (codes "call")) (option_map (λ op. Call op) (call_in service (next_word line).1)) None (Some said) q.1) [
+        | inl p ↦
+            let made = mapped (λ op. Call op) (call_in service (next_word line).1) said p.1 in
+            let found = call_takes service (next_word line).1 made.0 (rest_printed line printed) made.1 in
+            let word = (bytes_eq-Decides (next_word line).0 (codes "call")).0 p.0 in
+            subst (Says service line) made.2
+            (found.0, found.1, found.2, subst (λ w. HasWords (w ∷ service ∷ data_words found.0) line) word (words_take line (service ∷ data_words found.0) found.3))
+        | inr p ↦ absurd (some_of_none said p.1)
+      ]
     ]
-  ]
 
 printed_takes : (service line : List ℕ) (said : Line) → list_all is_printed line ≡ true → cond (is_skipped line) (Some Skipped) (said_by service (next_word line)) ≡ Some said → Says service line said
 printed_takes service line said printed h = elim (chosen (is_skipped line) (Some Skipped) (said_by service (next_word line)) (Some said) h) [
-    inl p ↦ subst (Says service line) (some_is Skipped said p.1) (printed, skipped_takes line p.0)
+  | inl p ↦ subst (Says service line) (some_is Skipped said p.1) (printed, skipped_takes line p.0)
   | inr p ↦ word_takes service line said printed p.1
-  ]
+]
 
 not_false : (b : Bool) → not b ≡ false → b ≡ true
 not_false true h = refl
@@ -273,8 +273,8 @@ pub line_takes : (service line : List ℕ) (said : Line) → line_of service lin
 unfolding line_of
 line_takes service line said h =
     elim (chosen (not (list_all is_printed line)) None (cond (is_skipped line) (Some Skipped) (said_by service (next_word line))) (Some said) h) [
-      inl p ↦ absurd (some_of_none said p.1)
-    | inr p ↦ printed_takes service line said (not_false (list_all is_printed line) p.0) p.1
+      | inl p ↦ absurd (some_of_none said p.1)
+      | inr p ↦ printed_takes service line said (not_false (list_all is_printed line) p.0) p.1
     ]
 
 unskipped : (service line : List ℕ) (said : Line) → list_all is_printed line ≡ true → is_skipped line ≡ false → said_by service (next_word line) ≡ Some said → line_of service line ≡ Some said
@@ -303,7 +303,7 @@ line_again service line (Client name) named says =
     let printed = printed_words words line says.1 (ap (λ b. b && true) (name_printed name says.0)) in
     let unmarked = ap is_skipped says.1.2 ∙ not_skipped says.1.0 99 (codes "lient") says.1.1 refl refl in
     unskipped service line (Client name) printed unmarked
-      (ap (said_by service) found.1 ∙ ap (option_map (λ other. Client other)) (client_again found.0 name says.0 found.2))
+    (ap (said_by service) found.1 ∙ ap (option_map (λ other. Client other)) (client_again found.0 name says.0 found.2))
 line_again service line (Call op) named says =
     let payload = says.0 in
     let words = service ∷ data_words payload in
@@ -312,5 +312,5 @@ line_again service line (Call op) named says =
     let printed = printed_words (codes "call" ∷ words) line says.3 each in
     let unmarked = ap is_skipped says.3.2 ∙ not_skipped says.3.0 99 (codes "all") says.3.1 refl refl in
     unskipped service line (Call op) printed unmarked
-      (ap (said_by service) found.1 ∙ ap (option_map (λ other. Call other)) (call_again service found.0 payload named says.1 found.2)
-       ∙ ap (λ other. Some (Call other)) (sym says.2))
+    (ap (said_by service) found.1 ∙ ap (option_map (λ other. Call other)) (call_again service found.0 payload named says.1 found.2)
+    ∙ ap (λ other. Some (Call other)) (sym says.2))

@@ -28,9 +28,9 @@ unfolding read_all
 read_more service [] ys clients = refl
 read_more service (x ∷ xs) ys clients =
     elim (with_line clients (line_of service x)) as (λ o. option_and_then (λ more. read_all service more (xs ++ ys)) o
-        ≡ option_and_then (λ more. read_all service more ys) (option_and_then (λ more. read_all service more xs) o)) [
-      None ↦ refl
-    | Some more ↦ read_more service xs ys more
+    ≡ option_and_then (λ more. read_all service more ys) (option_and_then (λ more. read_all service more xs) o)) [
+      | None ↦ refl
+      | Some more ↦ read_more service xs ys more
     ]
 
 one_line : (service line : List ℕ) (clients : List Client) → read_all service clients (line ∷ []) ≡ with_line clients (line_of service line)
@@ -50,9 +50,9 @@ next_read service all rest n clients line h =
 pub reads_on : (service : List ℕ) (all rest : List (List ℕ)) (n : ℕ) (clients more : List Client) (line : List ℕ) → IsReadTo service all n clients (line ∷ rest)
     → with_line clients (line_of service line) ≡ Some more → IsReadTo service all (n + 1) more rest
 reads_on service all rest n clients more line h next = record {
-    so_far = next_read service all rest n clients line h ∙ next;
-    left = sym (drop-drop 1 n all) ∙ ap (drop 1) h.left;
-  }
+  so_far = next_read service all rest n clients line h ∙ next;
+  left = sym (drop-drop 1 n all) ∙ ap (drop 1) h.left;
+}
 
 -- the calls of a client, behind those that are read already
 
@@ -87,14 +87,14 @@ read_calls service [] name earlier clients h =
     ([], refl, sym (some_is (client_with name earlier ∷ []) clients h) ∙ ap (λ all. client_with name all ∷ []) (sym (append-nil earlier)))
 read_calls service (line ∷ lines) name earlier clients h =
     elim (line_of service line) as (λ o. line_of service line ≡ o
-        → option_and_then (λ more. read_all service more lines) (with_line (client_with name earlier ∷ []) o) ≡ Some clients
-        → (ops : List Op) × ReadsCalls service (line ∷ lines) ops × (clients ≡ client_with name (earlier ++ ops) ∷ [])) [
-      None ↦ λ e k. absurd (some_of_none clients k)
-    | Some Skipped ↦ λ e k. let more = read_calls service lines name earlier clients k in (more.0, inl (line_takes service line Skipped e, more.1), more.2)
-    | Some (ClientLine other) ↦ λ e k. absurd (some_of_none clients k)
-    | Some (CallLine op) ↦ λ e k.
-        let more = read_calls service lines name (earlier ++ op ∷ []) clients k in
-        (op ∷ more.0, inr (op, more.0, refl, line_takes service line (CallLine op) e, more.1), more.2 ∙ ap (λ all. client_with name all ∷ []) (append_assoc earlier (op ∷ []) more.0))
+    → option_and_then (λ more. read_all service more lines) (with_line (client_with name earlier ∷ []) o) ≡ Some clients
+    → (ops : List Op) × ReadsCalls service (line ∷ lines) ops × (clients ≡ client_with name (earlier ++ ops) ∷ [])) [
+      | None ↦ λ e k. absurd (some_of_none clients k)
+      | Some Skipped ↦ λ e k. let more = read_calls service lines name earlier clients k in (more.0, inl (line_takes service line Skipped e, more.1), more.2)
+      | Some (ClientLine other) ↦ λ e k. absurd (some_of_none clients k)
+      | Some (CallLine op) ↦ λ e k.
+          let more = read_calls service lines name (earlier ++ op ∷ []) clients k in
+          (op ∷ more.0, inr (op, more.0, refl, line_takes service line (CallLine op) e, more.1), more.2 ∙ ap (λ all. client_with name all ∷ []) (append_assoc earlier (op ∷ []) more.0))
     ] refl h
 
 -- lines are read as what they read as
@@ -103,13 +103,13 @@ unfolding read_all
 read_reads service [] clients h = sym (some_is [] clients h)
 read_reads service (line ∷ lines) clients h =
     elim (line_of service line) as (λ o. line_of service line ≡ o
-        → option_and_then (λ more. read_all service more lines) (with_line [] o) ≡ Some clients → Reads service (line ∷ lines) clients) [
-      None ↦ λ e k. absurd (some_of_none clients k)
-    | Some Skipped ↦ λ e k. inl (line_takes service line Skipped e, read_reads service lines clients k)
-    | Some (ClientLine name) ↦ λ e k.
-        let calls = read_calls service lines name [] clients k in
-        inr (name, calls.0, calls.2, line_takes service line (ClientLine name) e, calls.1)
-    | Some (CallLine op) ↦ λ e k. absurd (some_of_none clients k)
+    → option_and_then (λ more. read_all service more lines) (with_line [] o) ≡ Some clients → Reads service (line ∷ lines) clients) [
+      | None ↦ λ e k. absurd (some_of_none clients k)
+      | Some Skipped ↦ λ e k. inl (line_takes service line Skipped e, read_reads service lines clients k)
+      | Some (ClientLine name) ↦ λ e k.
+          let calls = read_calls service lines name [] clients k in
+          inr (name, calls.0, calls.2, line_takes service line (ClientLine name) e, calls.1)
+      | Some (CallLine op) ↦ λ e k. absurd (some_of_none clients k)
     ] refl h
 
 -- a line that doesn't go on is the first fault
@@ -133,9 +133,9 @@ one_reading service all a b named left right = some_is a b (sym (reads_read serv
 some_front : (service : List ℕ) (xs ys : List (List ℕ)) (clients : List Client) → option_and_then (λ more. read_all service more ys) (read_all service [] xs) ≡ Some clients
     → (front : List Client) × (read_all service [] xs ≡ Some front)
 some_front service xs ys clients h = elim (read_all service [] xs) as (λ o. option_and_then (λ more. read_all service more ys) o ≡ Some clients → (front : List Client) × (o ≡ Some front)) [
-    None ↦ λ k. absurd (some_of_none clients k)
+  | None ↦ λ k. absurd (some_of_none clients k)
   | Some front ↦ λ k. (front, refl)
-  ] h
+] h
 
 -- the lines in front of lines that read as clients read as clients
 pub fronts_read : (service : List ℕ) (xs ys : List (List ℕ)) (clients : List Client) → IsName service → Reads service (xs ++ ys) clients → (front : List Client) × Reads service xs front
@@ -146,7 +146,7 @@ fronts_read service xs ys clients named h =
 pub no_fault : (service octets : List ℕ) (line : ℕ) (script : Script) → IsName service → IsScript service octets script → IsFirstFault service octets line → ⊥
 no_fault service octets line script named h fault =
     let front = fronts_read service (take line (lines octets)) (drop line (lines octets)) script.clients named
-      (subst (λ all. Reads service all script.clients) (sym (take-append-drop line (lines octets))) h) in
+    (subst (λ all. Reads service all script.clients) (sym (take-append-drop line (lines octets))) h) in
     fault.faulty front.0 front.1
 
 later_fault : (service octets : List ℕ) (l m : ℕ) → IsName service → IsFirstFault service octets l → IsFirstFault service octets m → l < m → ⊥
@@ -155,17 +155,17 @@ later_fault service octets l m named first second less =
     let far : m - 1 ≡ l + k = let low = less in omega (arith, low) in
     let parts = ap (λ n. take n (lines octets)) far ∙ take-add l k (lines octets) in
     let front = fronts_read service (take l (lines octets)) (take k (drop l (lines octets))) second.before.0 named
-      (subst (λ all. Reads service all second.before.0) parts second.before.1) in
+    (subst (λ all. Reads service all second.before.0) parts second.before.1) in
     first.faulty front.0 front.1
 
 pub one_fault : (service octets : List ℕ) (l m : ℕ) → IsName service → IsFirstFault service octets l → IsFirstFault service octets m → l ≡ m
 one_fault service octets l m named first second = elim (cases_lt l m) [
-    inl less ↦ absurd (later_fault service octets l m named first second less)
+  | inl less ↦ absurd (later_fault service octets l m named first second less)
   | inr most ↦ elim (cases_lt m l) [
-      inl less ↦ absurd (later_fault service octets m l named second first less)
+    | inl less ↦ absurd (later_fault service octets m l named second first less)
     | inr other ↦ omega (arith, most, other)
-    ]
   ]
+]
 
 -- at the beginning nothing is read, and at the end everything
 

@@ -82,10 +82,10 @@ escaped_slash ys = refl
 escaped_octet : (x : ℕ) (ys : List ℕ) → text_in_front (escaped x ++ ys) ≡ put (x ∷ []) (text_in_front ys)
 escaped_octet x ys =
     elim (x == 34) as (λ b. (x == 34) ≡ b → text_in_front (cond b (92 ∷ 34 ∷ []) (cond (x == 92) (92 ∷ 92 ∷ []) (x ∷ [])) ++ ys) ≡ put (x ∷ []) (text_in_front ys)) [
-      true ↦ λ e. escaped_quote ys ∙ ap (λ y. put (y ∷ []) (text_in_front ys)) (sym (eqb-true x 34 e))
-    | false ↦ λ quote. elim (x == 92) as (λ b. (x == 92) ≡ b → text_in_front (cond b (92 ∷ 92 ∷ []) (x ∷ []) ++ ys) ≡ put (x ∷ []) (text_in_front ys)) [
-        true ↦ λ e. escaped_slash ys ∙ ap (λ y. put (y ∷ []) (text_in_front ys)) (sym (eqb-true x 92 e))
-      | false ↦ λ slash. plain_octet x ys quote slash
+      | true ↦ λ e. escaped_quote ys ∙ ap (λ y. put (y ∷ []) (text_in_front ys)) (sym (eqb-true x 34 e))
+      | false ↦ λ quote. elim (x == 92) as (λ b. (x == 92) ≡ b → text_in_front (cond b (92 ∷ 92 ∷ []) (x ∷ []) ++ ys) ≡ put (x ∷ []) (text_in_front ys)) [
+        | true ↦ λ e. escaped_slash ys ∙ ap (λ y. put (y ∷ []) (text_in_front ys)) (sym (eqb-true x 92 e))
+        | false ↦ λ slash. plain_octet x ys quote slash
       ] refl
     ] refl
 
@@ -119,8 +119,8 @@ escaped_plain x quote slash =
 escaped_marked : (x : ℕ) → is_marked x ≡ true → escaped x ≡ 92 ∷ x ∷ []
 escaped_marked x h =
     elim (x == 34) as (λ b. (x == 34) ≡ b → (b || (x == 92)) ≡ true → cond b (92 ∷ 34 ∷ []) (cond (x == 92) (92 ∷ 92 ∷ []) (x ∷ [])) ≡ 92 ∷ x ∷ []) [
-      true ↦ λ e t. ap (λ y. 92 ∷ y ∷ []) (sym (eqb-true x 34 e))
-    | false ↦ λ e t. ap (λ b. cond b (92 ∷ 92 ∷ []) (x ∷ [])) t ∙ ap (λ y. 92 ∷ y ∷ []) (sym (eqb-true x 92 t))
+      | true ↦ λ e t. ap (λ y. 92 ∷ y ∷ []) (sym (eqb-true x 34 e))
+      | false ↦ λ e t. ap (λ b. cond b (92 ∷ 92 ∷ []) (x ∷ [])) t ∙ ap (λ y. 92 ∷ y ∷ []) (sym (eqb-true x 92 t))
     ] refl h
 
 takes_last : (m : Bool) (x : ℕ) → is_marked x ≡ m → x ∷ [] ≡ written (cond m (parted [] (x ∷ [])) (parted (x ∷ []) []))
@@ -149,10 +149,10 @@ text_takes (x ∷ y ∷ more) = takes_two (x == 34) (x == 92) (is_marked y) x y 
 printed_octet : (x : ℕ) → list_all is_printed (escaped x) ≡ is_printed x
 printed_octet x =
     elim (x == 34) as (λ b. (x == 34) ≡ b → list_all is_printed (cond b (92 ∷ 34 ∷ []) (cond (x == 92) (92 ∷ 92 ∷ []) (x ∷ []))) ≡ is_printed x) [
-      true ↦ λ e. ap is_printed (sym (eqb-true x 34 e))
-    | false ↦ λ e. elim (x == 92) as (λ b. (x == 92) ≡ b → list_all is_printed (cond b (92 ∷ 92 ∷ []) (x ∷ [])) ≡ is_printed x) [
-        true ↦ λ e. ap is_printed (sym (eqb-true x 92 e))
-      | false ↦ λ e. and-true (is_printed x)
+      | true ↦ λ e. ap is_printed (sym (eqb-true x 34 e))
+      | false ↦ λ e. elim (x == 92) as (λ b. (x == 92) ≡ b → list_all is_printed (cond b (92 ∷ 92 ∷ []) (x ∷ [])) ≡ is_printed x) [
+        | true ↦ λ e. ap is_printed (sym (eqb-true x 92 e))
+        | false ↦ λ e. and-true (is_printed x)
       ] refl
     ] refl
 

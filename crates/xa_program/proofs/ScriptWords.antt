@@ -21,9 +21,9 @@ skips (suc n) xs = skips n xs
 pub skipped : (xs : List ℕ) → (n : ℕ) × (xs ≡ spaces n ++ skip_spaces xs)
 skipped [] = (0, refl)
 skipped (x ∷ xs) = elim (x == 32) as (λ b. (x == 32) ≡ b → (n : ℕ) × (x ∷ xs ≡ spaces n ++ cond b (skip_spaces xs) (x ∷ xs))) [
-    true ↦ λ e. let more = skipped xs in (suc more.0, ap (λ y. y ∷ xs) (eqb-true x 32 e) ∙ ap (λ ys. 32 ∷ ys) more.1)
+  | true ↦ λ e. let more = skipped xs in (suc more.0, ap (λ y. y ∷ xs) (eqb-true x 32 e) ∙ ap (λ ys. 32 ∷ ys) more.1)
   | false ↦ λ e. (0, refl)
-  ] refl
+] refl
 
 abbrev pub is_plain : ℕ → Bool
 is_plain octet = not (is_space octet)
@@ -68,9 +68,9 @@ next_word_again n (x ∷ word) rest h end =
 pub ends : (xs : List ℕ) → IsEnd (behind_word xs)
 ends [] = tt
 ends (x ∷ xs) = elim (x == 32) as (λ b. (x == 32) ≡ b → IsEnd (drop (cond (not b) (1 + position_or_len is_space xs) 0) (x ∷ xs))) [
-    true ↦ λ e. eqb-true x 32 e
+  | true ↦ λ e. eqb-true x 32 e
   | false ↦ λ e. let one : suc (position_or_len is_space xs) ≡ 1 + position_or_len is_space xs = omega arith in subst (λ n. IsEnd (drop n (x ∷ xs))) one (ends xs)
-  ] refl
+] refl
 
 pub next_word_takes : (xs : List ℕ) → (n : ℕ) × (xs ≡ spaces n ++ (next_word xs).0 ++ (next_word xs).1) × IsEnd (next_word xs).1
 unfolding next_word
@@ -109,9 +109,9 @@ not_blank n x word rest h =
 pub skipped_takes : (line : List ℕ) → is_skipped line ≡ true → HasWords [] line ⊎ ((rest : List ℕ) × (line ≡ codes "#" ++ rest))
 skipped_takes [] h = inl (0, refl)
 skipped_takes (x ∷ xs) h = elim (x == 35) as (λ b. (x == 35) ≡ b → cond b true (is_blank (x ∷ xs)) ≡ true → HasWords [] (x ∷ xs) ⊎ ((rest : List ℕ) × (x ∷ xs ≡ codes "#" ++ rest))) [
-    true ↦ λ e t. inr (xs, ap (λ y. y ∷ xs) (eqb-true x 35 e))
+  | true ↦ λ e t. inr (xs, ap (λ y. y ∷ xs) (eqb-true x 35 e))
   | false ↦ λ e t. inl (blank_takes (x ∷ xs) t)
-  ] refl h
+] refl h
 
 either_true : (b c : Bool) → c ≡ true → cond b true c ≡ true
 either_true true c h = refl

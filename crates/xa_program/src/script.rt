@@ -193,5 +193,96 @@ pub fn one_reading()
     ensures script { OneScript }
     ensures fault { NoFaultyScript }
     ensures line { OneFirstFault }
-{
+{}
+
+#[cfg(test)]
+mod tests {
+    use super::{Script, ScriptRefused, read_script};
+    use std::test::Fail;
+    use xa_types::{Ask, Data, Name, Op};
+
+    fn calls(script: &Script) -> &[Op] {
+        match script.clients.slice() {
+            [client] => client.ops.slice(),
+            _ => &[],
+        }
+    }
+
+    fn last_text(script: &Script) -> &[u8] {
+        match calls(script) {
+            [
+                ..,
+                Op::Call(
+                    Ask {
+                        payload: Data::Octet(octets),
+                        ..
+                    },
+                ),
+            ] => octets.slice(),
+            _ => b"",
+        }
+    }
+
+    #[test]
+    fn built_lines_are_read(rt: HostRuntime) -> Result<(), Fail> {
+        let service = Name::read(b"TEST1")?;
+        let cases: [(&[u8], usize, &[u8]); 7] = [
+            (b"", 0, b""),
+            (b"\r\n\n", 0, b""),
+            (b"client a", 0, b""),
+            (b"client a\r\ncall TEST1 none\r\n", 1, b""),
+            (
+                b"# c\n\n   \n  client  a \n#x\n call  TEST1   text  \"hello\"  ",
+                1,
+                b"hello",
+            ),
+            (
+                b"client a\ncall TEST1 none\ncall TEST1 text \"a\\\"b\\\\c # d\"\n",
+                2,
+                b"a\"b\\c # d",
+            ),
+            (b"client a\ncall TEST1 text \"\"", 1, b""),
+        ];
+        for (octets, count, text) in cases {
+            assert!(rt; octets.len() < 1000);
+            let script = read_script(rt.alloc(), octets, &service)?;
+            assert_eq!(rt; calls(&script).len(), count);
+            assert_eq!(rt; last_text(&script), text);
+        }
+        Ok(())
+    }
+
+    #[test]
+    fn the_first_faulty_line_is_told(rt: HostRuntime) -> Result<(), Fail> {
+        let service = Name::read(b"TEST1")?;
+        let cases: [(&[u8], u32); 18] = [
+            (b"client a\ntick 1\n", 2),
+            (b"\n# c\n\nclient a\n\ncall TEST1 none\ncall TEST1\nx", 7),
+            (b"call TEST1 none\n", 1),
+            (b"client a\nclient b\n", 2),
+            (b"client a\ncall TEST2 none\n", 2),
+            (b"client a\ncall TEST1 text \"hello\n", 2),
+            (b"client a\ncall TEST1 text \"hello\"x\n", 2),
+            (b"client a\ncall TEST1 text \"hello\" x\n", 2),
+            (b"client a\ncall TEST1 text \"a\\n\"\n", 2),
+            (b"client a\ncall TEST1 text hello\n", 2),
+            (b"client a\ncall TEST1 none none\n", 2),
+            (b"client a\ncall TEST1 text \"\x80\"\n", 2),
+            (b"client a\n# \x80\n", 2),
+            (b"client\ta\n", 1),
+            (b"client .a\n", 1),
+            (b"client a b\n", 1),
+            (b"clienta\n", 1),
+            (b"client a\r", 1),
+        ];
+        for (octets, line) in cases {
+            assert!(rt; octets.len() < 1000);
+            let read = read_script(rt.alloc(), octets, &service);
+            assert!(rt;
+                matches!(&read, Err(ScriptRefused::BadLine { line: l, cause: 9 }) if *l == line),
+                "at line {line}"
+            );
+        }
+        Ok(())
+    }
 }

@@ -26,8 +26,7 @@ loop-text-preserved c =
     let reached = subst (IsReadTo service (lines c.args.octets.now) n draft) c.in-Some.ensures.line c.loop-text.invariant.0 in
     let goes_on = sym c.in_ok-take_line.ensures ∙ ap (λ b. kept b c.take_line.new.self) c.if-not-branch.false in
     let room = c.loop-text.invariant.1 in
-    let shorter = c.in-Some.ensures.shorter in
-    (
+    let shorter = c.in-Some.ensures.shorter in (
       reads_on service (lines c.args.octets.now) (lines c.in-Some.behind.now) n draft c.take_line.new.self c.in-Some.text.now reached goes_on,
       omega (arith, room, shorter),
     )
@@ -36,4 +35,4 @@ pub returns-clause-found : goal.returns-clause-found
 returns-clause-found c =
     let all = lines c.args.octets.now in
     all_read c.args.service.now all c.loop-text.line c.loop-text.draft
-      (subst (IsReadTo c.args.service.now all c.loop-text.line c.loop-text.draft) c.in_default.ensures.line c.loop-text.invariant.0)
+    (subst (IsReadTo c.args.service.now all c.loop-text.line c.loop-text.draft) c.in_default.ensures.line c.loop-text.invariant.0)

@@ -9,4 +9,4 @@ returns-clause-found c =
     let all = lines c.args.octets.now in
     let read = read_reads c.octets.result.now all c.in_ok-draft.draft c.in_ok-draft.ensures.found in
     subst (λ service. Reads service all c.in_ok-finish.field-0.clients) c.octets.ensures.value
-      (subst (Reads c.octets.result.now all) (sym c.in_ok-finish.ensures) read)
+    (subst (Reads c.octets.result.now all) (sym c.in_ok-finish.ensures) read)
