@@ -7,3 +7,7 @@ pub mod Pipes
 pub mod Playing
 pub mod Over
 pub mod ScriptText
+pub mod ScriptRead
+pub mod ScriptWords
+pub mod ScriptGrammar
+pub mod ScriptCut

@@ -15,6 +15,6 @@ mod words;
 
 pub use line::push_line;
 pub use outcome::{Life, Outcome};
-pub use script::{Client, Script, ScriptRefused};
+pub use script::{Client, Script, ScriptRefused, one_reading, read_script};
 pub use status::{Input, Status};
 pub use words::{Command, read_words};
