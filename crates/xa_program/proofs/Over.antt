@@ -75,15 +75,18 @@ leaving_one service name n ops history lines pipe old =
       run = run_append history (Leave (record { 0 = 1 }) ∷ []) (opening (play_setup service) 1) (at service 1 past) (at service 1 gone) old.run (leave_case service n past old.quiet, refl);
       left = left_one service n past old.quiet;
       order = (tt, old.order);
-      calls = (record {
-        all = last_op_closed gone ∙ (last_op_leave past ∙ (old.quiet.op ∙ sym old.many));
-        each = each_kept (play_setup service) n 1 ops gone (closed gone) (keeps_closed service n gone) (omega (arith, old.many))
-          (each_kept (play_setup service) n 1 ops past gone (keeps_leave service n past) (omega (arith, old.many)) old.each);
-      }, tt);
+      calls = (
+        record {
+          all = last_op_closed gone ∙ (last_op_leave past ∙ (old.quiet.op ∙ sym old.many));
+          each = each_kept (play_setup service) n 1 ops gone (closed gone) (keeps_closed service n gone) (omega (arith, old.many))
+              (each_kept (play_setup service) n 1 ops past gone (keeps_leave service n past) (omega (arith, old.many)) old.each);
+        },
+        tt,
+      );
       said = old.said ∙ (sym (lines_kept (play_setup service) name n past gone (keeps_leave service n past) old.knows n (omega arith))
-        ∙ (sym (lines_kept (play_setup service) name n gone (closed gone) (keeps_closed service n gone) old.knows n (omega arith))
-        ∙ (ap (λ k. lines_up_to name 1 (closed gone) k) (sym (last_op_closed gone ∙ (last_op_leave past ∙ old.quiet.op)))
-        ∙ sym (append-nil (lines_up_to name 1 (closed gone) (last_op 1 (closed gone)))))));
+          ∙ (sym (lines_kept (play_setup service) name n gone (closed gone) (keeps_closed service n gone) old.knows n (omega arith))
+          ∙ (ap (λ k. lines_up_to name 1 (closed gone) k) (sym (last_op_closed gone ∙ (last_op_leave past ∙ old.quiet.op)))
+          ∙ sym (append-nil (lines_up_to name 1 (closed gone) (last_op 1 (closed gone)))))));
       wrote = subst (λ frames. Wrote pipe frames) (sym (append-nil (frames_out 1 1 past))) old.wrote;
       read = subst (λ frames. HasRead pipe frames) (sym (append-nil (frames_in (83 ∷ []) 1 1 past))) old.read;
       lives = append-nil (lives_of past) ∙ old.lives;
@@ -106,8 +109,8 @@ over service clients history lines before now old took gave rest =
     let ended = history ++ Close (record { 0 = 1 }) ∷ Stop stop ∷ [] in
     let count = length clients in
     let run : Run (opening (play_setup service) count) ended (at service count (closed past)) =
-      run_append history (Close (record { 0 = 1 }) ∷ Stop stop ∷ []) (opening (play_setup service) count) (at service count past) (at service count (closed past)) old.run
-        (close_case service count past old.left, (stop_case service count past old.left, refl)) in
+    run_append history (Close (record { 0 = 1 }) ∷ Stop stop ∷ []) (opening (play_setup service) count) (at service count past) (at service count (closed past)) old.run
+    (close_case service count past old.left, (stop_case service count past old.left, refl)) in
     let reversed : reverse ended ≡ closed past = reverse_two history (Close (record { 0 = 1 })) (Stop stop) in
     record {
       machine = subst (λ (es : List Event). IsHistoryAt (play_setup service) clients ended es) (sym reversed) (record {
@@ -148,8 +151,8 @@ pub leaving_all : (service : List ℕ) (client : Client) (clients : List Client)
     → IsLeaving service clients ended lines pipe
 leaving_all service client clients started made ended silent lines before pipe alone played is begun =
     subst (λ (all : List Client). IsLeaving service all ended lines pipe) (sym alone)
-      (subst (λ (es : List Event). IsLeaving service (client ∷ []) es lines pipe) (sym is)
-        (leaving_one service client.name (length client.ops) client.ops made lines pipe (played (begun client.name 1))))
+    (subst (λ (es : List Event). IsLeaving service (client ∷ []) es lines pipe) (sym is)
+    (leaving_one service client.name (length client.ops) client.ops made lines pipe (played (begun client.name 1))))
 
 -- the whole of a life
 pub over_all : (service : List ℕ) (clients : List Client) (started left ended : List Event) (silent lines : List ℕ) (start_pipe before now : Piped)
@@ -160,8 +163,8 @@ pub over_all : (service : List ℕ) (clients : List Client) (started left ended 
     → IsOver service clients ended lines now
 over_all service clients started left ended silent lines start_pipe before now started_is silent_is wrote read leaving ended_is took gave rest =
     subst (λ (es : List Event). IsOver service clients es lines now) (sym ended_is)
-      (over service clients left lines before now
-        (leaving (λ name count. subst (λ (es : List Event). IsPlaying service name count 0 [] es silent start_pipe) (sym started_is)
-          (subst (λ (text : List ℕ). IsPlaying service name count 0 [] (Advertise (advertise service) ∷ Start start ∷ []) text start_pipe) (sym silent_is)
-            (playing_begun service name count start_pipe wrote read))))
-        took gave rest)
+    (over service clients left lines before now
+    (leaving (λ name count. subst (λ (es : List Event). IsPlaying service name count 0 [] es silent start_pipe) (sym started_is)
+    (subst (λ (text : List ℕ). IsPlaying service name count 0 [] (Advertise (advertise service) ∷ Start start ∷ []) text start_pipe) (sym silent_is)
+    (playing_begun service name count start_pipe wrote read))))
+    took gave rest)

@@ -10,6 +10,7 @@ mod pipe;
 mod script;
 mod script_line;
 mod serving;
+mod setup;
 mod status;
 mod words;
 

@@ -6,4 +6,4 @@ use Rattle.xa_program.proofs.serving.only_client.Goals as goal
 pub returns : goal.returns
 returns c =
     first_client c.args._service.now c.args.script.now.clients c.first.result c.requires
-      (c.first.ensures.value ∙ ap (λ xs. slice_get xs 0) c.slice.ensures)
+    (c.first.ensures.value ∙ ap (λ xs. slice_get xs 0) c.slice.ensures)
