@@ -5,11 +5,12 @@ mod calls;
 mod halt;
 mod life;
 mod line;
+mod one_life;
 mod outcome;
 mod pipe;
 mod script;
 mod script_line;
-mod serving;
+
 mod setup;
 mod status;
 mod words;

@@ -3,7 +3,7 @@ use Rattle.xa_types.specs.declared.call.Op.{Op}
 use Rattle.xa_program.specs.declared.script.Client.{Client}
 use Rattle.xa_program.specs.Progress.{IsLeaving, IsPlaying}
 use Rattle.xa_program.proofs.Over.{leaving_none, leaving_all}
-use Rattle.xa_program.proofs.serving.make_all.Goals as goal
+use Rattle.xa_program.proofs.one_life.make_all.Goals as goal
 
 pub returns-in-None : goal.returns-in-None
 returns-in-None g c begun =

@@ -6,7 +6,7 @@ use Rattle.xa_program.specs.Pipe.{HasRead}
 use Rattle.xa_program.specs.Pipes.{greeting}
 use Rattle.xa_program.specs.Progress.{start}
 use Rattle.xa_program.proofs.Over.{over_all}
-use Rattle.xa_program.proofs.serving.serve.Goals as goal
+use Rattle.xa_program.proofs.one_life.serve.Goals as goal
 
 pub returns : goal.returns
 returns g c =

@@ -1,7 +1,7 @@
 use Rattle.std.proofs.Common.{◌∙◌, ap}
 use Rattle.std.specs.List.{slice_get}
 use Rattle.xa_program.proofs.Over.{first_client}
-use Rattle.xa_program.proofs.serving.only_client.Goals as goal
+use Rattle.xa_program.proofs.one_life.only_client.Goals as goal
 
 pub returns : goal.returns
 returns c =
