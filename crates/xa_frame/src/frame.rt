@@ -1,0 +1,23 @@
+use xa_types::{Data, Mode, Name, Rval};
+
+/// What a frame says.
+#[derive(Debug, Drop)]
+pub enum Body {
+    /// A program is ready, and this is its server's name.
+    Ready(Name),
+    /// A program asks for the next request.
+    Next,
+    /// A service returns (XATMI, tpreturn).
+    Return(Rval, i32, Data),
+    /// A service is to run: its name, its routine, what it is invoked for, and what came with the request.
+    Invoke(Name, Name, Mode, Data),
+    /// A program is to end.
+    Shutdown,
+}
+
+/// A frame: a tag, and what it says.
+#[derive(Debug, Drop)]
+pub struct Frame {
+    pub tag: u32,
+    pub body: Body,
+}

@@ -1,0 +1,93 @@
+ghost use Rattle.std.specs.Prelude.{◌≡◌, ◌+◌, ◌-◌, ◌<◌, ◌≤◌, drop, ◌^◌, ◌↔◌, ◌++◌, [], length, min, ℕ, List, OnOk, OnErr, Ok, Err, Some, None};
+ghost use Rattle.xa_frame.specs.declared.frame.Frame.{Frame};
+ghost use Rattle.xa_frame.specs.Spelling.{spelled, HasSpelling};
+ghost use Rattle.xa_frame.specs.Stream.{IsPartial, IsMalformed, Begins};
+
+use crate::fault::{NextRefused, ReadError};
+use crate::frame::Frame;
+use crate::reading::frame_after;
+use std::alloc::Global;
+use std::marker::Model;
+use xa_types::NoMemory;
+
+/// Reads frames from a stream of octets that comes in pieces.
+#[derive(Debug, Drop)]
+pub struct Reader {
+    alloc: Global,
+    octets: Vec<u8>,
+    taken: usize,
+    place: u64,
+}
+
+impl Model for Reader {
+    ghost use Rattle.std.specs.Prelude.{drop, length, ◌≤◌, ◌<◌, ◌-◌, ◌^◌};
+    ghost use Rattle.xa_frame.specs.Stream.{Incoming};
+
+    ghost Value = { Incoming };
+
+    ghost view = { λ r. record { place = r.place; rest = drop r.taken r.octets.items } };
+
+    ghost invariant = { λ r. (r.taken ≤ length r.octets.items) × (length r.octets.items - r.taken < 2 ^ 32) };
+}
+
+// Lets go of the octets before that place.
+fn forget(octets: &mut Vec<u8>, taken: usize)
+    requires { taken ≤ length octets.old.items }
+    ensures { octets.new.items ≡ drop taken octets.old.items }
+{
+    let rest = octets.len() - taken;
+    octets.copy_within(taken.., 0);
+    octets.truncate(rest);
+}
+
+impl Reader {
+    pub fn new(alloc: Global) -> Reader
+        ensures { result ≡ record { place = 0; rest = [] } }
+    {
+        Reader {
+            alloc,
+            octets: Vec::new(alloc),
+            taken: 0,
+            place: 0,
+        }
+    }
+
+    /// Takes the next piece of the stream. Fewer than 2^32 octets may be pending then.
+    pub fn feed(&mut self, octets: &[u8]) -> Result<(), NoMemory>
+        requires { length self.old.rest + length octets.now < 2 ^ 32 }
+        ensures place { self.new.place ≡ self.old.place }
+        ensures ok { OnOk result (self.new.rest ≡ self.old.rest ++ octets.now) }
+        ensures err { OnErr result (self.new.rest ≡ self.old.rest) }
+    {
+        // Each octet moved stands for one that was taken, so a stream is fed in linear time.
+        if self.taken >= self.octets.len() - self.taken {
+            forget(&mut self.octets, self.taken);
+            self.taken = 0;
+        }
+        self.octets.extend_from_slice(octets)?;
+        Ok(())
+    }
+
+    /// How many octets were fed and are not taken.
+    pub fn pending(&self) -> u32
+        ensures { result ≡ length self.now.rest }
+    {
+        (self.octets.len() - self.taken) as u32
+    }
+
+    /// The next frame; `None` where more octets are to come. It looks at a header alone where the body is not whole.
+    pub fn next(&mut self) -> Result<Option<Frame>, NextRefused>
+        ensures found { (f : Frame) → result ≡ Ok (Some f) → Begins self.old.rest f self.new.rest × (self.new.place ≡ min (self.old.place + length (spelled f)) (2 ^ 64 - 1)) }
+    {
+        match frame_after(self.alloc, &self.octets, self.taken) {
+            Ok(None) => Ok(None),
+            Ok(Some((frame, size))) => {
+                self.taken += size;
+                self.place = self.place.saturating_add(size as u64);
+                Ok(Some(frame))
+            }
+            Err(ReadError::NoFrame) => Err(NextRefused::BadFrame(self.place)),
+            Err(ReadError::NoMemory) => Err(NextRefused::NoMemory),
+        }
+    }
+}

@@ -1,0 +1,157 @@
+//! The body of a frame, and the frame that stands first.
+
+ghost use Rattle.std.specs.Prelude.{◌≡◌, ◌≤◌, length, drop};
+ghost use Rattle.xa_frame.specs.declared.frame.Body.TheVariants.{Next, Shutdown};
+ghost use Rattle.xa_frame.specs.Reading.{Reads, Makes, Stands, data_of, octet_data_of, struct_of, absent_of, ready_of, return_of, invoke_of, empty_of, body_of, front_at};
+
+use crate::fault::{NoFrame, ReadError};
+use crate::fields::{mode_of, name_of, number_at, octet_at, rval_of, sized_of, word_at};
+use crate::frame::{Body, Frame};
+use crate::header::{FrameKind, HEADER, header_at};
+use std::alloc::Global;
+use xa_types::{Data, Octets};
+
+fn absent_of(octets: &[u8]) -> Result<Data, NoFrame>
+    ensures { Reads (λ x. x) result (absent_of octets.now) }
+{
+    if octets.is_empty() {
+        Ok(Data::Absent)
+    } else {
+        Err(NoFrame)
+    }
+}
+
+#[tactic(auto, unfolding(crate::specs::Reading::octet_data_of))]
+fn octet_data_of(alloc: Global, octets: &[u8]) -> Result<Data, ReadError>
+    ensures { Makes (λ x. x) result (octet_data_of octets.now) }
+{
+    let octets = sized_of(octets)?;
+    Ok(Data::Octet(Octets::of(alloc, octets)?))
+}
+
+#[tactic(auto, unfolding(crate::specs::Reading::struct_of))]
+fn struct_of(alloc: Global, octets: &[u8]) -> Result<Data, ReadError>
+    ensures { Makes (λ x. x) result (struct_of octets.now) }
+{
+    let (word, rest) = word_at(octets)?;
+    let subtype = name_of(word)?;
+    let octets = sized_of(rest)?;
+    Ok(Data::Struct(subtype, Octets::of(alloc, octets)?))
+}
+
+#[tactic(auto, unfolding(crate::specs::Reading::data_of))]
+fn data_of(alloc: Global, octets: &[u8]) -> Result<Data, ReadError>
+    ensures { Makes (λ x. x) result (data_of octets.now) }
+{
+    let (kind, rest) = octet_at(octets)?;
+    match kind {
+        0x00 => Ok(absent_of(rest)?),
+        0x01 => octet_data_of(alloc, rest),
+        0x02 => struct_of(alloc, rest),
+        _ => Err(ReadError::NoFrame),
+    }
+}
+
+#[tactic(auto, unfolding(crate::specs::Reading::ready_of))]
+fn ready_of(octets: &[u8]) -> Result<Body, NoFrame>
+    ensures { Reads (λ x. x) result (ready_of octets.now) }
+{
+    let (word, rest) = word_at(octets)?;
+    let name = name_of(word)?;
+    if !rest.is_empty() {
+        return Err(NoFrame);
+    }
+    Ok(Body::Ready(name))
+}
+
+#[tactic(auto, unfolding(crate::specs::Reading::return_of))]
+fn return_of(alloc: Global, octets: &[u8]) -> Result<Body, ReadError>
+    ensures { Makes (λ x. x) result (return_of octets.now) }
+{
+    let (value, rest) = octet_at(octets)?;
+    let value = rval_of(value)?;
+    let (code, rest) = number_at(rest)?;
+    let payload = data_of(alloc, rest)?;
+    Ok(Body::Return(value, code.cast_signed(), payload))
+}
+
+#[tactic(auto, unfolding(crate::specs::Reading::invoke_of))]
+fn invoke_of(alloc: Global, octets: &[u8]) -> Result<Body, ReadError>
+    ensures { Makes (λ x. x) result (invoke_of octets.now) }
+{
+    let (first, rest) = word_at(octets)?;
+    let service = name_of(first)?;
+    let (second, rest) = word_at(rest)?;
+    let routine = name_of(second)?;
+    let (mode, rest) = octet_at(rest)?;
+    let mode = mode_of(mode)?;
+    let payload = data_of(alloc, rest)?;
+    Ok(Body::Invoke(service, routine, mode, payload))
+}
+
+fn next_of(octets: &[u8]) -> Result<Body, NoFrame>
+    ensures { Reads (λ x. x) result (empty_of Next octets.now) }
+{
+    if octets.is_empty() {
+        Ok(Body::Next)
+    } else {
+        Err(NoFrame)
+    }
+}
+
+fn shutdown_of(octets: &[u8]) -> Result<Body, NoFrame>
+    ensures { Reads (λ x. x) result (empty_of Shutdown octets.now) }
+{
+    if octets.is_empty() {
+        Ok(Body::Shutdown)
+    } else {
+        Err(NoFrame)
+    }
+}
+
+/// The body of that kind that all of the octets are.
+fn body_of(alloc: Global, kind: FrameKind, octets: &[u8]) -> Result<Body, ReadError>
+    ensures { Makes (λ x. x) result (body_of kind octets.now) }
+{
+    match kind {
+        FrameKind::Ready => Ok(ready_of(octets)?),
+        FrameKind::Next => Ok(next_of(octets)?),
+        FrameKind::Return => return_of(alloc, octets),
+        FrameKind::Invoke => invoke_of(alloc, octets),
+        FrameKind::Shutdown => Ok(shutdown_of(octets)?),
+    }
+}
+
+/// The frame that stands first, and how many octets it has; `None` where more octets are to come.
+#[tactic(auto, unfolding(crate::specs::Reading::front_at))]
+fn front_at(alloc: Global, octets: &[u8]) -> Result<Option<(Frame, usize)>, ReadError>
+    ensures { Stands result (front_at octets.now) }
+{
+    if octets.len() < HEADER {
+        return Ok(None);
+    }
+    let (header, rest) = header_at(octets)?;
+    let size = header.size as usize;
+    if rest.len() < size {
+        return Ok(None);
+    }
+    let (octets, _) = rest.split_at(size);
+    let body = body_of(alloc, header.kind, octets)?;
+    let frame = Frame {
+        tag: header.tag,
+        body,
+    };
+    Ok(Some((frame, HEADER + size)))
+}
+
+/// The frame that stands first after so many octets.
+pub fn frame_after(
+    alloc: Global,
+    octets: &[u8],
+    taken: usize,
+) -> Result<Option<(Frame, usize)>, ReadError>
+    requires { taken ≤ length octets.now }
+    ensures { Stands result (front_at (drop taken octets.now)) }
+{
+    front_at(alloc, &octets[taken..])
+}

@@ -1,0 +1,146 @@
+ghost use Rattle.std.specs.Prelude.{◌≡◌, ◌≤◌, ◌++◌, length, IfOk, OnOk};
+ghost use Rattle.xa_frame.specs.Spelling.{kind_octet, rval_octet, mode_octet, word, sized, data_octets, body_octets, spelled, IsData, IsBody, HasSpelling};
+
+use crate::frame::{Body, Frame};
+use crate::header::{HEADER, MARK};
+use std::alloc::Global;
+use xa_types::{Data, Mode, Name, NoMemory, Octets, Rval};
+
+fn kind_octet(body: &Body) -> u8
+    ensures { result ≡ kind_octet body.now }
+{
+    match body {
+        Body::Ready(_) => 0x01,
+        Body::Next => 0x02,
+        Body::Return(..) => 0x04,
+        Body::Invoke(..) => 0x11,
+        Body::Shutdown => 0x13,
+    }
+}
+
+fn rval_octet(value: Rval) -> u8
+    ensures { result ≡ rval_octet value }
+{
+    match value {
+        Rval::Success => 0,
+        Rval::Fail => 1,
+        Rval::Exit => 2,
+    }
+}
+
+fn mode_octet(mode: Mode) -> u8
+    ensures { result ≡ mode_octet mode }
+{
+    match mode {
+        Mode::Reply => 0,
+        Mode::NoReply => 1,
+        Mode::ConvReceives => 2,
+        Mode::ConvSends => 3,
+    }
+}
+
+fn word_len(name: &Name) -> usize
+    ensures { result ≡ length (word name.now) }
+{
+    1 + name.octets().len()
+}
+
+fn data_len(payload: &Data) -> usize
+    requires { IsData payload.now }
+    ensures { result ≡ length (data_octets payload.now) }
+{
+    match payload {
+        Data::Absent => 1,
+        Data::Octet(octets) => 5 + octets.slice().len(),
+        Data::Struct(subtype, octets) => 5 + word_len(subtype) + octets.slice().len(),
+    }
+}
+
+fn body_len(body: &Body) -> usize
+    requires { IsBody body.now }
+    ensures { result ≡ length (body_octets body.now) }
+{
+    match body {
+        Body::Ready(name) => word_len(name),
+        Body::Next | Body::Shutdown => 0,
+        Body::Return(_, _, payload) => 5 + data_len(payload),
+        Body::Invoke(service, routine, _, payload) => {
+            word_len(service) + word_len(routine) + 1 + data_len(payload)
+        }
+    }
+}
+
+fn put_word(out: &mut Vec<u8>, name: &Name) -> Result<(), NoMemory>
+    ensures { OnOk result (out.new.items ≡ out.old.items ++ word name.now) }
+{
+    let octets = name.octets();
+    out.push(octets.len() as u8)?;
+    out.extend_from_slice(octets)?;
+    Ok(())
+}
+
+fn put_sized(out: &mut Vec<u8>, octets: &Octets) -> Result<(), NoMemory>
+    requires { length octets.now ≤ 65_536 }
+    ensures { OnOk result (out.new.items ≡ out.old.items ++ sized octets.now) }
+{
+    let octets = octets.slice();
+    out.extend_from_slice(&(octets.len() as u32).to_be_bytes())?;
+    out.extend_from_slice(octets)?;
+    Ok(())
+}
+
+fn put_data(out: &mut Vec<u8>, payload: &Data) -> Result<(), NoMemory>
+    requires { IsData payload.now }
+    ensures { OnOk result (out.new.items ≡ out.old.items ++ data_octets payload.now) }
+{
+    match payload {
+        Data::Absent => out.push(0x00)?,
+        Data::Octet(octets) => {
+            out.push(0x01)?;
+            put_sized(out, octets)?;
+        }
+        Data::Struct(subtype, octets) => {
+            out.push(0x02)?;
+            put_word(out, subtype)?;
+            put_sized(out, octets)?;
+        }
+    }
+    Ok(())
+}
+
+fn put_body(out: &mut Vec<u8>, body: &Body) -> Result<(), NoMemory>
+    requires { IsBody body.now }
+    ensures { OnOk result (out.new.items ≡ out.old.items ++ body_octets body.now) }
+{
+    match body {
+        Body::Ready(name) => put_word(out, name)?,
+        Body::Next | Body::Shutdown => (),
+        Body::Return(value, code, payload) => {
+            out.push(rval_octet(*value))?;
+            out.extend_from_slice(&code.to_be_bytes())?;
+            put_data(out, payload)?;
+        }
+        Body::Invoke(service, routine, mode, payload) => {
+            put_word(out, service)?;
+            put_word(out, routine)?;
+            out.push(mode_octet(*mode))?;
+            put_data(out, payload)?;
+        }
+    }
+    Ok(())
+}
+
+/// The octets of a frame. Its data has at most 65,536 octets.
+pub fn encode(alloc: Global, frame: &Frame) -> Result<Octets, NoMemory>
+    requires { HasSpelling frame.now }
+    ensures { IfOk result (λ octets. octets ≡ spelled frame.now) }
+{
+    let size = body_len(&frame.body);
+    let mut out = Vec::with_capacity(alloc, HEADER + size)?;
+    out.extend_from_slice(&MARK)?;
+    out.push(kind_octet(&frame.body))?;
+    out.extend_from_slice(&(size as u32).to_be_bytes())?;
+    out.extend_from_slice(&frame.tag.to_be_bytes())?;
+    put_body(&mut out, &frame.body)?;
+    Ok(Octets::from_vec(out))
+}
