@@ -1,3 +1,4 @@
+pub mod Child
 pub mod Line
 pub mod PlaySetup
 pub mod Spoken

@@ -1,6 +1,8 @@
 //! The top call.
 #![tactic(auto)]
 
+mod child;
 mod status;
 
+pub use child::{Child, ChildRefused, child_step};
 pub use status::{Input, Status};
