@@ -17,6 +17,8 @@ use Rattle.xa_frame.specs.declared.header.Header.{Header}
 use Rattle.xa_frame.specs.declared.fault.NoFrame.{NoFrame}
 use Rattle.xa_frame.specs.declared.fault.ReadError.{ReadError}
 use Rattle.xa_frame.specs.declared.fault.ReadError.TheVariants as errors
+use Rattle.xa_frame.specs.Spelling.{spelled}
+use Rattle.xa_frame.specs.Stream.{Begins, IsPartial, IsMalformed}
 
 infixl 10 ◌>>=◌
 abbrev pub ◌>>=◌ : {A B : Type 0} → Option A → (A → Option B) → Option B
@@ -134,19 +136,22 @@ most_octets kinds.Return = 66_000
 most_octets kinds.Invoke = 66_000
 most_octets kinds.Shutdown = 0
 
-abbrev pub is_marked : ℕ → ℕ → ℕ → Bool
-is_marked x a version = (x == 0x58) && ((a == 0x41) && (version == 0x01))
-
-unfoldable pub header_at : List ℕ → Option (Header × List ℕ)
-header_at octets = do
+-- the octets after the mark and the version
+unfoldable pub after_mark : List ℕ → Option (List ℕ)
+after_mark octets = do
   x ← octet_at octets
   a ← octet_at x.1
   version ← octet_at a.1
-  octet ← octet_at version.1
+  if (x.0 == 0x58) && ((a.0 == 0x41) && (version.0 == 0x01)) then Some version.1 else None
+
+unfoldable pub header_at : List ℕ → Option (Header × List ℕ)
+header_at octets = do
+  fields ← after_mark octets
+  octet ← octet_at fields
   kind ← kind_of octet.0
   size ← number_at octet.1
   tag ← number_at size.1
-  if is_marked x.0 a.0 version.0 && nat_le size.0 (most_octets kind) then Some (record { kind = kind; size = size.0; tag = tag.0 }, tag.1) else None
+  if nat_le size.0 (most_octets kind) then Some (record { kind = kind; size = size.0; tag = tag.0 }, tag.1) else None
 
 -- what stands first: a frame and how many octets it has, less than a frame, or no frame
 pub data Front : Type 0 where
@@ -182,3 +187,21 @@ StandsAt (Some found) front = front ≡ Whole found.0 found.1
 abbrev pub Stands : Result (Option (Frame × ℕ)) ReadError → Front → Type 0
 Stands (Ok found) front = StandsAt found front
 Stands (Err e) front = FailsAt e front
+
+-- the octets begin with that frame, which has so many of them
+pub record IsFirst (octets : List ℕ) (f : Frame) (n : ℕ) : Type 0 where
+  pub begins : Begins octets f (drop n octets)
+  pub size : n ≡ length (spelled f)
+
+-- the same as Stands, in the words of Stream
+abbrev pub FailsFirst : List ℕ → ReadError → Type 0
+FailsFirst octets errors.NoFrame = IsMalformed octets
+FailsFirst octets errors.NoMemory = (f : Frame) × (more : List ℕ) × Begins octets f more
+
+abbrev pub FoundFirst : List ℕ → Option (Frame × ℕ) → Type 0
+FoundFirst octets None = IsPartial octets
+FoundFirst octets (Some found) = IsFirst octets found.0 found.1
+
+abbrev pub StandsFirst : List ℕ → Result (Option (Frame × ℕ)) ReadError → Type 0
+StandsFirst octets (Ok found) = FoundFirst octets found
+StandsFirst octets (Err e) = FailsFirst octets e

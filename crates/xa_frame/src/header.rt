@@ -1,5 +1,5 @@
 ghost use Rattle.std.specs.Prelude.{◌≡◌};
-ghost use Rattle.xa_frame.specs.Reading.{Reads, kind_of, most_octets, header_at};
+ghost use Rattle.xa_frame.specs.Reading.{Reads, kind_of, most_octets, after_mark, header_at};
 
 use crate::fault::NoFrame;
 use crate::fields::{number_at, octet_at};
@@ -48,19 +48,31 @@ fn most_octets(kind: FrameKind) -> u32
     }
 }
 
+/// The octets after the mark and the version.
+#[tactic(auto, unfolding(crate::specs::Reading::after_mark))]
+fn after_mark(octets: &[u8]) -> Result<&[u8], NoFrame>
+    ensures { Reads (λ x. x.now) result (after_mark octets.now) }
+{
+    let (x, rest) = octet_at(octets)?;
+    let (a, rest) = octet_at(rest)?;
+    let (version, rest) = octet_at(rest)?;
+    if [x, a, version] != MARK {
+        return Err(NoFrame);
+    }
+    Ok(rest)
+}
+
 /// The header that stands first, and the octets after it.
 #[tactic(auto, unfolding(crate::specs::Reading::header_at))]
 pub fn header_at(octets: &[u8]) -> Result<(Header, &[u8]), NoFrame>
     ensures { Reads (λ x. (x.0, x.1.now)) result (header_at octets.now) }
 {
-    let (x, rest) = octet_at(octets)?;
-    let (a, rest) = octet_at(rest)?;
-    let (version, rest) = octet_at(rest)?;
+    let rest = after_mark(octets)?;
     let (kind, rest) = octet_at(rest)?;
     let kind = kind_of(kind)?;
     let (size, rest) = number_at(rest)?;
     let (tag, rest) = number_at(rest)?;
-    if [x, a, version] != MARK || size > most_octets(kind) {
+    if size > most_octets(kind) {
         return Err(NoFrame);
     }
     Ok((Header { kind, size, tag }, rest))

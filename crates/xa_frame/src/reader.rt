@@ -1,7 +1,7 @@
-ghost use Rattle.std.specs.Prelude.{◌≡◌, ◌+◌, ◌-◌, ◌<◌, ◌≤◌, drop, ◌^◌, ◌↔◌, ◌++◌, [], length, min, ℕ, List, OnOk, OnErr, Ok, Err, Some, None};
+ghost use Rattle.std.specs.Prelude.{◌≡◌, ◌+◌, ◌-◌, ◌<◌, ◌≤◌, drop, ◌^◌, ◌↔◌, ◌++◌, [], length, min, ℕ, List, OnOk, OnErr, MatchResult};
 ghost use Rattle.xa_frame.specs.declared.frame.Frame.{Frame};
 ghost use Rattle.xa_frame.specs.Spelling.{spelled, HasSpelling};
-ghost use Rattle.xa_frame.specs.Stream.{IsPartial, IsMalformed, Begins};
+ghost use Rattle.xa_frame.specs.Stream.{IsPartial, IsMalformed, Begins, Answered};
 
 use crate::fault::{NextRefused, ReadError};
 use crate::frame::Frame;
@@ -75,9 +75,8 @@ impl Reader {
         (self.octets.len() - self.taken) as u32
     }
 
-    /// The next frame; `None` where more octets are to come. It looks at a header alone where the body is not whole.
-    pub fn next(&mut self) -> Result<Option<Frame>, NextRefused>
-        ensures found { (f : Frame) → result ≡ Ok (Some f) → Begins self.old.rest f self.new.rest × (self.new.place ≡ min (self.old.place + length (spelled f)) (2 ^ 64 - 1)) }
+    fn answer(&mut self) -> Result<Option<Frame>, NextRefused>
+        ensures { Answered self.old self.new result }
     {
         match frame_after(self.alloc, &self.octets, self.taken) {
             Ok(None) => Ok(None),
@@ -89,5 +88,16 @@ impl Reader {
             Err(ReadError::NoFrame) => Err(NextRefused::BadFrame(self.place)),
             Err(ReadError::NoMemory) => Err(NextRefused::NoMemory),
         }
+    }
+
+    /// The next frame; `None` where more octets are to come, for which it looks at a header alone. `BadFrame` comes
+    /// where no frame stands, whatever follows, and again at each later call.
+    pub fn next(&mut self) -> Result<Option<Frame>, NextRefused>
+        ensures answered { Answered self.old self.new result }
+        ensures partial { IsPartial self.old.rest → result ≡ Ok None }
+        ensures malformed { IsMalformed self.old.rest → result ≡ Err (NextRefused.BadFrame self.old.place) }
+        ensures whole { (f : Frame) (more : List ℕ) → Begins self.old.rest f more → MatchResult result (λ found. found ≡ Some f) (λ why. why ≡ NextRefused.NoMemory) }
+    {
+        self.answer()
     }
 }

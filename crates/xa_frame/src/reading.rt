@@ -2,7 +2,7 @@
 
 ghost use Rattle.std.specs.Prelude.{◌≡◌, ◌≤◌, length, drop};
 ghost use Rattle.xa_frame.specs.declared.frame.Body.TheVariants.{Next, Shutdown};
-ghost use Rattle.xa_frame.specs.Reading.{Reads, Makes, Stands, data_of, octet_data_of, struct_of, absent_of, ready_of, return_of, invoke_of, empty_of, body_of, front_at};
+ghost use Rattle.xa_frame.specs.Reading.{Reads, Makes, Stands, StandsFirst, data_of, octet_data_of, struct_of, absent_of, ready_of, return_of, invoke_of, empty_of, body_of, front_at};
 
 use crate::fault::{NoFrame, ReadError};
 use crate::fields::{mode_of, name_of, number_at, octet_at, rval_of, sized_of, word_at};
@@ -151,7 +151,8 @@ pub fn frame_after(
     taken: usize,
 ) -> Result<Option<(Frame, usize)>, ReadError>
     requires { taken ≤ length octets.now }
-    ensures { Stands result (front_at (drop taken octets.now)) }
+    ensures { StandsFirst (drop taken octets.now) result }
 {
-    front_at(alloc, &octets[taken..])
+    let (_, rest) = octets.split_at(taken);
+    front_at(alloc, rest)
 }

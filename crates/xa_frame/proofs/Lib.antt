@@ -1,0 +1,4 @@
+pub mod FieldLemmas
+pub mod BodyLemmas
+pub mod FrontLemmas
+pub mod FrameLemmas
