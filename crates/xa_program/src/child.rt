@@ -54,13 +54,13 @@ fn next() -> Frame
 fn is_echo(routine: &Name) -> bool
     ensures { result ≡ is_echo routine.now }
 {
-    routine.octets() == b"ECHO"
+    routine.octets() == b"ECHO".as_slice()
 }
 
 fn is_die(routine: &Name) -> bool
     ensures { result ≡ is_die routine.now }
 {
-    routine.octets() == b"DIE"
+    routine.octets() == b"DIE".as_slice()
 }
 
 fn returned(alloc: Global, routine: &Name, payload: &Data) -> Result<Body, NoMemory>
