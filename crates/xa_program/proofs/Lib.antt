@@ -2,3 +2,5 @@ pub mod Play
 pub mod Told
 pub mod Served
 pub mod Ends
+pub mod ChildFrames
+pub mod ServingSteps

@@ -2,6 +2,7 @@
 #![tactic(auto)]
 
 mod child;
+mod serving;
 mod status;
 
 pub use child::{Child, ChildRefused, child_step};
