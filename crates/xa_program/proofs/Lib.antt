@@ -4,3 +4,4 @@ pub mod Served
 pub mod Ends
 pub mod ChildFrames
 pub mod ServingSteps
+pub mod ChildTurned

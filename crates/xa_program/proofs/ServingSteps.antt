@@ -67,12 +67,15 @@ taken_all old mid new due due_now halt t step low = record {
 
 -- what answers a frame that was read is a step
 pub answers_step : (old mid new : Serving) (f : Frame) (due due_now : List ℕ) (turn : Result (Option Halt) NoMemory) → old.child.ended ≡ false → Took old.reader mid.reader f → mid.child ≡ old.child → new.reader ≡ mid.reader → IfOk turn (λ t. Answers mid.child new.child due due_now old.reader.place f t) → IfOk turn (λ t. StepsTo old new due due_now t)
-answers_step old mid new f due due_now (Ok None) going took child same h = (f, record {
-  took = subst (λ r. Took old.reader r f) (sym same) took;
-  admitted = subst (λ s. admits s f ≡ true) child h.0;
-  child = h.1 ∙ ap (λ s. after s f) child;
-  adds = h.2;
-})
+answers_step old mid new f due due_now (Ok None) going took child same h = (
+  f,
+  record {
+    took = subst (λ r. Took old.reader r f) (sym same) took;
+    admitted = subst (λ s. admits s f ≡ true) child h.0;
+    child = h.1 ∙ ap (λ s. after s f) child;
+    adds = h.2;
+  },
+)
 answers_step old mid new f due due_now (Ok (Some halt)) going took child same h =
     (h.2, h.1 ∙ child, subst (HaltsAt old.child old.reader.place old.reader.rest new.reader) (sym h.3) (going, refl, inr (f, mid.reader.rest, took.begins, subst (λ s. admits s f ≡ false) child h.0)))
 answers_step old mid new f due due_now (Err e) going took child same h = tt

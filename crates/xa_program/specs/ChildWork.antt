@@ -4,7 +4,7 @@ use Rattle.std.specs.List.{All}
 use Rattle.xa_frame.specs.declared.frame.Frame.{Frame}
 use Rattle.xa_frame.specs.Spelling.{all_spelled, HasSpelling}
 use Rattle.xa_frame.specs.Stream.{IsPartial, IsMalformed, Begins}
-use Rattle.xa_link.specs.Told.{Grew, Shrank, Empty}
+use Rattle.xa_link.specs.Told.{Rose, Grew, Shrank, Empty}
 use Rattle.xa_program.specs.declared.status.Status.{Status}
 use Rattle.xa_program.specs.declared.status.Status.TheVariants.{Done, ScriptRead, WriteFault, BadFrame, NoMemory}
 use Rattle.xa_program.specs.Child.{ChildState, begun, admits, admits_all, after_all, child_run, ended_after}
@@ -17,6 +17,7 @@ IsBad s rest = IsMalformed rest ⊎ ((f : Frame) × (more : List ℕ) × Begins 
 abbrev pub place_after : ℕ → List ℕ → ℕ
 place_after place octets = min (place + length octets) (2 ^ 64 - 1)
 
+-- so much of what was due was written, from its front on
 abbrev pub IsBegun : List ℕ → List ℕ → Type 0
 IsBegun written due = (n : ℕ) × (n ≤ length due) × (written ≡ take n due)
 
@@ -42,3 +43,9 @@ pub record Worked (name : List ℕ) (left left_now gave gave_now took took_now :
   pub given : Grew gave gave_now (all_spelled frames ++ rest)
   pub grew : Grew took took_now written
   pub came : CameTo (after_all begun frames) (place_after 0 (all_spelled frames)) rest (Empty left_now) written (all_spelled (child_run name frames)) status
+
+-- the count of reads that failed rises with ScriptRead alone, and that of writes with WriteFault alone
+abbrev pub Counts : Status → ℕ → ℕ → ℕ → ℕ → Type 0
+Counts ScriptRead reads reads_now writes writes_now = Rose reads reads_now × (writes_now ≡ writes)
+Counts WriteFault reads reads_now writes writes_now = (reads_now ≡ reads) × Rose writes writes_now
+Counts status reads reads_now writes writes_now = (reads_now ≡ reads) × (writes_now ≡ writes)

@@ -1,4 +1,5 @@
 pub mod Child
+pub mod ChildTurns
 pub mod ChildWork
 pub mod Serving
 pub mod Line

@@ -72,12 +72,7 @@ fn returned(alloc: Global, routine: &Name, payload: &Data) -> Result<Body, NoMem
     Ok(Body::Return(Rval::Fail, UNKNOWN, Data::Absent))
 }
 
-fn served(
-    alloc: Global,
-    tag: u32,
-    routine: &Name,
-    payload: &Data,
-) -> Result<Vec<Frame>, NoMemory>
+fn served(alloc: Global, tag: u32, routine: &Name, payload: &Data) -> Result<Vec<Frame>, NoMemory>
     ensures { IfOk result (λ frames. frames.items ≡ served tag routine.now payload.now) }
 {
     let mut frames = Vec::new(alloc);

@@ -2,8 +2,10 @@
 #![tactic(auto)]
 
 mod child;
+mod child_pipe;
 mod serving;
 mod status;
 
 pub use child::{Child, ChildRefused, child_step};
+pub use child_pipe::child_work;
 pub use status::{Input, Status};
