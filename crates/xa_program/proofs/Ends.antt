@@ -49,19 +49,8 @@ start_case service clients = record {
 pub quiet_begun : (service : List ℕ) (clients : ℕ) → IsQuiet service clients 0 (begun service)
 unfolding changes waiting is_down is_closed takes doing last_op accepted opened floor has_left
 quiet_begun service clients = record {
-  board = refl;
-  server = refl;
-  waits = refl;
-  taken = refl;
-  up = refl;
-  still = refl;
-  op = refl;
-  sent = refl;
-  open_client = refl;
-  open_server = refl;
-  seen = refl;
-  stays = refl;
-  matched = λ r. refl;
+  board = refl; server = refl; waits = refl; taken = refl; up = refl; still = refl; op = refl; sent = refl;
+  open_client = refl; open_server = refl; seen = refl; stays = refl; matched = λ r. refl;
 }
 
 pub fresh_begun : (service : List ℕ) → IsFresh 0 (begun service)
@@ -92,25 +81,13 @@ pub record IsLeft (service : List ℕ) (clients : ℕ) (past : List Event) : Typ
 
 pub left_none : (service : List ℕ) (n : ℕ) (past : List Event) → IsQuiet service 0 n past → IsLeft service 0 past
 left_none service n past q = record {
-  board = ap length q.board;
-  server = q.server;
-  waits = q.waits;
-  still = q.still;
-  open_server = q.open_server;
-  matched = q.matched;
-  left = refl;
+  board = ap length q.board; server = q.server; waits = q.waits; still = q.still; open_server = q.open_server; matched = q.matched; left = refl;
 }
 
 pub left_one : (service : List ℕ) (n : ℕ) (past : List Event) → IsQuiet service 1 n past → IsLeft service 1 (Leave (record { 0 = 1 }) ∷ past)
 unfolding changes doing waiting is_closed opened has_left
 left_one service n past q = record {
-  board = ap length q.board;
-  server = q.server;
-  waits = q.waits;
-  still = q.still;
-  open_server = q.open_server;
-  matched = q.matched;
-  left = refl;
+  board = ap length q.board; server = q.server; waits = q.waits; still = q.still; open_server = q.open_server; matched = q.matched; left = refl;
 }
 
 pub leave_case : (service : List ℕ) (n : ℕ) (past : List Event) → IsQuiet service 1 n past → Case (at service 1 past) (Leave (record { 0 = 1 }))

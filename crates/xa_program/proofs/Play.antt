@@ -36,16 +36,8 @@ request n = record { caller = record { 0 = 1 }; number = n }
 
 abbrev pub accept : List ℕ → ℕ → Data → Accepted
 accept service n payload = record {
-  by = record { 0 = 1 };
-  op = n;
-  request = request n;
-  version = 1;
-  service = service;
-  queue = record { 0 = 1 };
-  routine = service;
-  priority = 50;
-  mode = Reply;
-  payload = payload;
+  by = record { 0 = 1 }; op = n; request = request n; version = 1; service = service; queue = record { 0 = 1 };
+  routine = service; priority = 50; mode = Reply; payload = payload;
 }
 
 abbrev pub take_of : ℕ → Taken
@@ -108,7 +100,7 @@ pub the_row : List ℕ → Row
 the_row service = row_for (play_setup service) service 1 service
 
 admitted : (service : List ℕ) (past : List Event) → changes past ≡ Put service 1 service ∷ []
-    → row_of service 1 (rows_of_version (play_setup service) past 1) ≡ Some (record { service = service; queue = record { 0 = 1 }; routine = service; priority = 50; conversational = false; accepts = all_kinds })
+  → row_of service 1 (rows_of_version (play_setup service) past 1) ≡ Some (record { service = service; queue = record { 0 = 1 }; routine = service; priority = 50; conversational = false; accepts = all_kinds })
 unfolding rows_of_version
 admitted service past board = rw board (rw (same_name-self service) (rw (same_name-self service) refl))
 
@@ -119,7 +111,7 @@ accepted_kind service (Octet octets) sound = refl
 accepted_kind service (Struct subtype octets) sound = cc sound
 
 accepted_case : (service : List ℕ) (n : ℕ) (payload : Data) (past : List Event) → IsQuiet service 1 n past → is_sound (play_setup service) payload ≡ true
-    → AcceptCase (at service 1 past) (accept service (n + 1) payload)
+  → AcceptCase (at service 1 past) (accept service (n + 1) payload)
 unfolding published
 accepted_case service n payload past q sound = record {
   home = record { up = q.up; still = q.still; room = none_below (waiting (play_setup service) 1 past) 100 q.waits (lit< tt) };
@@ -137,7 +129,7 @@ accepted_case service n payload past q sound = record {
 
 -- the queue holds the request that was accepted
 pub waits_one : (service : List ℕ) (n : ℕ) (payload : Data) (past : List Event) → waiting (play_setup service) 1 past ≡ []
-    → waiting (play_setup service) 1 (Accept (accept service n payload) ∷ past) ≡ request n ∷ []
+  → waiting (play_setup service) 1 (Accept (accept service n payload) ∷ past) ≡ request n ∷ []
 unfolding waiting
 waits_one service n payload past none = ap (λ (rs : List RequestId). rs ++ request n ∷ []) none
 
@@ -145,7 +137,7 @@ has_one : (n : ℕ) → has (request n) (request n ∷ []) ≡ true
 has_one n = rw (same_request-self n) refl
 
 take_case : (service : List ℕ) (n : ℕ) (payload : Data) (past : List Event) → IsQuiet service 1 n past
-    → TakeCase (at service 1 (Accept (accept service (n + 1) payload) ∷ past)) (take_of (n + 1))
+  → TakeCase (at service 1 (Accept (accept service (n + 1) payload) ∷ past)) (take_of (n + 1))
 unfolding is_down takes doing opened
 take_case service n payload past q = record {
   home = record {
@@ -160,11 +152,11 @@ without_one : (n : ℕ) → without (Some (request n)) (request n ∷ []) ≡ []
 without_one n = rw (same_request-self n) refl
 
 accept_known : (n : ℕ) (service : List ℕ) (payload : Data) (r : RequestId) (past : List Event)
-    → count (is_accept_of r) (Accept (accept service n payload) ∷ past) ≡ cond (same_request (request n) r) (count (is_accept_of r) past + 1) (count (is_accept_of r) past)
+  → count (is_accept_of r) (Accept (accept service n payload) ∷ past) ≡ cond (same_request (request n) r) (count (is_accept_of r) past + 1) (count (is_accept_of r) past)
 accept_known n service payload r past = refl
 
 pub serving : (service : List ℕ) (n : ℕ) (payload : Data) (past : List Event) → IsQuiet service 1 n past
-    → IsServing service (n + 1) (Take (take_of (n + 1)) ∷ Accept (accept service (n + 1) payload) ∷ past)
+  → IsServing service (n + 1) (Take (take_of (n + 1)) ∷ Accept (accept service (n + 1) payload) ∷ past)
 unfolding changes waiting is_down is_closed takes doing last_op accepted just_accepted opened floor has_left
 serving service n payload past q = record {
   board = q.board;
@@ -202,7 +194,7 @@ pub record IsEnded (service : List ℕ) (n : ℕ) (outcome : Outcome) (doing_now
   pub matched : (r : RequestId) → count (is_end_of r) past ≡ count (is_accept_of r) past
 
 pub ends : (service : List ℕ) (n : ℕ) (outcome : Outcome) (past : List Event) → IsServing service n past
-    → IsEnded service n outcome (after_end outcome (record { 0 = 1 })) (End (end_with n outcome) ∷ past)
+  → IsEnded service n outcome (after_end outcome (record { 0 = 1 })) (End (end_with n outcome) ∷ past)
 unfolding changes waiting is_down is_closed takes doing last_op accepted just_accepted opened floor has_left ended
 ends service n outcome past q = record {
   board = q.board;
@@ -223,14 +215,14 @@ ends service n outcome past q = record {
 }
 
 answer_case : (service : List ℕ) (n : ℕ) (outcome : Outcome) (doing_now : Doing) (answer : Answer) (past : List Event) → IsEnded service n outcome doing_now past
-    → answer ≡ reply_of outcome → AnswerCase (at service 1 past) (answer_of n answer)
+  → answer ≡ reply_of outcome → AnswerCase (at service 1 past) (answer_of n answer)
 answer_case service n outcome doing_now answer past q told = record {
   worker = record { client = refl; stays = q.stays; op = inr (sym q.op, q.just); caller = refl; is_open = rw q.open_client (has_one n) };
   before = record { told = rw q.over (inl told) };
 }
 
 pub answered : (service : List ℕ) (n : ℕ) (outcome : Outcome) (answer : Answer) (past : List Event) → IsEnded service n outcome (Idle (record { 0 = 1 })) past
-    → IsQuiet service 1 n (Answers (answer_of n answer) ∷ past)
+  → IsQuiet service 1 n (Answers (answer_of n answer) ∷ past)
 unfolding changes waiting is_down is_closed takes doing last_op accepted opened floor has_left
 answered service n outcome answer past q = record {
   board = q.board;

@@ -66,9 +66,9 @@ request_is a b e =
 -- the one request that waits is the next
 next_is_one : (priority : RequestId → ℕ) (k : ℕ) → next_of priority (request k ∷ []) k ≡ Some (request k)
 next_is_one priority k = elim (cases_Bool (k % 10 == 0)) [
-  | inl is_so ↦ ap (λ b. if b then Some (request k) else first_of_highest priority (request k ∷ [])) is_so
+    inl is_so ↦ ap (λ b. if b then Some (request k) else first_of_highest priority (request k ∷ [])) is_so
   | inr not_so ↦ ap (λ b. if b then Some (request k) else first_of_highest priority (request k ∷ [])) not_so ∙ rw (le-leb (priority (request k)) (priority (request k)) (omega arith)) refl
-]
+  ]
 
 module _ (service : List ℕ) (n : ℕ) (payload : Data) (outcome : Outcome) (answer : Answer) (past : List Event) where
   events_other : (m : ℕ) → ((n + 1) == m) ≡ false → events_of_op 1 m (served service (n + 1) payload outcome answer past) ≡ events_of_op 1 m past
@@ -107,9 +107,9 @@ module _ (service : List ℕ) (n : ℕ) (payload : Data) (outcome : Outcome) (an
     events = λ m low. events_other m (other m n low);
     newest = λ m low. newest_other m (other m n low);
     over = λ r o over. elim (cases_Bool (same_request (request (n + 1)) r)) [
-      | inl is_so ↦ absurd (cc (fresh.over (n + 1) (omega arith), over, request_is (request (n + 1)) r is_so))
+        inl is_so ↦ absurd (cc (fresh.over (n + 1) (omega arith), over, request_is (request (n + 1)) r is_so))
       | inr not_so ↦ ended_other r not_so ∙ over
-    ];
+      ];
     sent = sent_other;
     listed = λ v name none. none;
   }
@@ -122,13 +122,13 @@ module _ (service : List ℕ) (n : ℕ) (payload : Data) (outcome : Outcome) (an
 
   answers_more : KnowsAnswers n past → KnowsAnswers (n + 1) (served service (n + 1) payload outcome answer past)
   answers_more known m a newest = elim (cases_Bool ((n + 1) == m)) [
-    | inl is_so ↦
+      inl is_so ↦
         let is : Some (Answers (answer_of (n + 1) answer)) ≡ Some (Answers a) = sym newest_now ∙ (ap (λ k. latest (is_op 1 k) (served service (n + 1) payload outcome answer past)) (eqb-true (n + 1) m is_so) ∙ newest) in
         let same : answer_of (n + 1) answer ≡ a = cc is in
         subst (λ (b : Answered). b.request.number ≤ n + 1) same (omega arith)
     | inr not_so ↦
         let old : a.request.number ≤ n = known m a (sym (newest_other m not_so) ∙ newest) in omega arith
-  ]
+    ]
 
   reply_now : reply_at (served service (n + 1) payload outcome answer past) 1 (n + 1) ≡ AnsweredReply 0 answer
   unfolding reply_at
@@ -147,17 +147,17 @@ module _ (service : List ℕ) (n : ℕ) (payload : Data) (outcome : Outcome) (an
       → answer ≡ answer_to ask.expect outcome → EachBecame (play_setup service) 1 1 ops past → EachBecame (play_setup service) 1 1 (ops ++ Call ask ∷ []) (served service (n + 1) payload outcome answer past)
   calls_more ops ask many fresh valid named carried told each =
       each_more (play_setup service) 1 ops (Call ask) (served service (n + 1) payload outcome answer past)
-      (each_kept (play_setup service) n 1 ops past (served service (n + 1) payload outcome answer past) (keeps fresh) (omega (arith, many)) each)
-      (subst (λ k. Became (play_setup service) (Call ask) (served service (n + 1) payload outcome answer past) (events_of_op 1 k (served service (n + 1) payload outcome answer past))) (place_of (length ops) n many)
-      (subst (λ events. Became (play_setup service) (Call ask) (served service (n + 1) payload outcome answer past) events) (sym (events_now (fresh.events (n + 1) (omega arith))))
-      (record {
-        valid = valid;
-        service = sym named;
-        payload = sym carried;
-        mode = refl;
-        request = refl;
-        told = subst (λ o. IsSomeAnd o (λ outcome. answer ≡ answer_to ask.expect outcome)) (sym ended_now) told;
-      })))
+        (each_kept (play_setup service) n 1 ops past (served service (n + 1) payload outcome answer past) (keeps fresh) (omega (arith, many)) each)
+        (subst (λ k. Became (play_setup service) (Call ask) (served service (n + 1) payload outcome answer past) (events_of_op 1 k (served service (n + 1) payload outcome answer past))) (place_of (length ops) n many)
+          (subst (λ events. Became (play_setup service) (Call ask) (served service (n + 1) payload outcome answer past) events) (sym (events_now (fresh.events (n + 1) (omega arith))))
+            (record {
+              valid = valid;
+              service = sym named;
+              payload = sym carried;
+              mode = refl;
+              request = refl;
+              told = subst (λ o. IsSomeAnd o (λ outcome. answer ≡ answer_to ask.expect outcome)) (sym ended_now) told;
+            })))
 
   order_more : waiting (play_setup service) 1 past ≡ [] → TakesInOrder (play_setup service) past → TakesInOrder (play_setup service) (served service (n + 1) payload outcome answer past)
   order_more none order =

@@ -79,17 +79,16 @@ became_kept setup n op before after k events became = became
 -- the calls from the first-th on stay what they became
 pub each_kept : (setup : Setup) (n first : ℕ) (ops : List Op) (before after : List Event) → Keeps setup n before after → first + length ops ≤ n + 1 → EachBecame setup 1 first ops before → EachBecame setup 1 first ops after
 each_kept setup n first [] before after k low each = tt
-each_kept setup n first (op ∷ ops) before after k low each = (
-  subst (λ events. Became setup op after events) (sym (k.events first (omega arith))) (became_kept setup n op before after k (events_of_op 1 first before) each.0),
-  each_kept setup n (first + 1) ops before after k (omega arith) each.1,
-)
+each_kept setup n first (op ∷ ops) before after k low each =
+    (subst (λ events. Became setup op after events) (sym (k.events first (omega arith))) (became_kept setup n op before after k (events_of_op 1 first before) each.0),
+     each_kept setup n (first + 1) ops before after k (omega arith) each.1)
 
 next_place : (a b : ℕ) → a + suc b ≡ (a + 1) + b
 next_place a b = omega arith
 
 -- one more call
 pub each_more : (setup : Setup) (first : ℕ) (ops : List Op) (op : Op) (past : List Event) → EachBecame setup 1 first ops past → Became setup op past (events_of_op 1 (first + length ops) past)
-    → EachBecame setup 1 first (ops ++ op ∷ []) past
+  → EachBecame setup 1 first (ops ++ op ∷ []) past
 each_more setup first [] op past each last = (subst (λ n. Became setup op past (events_of_op 1 n past)) (add-zero first) last, tt)
 each_more setup first (x ∷ ops) op past each last =
     (each.0, each_more setup (first + 1) ops op past each.1 (subst (λ n. Became setup op past (events_of_op 1 n past)) (next_place first (length ops)) last))
