@@ -15,7 +15,7 @@ use Rattle.xa_program.specs.declared.serving.Halt.{Halt}
 use Rattle.xa_program.specs.declared.serving.Halt.TheVariants.{Waits, Ended, Bad}
 use Rattle.xa_program.specs.Child.{ChildState, begun, admits, admits_all, after, after_all, answer, said, greeting, child_run}
 use Rattle.xa_program.specs.ChildWork.{IsBad, place_after, IsBegun, CameTo, Worked}
-use Rattle.xa_program.specs.ChildTurns.{GoesOn, TurnsTo, Hears, Turns, AtEnd, Unanswered, status_of}
+use Rattle.xa_program.specs.ChildTurns.{GoesOn, TurnsTo, Hears, Turns, AtEnd, Unanswered, SoFar}
 use Rattle.xa_program.specs.Serving.{TakesUpTo}
 use Rattle.xa_program.proofs.ChildFrames.{all_spelled-append, admits_all-append, after_all-append, said-append}
 
@@ -71,7 +71,7 @@ came_behind s place rest written due first A (BadFrame at) h = (ap (λ z. first 
 came_behind s place rest written due first A NoMemory h = begun_behind first written due h
 came_behind s place rest written due first A Unbuilt h = h
 
-turns_weaker : (s : ChildState) (place : ℕ) (rest written due : List ℕ) (now : Serving) (A B : Type 0) → (A → B) → (r : Result Bool Status) → TurnsTo s place rest A written due now r → TurnsTo s place rest B written due now r
+pub turns_weaker : (s : ChildState) (place : ℕ) (rest written due : List ℕ) (now : Serving) (A B : Type 0) → (A → B) → (r : Result Bool Status) → TurnsTo s place rest A written due now r → TurnsTo s place rest B written due now r
 turns_weaker s place rest written due now A B f (Ok true) h = h
 turns_weaker s place rest written due now A B f (Ok false) h = came_weaker s place rest written due A B f Done h
 turns_weaker s place rest written due now A B f (Err status) h = came_weaker s place rest written due A B f status h
@@ -161,19 +161,6 @@ turns_ended old left left_now gave gave_now took r going partial low off given n
   given = given;
   hears = quiet_hears old old [] took took (Empty left_now) r refl (end_turns old (Empty left_now) r going partial low (empty_left left left_now off none) at);
 }
-
--- all that was read so far, where the child goes on
-pub record SoFar (name : List ℕ) (left left_now gave gave_now took took_now : Option (List ℕ)) (now : Serving) : Type 0 where
-  pub frames : List Frame
-  pub spelling : All HasSpelling frames
-  pub admitted : admits_all begun frames ≡ true
-  pub off : Shrank left left_now (all_spelled frames ++ now.reader.rest)
-  pub given : Grew gave gave_now (all_spelled frames ++ now.reader.rest)
-  pub grew : Grew took took_now (all_spelled (child_run name frames))
-  pub child : now.child ≡ after_all begun frames
-  pub going : now.child.ended ≡ false
-  pub place : now.reader.place ≡ place_after 0 (all_spelled frames)
-  pub partial : IsPartial now.reader.rest
 
 pub so_far_begun : (name : List ℕ) (left gave took took_now : Option (List ℕ)) (now : Serving) → Grew took took_now (all_spelled (greeting name)) → now.child ≡ begun → now.reader ≡ record { place = 0; rest = [] } → SoFar name left left gave gave took took_now now
 so_far_begun name left gave took took_now now grew child reader =

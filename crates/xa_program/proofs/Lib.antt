@@ -5,3 +5,4 @@ pub mod Ends
 pub mod ChildFrames
 pub mod ServingSteps
 pub mod ChildTurned
+pub mod LocalSteps

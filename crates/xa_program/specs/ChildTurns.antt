@@ -8,7 +8,7 @@ use Rattle.xa_link.specs.Told.{Grew, Shrank, Empty}
 use Rattle.xa_program.specs.declared.status.Status.{Status}
 use Rattle.xa_program.specs.declared.status.Status.TheVariants.{Done, BadFrame, WriteFault, NoMemory}
 use Rattle.xa_program.specs.declared.serving.Serving.{Serving}
-use Rattle.xa_program.specs.Child.{ChildState, admits_all, after_all, said}
+use Rattle.xa_program.specs.Child.{ChildState, begun, admits_all, after_all, said, child_run}
 use Rattle.xa_program.specs.ChildWork.{CameTo, Counts, place_after}
 
 -- it goes on: all that is due is written, and more octets are to come
@@ -60,3 +60,16 @@ Unanswered status = ⊥
 abbrev pub status_of : {A : Type 0} → Result A Status → Status
 status_of (Ok x) = Done
 status_of (Err status) = status
+
+-- all that was read so far, where the child goes on
+pub record SoFar (name : List ℕ) (left left_now gave gave_now took took_now : Option (List ℕ)) (now : Serving) : Type 0 where
+  pub frames : List Frame
+  pub spelling : All HasSpelling frames
+  pub admitted : admits_all begun frames ≡ true
+  pub off : Shrank left left_now (all_spelled frames ++ now.reader.rest)
+  pub given : Grew gave gave_now (all_spelled frames ++ now.reader.rest)
+  pub grew : Grew took took_now (all_spelled (child_run name frames))
+  pub child : now.child ≡ after_all begun frames
+  pub going : now.child.ended ≡ false
+  pub place : now.reader.place ≡ place_after 0 (all_spelled frames)
+  pub partial : IsPartial now.reader.rest

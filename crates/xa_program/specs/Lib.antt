@@ -1,6 +1,8 @@
 pub mod Child
 pub mod ChildTurns
 pub mod ChildWork
+pub mod Local
+pub mod LocalHolds
 pub mod Serving
 pub mod Line
 pub mod PlaySetup

@@ -1,6 +1,6 @@
 -- The child goes on, and nothing failed so far.
 use Rattle.std.proofs.Common.{◌≡◌, length}
-use Rattle.xa_program.proofs.ChildTurned.{SoFar}
+use Rattle.xa_program.specs.ChildTurns.{SoFar}
 use Rattle.xa_program.proofs.child_pipe.serve.Given as goal
 
 abbrev pub invariant-loop : goal.invariant-loop
