@@ -1,5 +1,5 @@
 -- Data and bodies: what is read is spelled so, and what is spelled so is read.
-use Rattle.std.proofs.Common.{◌≡◌, ℕ, zero, suc, ◌+◌, ◌^◌, ◌<◌, ◌≤◌, Bool, true, false, cond, ltb, leb, eqb, ◌&&◌, List, [], ◌∷◌, ◌++◌, length, take, drop, Option, Some, None, refl, sym, ap, subst, ◌∙◌, append_assoc, arith, rules, not, ℤ, pos, negsuc}
+use Rattle.std.proofs.Common.{◌≡◌, ℕ, ◌^◌, ◌<◌, ◌≤◌, Bool, true, false, cond, leb, eqb, ◌&&◌, List, [], ◌∷◌, ◌++◌, length, Option, Some, None, refl, sym, ap, subst, ◌∙◌, arith, rules, not, ℤ, pos, negsuc}
 use Rattle.std.specs.Int.{w32, cast_signed, cast_unsigned}
 use Rattle.std.specs.Prelude.{FitsSigned}
 use Rattle.std.proofs.lemmas.Bool.{eqb-true, leb-true, and_parts}
@@ -9,7 +9,7 @@ use Rattle.std.specs.List.{list_all}
 use Rattle.std.proofs.lemmas.Option.{cond_some, same_Some}
 use Rattle.std.proofs.lemmas.List.{append-nil, nil_from_length, length-append}
 use Rattle.byteorder.specs.Endian.{big_bytes}
-use Rattle.xa_types.specs.Name.{IsName, is_name, is_graphic, begins_with_dot}
+use Rattle.xa_types.specs.Name.{IsName, is_graphic, begins_with_dot}
 use Rattle.xa_types.specs.declared.data.Data.{Data}
 use Rattle.xa_types.specs.declared.data.Data.TheVariants.{Absent, Octet, Struct}
 use Rattle.xa_types.specs.declared.call.Mode.{Mode}
@@ -20,7 +20,7 @@ use Rattle.xa_frame.specs.declared.header.FrameKind.{FrameKind}
 use Rattle.xa_frame.specs.declared.header.FrameKind.TheVariants as kinds
 use Rattle.xa_frame.specs.Spelling.{word, sized, data_octets, body_octets, rval_octet, mode_octet, IsData, IsBody}
 use Rattle.xa_frame.specs.Reading.{◌>>=◌, octet_at, number_at, word_at, name_of, rval_of, mode_of, sized_of, absent_of, octet_data_of, struct_of, data_after, data_of, ready_of, return_of, invoke_of, empty_of, body_of, most_octets}
-use Rattle.xa_frame.proofs.FieldLemmas.{IsBytes, bind_some, Takes, Takes-then, octet_takes, rval_takes, rval_again, mode_takes, mode_again, number_takes, number_again, word_takes, word_again, name_takes, name_again, sized_takes, sized_again}
+use Rattle.xa_frame.proofs.FieldLemmas.{IsBytes, bind_some, octet_takes, rval_takes, rval_again, mode_takes, mode_again, number_takes, number_again, word_takes, word_again, name_takes, name_again, sized_takes, sized_again}
 
 -- the empty list, for a reader that wants no octets after its fields
 ended : {A : Type 0} (rest : List ℕ) (x y : A) → cond (eqb (length rest) 0) (Some x) None ≡ Some y → (rest ≡ []) × (x ≡ y)
@@ -47,7 +47,7 @@ struct_takes bytes d fits e =
     let named = name_takes a.0.0 b.0 b.1 in
     let second = sized_takes a.0.1 c.0 first.rest_fits c.1 in
     let whole : 2 ∷ bytes ≡ data_octets (Struct b.0 c.0) =
-      ap (λ (t : List ℕ). 2 ∷ t) first.parts ∙ ap (λ (t : List ℕ). 2 ∷ (word a.0.0 ++ t)) second.0 ∙ ap (λ (t : List ℕ). 2 ∷ (word t ++ sized c.0)) named.1 in
+    ap (λ (t : List ℕ). 2 ∷ t) first.parts ∙ ap (λ (t : List ℕ). 2 ∷ (word a.0.0 ++ t)) second.0 ∙ ap (λ (t : List ℕ). 2 ∷ (word t ++ sized c.0)) named.1 in
     subst (λ (y : Data). (2 ∷ bytes ≡ data_octets y) × IsData y) (same_Some (Struct b.0 c.0) d c.2) (whole, (named.0, second.1))
 
 absent_takes : (bytes : List ℕ) (d : Data) → absent_of bytes ≡ Some d → (0 ∷ bytes ≡ data_octets d) × IsData d
@@ -130,10 +130,15 @@ shutdown_takes bytes b e =
     let g = ended bytes Shutdown b e in
     subst (IsSpelled kinds.Shutdown bytes) g.1 (record { kind_as = refl; whole = g.0; sound = tt })
 
-return_parts : (bytes r0 r1 : List ℕ) (o n m : ℕ) (v : Rval) (d : Data) → bytes ≡ o ∷ r0 → o ≡ rval_octet v → r0 ≡ big_bytes 4 n ++ r1 → n ≡ m → r1 ≡ data_octets d → bytes ≡ rval_octet v ∷ (big_bytes 4 m ++ data_octets d)
-return_parts bytes r0 r1 o n m v d e0 ev e1 en e2 =
+-- the fields of a RETURN, one after another
+return_spelled : (bytes r0 r1 : List ℕ) (o n : ℕ) (v : Rval) (d : Data) (b : Body) → n < 2 ^ 32 → IsData d
+    → bytes ≡ o ∷ r0 → o ≡ rval_octet v → r0 ≡ big_bytes 4 n ++ r1 → r1 ≡ data_octets d → Return v (cast_signed w32 n) d ≡ b → IsSpelled kinds.Return bytes b
+return_spelled bytes r0 r1 o n v d b fits sound e0 ev e1 e2 made =
+    let code : n ≡ cast_unsigned w32 (cast_signed w32 n) = sym (of_z-to_z w32 n fits) in
+    let whole : bytes ≡ body_octets (Return v (cast_signed w32 n) d) =
     e0 ∙ ap (λ (k : ℕ). k ∷ r0) ev ∙ ap (λ (t : List ℕ). rval_octet v ∷ t) e1
-    ∙ ap (λ (k : ℕ). rval_octet v ∷ (big_bytes 4 k ++ r1)) en ∙ ap (λ (t : List ℕ). rval_octet v ∷ (big_bytes 4 m ++ t)) e2
+    ∙ ap (λ (t : List ℕ). rval_octet v ∷ (big_bytes 4 n ++ t)) e2 ∙ ap (λ (k : ℕ). rval_octet v ∷ (big_bytes 4 k ++ data_octets d)) code in
+    subst (IsSpelled kinds.Return bytes) made (record { kind_as = refl; whole = whole; sound = (signed_fits n fits, sound) })
 
 return_takes : (bytes : List ℕ) (b : Body) → IsBytes bytes → return_of bytes ≡ Some b → IsSpelled kinds.Return bytes b
 unfolding return_of
@@ -143,13 +148,19 @@ return_takes bytes b fits e =
     let n = bind_some (number_at o.0.1) (λ code. data_of code.1 >>= λ payload. Some (Return v.0 (cast_signed w32 code.0) payload)) b v.2 in
     let d = bind_some (data_of n.0.1) (λ payload. Some (Return v.0 (cast_signed w32 n.0.0) payload)) b n.2 in
     let t0 = octet_takes bytes o.0 fits o.1 in
-    let value = rval_takes o.0.0 v.0 v.1 in
     let t1 = number_takes o.0.1 n.0 t0.rest_fits n.1 in
     let t2 = data_takes n.0.1 d.0 t1.0.rest_fits d.1 in
-    let code : n.0.0 ≡ cast_unsigned w32 (cast_signed w32 n.0.0) = sym (of_z-to_z w32 n.0.0 t1.1) in
-    let whole : bytes ≡ body_octets (Return v.0 (cast_signed w32 n.0.0) d.0) =
-      return_parts bytes o.0.1 n.0.1 o.0.0 n.0.0 (cast_unsigned w32 (cast_signed w32 n.0.0)) v.0 d.0 t0.parts value t1.0.parts code t2.0 in
-    subst (IsSpelled kinds.Return bytes) (same_Some (Return v.0 (cast_signed w32 n.0.0) d.0) b d.2) (record { kind_as = refl; whole = whole; sound = (signed_fits n.0.0 t1.1, t2.1) })
+    return_spelled bytes o.0.1 n.0.1 o.0.0 n.0.0 v.0 d.0 b t1.1 t2.1 t0.parts (rval_takes o.0.0 v.0 v.1) t1.0.parts t2.0
+    (same_Some (Return v.0 (cast_signed w32 n.0.0) d.0) b d.2)
+
+-- the fields of an INVOKE, one after another
+invoke_spelled : (bytes r0 r1 r2 w x s r : List ℕ) (o : ℕ) (m : Mode) (d : Data) (b : Body) → (IsName s) × (w ≡ s) → (IsName r) × (x ≡ r) → (r2 ≡ data_octets d) × IsData d
+    → bytes ≡ word w ++ r0 → r0 ≡ word x ++ r1 → r1 ≡ o ∷ r2 → o ≡ mode_octet m → Invoke s r m d ≡ b → IsSpelled kinds.Invoke bytes b
+invoke_spelled bytes r0 r1 r2 w x s r o m d b service routine payload e0 e1 e2 mode made =
+    let whole : bytes ≡ body_octets (Invoke s r m d) =
+    e0 ∙ ap (λ (t : List ℕ). word t ++ r0) service.1 ∙ ap (λ (t : List ℕ). word s ++ t) e1 ∙ ap (λ (t : List ℕ). word s ++ (word t ++ r1)) routine.1
+    ∙ ap (λ (t : List ℕ). word s ++ (word r ++ t)) e2 ∙ ap (λ (k : ℕ). word s ++ (word r ++ k ∷ r2)) mode ∙ ap (λ (t : List ℕ). word s ++ (word r ++ mode_octet m ∷ t)) payload.0 in
+    subst (IsSpelled kinds.Invoke bytes) made (record { kind_as = refl; whole = whole; sound = (service.0, routine.0, payload.1) })
 
 invoke_takes : (bytes : List ℕ) (b : Body) → IsBytes bytes → invoke_of bytes ≡ Some b → IsSpelled kinds.Invoke bytes b
 unfolding invoke_of
@@ -162,19 +173,10 @@ invoke_takes bytes b fits e =
     let m = bind_some (mode_of o.0.0) (λ mode. data_of o.0.1 >>= λ payload. Some (Invoke s.0 r.0 mode payload)) b o.2 in
     let d = bind_some (data_of o.0.1) (λ payload. Some (Invoke s.0 r.0 m.0 payload)) b m.2 in
     let t0 = word_takes bytes w.0 fits w.1 in
-    let service = name_takes w.0.0 s.0 s.1 in
     let t1 = word_takes w.0.1 x.0 t0.rest_fits x.1 in
-    let routine = name_takes x.0.0 r.0 r.1 in
     let t2 = octet_takes x.0.1 o.0 t1.rest_fits o.1 in
-    let mode = mode_takes o.0.0 m.0 m.1 in
-    let t3 = data_takes o.0.1 d.0 t2.rest_fits d.1 in
-    let whole : bytes ≡ body_octets (Invoke s.0 r.0 m.0 d.0) =
-      t0.parts ∙ ap (λ (t : List ℕ). word w.0.0 ++ t) t1.parts ∙ ap (λ (t : List ℕ). word w.0.0 ++ (word x.0.0 ++ t)) t2.parts
-      ∙ ap (λ (t : List ℕ). word w.0.0 ++ (word x.0.0 ++ o.0.0 ∷ t)) t3.0
-      ∙ ap (λ (t : List ℕ). word t ++ (word x.0.0 ++ o.0.0 ∷ data_octets d.0)) service.1
-      ∙ ap (λ (t : List ℕ). word s.0 ++ (word t ++ o.0.0 ∷ data_octets d.0)) routine.1
-      ∙ ap (λ (k : ℕ). word s.0 ++ (word r.0 ++ k ∷ data_octets d.0)) mode in
-    subst (IsSpelled kinds.Invoke bytes) (same_Some (Invoke s.0 r.0 m.0 d.0) b d.2) (record { kind_as = refl; whole = whole; sound = (service.0, routine.0, t3.1) })
+    invoke_spelled bytes w.0.1 x.0.1 o.0.1 w.0.0 x.0.0 s.0 r.0 o.0.0 m.0 d.0 b (name_takes w.0.0 s.0 s.1) (name_takes x.0.0 r.0 r.1) (data_takes o.0.1 d.0 t2.rest_fits d.1)
+    t0.parts t1.parts t2.parts (mode_takes o.0.0 m.0 m.1) (same_Some (Invoke s.0 r.0 m.0 d.0) b d.2)
 
 pub body_takes : (kind : FrameKind) (bytes : List ℕ) (b : Body) → IsBytes bytes → body_of kind bytes ≡ Some b → IsSpelled kind bytes b
 body_takes kinds.Ready bytes b fits e = ready_takes bytes b fits e

@@ -1,8 +1,8 @@
 -- What stands first in octets: headers, and whole frames.
-use Rattle.std.proofs.Common.{◌≡◌, ℕ, zero, suc, ◌+◌, ◌^◌, ◌<◌, ◌≤◌, Bool, true, false, cond, ltb, leb, eqb, ◌&&◌, ◌||◌, List, [], ◌∷◌, ◌++◌, length, take, drop, Option, Some, None, Result, Ok, Err, refl, sym, ap, subst, ◌∙◌, append_assoc, arith, rules, inl, inr}
-use Rattle.std.proofs.lemmas.Bool.{ltb-false, le-ltb, eqb-true, leb-true, le-leb, and_parts, and_from, or_cases, or_left, ltb-true, lt-ltb, eq-eqb, cond-true, cond-false}
-use Rattle.std.proofs.lemmas.Option.{cond_some, same_Some}
-use Rattle.std.proofs.lemmas.List.{take_at, drop_at, append-nil, length-append, length-take, length-drop, take-append-drop, append_cancel_left, drop-drop}
+use Rattle.std.proofs.Common.{◌≡◌, ℕ, ◌+◌, ◌^◌, ◌<◌, ◌≤◌, Bool, true, false, cond, ltb, leb, eqb, ◌&&◌, ◌||◌, List, [], ◌∷◌, ◌++◌, length, take, drop, Option, Some, None, Result, Ok, Err, refl, sym, ap, subst, ◌∙◌, append_assoc, arith, inl, inr}
+use Rattle.std.proofs.lemmas.Bool.{cases_lt, ltb-false, le-ltb, eqb-true, leb-true, le-leb, and_parts, or_cases, or_left, ltb-true, lt-ltb, eq-eqb, cond-true, cond-false}
+use Rattle.std.proofs.lemmas.Option.{cond_some}
+use Rattle.std.proofs.lemmas.List.{take-append-le, take_at, length-append, length-take, length-drop, take-append-drop, append_cancel_left, drop-drop}
 use Rattle.byteorder.specs.Endian.{big_bytes}
 use Rattle.xa_frame.specs.declared.frame.Frame.{Frame}
 use Rattle.xa_frame.specs.declared.frame.Body.{Body}
@@ -10,16 +10,16 @@ use Rattle.xa_frame.specs.declared.frame.Body.TheVariants.{Ready, Next, Return, 
 use Rattle.xa_frame.specs.declared.header.FrameKind.{FrameKind}
 use Rattle.xa_frame.specs.declared.header.FrameKind.TheVariants as kinds
 use Rattle.xa_frame.specs.declared.header.Header.{Header}
-use Rattle.xa_frame.specs.Spelling.{header, kind_octet, body_octets, spelled, IsBody, HasSpelling}
+use Rattle.xa_frame.specs.Spelling.{header, kind_octet, body_octets, spelled, HasSpelling}
 use Rattle.xa_frame.specs.Reading.{◌>>=◌, octet_at, number_at, kind_of, most_octets, after_mark, header_at, body_of, Front, Whole, Partial, Malformed, whole_of, front_after, front_at, IsWhole, Stands, StandsFirst, IsFirst}
 use Rattle.xa_frame.specs.Stream.{Incoming, has_body, has_no_body, allows, LacksBody, IsPartial, Begins, IsMalformed, Answered}
-use Rattle.xa_frame.specs.declared.fault.ReadError.{ReadError}
-use Rattle.xa_frame.specs.declared.fault.ReadError.TheVariants as errors
-use Rattle.xa_frame.specs.declared.fault.NextRefused.{NextRefused}
-use Rattle.xa_frame.specs.declared.fault.NextRefused.TheVariants.{BadFrame, NoMemory}
+use Rattle.xa_frame.specs.declared.reading.ReadError.{ReadError}
+use Rattle.xa_frame.specs.declared.reading.ReadError.TheVariants as errors
+use Rattle.xa_frame.specs.declared.reader.NextRefused.{NextRefused}
+use Rattle.xa_frame.specs.declared.reader.NextRefused.TheVariants.{BadFrame, NoMemory}
 use Rattle.std.specs.Prelude.{MatchResult}
 use Rattle.xa_frame.proofs.FieldLemmas.{IsBytes, IsBytes-take, bind_some, Takes, Takes-then, octet_takes, picked, number_takes, number_again}
-use Rattle.xa_frame.proofs.BodyLemmas.{kind_is, IsSpelled, body_takes, body_again, body_short}
+use Rattle.xa_frame.proofs.BodyLemmas.{kind_is, body_takes, body_again, body_short}
 
 -- ---- headers
 
@@ -78,8 +78,8 @@ mark_takes bytes rest fits e =
   where
     in_place : (bytes r0 r1 r2 : List ℕ) (x a v : ℕ) → x ≡ 0x58 → a ≡ 0x41 → v ≡ 0x01 → Takes bytes (x ∷ []) r0 → Takes r0 (a ∷ []) r1 → Takes r1 (v ∷ []) r2 → Takes bytes (0x58 ∷ 0x41 ∷ 0x01 ∷ []) r2
     in_place bytes r0 r1 r2 x a v ex ea ev p q r =
-      let all = Takes-then bytes (x ∷ []) r0 (a ∷ v ∷ []) r2 p (Takes-then r0 (a ∷ []) r1 (v ∷ []) r2 q r) in
-      subst (λ (n : ℕ). Takes bytes (0x58 ∷ 0x41 ∷ n ∷ []) r2) ev (subst (λ (n : ℕ). Takes bytes (0x58 ∷ n ∷ v ∷ []) r2) ea (subst (λ (n : ℕ). Takes bytes (n ∷ a ∷ v ∷ []) r2) ex all))
+        let all = Takes-then bytes (x ∷ []) r0 (a ∷ v ∷ []) r2 p (Takes-then r0 (a ∷ []) r1 (v ∷ []) r2 q r) in
+        subst (λ (n : ℕ). Takes bytes (0x58 ∷ 0x41 ∷ n ∷ []) r2) ev (subst (λ (n : ℕ). Takes bytes (0x58 ∷ n ∷ v ∷ []) r2) ea (subst (λ (n : ℕ). Takes bytes (n ∷ a ∷ v ∷ []) r2) ex all))
 
 -- the fields of a header, one after another
 joined : (bytes r0 r1 r2 r3 : List ℕ) (o k size tag : ℕ) → o ≡ k → Takes bytes (0x58 ∷ 0x41 ∷ 0x01 ∷ []) r0 → Takes r0 (o ∷ []) r1 → Takes r1 (big_bytes 4 size) r2 → Takes r2 (big_bytes 4 tag) r3 → Takes bytes (header k size tag) r3
@@ -146,13 +146,16 @@ with_body octets rest h b fits head long e =
     let parts : rest ≡ body_octets b ++ drop h.size rest = sym (take-append-drop h.size rest) ∙ ap (λ (t : List ℕ). t ++ drop h.size rest) s.whole in
     let left : drop (12 + h.size) octets ≡ drop h.size rest = sym (drop-drop h.size 12 octets) ∙ ap (λ (t : List ℕ). drop h.size (drop 12 t)) text in
     let headed : header (octet_of h.kind) h.size h.tag ≡ header (kind_octet b) (length (body_octets b)) h.tag =
-      ap (λ (k : ℕ). header k h.size h.tag) kind ∙ ap (λ (n : ℕ). header (kind_octet b) n h.tag) len in
+    ap (λ (k : ℕ). header k h.size h.tag) kind ∙ ap (λ (n : ℕ). header (kind_octet b) n h.tag) len in
     record {
       size = omega (arith, len, length-append (header (kind_octet b) (length (body_octets b)) h.tag) (body_octets b));
-      begins = record { spelling = record { tag = head.tag_fits; body = s.sound }; whole = text ∙ ap (λ (t : List ℕ). header (octet_of h.kind) h.size h.tag ++ t) parts
-        ∙ ap (λ (t : List ℕ). t ++ (body_octets b ++ drop h.size rest)) headed
-        ∙ sym (append_assoc (header (kind_octet b) (length (body_octets b)) h.tag) (body_octets b) (drop h.size rest))
-        ∙ ap (λ (t : List ℕ). spelled (frame_of h.tag b) ++ t) (sym left) };
+      begins = record {
+        spelling = record { tag = head.tag_fits; body = s.sound };
+        whole = text ∙ ap (λ (t : List ℕ). header (octet_of h.kind) h.size h.tag ++ t) parts
+            ∙ ap (λ (t : List ℕ). t ++ (body_octets b ++ drop h.size rest)) headed
+            ∙ sym (append_assoc (header (kind_octet b) (length (body_octets b)) h.tag) (body_octets b) (drop h.size rest))
+            ∙ ap (λ (t : List ℕ). spelled (frame_of h.tag b) ++ t) (sym left);
+      };
     }
 
 pub front_takes : (octets : List ℕ) (f : Frame) (n : ℕ) → IsBytes octets → front_at octets ≡ Whole f n → IsFirst octets f n
@@ -161,14 +164,17 @@ front_takes octets f n fits e = by_length (ltb (length octets) 12) e where
   by_body : (h : Header × List ℕ) → IsHeader octets h.0 h.1 → h.0.size ≤ length h.1 → (r : Option Body) → body_of h.0.kind (take h.0.size h.1) ≡ r → whole_of h.0 r ≡ Whole f n → IsFirst octets f n
   by_body h head long None is e = absurd cc
   by_body h head long (Some b) is e =
-    let same = same_whole (frame_of h.0.tag b) f (12 + h.0.size) n e in
-    subst (λ (g : Frame). IsFirst octets g n) same.0 (subst (IsFirst octets (frame_of h.0.tag b)) same.1 (with_body octets h.1 h.0 b head.taken.rest_fits head long is))
+      let same = same_whole (frame_of h.0.tag b) f (12 + h.0.size) n e in
+      subst (λ (g : Frame). IsFirst octets g n) same.0 (subst (IsFirst octets (frame_of h.0.tag b)) same.1 (with_body octets h.1 h.0 b head.taken.rest_fits head long is))
+
   by_size : (h : Header × List ℕ) → IsHeader octets h.0 h.1 → (t : Bool) → ltb (length h.1) h.0.size ≡ t → cond t Partial (whole_of h.0 (body_of h.0.kind (take h.0.size h.1))) ≡ Whole f n → IsFirst octets f n
   by_size h head true is e = absurd cc
   by_size h head false is e = by_body h head (ltb-false _ _ is) (body_of h.0.kind (take h.0.size h.1)) refl e
+
   by_header : (r : Option (Header × List ℕ)) → header_at octets ≡ r → front_after r ≡ Whole f n → IsFirst octets f n
   by_header None is e = absurd cc
   by_header (Some h) is e = by_size h (header_takes octets h fits is) (ltb (length h.1) h.0.size) refl e
+
   by_length : (t : Bool) → cond t Partial (front_after (header_at octets)) ≡ Whole f n → IsFirst octets f n
   by_length true e = absurd cc
   by_length false e = by_header (header_at octets) refl e
@@ -209,20 +215,21 @@ allowed o size h =
   where
     with_body_kind : (has_body o ≡ true) × (leb size 66_000 ≡ true) → (k : FrameKind) × (o ≡ octet_of k) × (size ≤ most_octets k)
     with_body_kind p =
-      elim (or_cases (eqb o 0x01) (eqb o 0x04 || eqb o 0x11) p.0) [
-        | inl e ↦ (kinds.Ready, eqb-true _ _ e, leb-true _ _ p.1)
-        | inr q ↦ elim (or_cases (eqb o 0x04) (eqb o 0x11) q) [
-          | inl e ↦ (kinds.Return, eqb-true _ _ e, leb-true _ _ p.1)
-          | inr e ↦ (kinds.Invoke, eqb-true _ _ e, leb-true _ _ p.1)
+        elim (or_cases (eqb o 0x01) (eqb o 0x04 || eqb o 0x11) p.0) [
+          | inl e ↦ (kinds.Ready, eqb-true _ _ e, leb-true _ _ p.1)
+          | inr q ↦ elim (or_cases (eqb o 0x04) (eqb o 0x11) q) [
+            | inl e ↦ (kinds.Return, eqb-true _ _ e, leb-true _ _ p.1)
+            | inr e ↦ (kinds.Invoke, eqb-true _ _ e, leb-true _ _ p.1)
+          ]
         ]
-      ]
+
     without_body_kind : (has_no_body o ≡ true) × (eqb size 0 ≡ true) → (k : FrameKind) × (o ≡ octet_of k) × (size ≤ most_octets k)
     without_body_kind p =
-      let none = eqb-true size 0 p.1 in
-      elim (or_cases (eqb o 0x02) (eqb o 0x13) p.0) [
-        | inl e ↦ (kinds.Next, eqb-true _ _ e, omega (arith, none))
-        | inr e ↦ (kinds.Shutdown, eqb-true _ _ e, omega (arith, none))
-      ]
+        let none = eqb-true size 0 p.1 in
+        elim (or_cases (eqb o 0x02) (eqb o 0x13) p.0) [
+          | inl e ↦ (kinds.Next, eqb-true _ _ e, omega (arith, none))
+          | inr e ↦ (kinds.Shutdown, eqb-true _ _ e, omega (arith, none))
+        ]
 
 allows_kind : (k : FrameKind) (size : ℕ) → size ≤ most_octets k → allows (octet_of k) size ≡ true
 allows_kind kinds.Ready size h = or_left _ _ (le-leb _ _ h)
@@ -254,12 +261,15 @@ partial_is octets fits e = by_length (ltb (length octets) 12) refl e where
   by_body : (h : Header) (r : Option Body) → whole_of h r ≡ Partial → IsPartial octets
   by_body h None e = absurd cc
   by_body h (Some b) e = absurd cc
+
   by_size : (h : Header × List ℕ) → IsHeader octets h.0 h.1 → (t : Bool) → ltb (length h.1) h.0.size ≡ t → cond t Partial (whole_of h.0 (body_of h.0.kind (take h.0.size h.1))) ≡ Partial → IsPartial octets
   by_size h head true is e = inr (octet_of h.0.kind, h.0.size, h.0.tag, h.1, record { sound = allows_kind h.0.kind h.0.size head.most; tag_fits = head.tag_fits; whole = head.taken.parts; short = ltb-true _ _ is })
   by_size h head false is e = by_body h.0 (body_of h.0.kind (take h.0.size h.1)) e
+
   by_header : (r : Option (Header × List ℕ)) → header_at octets ≡ r → front_after r ≡ Partial → IsPartial octets
   by_header None is e = absurd cc
   by_header (Some h) is e = by_size h (header_takes octets h fits is) (ltb (length h.1) h.0.size) refl e
+
   by_length : (t : Bool) → ltb (length octets) 12 ≡ t → cond t Partial (front_after (header_at octets)) ≡ Partial → IsPartial octets
   by_length true is e = inl (ltb-true _ _ is)
   by_length false is e = by_header (header_at octets) refl e
@@ -312,3 +322,42 @@ within octets taken n f le h =
     let all = ap length h.begins.whole in
     let parts = length-append (spelled f) (drop n (drop taken octets)) in
     omega (arith, h.size, length-drop taken octets, all, parts)
+
+-- ---- what follows changes nothing
+
+-- of two ways to cut one list, the longer front begins with the shorter
+prefixed : (a x b y : List ℕ) → a ++ x ≡ b ++ y → length b ≤ length a → a ≡ b ++ drop (length b) a
+prefixed a x b y e le =
+    let front : take (length b) a ≡ b = sym (take-append-le (length b) a x le) ∙ ap (take (length b)) e ∙ take_at b y (length b) refl in
+    sym (take-append-drop (length b) a) ∙ ap (λ (t : List ℕ). t ++ drop (length b) a) front
+
+headed_short : (octets more body : List ℕ) (kind size tag : ℕ) → allows kind size ≡ true → tag < 2 ^ 32 → octets ++ more ≡ header kind size tag ++ body → length octets < 12 + size → IsPartial octets
+headed_short octets more body kind size tag sound tag_fits e short =
+    elim (cases_lt (length octets) 12) [
+      | inl lt ↦ inl lt
+      | inr le ↦ inr (kind, size, tag, drop 12 octets, record { sound = sound; tag_fits = tag_fits; whole = prefixed octets more (header kind size tag) body e le; short = omega (arith, length-drop 12 octets) })
+    ]
+
+still_partial : (octets more : List ℕ) → IsPartial (octets ++ more) → IsPartial octets
+still_partial octets more (inl short) = inl (omega (arith, length-append octets more))
+still_partial octets more (inr h) =
+    let l = h.4 in
+    let all = ap length l.whole in
+    let parts = length-append octets more in
+    let text = length-append (header h.0 h.1 h.2) h.3 in
+    headed_short octets more h.3 h.0 h.1 h.2 l.sound l.tag_fits l.whole (omega (arith, l.short, all, parts, text))
+
+pub still_malformed : (octets more : List ℕ) → IsMalformed octets → IsMalformed (octets ++ more)
+still_malformed octets more h = record {
+  not_partial = λ p. h.not_partial (still_partial octets more p);
+  not_whole = λ f rest b. elim (cases_lt (length octets) (length (spelled f))) [
+    | inl lt ↦ h.not_partial (cut f rest b lt)
+    | inr le ↦ h.not_whole f (drop (length (spelled f)) octets) (record { spelling = b.spelling; whole = prefixed octets more (spelled f) rest b.whole le })
+  ];
+} where
+  cut : (f : Frame) (rest : List ℕ) → Begins (octets ++ more) f rest → length octets < length (spelled f) → IsPartial octets
+  cut f rest b lt =
+      let size = length (body_octets f.body) in
+      let sound : allows (kind_octet f.body) size ≡ true = ap (λ (k : ℕ). allows k size) (sym (kind_octets f.body)) ∙ allows_kind (kind_is f.body) size (body_short f.body b.spelling.body) in
+      let text = length-append (header (kind_octet f.body) size f.tag) (body_octets f.body) in
+      headed_short octets more (body_octets f.body ++ rest) (kind_octet f.body) size f.tag sound b.spelling.tag (b.whole ∙ append_assoc (header (kind_octet f.body) size f.tag) (body_octets f.body) rest) (omega (arith, lt, text))

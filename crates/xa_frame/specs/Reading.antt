@@ -1,5 +1,5 @@
 -- Reading octets from left to right: what a field is, and the octets after it. No public contract rests on these.
-use Rattle.std.specs.Prelude.{◌≡◌, ℕ, ◌+◌, List, [], ◌∷◌, length, take, drop, Option, Some, None, Result, Ok, Err, IsSome, Bool, nat_lt, nat_le, ◌==◌, ◌&&◌, if◌then◌else◌}
+use Rattle.std.specs.Prelude.{◌≡◌, ℕ, ◌+◌, List, [], ◌∷◌, length, take, drop, Option, Some, None, Result, Ok, Err, IsSome, nat_lt, nat_le, ◌==◌, ◌&&◌, if◌then◌else◌}
 use Rattle.std.specs.Int.{w32, from_be_bytes, cast_signed}
 use Rattle.xa_types.specs.Name.{is_name}
 use Rattle.xa_types.specs.declared.data.Data.{Data}
@@ -14,9 +14,9 @@ use Rattle.xa_frame.specs.declared.frame.Body.TheVariants.{Ready, Next, Return, 
 use Rattle.xa_frame.specs.declared.header.FrameKind.{FrameKind}
 use Rattle.xa_frame.specs.declared.header.FrameKind.TheVariants as kinds
 use Rattle.xa_frame.specs.declared.header.Header.{Header}
-use Rattle.xa_frame.specs.declared.fault.NoFrame.{NoFrame}
-use Rattle.xa_frame.specs.declared.fault.ReadError.{ReadError}
-use Rattle.xa_frame.specs.declared.fault.ReadError.TheVariants as errors
+use Rattle.xa_frame.specs.declared.fields.NoFrame.{NoFrame}
+use Rattle.xa_frame.specs.declared.reading.ReadError.{ReadError}
+use Rattle.xa_frame.specs.declared.reading.ReadError.TheVariants as errors
 use Rattle.xa_frame.specs.Spelling.{spelled}
 use Rattle.xa_frame.specs.Stream.{Begins, IsPartial, IsMalformed}
 

@@ -1,8 +1,8 @@
 -- What a reader of frames holds, and what stands first in it.
 use Rattle.std.specs.Prelude.{ℕ, ◌≡◌, ◌+◌, ◌-◌, ◌<◌, ◌^◌, min, Option, Some, None, Result, Ok, Err, ◌==◌, ◌&&◌, ◌||◌, nat_le, Bool, true, List, ◌++◌, length, ◌⊎◌}
 use Rattle.xa_frame.specs.declared.frame.Frame.{Frame}
-use Rattle.xa_frame.specs.declared.fault.NextRefused.{NextRefused}
-use Rattle.xa_frame.specs.declared.fault.NextRefused.TheVariants.{BadFrame, NoMemory}
+use Rattle.xa_frame.specs.declared.reader.NextRefused.{NextRefused}
+use Rattle.xa_frame.specs.declared.reader.NextRefused.TheVariants.{BadFrame, NoMemory}
 use Rattle.xa_frame.specs.Spelling.{header, spelled, HasSpelling}
 
 -- how many octets were taken as frames, and what was fed and is not taken

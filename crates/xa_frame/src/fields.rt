@@ -3,10 +3,19 @@
 ghost use Rattle.std.specs.Prelude.{◌≡◌};
 ghost use Rattle.xa_frame.specs.Reading.{Reads, octet_at, number_at, word_at, name_of, rval_of, mode_of, sized_of};
 
-use crate::fault::NoFrame;
-use xa_types::{Mode, Name, Rval};
+use xa_types::{BadName, Mode, Name, Rval};
 
 const MOST_DATA: u32 = 65_536;
+
+/// The octets are no field, header or body.
+#[derive(Clone, Copy, Debug, PartialEq, Eq)]
+pub struct NoFrame;
+
+impl From<BadName> for NoFrame {
+    fn from(_: BadName) -> Self {
+        NoFrame
+    }
+}
 
 pub fn octet_at(octets: &[u8]) -> Result<(u8, &[u8]), NoFrame>
     ensures { Reads (λ x. (x.0, x.1.now)) result (octet_at octets.now) }

@@ -1,8 +1,7 @@
 ghost use Rattle.std.specs.Prelude.{◌≡◌};
 ghost use Rattle.xa_frame.specs.Reading.{Reads, kind_of, most_octets, after_mark, header_at};
 
-use crate::fault::NoFrame;
-use crate::fields::{number_at, octet_at};
+use crate::fields::{NoFrame, number_at, octet_at};
 
 /// How many octets a header has.
 pub const HEADER: usize = 12;

@@ -18,7 +18,6 @@
 //! sends. A body ends where its fields end.
 #![tactic(auto)]
 
-mod fault;
 mod fields;
 mod frame;
 mod header;
@@ -27,9 +26,10 @@ mod reader;
 mod reading;
 mod writing;
 
-pub use fault::NextRefused;
 pub use frame::{Body, Frame};
-pub use laws::one_frame;
-pub use reader::Reader;
+pub use laws::{malformed_for_ever, one_frame};
+pub use reader::{NextRefused, Reader};
 pub use writing::encode;
 
+#[cfg(test)]
+mod tests;

@@ -3,12 +3,19 @@ ghost use Rattle.xa_frame.specs.declared.frame.Frame.{Frame};
 ghost use Rattle.xa_frame.specs.Spelling.{spelled, HasSpelling};
 ghost use Rattle.xa_frame.specs.Stream.{IsPartial, IsMalformed, Begins, Answered};
 
-use crate::fault::{NextRefused, ReadError};
 use crate::frame::Frame;
-use crate::reading::frame_after;
+use crate::reading::{ReadError, frame_after};
 use std::alloc::Global;
 use std::marker::Model;
 use xa_types::NoMemory;
+
+/// Why a reader gives no frame.
+#[derive(Clone, Copy, Debug, PartialEq, Eq)]
+pub enum NextRefused {
+    /// What stands at this place is no frame. The place counts the octets of the frames before it.
+    BadFrame(u64),
+    NoMemory,
+}
 
 /// Reads frames from a stream of octets that comes in pieces.
 #[derive(Debug, Drop)]
@@ -97,8 +104,9 @@ impl Reader {
         }
     }
 
-    /// The next frame; `None` where more octets are to come, for which it looks at a header alone. `BadFrame` comes
-    /// where no frame stands, whatever follows, and again at each later call.
+    /// The next frame, which is taken; `None` where it isn't whole, for which a look at the header is enough. `BadFrame`
+    /// comes where no frame stands, and by `malformed_for_ever` again at each later call. After an `Err` or `None` the
+    /// reader is as it was, and memory runs out only where a frame stands.
     pub fn next(&mut self) -> Result<Option<Frame>, NextRefused>
         ensures answered { Answered self.old self.new result }
         ensures partial { IsPartial self.old.rest → result ≡ Ok None }

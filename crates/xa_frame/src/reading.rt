@@ -1,15 +1,38 @@
 //! The body of a frame, and the frame that stands first.
 
 ghost use Rattle.std.specs.Prelude.{◌≡◌, ◌≤◌, length, drop};
+ghost use Rattle.xa_frame.specs.declared.reading.ReadError.TheVariants as errors;
 ghost use Rattle.xa_frame.specs.declared.frame.Body.TheVariants.{Next, Shutdown};
 ghost use Rattle.xa_frame.specs.Reading.{Reads, Makes, Stands, StandsFirst, data_of, octet_data_of, struct_of, absent_of, ready_of, return_of, invoke_of, empty_of, body_of, front_at};
 
-use crate::fault::{NoFrame, ReadError};
-use crate::fields::{mode_of, name_of, number_at, octet_at, rval_of, sized_of, word_at};
+use crate::fields::{NoFrame, mode_of, name_of, number_at, octet_at, rval_of, sized_of, word_at};
 use crate::frame::{Body, Frame};
 use crate::header::{FrameKind, HEADER, header_at};
 use std::alloc::Global;
-use xa_types::{Data, Octets};
+use xa_types::{Data, NoMemory, Octets};
+
+/// Why no frame is read. Memory runs out only where the octets are one.
+#[derive(Clone, Copy, Debug, PartialEq, Eq)]
+pub enum ReadError {
+    NoFrame,
+    NoMemory,
+}
+
+impl From<NoFrame> for ReadError {
+    ghost from_gives = { λ _ e. e ≡ errors.NoFrame };
+
+    fn from(_: NoFrame) -> Self {
+        ReadError::NoFrame
+    }
+}
+
+impl From<NoMemory> for ReadError {
+    ghost from_gives = { λ _ e. e ≡ errors.NoMemory };
+
+    fn from(_: NoMemory) -> Self {
+        ReadError::NoMemory
+    }
+}
 
 fn absent_of(octets: &[u8]) -> Result<Data, NoFrame>
     ensures { Reads (λ x. x) result (absent_of octets.now) }

@@ -130,7 +130,7 @@ fn put_body(out: &mut Vec<u8>, body: &Body) -> Result<(), NoMemory>
     Ok(())
 }
 
-/// The octets of a frame. Its data has at most 65,536 octets.
+/// The octets of a frame, whose data has at most 65,536 octets.
 pub fn encode(alloc: Global, frame: &Frame) -> Result<Octets, NoMemory>
     requires { HasSpelling frame.now }
     ensures { IfOk result (λ octets. octets ≡ spelled frame.now) }
