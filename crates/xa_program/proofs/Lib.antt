@@ -11,3 +11,7 @@ pub mod ScriptRead
 pub mod ScriptWords
 pub mod ScriptGrammar
 pub mod ScriptCut
+pub mod ChildFrames
+pub mod ServingSteps
+pub mod ChildTurned
+pub mod LocalSteps
