@@ -1,5 +1,5 @@
 // A script is served, and its transcript is written.
-ghost use Rattle.std.specs.Prelude.{◌≡◌, ◌∷◌, ◌++◌, ◌<◌, [], vec_len, vec_capacity};
+ghost use Rattle.std.specs.Prelude.{◌≡◌, ◌∷◌, ◌++◌, ◌<◌, [], vec_len, vec_capacity, MatchResult};
 ghost use Rattle.xa_link.specs.Told.{Empty};
 ghost use Rattle.xa_events.specs.declared.event.Event.TheVariants.{Advertise};
 ghost use Rattle.xa_program.specs.Progress.{advertise, status_of, IsBuiltScript, Printed, ServingEnds};
@@ -114,10 +114,7 @@ fn live<O: Sink, L: Link>(
         script,
     );
     keep_life(&mut lives, pipe.into_link());
-    let status = match served {
-        Ok(()) => write_lines(out, account.lines.as_slice()),
-        Err(halt) => Status::from(halt),
-    };
+    let status = conclude(served, out, account.lines.as_slice());
     Served {
         status,
         history: account.history,
@@ -137,6 +134,17 @@ fn keep_life<L>(lives: &mut Vec<Life<L>>, link: L)
     match lives.push(life) {
         Ok(()) => {}
         Err(_) => unreachable!(),
+    }
+}
+
+// Where the script was served its lines are written.
+fn conclude<O: Sink>(served: Result<(), Halt>, out: &mut O, lines: &[u8]) -> Status
+    ensures { MatchResult served (λ _. Printed (O.took out.old) (O.took out.new) (O.write_faults out.old) (O.write_faults out.new) lines.now result)
+        (λ halt. result ≡ status_of halt) }
+{
+    match served {
+        Ok(()) => write_lines(out, lines),
+        Err(halt) => Status::from(halt),
     }
 }
 
