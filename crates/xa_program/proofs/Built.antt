@@ -62,7 +62,7 @@ calls_built service (line ∷ rest) ops named (inr said) =
     let more = calls_built service rest tail named said.4 in
     let this : IsBuiltOp service op = subst (λ (o : Op). IsBuiltOp service o) (sym call.2) (built_call service call.0 named call.1) in
     subst (λ (os : List Op). All (IsBuiltOp service) os × (length os ≤ length (line ∷ rest))) (sym said.2)
-      (All-cons (IsBuiltOp service) op tail this more.0, omega (arith, more.1))
+    (All-cons (IsBuiltOp service) op tail this more.0, omega (arith, more.1))
 
 pub script_built : (service : List ℕ) (all : List (List ℕ)) (clients : List Client) → IsName service → length all < 2 ^ 32 → Reads service all clients → IsBuiltScript service clients
 script_built service [] clients named few reads = subst (λ (cs : List Client). IsBuiltScript service cs) (sym reads) tt

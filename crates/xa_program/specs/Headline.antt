@@ -103,3 +103,11 @@ PlayEnds took gave start_faults streams service (BadLine line cause) history liv
 PlayEnds took gave start_faults streams service Unbuilt history lives starters = (clients : List Client) × IsTheScript streams.told service clients
 PlayEnds took gave start_faults streams service NoMemory history lives starters = ⊤
 PlayEnds took gave start_faults streams service status history lives starters = ⊥
+
+-- no server was started where the words, the input or the script were refused
+abbrev pub EndsEarly : {L S : Type 0} → Status → List Event → List (Life L) → List S → Type 0
+EndsEarly Usage history lives starters = (history ≡ []) × (lives ≡ []) × (starters ≡ [])
+EndsEarly ScriptRead history lives starters = (history ≡ []) × (lives ≡ []) × (starters ≡ [])
+EndsEarly (TooLong which) history lives starters = (history ≡ []) × (lives ≡ []) × (starters ≡ [])
+EndsEarly (BadLine line cause) history lives starters = (history ≡ []) × (lives ≡ []) × (starters ≡ [])
+EndsEarly status history lives starters = ⊤

@@ -18,6 +18,7 @@ mod script_line;
 mod serving;
 mod setup;
 mod status;
+mod top;
 mod words;
 
 pub use child::{Child, ChildRefused, child_step};
@@ -27,4 +28,5 @@ pub use local::{LocalLink, LocalStarter, LocalYard};
 pub use outcome::{Life, Outcome};
 pub use script::{Client, Script, ScriptRefused, one_reading, read_script};
 pub use status::{Input, Status};
+pub use top::run;
 pub use words::{Command, read_words};
