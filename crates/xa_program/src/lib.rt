@@ -19,6 +19,8 @@ mod serving;
 mod setup;
 mod status;
 mod top;
+#[cfg(test)]
+mod top_tests;
 mod words;
 
 pub use child::{Child, ChildRefused, child_step};
