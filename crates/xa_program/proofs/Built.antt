@@ -10,12 +10,12 @@ use Rattle.xa_types.specs.declared.data.Data.TheVariants.{Absent, Octet, Struct}
 use Rattle.xa_types.specs.declared.call.Op.{Op}
 use Rattle.xa_types.specs.Kind.{is_sound}
 use Rattle.xa_events.specs.Calls.{is_invalid_call}
-use Rattle.xa_program.specs.declared.script.Client.{Client}
+use Rattle.xa_script.specs.declared.script.Client.{Client}
 use Rattle.xa_program.specs.PlaySetup.{play_setup}
 use Rattle.xa_program.specs.Progress.{IsBuilt, IsBuiltOp, IsBuiltScript}
-use Rattle.xa_program.specs.Script.{Reads, ReadsCalls, IsWritten, call_with, no_flags}
-use Rattle.xa_program.specs.Draft.{is_line_end}
-use Rattle.xa_program.proofs.ScriptCut.{lines_at, lines_last}
+use Rattle.xa_script.specs.Script.{Reads, ReadsCalls, IsWritten, call_with, no_flags}
+use Rattle.xa_script.specs.Draft.{is_line_end}
+use Rattle.xa_script.proofs.ScriptCut.{lines_at, lines_last}
 
 lines_from : (octets : List ℕ) → 0 < length octets → ((rest : List ℕ) → length rest < length octets → length (lines rest) ≤ length rest)
     → (end : Option ℕ) → position is_line_end octets ≡ end → length (lines octets) ≤ length octets

@@ -24,7 +24,7 @@ use Rattle.xa_events.proofs.AnswersOnce.{unanswered_none, answers_along}
 use Rattle.xa_events.proofs.Versions.{none_read, versions_along}
 use Rattle.xa_frame.specs.declared.frame.Frame.{Frame}
 use Rattle.xa_frame.specs.Spelling.{spelled, all_spelled}
-use Rattle.xa_program.specs.declared.script.Client.{Client}
+use Rattle.xa_script.specs.declared.script.Client.{Client}
 use Rattle.xa_program.specs.Headline.{IsHistoryAt, EachMadeCalls, names_of, name_in}
 use Rattle.xa_types.specs.Setup.{numbered}
 use Rattle.xa_program.specs.Pipe.{Piped, Wrote, HasRead}

@@ -10,15 +10,15 @@ use Rattle.xa_events.specs.Run.{Run, IsFinal}
 use Rattle.xa_events.specs.Order.{TakesInOrder}
 use Rattle.xa_events.specs.Laws.{LawOfEnds, LawOfAnswers, LawOfVersions}
 use Rattle.xa_events.specs.Calls.{MadeCalls}
-use Rattle.xa_program.specs.declared.script.Client.{Client}
-use Rattle.xa_program.specs.declared.script.Script.{Script}
+use Rattle.xa_script.specs.declared.script.Client.{Client}
+use Rattle.xa_script.specs.declared.script.Script.{Script}
 use Rattle.xa_program.specs.declared.outcome.Life.{Life}
 use Rattle.xa_program.specs.declared.status.Status.{Status}
 use Rattle.xa_program.specs.declared.status.Status.TheVariants.{Done, Usage, ScriptRead, TooLong, BadLine, WriteFault, BadFrame, NoMemory, Unbuilt}
 use Rattle.xa_program.specs.declared.status.Input.TheVariants as inputs
 use Rattle.xa_program.specs.Pipes.{IsLife, lives_of, failed_starts}
 use Rattle.xa_program.specs.PlaySetup.{play_setup}
-use Rattle.xa_program.specs.Script.{IsScript, IsFirstFault}
+use Rattle.xa_script.specs.Script.{IsScript, IsFirstFault}
 use Rattle.xa_program.specs.Spoken.{spoken}
 
 -- each client, of which the first has that number, made exactly its calls

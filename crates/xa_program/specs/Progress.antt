@@ -32,7 +32,7 @@ use Rattle.xa_events.specs.Request.{ended, is_accept_of, is_end_of}
 use Rattle.xa_events.specs.Calls.{is_op, events_of_op, EachBecame, is_invalid_call}
 use Rattle.xa_events.specs.Order.{TakesInOrder}
 use Rattle.xa_events.specs.Run.{Run}
-use Rattle.xa_program.specs.declared.script.Client.{Client}
+use Rattle.xa_script.specs.declared.script.Client.{Client}
 use Rattle.xa_program.specs.Headline.{IsHistory, EachMadeCalls, HasFirstFault, longest_script, names_of, name_in}
 use Rattle.xa_program.specs.declared.outcome.Life.{Life}
 use Rattle.xa_program.specs.declared.halt.Halt.{Halt}

@@ -10,12 +10,12 @@ ghost use Rattle.xa_program.specs.Words.{command_in};
 use crate::child_pipe::child_work;
 use crate::outcome::Outcome;
 use crate::performing::{Served, perform};
-use crate::script::{Script, ScriptRefused, read_script};
 use crate::setup::play_setup;
 use crate::status::{Input, Status};
 use crate::words::{Command, read_words};
 use std::alloc::Global;
 use xa_link::{Gate, Shelf, ShelfRefused, Sink, Source, Yard, read_all};
+use xa_script::{Script, ScriptRefused, read_script};
 use xa_types::{Name, NoMemory};
 
 /// How many octets a script may have.
