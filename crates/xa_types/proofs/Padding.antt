@@ -1,8 +1,7 @@
 -- A name and the zeros behind it.
-use Rattle.std.proofs.Common.{ℕ, ◌≡◌, ◌≤◌, ◌-◌, ◌+◌, List, ◌++◌, ◌∷◌, [], length, take, drop, replicate, refl, sym, ap, subst, ◌∙◌, arith}
+use Rattle.std.proofs.Common.{ℕ, ◌≡◌, ◌-◌, List, ◌++◌, length, take, drop, replicate, sym, ap, subst, ◌∙◌, arith}
 use Rattle.std.proofs.lemmas.List.{drop-replicate, take-append-le}
 use Rattle.std.proofs.Math.Seq.{take-length}
-use Rattle.xa_types.specs.declared.name.Name.TheInside.{Inside}
 use Rattle.xa_types.specs.Name.{IsName}
 use Rattle.xa_types.specs.Padded.{IsPadded, kept}
 

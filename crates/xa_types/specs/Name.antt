@@ -1,5 +1,5 @@
 -- Names of services, queues, servers, shapes and clients.
-use Rattle.std.specs.Prelude.{ℕ, Bool, true, false, ◌&&◌, not, ◌==◌, nat_le, List, [], ◌∷◌, ◌++◌, length, take, replicate, ◌≡◌, ◌-◌, IsTrue}
+use Rattle.std.specs.Prelude.{ℕ, Bool, false, ◌&&◌, not, ◌==◌, nat_le, List, [], ◌∷◌, length, IsTrue}
 use Rattle.std.specs.List.{list_all}
 
 -- a printed character other than the space

@@ -1,5 +1,5 @@
 -- How a name is kept: its octets, and zeros behind them.
-use Rattle.std.specs.Prelude.{ℕ, ◌≡◌, ◌≤◌, ◌-◌, List, ◌++◌, length, take, replicate, refl}
+use Rattle.std.specs.Prelude.{ℕ, ◌≡◌, ◌-◌, List, ◌++◌, length, take, replicate}
 use Rattle.std.proofs.Common.{sym, ap, ◌∙◌}
 use Rattle.xa_types.specs.declared.name.Name.TheInside.{Inside}
 use Rattle.xa_types.specs.Name.{IsName}

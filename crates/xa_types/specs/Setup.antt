@@ -1,6 +1,6 @@
 -- What the setup of a domain says: numbers of queues and servers, and the attributes of services.
-use Rattle.std.specs.Prelude.{ℕ, zero, suc, ◌+◌, ◌==◌, ◌≡◌, Bool, true, false, ◌&&◌, List, [], ◌∷◌, length, map, Option, Some, None, option_map, if◌then◌else◌, nat_eq}
-use Rattle.std.specs.List.{slice_get, find, position}
+use Rattle.std.specs.Prelude.{ℕ, zero, suc, ◌+◌, ◌==◌, Bool, true, false, ◌&&◌, List, [], ◌∷◌, Option, Some, None, if◌then◌else◌}
+use Rattle.std.specs.List.{slice_get, find}
 use Rattle.xa_types.specs.declared.setup.Setup.{Setup}
 use Rattle.xa_types.specs.declared.setup.QueueSetup.{QueueSetup}
 use Rattle.xa_types.specs.declared.setup.ServerSetup.{ServerSetup}
