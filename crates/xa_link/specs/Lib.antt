@@ -1,4 +1,4 @@
 pub mod Told
 pub mod Files
+pub mod Lives
 pub mod Memory
-pub mod Streams

@@ -18,10 +18,8 @@ pub struct ReadSource<R: Read> {
 }
 
 impl<R: Read> ReadSource<R> {
-    ghost use Rattle.xa_link.specs.Streams.{reader_faults};
-
     pub fn new(reader: R) -> ReadSource<R>
-        ensures { reader_faults result ≡ 0 }
+        ensures { ⟦<ReadSource<R> as Source>⟧.read_faults result ≡ 0 }
     {
         ReadSource { reader, faults: 0 }
     }
@@ -66,10 +64,8 @@ pub struct WriteSink<W: Write> {
 }
 
 impl<W: Write> WriteSink<W> {
-    ghost use Rattle.xa_link.specs.Streams.{writer_faults};
-
     pub fn new(writer: W) -> WriteSink<W>
-        ensures { writer_faults result ≡ 0 }
+        ensures { ⟦<WriteSink<W> as Sink>⟧.write_faults result ≡ 0 }
     {
         WriteSink { writer, faults: 0 }
     }

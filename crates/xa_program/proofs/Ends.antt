@@ -3,10 +3,6 @@ use Rattle.std.proofs.Common.{◌≡◌, ℕ, zero, suc, ◌+◌, ◌<◌, ◌�
 use Rattle.xa_types.specs.declared.ids.RequestId.{RequestId}
 use Rattle.xa_events.specs.declared.event.Event.{Event}
 use Rattle.xa_events.specs.declared.event.Event.TheVariants.{Advertise, Start, Leave, Close, Stop}
-use Rattle.xa_events.specs.declared.event.Advertised.{Advertised}
-use Rattle.xa_events.specs.declared.event.Started.{Started}
-use Rattle.xa_events.specs.declared.event.Stopped.{Stopped}
-use Rattle.xa_events.specs.declared.event.StopCause.TheVariants.{Shutdown}
 use Rattle.xa_events.specs.declared.event.Doing.{Doing}
 use Rattle.xa_events.specs.declared.event.Doing.TheVariants.{Off, Idle}
 use Rattle.xa_events.specs.Words.{count}
@@ -22,15 +18,8 @@ use Rattle.xa_events.specs.Order.{TakesInOrder}
 use Rattle.xa_events.specs.Cases.{Case}
 use Rattle.xa_events.specs.Run.{Run, IsFinal}
 use Rattle.xa_program.specs.PlaySetup.{play_setup}
-use Rattle.xa_program.proofs.Play.{at, request, IsQuiet}
-use Rattle.xa_program.proofs.Told.{Keeps, KnowsAnswers}
-use Rattle.xa_program.proofs.Served.{IsFresh}
-
-abbrev pub advertise : List ℕ → Advertised
-advertise service = record { by = record { 0 = 0 }; op = 0; service = service; queue = record { 0 = 1 }; routine = service; version = 1 }
-
-abbrev pub start : Started
-start = record { server = record { 0 = 1 }; generation = record { 0 = 1 }; tick = 0 }
+use Rattle.xa_program.specs.Progress.{at, request, advertise, start, stop, closed, IsLeft, IsQuiet, IsFresh, KnowsAnswers}
+use Rattle.xa_program.proofs.Told.{Keeps}
 
 abbrev pub begun : List ℕ → List Event
 begun service = Start start ∷ Advertise (advertise service) ∷ []
@@ -49,8 +38,19 @@ start_case service clients = record {
 pub quiet_begun : (service : List ℕ) (clients : ℕ) → IsQuiet service clients 0 (begun service)
 unfolding changes waiting is_down is_closed takes doing last_op accepted opened floor has_left
 quiet_begun service clients = record {
-  board = refl; server = refl; waits = refl; taken = refl; up = refl; still = refl; op = refl; sent = refl;
-  open_client = refl; open_server = refl; seen = refl; stays = refl; matched = λ r. refl;
+  board = refl;
+  server = refl;
+  waits = refl;
+  taken = refl;
+  up = refl;
+  still = refl;
+  op = refl;
+  sent = refl;
+  open_client = refl;
+  open_server = refl;
+  seen = refl;
+  stays = refl;
+  matched = λ r. refl;
 }
 
 pub fresh_begun : (service : List ℕ) → IsFresh 0 (begun service)
@@ -63,31 +63,27 @@ knows_begun service m a newest = cc newest
 pub order_begun : (service : List ℕ) → TakesInOrder (play_setup service) (begun service)
 order_begun service = (tt, (tt, tt))
 
-abbrev pub stop : Stopped
-stop = record { server = record { 0 = 1 }; generation = record { 0 = 1 }; cause = Shutdown }
-
-abbrev pub closed : List Event → List Event
-closed past = Stop stop ∷ Close (record { 0 = 1 }) ∷ past
-
--- all clients have left; the server is idle, and nothing waits
-pub record IsLeft (service : List ℕ) (clients : ℕ) (past : List Event) : Type 0 where
-  pub board : length (changes past) ≡ 1
-  pub server : doing 1 past ≡ Idle (record { 0 = 1 })
-  pub waits : waiting (play_setup service) 1 past ≡ []
-  pub still : is_closed 1 past ≡ false
-  pub open_server : opened (clients + 1) past ≡ []
-  pub matched : (r : RequestId) → count (is_end_of r) past ≡ count (is_accept_of r) past
-  pub left : all_left clients past ≡ true
-
 pub left_none : (service : List ℕ) (n : ℕ) (past : List Event) → IsQuiet service 0 n past → IsLeft service 0 past
 left_none service n past q = record {
-  board = ap length q.board; server = q.server; waits = q.waits; still = q.still; open_server = q.open_server; matched = q.matched; left = refl;
+  board = ap length q.board;
+  server = q.server;
+  waits = q.waits;
+  still = q.still;
+  open_server = q.open_server;
+  matched = q.matched;
+  left = refl;
 }
 
 pub left_one : (service : List ℕ) (n : ℕ) (past : List Event) → IsQuiet service 1 n past → IsLeft service 1 (Leave (record { 0 = 1 }) ∷ past)
 unfolding changes doing waiting is_closed opened has_left
 left_one service n past q = record {
-  board = ap length q.board; server = q.server; waits = q.waits; still = q.still; open_server = q.open_server; matched = q.matched; left = refl;
+  board = ap length q.board;
+  server = q.server;
+  waits = q.waits;
+  still = q.still;
+  open_server = q.open_server;
+  matched = q.matched;
+  left = refl;
 }
 
 pub leave_case : (service : List ℕ) (n : ℕ) (past : List Event) → IsQuiet service 1 n past → Case (at service 1 past) (Leave (record { 0 = 1 }))

@@ -1,7 +1,16 @@
+pub mod Frames
 pub mod Play
 pub mod Told
 pub mod Served
 pub mod Ends
+pub mod Pipes
+pub mod Playing
+pub mod Over
+pub mod ScriptText
+pub mod ScriptRead
+pub mod ScriptWords
+pub mod ScriptGrammar
+pub mod ScriptCut
 pub mod ChildFrames
 pub mod ServingSteps
 pub mod ChildTurned

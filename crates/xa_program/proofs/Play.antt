@@ -27,46 +27,9 @@ use Rattle.xa_events.specs.Queue.{waiting, takes, is_down, is_closed}
 use Rattle.xa_events.specs.Server.{doing, after_end, last_outcome}
 use Rattle.xa_events.specs.Caller.{last_op, accepted, opened, floor, has_left, just_accepted}
 use Rattle.xa_events.specs.Request.{ended, is_accept_of, is_end_of}
-use Rattle.xa_events.specs.Cases.{Case, AcceptCase, TakeCase, EndCase, AnswerCase, Tells}
+use Rattle.xa_events.specs.Cases.{Case, AcceptCase, TakeCase, EndCase, AnswerCase, is_sound_outcome}
 use Rattle.xa_program.specs.PlaySetup.{play_setup}
-
--- the request of the n-th call of the one client
-abbrev pub request : ℕ → RequestId
-request n = record { caller = record { 0 = 1 }; number = n }
-
-abbrev pub accept : List ℕ → ℕ → Data → Accepted
-accept service n payload = record {
-  by = record { 0 = 1 }; op = n; request = request n; version = 1; service = service; queue = record { 0 = 1 };
-  routine = service; priority = 50; mode = Reply; payload = payload;
-}
-
-abbrev pub take_of : ℕ → Taken
-take_of n = record { request = request n; server = record { 0 = 1 }; generation = record { 0 = 1 }; k = n }
-
-abbrev pub end_with : ℕ → Outcome → Ended
-end_with n outcome = record { request = request n; server = record { 0 = 1 }; generation = record { 0 = 1 }; outcome = outcome }
-
-abbrev pub answer_of : ℕ → Answer → Answered
-answer_of n answer = record { by = record { 0 = 1 }; op = n; request = request n; answer = answer }
-
-abbrev pub at : List ℕ → ℕ → List Event → State
-at service clients past = record { setup = play_setup service; clients = clients; past = past }
-
--- between two calls: the server is idle, nothing waits and nothing is open, after n calls
-pub record IsQuiet (service : List ℕ) (clients n : ℕ) (past : List Event) : Type 0 where
-  pub board : changes past ≡ Put service 1 service ∷ []
-  pub server : doing 1 past ≡ Idle (record { 0 = 1 })
-  pub waits : waiting (play_setup service) 1 past ≡ []
-  pub taken : takes (play_setup service) 1 past ≡ n
-  pub up : is_down 1 past ≡ false
-  pub still : is_closed 1 past ≡ false
-  pub op : last_op 1 past ≡ n
-  pub sent : accepted 1 past ≡ n
-  pub open_client : opened 1 past ≡ []
-  pub open_server : opened (clients + 1) past ≡ []
-  pub seen : floor (play_setup service) 1 past ≡ 1
-  pub stays : has_left 1 past ≡ false
-  pub matched : (r : RequestId) → count (is_end_of r) past ≡ count (is_accept_of r) past
+use Rattle.xa_program.specs.Progress.{request, accept, take_of, end_with, answer_of, at, IsQuiet}
 
 -- during the n-th call: the server has its request in hand
 pub record IsServing (service : List ℕ) (n : ℕ) (past : List Event) : Type 0 where
@@ -100,7 +63,7 @@ pub the_row : List ℕ → Row
 the_row service = row_for (play_setup service) service 1 service
 
 admitted : (service : List ℕ) (past : List Event) → changes past ≡ Put service 1 service ∷ []
-  → row_of service 1 (rows_of_version (play_setup service) past 1) ≡ Some (record { service = service; queue = record { 0 = 1 }; routine = service; priority = 50; conversational = false; accepts = all_kinds })
+    → row_of service 1 (rows_of_version (play_setup service) past 1) ≡ Some (record { service = service; queue = record { 0 = 1 }; routine = service; priority = 50; conversational = false; accepts = all_kinds })
 unfolding rows_of_version
 admitted service past board = rw board (rw (same_name-self service) (rw (same_name-self service) refl))
 
@@ -110,8 +73,8 @@ accepted_kind service Absent sound = refl
 accepted_kind service (Octet octets) sound = refl
 accepted_kind service (Struct subtype octets) sound = cc sound
 
-accepted_case : (service : List ℕ) (n : ℕ) (payload : Data) (past : List Event) → IsQuiet service 1 n past → is_sound (play_setup service) payload ≡ true
-  → AcceptCase (at service 1 past) (accept service (n + 1) payload)
+pub accepted_case : (service : List ℕ) (n : ℕ) (payload : Data) (past : List Event) → IsQuiet service 1 n past → is_sound (play_setup service) payload ≡ true
+    → AcceptCase (at service 1 past) (accept service (n + 1) payload)
 unfolding published
 accepted_case service n payload past q sound = record {
   home = record { up = q.up; still = q.still; room = none_below (waiting (play_setup service) 1 past) 100 q.waits (lit< tt) };
@@ -129,15 +92,15 @@ accepted_case service n payload past q sound = record {
 
 -- the queue holds the request that was accepted
 pub waits_one : (service : List ℕ) (n : ℕ) (payload : Data) (past : List Event) → waiting (play_setup service) 1 past ≡ []
-  → waiting (play_setup service) 1 (Accept (accept service n payload) ∷ past) ≡ request n ∷ []
+    → waiting (play_setup service) 1 (Accept (accept service n payload) ∷ past) ≡ request n ∷ []
 unfolding waiting
 waits_one service n payload past none = ap (λ (rs : List RequestId). rs ++ request n ∷ []) none
 
 has_one : (n : ℕ) → has (request n) (request n ∷ []) ≡ true
 has_one n = rw (same_request-self n) refl
 
-take_case : (service : List ℕ) (n : ℕ) (payload : Data) (past : List Event) → IsQuiet service 1 n past
-  → TakeCase (at service 1 (Accept (accept service (n + 1) payload) ∷ past)) (take_of (n + 1))
+pub take_case : (service : List ℕ) (n : ℕ) (payload : Data) (past : List Event) → IsQuiet service 1 n past
+    → TakeCase (at service 1 (Accept (accept service (n + 1) payload) ∷ past)) (take_of (n + 1))
 unfolding is_down takes doing opened
 take_case service n payload past q = record {
   home = record {
@@ -152,11 +115,11 @@ without_one : (n : ℕ) → without (Some (request n)) (request n ∷ []) ≡ []
 without_one n = rw (same_request-self n) refl
 
 accept_known : (n : ℕ) (service : List ℕ) (payload : Data) (r : RequestId) (past : List Event)
-  → count (is_accept_of r) (Accept (accept service n payload) ∷ past) ≡ cond (same_request (request n) r) (count (is_accept_of r) past + 1) (count (is_accept_of r) past)
+    → count (is_accept_of r) (Accept (accept service n payload) ∷ past) ≡ cond (same_request (request n) r) (count (is_accept_of r) past + 1) (count (is_accept_of r) past)
 accept_known n service payload r past = refl
 
 pub serving : (service : List ℕ) (n : ℕ) (payload : Data) (past : List Event) → IsQuiet service 1 n past
-  → IsServing service (n + 1) (Take (take_of (n + 1)) ∷ Accept (accept service (n + 1) payload) ∷ past)
+    → IsServing service (n + 1) (Take (take_of (n + 1)) ∷ Accept (accept service (n + 1) payload) ∷ past)
 unfolding changes waiting is_down is_closed takes doing last_op accepted just_accepted opened floor has_left
 serving service n payload past q = record {
   board = q.board;
@@ -194,7 +157,7 @@ pub record IsEnded (service : List ℕ) (n : ℕ) (outcome : Outcome) (doing_now
   pub matched : (r : RequestId) → count (is_end_of r) past ≡ count (is_accept_of r) past
 
 pub ends : (service : List ℕ) (n : ℕ) (outcome : Outcome) (past : List Event) → IsServing service n past
-  → IsEnded service n outcome (after_end outcome (record { 0 = 1 })) (End (end_with n outcome) ∷ past)
+    → IsEnded service n outcome (after_end outcome (record { 0 = 1 })) (End (end_with n outcome) ∷ past)
 unfolding changes waiting is_down is_closed takes doing last_op accepted just_accepted opened floor has_left ended
 ends service n outcome past q = record {
   board = q.board;
@@ -214,15 +177,18 @@ ends service n outcome past q = record {
   matched = λ r. sym (q.matched r);
 }
 
-answer_case : (service : List ℕ) (n : ℕ) (outcome : Outcome) (doing_now : Doing) (answer : Answer) (past : List Event) → IsEnded service n outcome doing_now past
-  → answer ≡ reply_of outcome → AnswerCase (at service 1 past) (answer_of n answer)
+pub end_case : (service : List ℕ) (n : ℕ) (outcome : Outcome) (past : List Event) → IsServing service n past → is_sound_outcome (at service 1 past) outcome ≡ true → EndCase (at service 1 past) (end_with n outcome)
+end_case service n outcome past q sound = record { worker = record { busy = q.server; sound = sound } }
+
+pub answer_case : (service : List ℕ) (n : ℕ) (outcome : Outcome) (doing_now : Doing) (answer : Answer) (past : List Event) → IsEnded service n outcome doing_now past
+    → answer ≡ reply_of outcome → AnswerCase (at service 1 past) (answer_of n answer)
 answer_case service n outcome doing_now answer past q told = record {
   worker = record { client = refl; stays = q.stays; op = inr (sym q.op, q.just); caller = refl; is_open = rw q.open_client (has_one n) };
   before = record { told = rw q.over (inl told) };
 }
 
 pub answered : (service : List ℕ) (n : ℕ) (outcome : Outcome) (answer : Answer) (past : List Event) → IsEnded service n outcome (Idle (record { 0 = 1 })) past
-  → IsQuiet service 1 n (Answers (answer_of n answer) ∷ past)
+    → IsQuiet service 1 n (Answers (answer_of n answer) ∷ past)
 unfolding changes waiting is_down is_closed takes doing last_op accepted opened floor has_left
 answered service n outcome answer past q = record {
   board = q.board;

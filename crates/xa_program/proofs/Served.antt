@@ -27,18 +27,14 @@ use Rattle.xa_events.specs.Order.{TakesInOrder, next_of, first_of_highest}
 use Rattle.xa_program.specs.PlaySetup.{play_setup}
 use Rattle.xa_program.specs.Line.{line_text}
 use Rattle.xa_program.specs.Spoken.{lines_up_to}
-use Rattle.xa_program.proofs.Play.{request, accept, take_of, end_with, answer_of, IsQuiet, same_request-self, waits_one}
-use Rattle.xa_program.proofs.Told.{Keeps, KnowsAnswers, lines_kept, each_kept, each_more}
+use Rattle.xa_program.specs.Progress.{request, accept, take_of, end_with, answer_of, IsQuiet, IsFresh, KnowsAnswers}
+use Rattle.xa_program.proofs.Play.{same_request-self, waits_one}
+use Rattle.xa_program.proofs.Told.{Keeps, lines_kept, each_kept, each_more}
 
 -- the events of one call that is served, in front of those before it
 abbrev pub served : List ℕ → ℕ → Data → Outcome → Answer → List Event → List Event
 served service n payload outcome answer past =
     Answers (answer_of n answer) ∷ End (end_with n outcome) ∷ Take (take_of n) ∷ Accept (accept service n payload) ∷ past
-
--- nothing is there of the calls after the n-th
-pub record IsFresh (n : ℕ) (past : List Event) : Type 0 where
-  pub events : (m : ℕ) → n < m → events_of_op 1 m past ≡ []
-  pub over : (m : ℕ) → n < m → ended (request m) past ≡ None
 
 other : (m n : ℕ) → m ≤ n → ((n + 1) == m) ≡ false
 other m n low = ne_eqb (n + 1) m (λ e. absurd (omega arith))
@@ -66,9 +62,9 @@ request_is a b e =
 -- the one request that waits is the next
 next_is_one : (priority : RequestId → ℕ) (k : ℕ) → next_of priority (request k ∷ []) k ≡ Some (request k)
 next_is_one priority k = elim (cases_Bool (k % 10 == 0)) [
-    inl is_so ↦ ap (λ b. if b then Some (request k) else first_of_highest priority (request k ∷ [])) is_so
+  | inl is_so ↦ ap (λ b. if b then Some (request k) else first_of_highest priority (request k ∷ [])) is_so
   | inr not_so ↦ ap (λ b. if b then Some (request k) else first_of_highest priority (request k ∷ [])) not_so ∙ rw (le-leb (priority (request k)) (priority (request k)) (omega arith)) refl
-  ]
+]
 
 module _ (service : List ℕ) (n : ℕ) (payload : Data) (outcome : Outcome) (answer : Answer) (past : List Event) where
   events_other : (m : ℕ) → ((n + 1) == m) ≡ false → events_of_op 1 m (served service (n + 1) payload outcome answer past) ≡ events_of_op 1 m past
@@ -101,34 +97,34 @@ module _ (service : List ℕ) (n : ℕ) (payload : Data) (outcome : Outcome) (an
   unfolding events_of_op
   events_now none = rw (eq-eqb (n + 1) (n + 1) refl) (ap (λ es. Answers (answer_of (n + 1) answer) ∷ Accept (accept service (n + 1) payload) ∷ es) none)
 
-  keeps : IsFresh n past → Keeps (play_setup service) n past (served service (n + 1) payload outcome answer past)
+  pub keeps : IsFresh n past → Keeps (play_setup service) n past (served service (n + 1) payload outcome answer past)
   unfolding listed_in changes
   keeps fresh = record {
     events = λ m low. events_other m (other m n low);
     newest = λ m low. newest_other m (other m n low);
     over = λ r o over. elim (cases_Bool (same_request (request (n + 1)) r)) [
-        inl is_so ↦ absurd (cc (fresh.over (n + 1) (omega arith), over, request_is (request (n + 1)) r is_so))
+      | inl is_so ↦ absurd (cc (fresh.over (n + 1) (omega arith), over, request_is (request (n + 1)) r is_so))
       | inr not_so ↦ ended_other r not_so ∙ over
-      ];
+    ];
     sent = sent_other;
     listed = λ v name none. none;
   }
 
-  fresh_more : IsFresh n past → IsFresh (n + 1) (served service (n + 1) payload outcome answer past)
+  pub fresh_more : IsFresh n past → IsFresh (n + 1) (served service (n + 1) payload outcome answer past)
   fresh_more fresh = record {
     events = λ m high. events_other m (later m n high) ∙ fresh.events m (omega arith);
     over = λ m high. ended_other (request m) (later m n high) ∙ fresh.over m (omega arith);
   }
 
-  answers_more : KnowsAnswers n past → KnowsAnswers (n + 1) (served service (n + 1) payload outcome answer past)
+  pub answers_more : KnowsAnswers n past → KnowsAnswers (n + 1) (served service (n + 1) payload outcome answer past)
   answers_more known m a newest = elim (cases_Bool ((n + 1) == m)) [
-      inl is_so ↦
+    | inl is_so ↦
         let is : Some (Answers (answer_of (n + 1) answer)) ≡ Some (Answers a) = sym newest_now ∙ (ap (λ k. latest (is_op 1 k) (served service (n + 1) payload outcome answer past)) (eqb-true (n + 1) m is_so) ∙ newest) in
         let same : answer_of (n + 1) answer ≡ a = cc is in
         subst (λ (b : Answered). b.request.number ≤ n + 1) same (omega arith)
     | inr not_so ↦
         let old : a.request.number ≤ n = known m a (sym (newest_other m not_so) ∙ newest) in omega arith
-    ]
+  ]
 
   reply_now : reply_at (served service (n + 1) payload outcome answer past) 1 (n + 1) ≡ AnsweredReply 0 answer
   unfolding reply_at
@@ -136,29 +132,29 @@ module _ (service : List ℕ) (n : ℕ) (payload : Data) (outcome : Outcome) (an
       ∙ (ap (λ op. AnsweredReply (if op == (n + 1) then 0 else (n + 1)) answer) sent_now ∙ ap (λ b. AnsweredReply (if b then 0 else (n + 1)) answer) (eq-eqb (n + 1) (n + 1) refl))
 
   -- the lines go on by this call's
-  lines_more : (name : List ℕ) → IsFresh n past → KnowsAnswers n past → lines_up_to name 1 (served service (n + 1) payload outcome answer past) (n + 1)
+  pub lines_more : (name : List ℕ) → IsFresh n past → KnowsAnswers n past → lines_up_to name 1 (served service (n + 1) payload outcome answer past) (n + 1)
       ≡ lines_up_to name 1 past n ++ line_text name (n + 1) (AnsweredReply 0 answer)
   lines_more name fresh known = last_line name (served service (n + 1) payload outcome answer past) n
       ∙ (ap (λ lines. lines ++ line_text name (n + 1) (reply_at (served service (n + 1) payload outcome answer past) 1 (n + 1))) (lines_kept (play_setup service) name n past (served service (n + 1) payload outcome answer past) (keeps fresh) known n (omega arith))
       ∙ ap (λ reply. lines_up_to name 1 past n ++ line_text name (n + 1) reply) reply_now)
 
   -- the calls go on by this one
-  calls_more : (ops : List Op) (ask : Ask) → length ops ≡ n → IsFresh n past → is_invalid_call (play_setup service) ask ≡ false → ask.service ≡ service → ask.payload ≡ payload
+  pub calls_more : (ops : List Op) (ask : Ask) → length ops ≡ n → IsFresh n past → is_invalid_call (play_setup service) ask ≡ false → ask.service ≡ service → ask.payload ≡ payload
       → answer ≡ answer_to ask.expect outcome → EachBecame (play_setup service) 1 1 ops past → EachBecame (play_setup service) 1 1 (ops ++ Call ask ∷ []) (served service (n + 1) payload outcome answer past)
   calls_more ops ask many fresh valid named carried told each =
       each_more (play_setup service) 1 ops (Call ask) (served service (n + 1) payload outcome answer past)
-        (each_kept (play_setup service) n 1 ops past (served service (n + 1) payload outcome answer past) (keeps fresh) (omega (arith, many)) each)
-        (subst (λ k. Became (play_setup service) (Call ask) (served service (n + 1) payload outcome answer past) (events_of_op 1 k (served service (n + 1) payload outcome answer past))) (place_of (length ops) n many)
-          (subst (λ events. Became (play_setup service) (Call ask) (served service (n + 1) payload outcome answer past) events) (sym (events_now (fresh.events (n + 1) (omega arith))))
-            (record {
-              valid = valid;
-              service = sym named;
-              payload = sym carried;
-              mode = refl;
-              request = refl;
-              told = subst (λ o. IsSomeAnd o (λ outcome. answer ≡ answer_to ask.expect outcome)) (sym ended_now) told;
-            })))
+      (each_kept (play_setup service) n 1 ops past (served service (n + 1) payload outcome answer past) (keeps fresh) (omega (arith, many)) each)
+      (subst (λ k. Became (play_setup service) (Call ask) (served service (n + 1) payload outcome answer past) (events_of_op 1 k (served service (n + 1) payload outcome answer past))) (place_of (length ops) n many)
+      (subst (λ events. Became (play_setup service) (Call ask) (served service (n + 1) payload outcome answer past) events) (sym (events_now (fresh.events (n + 1) (omega arith))))
+      (record {
+        valid = valid;
+        service = sym named;
+        payload = sym carried;
+        mode = refl;
+        request = refl;
+        told = subst (λ o. IsSomeAnd o (λ outcome. answer ≡ answer_to ask.expect outcome)) (sym ended_now) told;
+      })))
 
-  order_more : waiting (play_setup service) 1 past ≡ [] → TakesInOrder (play_setup service) past → TakesInOrder (play_setup service) (served service (n + 1) payload outcome answer past)
+  pub order_more : waiting (play_setup service) 1 past ≡ [] → TakesInOrder (play_setup service) past → TakesInOrder (play_setup service) (served service (n + 1) payload outcome answer past)
   order_more none order =
       (tt, (tt, (rw (waits_one service (n + 1) payload past none) (next_is_one (priority_at (Accept (accept service (n + 1) payload) ∷ past)) (n + 1)), (tt, order))))

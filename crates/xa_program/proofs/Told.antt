@@ -24,6 +24,7 @@ use Rattle.xa_events.specs.Calls.{is_op, events_of_op, Became, CallRefused, Each
 use Rattle.xa_events.specs.Said.{reply_at, reply_in}
 use Rattle.xa_program.specs.Line.{line_text}
 use Rattle.xa_program.specs.Spoken.{lines_up_to}
+use Rattle.xa_program.specs.Progress.{KnowsAnswers}
 
 -- the later list has what the earlier one has of the client's first n calls: their events, how their requests ended, what the board listed for them
 pub record Keeps (setup : Setup) (n : ℕ) (before after : List Event) : Type 0 where
@@ -32,10 +33,6 @@ pub record Keeps (setup : Setup) (n : ℕ) (before after : List Event) : Type 0 
   pub over : (r : RequestId) (o : Outcome) → ended r before ≡ Some o → ended r after ≡ Some o
   pub sent : (r : RequestId) → r.number ≤ n → sent_by_op r after ≡ sent_by_op r before
   pub listed : (v : ℕ) (service : List ℕ) → listed_in setup before v service false ≡ [] → listed_in setup after v service false ≡ []
-
--- each answer to the first calls is of one of the first requests
-abbrev pub KnowsAnswers : ℕ → List Event → Type 0
-KnowsAnswers n past = (m : ℕ) (a : Answered) → latest (is_op 1 m) past ≡ Some (Answers a) → a.request.number ≤ n
 
 reply_kept : (setup : Setup) (n : ℕ) (before after : List Event) → Keeps setup n before after → (e : Option Event) → ((a : Answered) → e ≡ Some (Answers a) → a.request.number ≤ n) → reply_in after e ≡ reply_in before e
 reply_kept setup n before after k None own = refl
@@ -79,16 +76,17 @@ became_kept setup n op before after k events became = became
 -- the calls from the first-th on stay what they became
 pub each_kept : (setup : Setup) (n first : ℕ) (ops : List Op) (before after : List Event) → Keeps setup n before after → first + length ops ≤ n + 1 → EachBecame setup 1 first ops before → EachBecame setup 1 first ops after
 each_kept setup n first [] before after k low each = tt
-each_kept setup n first (op ∷ ops) before after k low each =
-    (subst (λ events. Became setup op after events) (sym (k.events first (omega arith))) (became_kept setup n op before after k (events_of_op 1 first before) each.0),
-     each_kept setup n (first + 1) ops before after k (omega arith) each.1)
+each_kept setup n first (op ∷ ops) before after k low each = (
+  subst (λ events. Became setup op after events) (sym (k.events first (omega arith))) (became_kept setup n op before after k (events_of_op 1 first before) each.0),
+  each_kept setup n (first + 1) ops before after k (omega arith) each.1,
+)
 
 next_place : (a b : ℕ) → a + suc b ≡ (a + 1) + b
 next_place a b = omega arith
 
 -- one more call
 pub each_more : (setup : Setup) (first : ℕ) (ops : List Op) (op : Op) (past : List Event) → EachBecame setup 1 first ops past → Became setup op past (events_of_op 1 (first + length ops) past)
-  → EachBecame setup 1 first (ops ++ op ∷ []) past
+    → EachBecame setup 1 first (ops ++ op ∷ []) past
 each_more setup first [] op past each last = (subst (λ n. Became setup op past (events_of_op 1 n past)) (add-zero first) last, tt)
 each_more setup first (x ∷ ops) op past each last =
     (each.0, each_more setup (first + 1) ops op past each.1 (subst (λ n. Became setup op past (events_of_op 1 n past)) (next_place first (length ops)) last))

@@ -1,0 +1,15 @@
+use Rattle.std.proofs.Common.{List, ◌∷◌, ◌++◌, [], ◌∙◌, ap, append_assoc, subst}
+use Rattle.xa_frame.specs.declared.frame.Frame.{Frame}
+use Rattle.xa_program.specs.Pipe.{HasRead}
+use Rattle.xa_program.specs.Pipes.{next_frame, return_frame}
+use Rattle.xa_program.proofs.Frames.{read_same}
+use Rattle.xa_program.proofs.pipe.Pipe.invoke.Goals as goal
+
+pub returns-clause-took : goal.returns-clause-took
+returns-clause-took g c = (c.read_next.ensures.took ∙ c.read_return.ensures.took) ∙ c.in_ok-send.ensures.took
+
+pub returns-clause-read : goal.returns-clause-read
+returns-clause-read g c frames read =
+    subst (λ (fs : List Frame). HasRead c.read_next.new.self fs) (append_assoc frames (return_frame c.args.number c.in_ok-back.back.0 c.in_ok-back.back.1 ∷ []) (next_frame ∷ []))
+    (c.in_ok-read_next.ensures.read (frames ++ return_frame c.args.number c.in_ok-back.back.0 c.in_ok-back.back.1 ∷ []) (c.in_ok-back.ensures.read frames
+    (read_same c.args.self.now.gave c.send.new.self.gave c.args.self.now.rest c.send.new.self.rest frames c.in_ok-send.ensures.gave c.in_ok-send.ensures.rest read)))

@@ -1,0 +1,10 @@
+use Rattle.std.proofs.Common.{◌≡◌, List}
+use Rattle.xa_frame.specs.declared.frame.Frame.{Frame}
+use Rattle.xa_program.specs.Pipe.{HasRead}
+use Rattle.xa_program.proofs.pipe.Pipe.read.Given as goal
+
+abbrev pub invariant-loop : goal.invariant-loop
+invariant-loop g l = record {
+  took : l.self.took ≡ l.fn.self.took;
+  read : (frames : List Frame) → HasRead l.fn.self frames → HasRead l.self frames;
+}

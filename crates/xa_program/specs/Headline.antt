@@ -1,0 +1,105 @@
+-- What a run of `play` comes to.
+use Rattle.std.specs.Prelude.{◌≡◌, ◌≤◌, ◌<◌, ◌+◌, ℕ, List, [], ◌∷◌, length, reverse, map, Option, Some, None, IfSome, All, ⊤}
+use Rattle.xa_types.specs.declared.setup.Setup.{Setup}
+use Rattle.xa_types.specs.declared.setup.ServerSetup.{ServerSetup}
+use Rattle.xa_types.specs.Setup.{numbered}
+use Rattle.xa_link.specs.Told.{Rose, Grew, GrewByPrefix}
+use Rattle.xa_events.specs.declared.event.Event.{Event}
+use Rattle.xa_events.specs.State.{opening}
+use Rattle.xa_events.specs.Run.{Run, IsFinal}
+use Rattle.xa_events.specs.Order.{TakesInOrder}
+use Rattle.xa_events.specs.Laws.{LawOfEnds, LawOfAnswers, LawOfVersions}
+use Rattle.xa_events.specs.Calls.{MadeCalls}
+use Rattle.xa_program.specs.declared.script.Client.{Client}
+use Rattle.xa_program.specs.declared.script.Script.{Script}
+use Rattle.xa_program.specs.declared.outcome.Life.{Life}
+use Rattle.xa_program.specs.declared.status.Status.{Status}
+use Rattle.xa_program.specs.declared.status.Status.TheVariants.{Done, Usage, ScriptRead, TooLong, BadLine, WriteFault, BadFrame, NoMemory, Unbuilt}
+use Rattle.xa_program.specs.declared.status.Input.TheVariants as inputs
+use Rattle.xa_program.specs.Pipes.{IsLife, lives_of, failed_starts}
+use Rattle.xa_program.specs.PlaySetup.{play_setup}
+use Rattle.xa_program.specs.Script.{IsScript, IsFirstFault}
+use Rattle.xa_program.specs.Spoken.{spoken}
+
+-- each client, of which the first has that number, made exactly its calls
+abbrev pub EachMadeCalls : Setup → ℕ → List Client → List Event → Type 0
+EachMadeCalls setup number [] past = ⊤
+EachMadeCalls setup number (client ∷ clients) past = MadeCalls setup number client.ops past × EachMadeCalls setup (number + 1) clients past
+
+-- the events are one history of the machine, from its opening to its end: each request is taken at most once and ended at most once,
+-- each is answered at most once and as it ended, each queue was taken in order, and each client made exactly its calls.
+-- past is the same events, the newest first
+pub record IsHistoryAt (setup : Setup) (clients : List Client) (history past : List Event) : Type 0 where
+  pub run : Run (opening setup (length clients)) history (record { setup = setup; clients = length clients; past = past })
+  pub final : IsFinal (record { setup = setup; clients = length clients; past = past })
+  pub ordered : TakesInOrder setup past
+  pub once : LawOfEnds past
+  pub answered : LawOfAnswers past
+  pub forward : LawOfVersions past
+  pub calls : EachMadeCalls setup 1 clients past
+
+abbrev pub IsHistory : Setup → List Client → List Event → Type 0
+IsHistory setup clients history = IsHistoryAt setup clients history (reverse history)
+
+abbrev pub name_in : Option ServerSetup → List ℕ
+name_in None = []
+name_in (Some server) = server.name
+
+-- each starter, of which the first is of the server with that number, counts at least the failed starts of its server
+abbrev pub EachCounts : {S : Type 0} → (S → ℕ) → ℕ → List S → List Event → Type 0
+EachCounts start_faults server [] past = ⊤
+EachCounts start_faults server (starter ∷ starters) past = (failed_starts server past ≤ start_faults starter) × EachCounts start_faults (server + 1) starters past
+
+-- what went through the pipes is the history's: the lives are its starts, and each link's octets are those of its events
+pub record IsCarried {L S : Type 0} (took gave : L → Option (List ℕ)) (start_faults : S → ℕ) (setup : Setup) (past : List Event) (lives : List (Life L)) (starters : List S) : Type 0 where
+  pub lives_are : map (λ life. (life.server.0, life.generation.0)) lives ≡ lives_of past
+  pub pipes : All (λ life. IsLife (name_in (numbered life.server.0 setup.servers)) life.server.0 life.generation.0 past (took life.link) (gave life.link)) lives
+  pub starts : EachCounts start_faults 1 starters past
+
+-- how long a script may be, in octets
+abbrev pub longest_script : ℕ
+longest_script = 1_048_576
+
+-- where the input tells its octets, they are a script with these clients
+abbrev pub IsTheScript : Option (List ℕ) → List ℕ → List Client → Type 0
+IsTheScript told service clients = IfSome told (λ octets. (length octets ≤ longest_script) × IsScript service octets (record { clients = clients }))
+
+-- where the input tells its octets, their first line at fault is that one
+abbrev pub HasFirstFault : Option (List ℕ) → List ℕ → ℕ → Type 0
+HasFirstFault told service line = IfSome told (λ octets. (length octets ≤ longest_script) × IsFirstFault service octets line)
+
+-- the clients are the script's, and the history and the pipes are theirs
+pub record IsPlayed {L S : Type 0} (took gave : L → Option (List ℕ)) (start_faults : S → ℕ) (told : Option (List ℕ)) (service : List ℕ) (clients : List Client)
+    (history : List Event) (lives : List (Life L)) (starters : List S) : Type 0 where
+  pub script : IsTheScript told service clients
+  pub machine : IsHistory (play_setup service) clients history
+  pub carried : IsCarried took gave start_faults (play_setup service) (reverse history) lives starters
+
+-- what the input and the output show of a run
+pub record Streams : Type 0 where
+  pub told : Option (List ℕ)
+  pub reads_before : ℕ
+  pub reads_after : ℕ
+  pub took_before : Option (List ℕ)
+  pub took_after : Option (List ℕ)
+  pub writes_before : ℕ
+  pub writes_after : ℕ
+
+abbrev pub names_of : List Client → List (List ℕ)
+names_of clients = map (λ client. client.name) clients
+
+-- how `play SERVICE` ends, and what that shows
+abbrev pub PlayEnds : {L S : Type 0} → (L → Option (List ℕ)) → (L → Option (List ℕ)) → (S → ℕ) → Streams → List ℕ → Status → List Event → List (Life L) → List S → Type 0
+PlayEnds took gave start_faults streams service Done history lives starters =
+    (clients : List Client) × IsPlayed took gave start_faults streams.told service clients history lives starters
+    × Grew streams.took_before streams.took_after (spoken (names_of clients) (reverse history))
+PlayEnds took gave start_faults streams service WriteFault history lives starters =
+    (clients : List Client) × IsPlayed took gave start_faults streams.told service clients history lives starters
+    × GrewByPrefix streams.took_before streams.took_after (spoken (names_of clients) (reverse history))
+    × Rose streams.writes_before streams.writes_after
+PlayEnds took gave start_faults streams service ScriptRead history lives starters = Rose streams.reads_before streams.reads_after
+PlayEnds took gave start_faults streams service (TooLong inputs.Script) history lives starters = IfSome streams.told (λ octets. longest_script < length octets)
+PlayEnds took gave start_faults streams service (BadLine line cause) history lives starters = (cause ≡ 9) × HasFirstFault streams.told service line
+PlayEnds took gave start_faults streams service Unbuilt history lives starters = (clients : List Client) × IsTheScript streams.told service clients
+PlayEnds took gave start_faults streams service NoMemory history lives starters = ⊤
+PlayEnds took gave start_faults streams service status history lives starters = ⊥

@@ -1,0 +1,23 @@
+-- What the monitor's end of the pipes of a life has seen.
+use Rattle.std.specs.Prelude.{◌≡◌, ◌<◌, ℕ, List, [], ◌∷◌, ◌++◌, length, Option, Some, None, IfSome}
+use Rattle.xa_frame.specs.declared.frame.Frame.{Frame}
+use Rattle.xa_frame.specs.Spelling.{spelled, all_spelled, HasSpelling}
+
+-- what the link took and gave, where it tells them, and what it gave that isn't read as a frame
+pub record Piped : Type 0 where
+  pub took : Option (List ℕ)
+  pub gave : Option (List ℕ)
+  pub rest : List ℕ
+
+-- these frames were written
+abbrev pub Wrote : Piped → List Frame → Type 0
+Wrote pipe frames = IfSome pipe.took (λ octets. octets ≡ all_spelled frames)
+
+-- these frames were read
+abbrev pub HasRead : Piped → List Frame → Type 0
+HasRead pipe frames = IfSome pipe.gave (λ octets. octets ≡ all_spelled frames ++ pipe.rest)
+
+-- what stood first in the octets before: nothing whole, or that frame, with the octets after it
+abbrev pub Finds : List ℕ → List ℕ → Option Frame → Type 0
+Finds before after None = (after ≡ before) × (length before < 66_012)
+Finds before after (Some f) = HasSpelling f × (before ≡ spelled f ++ after)

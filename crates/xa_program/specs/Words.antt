@@ -1,0 +1,26 @@
+-- The words of a command line.
+use Rattle.std.specs.Prelude.{ℕ, Bool, false, not, ◌&&◌, ◌==◌, List, [], ◌∷◌, Option, Some, None, option_and_then, codes, if◌then◌else◌}
+use Rattle.std.specs.Str.{bytes_eq}
+use Rattle.xa_types.specs.Name.{is_name}
+use Rattle.xa_program.specs.declared.words.Command.{Command}
+use Rattle.xa_program.specs.declared.words.Command.TheVariants.{Play, Server}
+
+abbrev pub begins_with_dash : List ℕ → Bool
+begins_with_dash [] = false
+begins_with_dash (first ∷ rest) = first == 45
+
+-- the name that a word is; none where it begins with a dash
+abbrev pub name_in : List ℕ → Option (List ℕ)
+name_in word = if not (begins_with_dash word) && is_name word then Some word else None
+
+-- `play SERVICE` or `server NAME`
+abbrev pub named_command : List ℕ → List ℕ → Option Command
+named_command command name = if bytes_eq command (codes "play") then Some (Play name) else (if bytes_eq command (codes "server") then Some (Server name) else None)
+
+abbrev pub command_of : List ℕ → List ℕ → Option Command
+command_of command argument = option_and_then (named_command command) (name_in argument)
+
+-- a command has exactly two words
+abbrev pub command_in : List (List ℕ) → Option Command
+command_in (command ∷ argument ∷ []) = command_of command argument
+command_in words = None

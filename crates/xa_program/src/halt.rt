@@ -1,0 +1,28 @@
+use std::alloc::{AllocError, AllocFailed};
+use xa_types::NoMemory;
+
+/// Why a run doesn't go on.
+#[derive(Clone, Copy, Debug, PartialEq, Eq)]
+pub enum Halt {
+    NoMemory,
+    /// A life of the server isn't plain, which isn't built yet.
+    Unbuilt,
+}
+
+impl From<NoMemory> for Halt {
+    fn from(_: NoMemory) -> Self {
+        Halt::NoMemory
+    }
+}
+
+impl From<AllocError> for Halt {
+    fn from(_: AllocError) -> Self {
+        Halt::NoMemory
+    }
+}
+
+impl<T: Drop> From<AllocFailed<T>> for Halt {
+    fn from(_: AllocFailed<T>) -> Self {
+        Halt::NoMemory
+    }
+}

@@ -1,0 +1,150 @@
+// What the monitor says to the program of a server in a life that is plain, and what it hears.
+ghost use Rattle.std.specs.Prelude.{◌≡◌, ◌++◌, ◌∷◌, [], ℕ, List, IfOk, OnOk, true, FitsSigned};
+ghost use Rattle.std.specs.Int.{w32};
+ghost use Rattle.xa_link.specs.Told.{Grew};
+ghost use Rattle.xa_types.specs.Kind.{is_sound};
+ghost use Rattle.xa_frame.specs.declared.frame.Frame.{Frame};
+ghost use Rattle.xa_frame.specs.Spelling.{spelled, HasSpelling};
+ghost use Rattle.xa_program.specs.Pipe.{HasRead};
+ghost use Rattle.xa_program.specs.Pipes.{greeting, ready_frame, next_frame, invoke_frame, return_frame, shutdown_frame};
+ghost use Rattle.xa_program.specs.PlaySetup.{play_setup};
+
+use crate::halt::Halt;
+use crate::pipe::Pipe;
+use std::alloc::Global;
+use xa_frame::{Body, Frame};
+use xa_link::Link;
+use xa_types::{Data, Mode, Name, Rval};
+
+/// Whether the data is sound where no shape is configured.
+pub fn is_plain(payload: &Data) -> bool
+    ensures { (service : List ℕ) → result ≡ is_sound (play_setup service) payload.now }
+{
+    match payload {
+        Data::Absent => true,
+        Data::Octet(octets) => octets.slice().len() <= 65_536,
+        Data::Struct(..) => false,
+    }
+}
+
+fn is_same(a: &Name, b: &Name) -> bool
+    ensures { result ≡ true → a.now ≡ b.now }
+{
+    a.octets() == b.octets()
+}
+
+impl<L: Link> Pipe<L> {
+    /// Reads READY with that server's name, and NEXT.
+    pub fn greet(&mut self, server: &Name) -> Result<(), Halt>
+        ensures read { OnOk result ((frames : List Frame) → HasRead self.old frames → HasRead self.new (frames ++ greeting server.now)) }
+        ensures took { self.new.took ≡ self.old.took }
+    {
+        self.read_ready(server)?;
+        self.read_next()
+    }
+
+    /// Sends a request, and reads the RETURN with TPSUCCESS and sound data, and NEXT.
+    pub fn invoke(
+        &mut self,
+        alloc: Global,
+        service: &Name,
+        number: u32,
+        payload: &Data,
+    ) -> Result<(i32, Data), Halt>
+        requires { is_sound (play_setup service.now) payload.now ≡ true }
+        ensures took { OnOk result (Grew self.old.took self.new.took (spelled (invoke_frame service.now number payload.now))) }
+        ensures read { IfOk result (λ back. (frames : List Frame) → HasRead self.old frames
+            → HasRead self.new (frames ++ return_frame number back.0 back.1 ∷ next_frame ∷ [])) }
+        ensures sound { IfOk result (λ back. is_sound (play_setup service.now) back.1 ≡ true) }
+        ensures fits { IfOk result (λ back. FitsSigned w32 back.0) }
+    {
+        self.send(alloc, service, number, payload)?;
+        let back = self.read_return(number)?;
+        self.read_next()?;
+        Ok(back)
+    }
+
+    /// Sends SHUTDOWN.
+    pub fn shut_down(&mut self, alloc: Global) -> Result<(), Halt>
+        ensures took { OnOk result (Grew self.old.took self.new.took (spelled shutdown_frame)) }
+        ensures gave { self.new.gave ≡ self.old.gave }
+        ensures rest { self.new.rest ≡ self.old.rest }
+    {
+        self.write(
+            alloc,
+            &Frame {
+                tag: 0,
+                body: Body::Shutdown,
+            },
+        )
+    }
+
+    fn send(
+        &mut self,
+        alloc: Global,
+        service: &Name,
+        number: u32,
+        payload: &Data,
+    ) -> Result<(), Halt>
+        requires { is_sound (play_setup service.now) payload.now ≡ true }
+        ensures took { OnOk result (Grew self.old.took self.new.took (spelled (invoke_frame service.now number payload.now))) }
+        ensures gave { self.new.gave ≡ self.old.gave }
+        ensures rest { self.new.rest ≡ self.old.rest }
+    {
+        let _named = service.octets();
+        let frame = Frame {
+            tag: number,
+            body: Body::Invoke(*service, *service, Mode::Reply, payload.copy(alloc)?),
+        };
+        self.write(alloc, &frame)
+    }
+
+    fn read_ready(&mut self, server: &Name) -> Result<(), Halt>
+        ensures read { OnOk result ((frames : List Frame) → HasRead self.old frames → HasRead self.new (frames ++ ready_frame server.now ∷ [])) }
+        ensures took { self.new.took ≡ self.old.took }
+    {
+        let Frame { tag, body } = self.read()?;
+        match body {
+            Body::Ready(name) => {
+                if tag == 0 && is_same(&name, server) {
+                    Ok(())
+                } else {
+                    Err(Halt::Unbuilt)
+                }
+            }
+            _ => Err(Halt::Unbuilt),
+        }
+    }
+
+    fn read_next(&mut self) -> Result<(), Halt>
+        ensures read { OnOk result ((frames : List Frame) → HasRead self.old frames → HasRead self.new (frames ++ next_frame ∷ [])) }
+        ensures took { self.new.took ≡ self.old.took }
+    {
+        match self.read()? {
+            Frame {
+                tag: 0,
+                body: Body::Next,
+            } => Ok(()),
+            _ => Err(Halt::Unbuilt),
+        }
+    }
+
+    fn read_return(&mut self, number: u32) -> Result<(i32, Data), Halt>
+        ensures read { IfOk result (λ back. (frames : List Frame) → HasRead self.old frames → HasRead self.new (frames ++ return_frame number back.0 back.1 ∷ [])) }
+        ensures sound { IfOk result (λ back. (service : List ℕ) → is_sound (play_setup service) back.1 ≡ true) }
+        ensures fits { IfOk result (λ back. FitsSigned w32 back.0) }
+        ensures took { self.new.took ≡ self.old.took }
+    {
+        let Frame { tag, body } = self.read()?;
+        match body {
+            Body::Return(Rval::Success, code, payload) => {
+                if tag == number && is_plain(&payload) {
+                    Ok((code, payload))
+                } else {
+                    Err(Halt::Unbuilt)
+                }
+            }
+            _ => Err(Halt::Unbuilt),
+        }
+    }
+}

@@ -1,0 +1,20 @@
+use crate::status::Status;
+use xa_events::Event;
+use xa_link::Yard;
+use xa_types::{Generation, ServerId};
+
+/// A life of a server, and the pipes that its program had.
+pub struct Life<L> {
+    pub server: ServerId,
+    pub generation: Generation,
+    pub link: L,
+}
+
+/// What a run hands back: how it ended, the events in the order in which they were made, the lives of the servers, and
+/// the starters that were used. Before a server starts there are none.
+pub struct Outcome<Y: Yard> {
+    pub status: Status,
+    pub history: Vec<Event>,
+    pub lives: Vec<Life<Y::Line>>,
+    pub starters: Vec<Y::Start>,
+}
