@@ -141,32 +141,3 @@ fn hear<O: Sink>(serving: &mut Serving, octets: &[u8], out: &mut O) -> Result<bo
         Halt::Bad(place) => Err(Status::BadFrame(place)),
     }
 }
-
-#[cfg(test)]
-mod tests {
-    use super::*;
-    use std::test::Fail;
-    use xa_link::{MemorySink, MemorySource};
-    use xa_types::Octets;
-
-    // INVOKE of the service and routine ECHO with hello, and SHUTDOWN.
-    const ASKED: &[u8] = b"\x58\x41\x01\x11\0\0\0\x15\0\0\0\x01\x04ECHO\x04ECHO\0\x01\0\0\0\x05hello\
-        \x58\x41\x01\x13\0\0\0\0\0\0\0\0";
-
-    // READY of the server S, NEXT, RETURN of success with code 0 and hello, and NEXT.
-    const SAID: &[u8] = b"\x58\x41\x01\x01\0\0\0\x02\0\0\0\0\x01S\
-        \x58\x41\x01\x02\0\0\0\0\0\0\0\0\
-        \x58\x41\x01\x04\0\0\0\x0f\0\0\0\x01\0\0\0\0\0\x01\0\0\0\x05hello\
-        \x58\x41\x01\x02\0\0\0\0\0\0\0\0";
-
-    #[test]
-    fn an_echo_comes_in_single_octets(rt: HostRuntime) -> Result<(), Fail> {
-        let alloc = rt.alloc();
-        let mut input = MemorySource::new(Octets::of(alloc, ASKED)?, Vec::new(alloc), 1);
-        let mut out = MemorySink::new(alloc, Vec::new(alloc), Vec::new(alloc), 7);
-        let status = child_work(alloc, &Name::read(b"S")?, &mut input, &mut out);
-        assert_eq!(rt; status, Status::Done);
-        assert_eq!(rt; out.taken(), SAID);
-        Ok(())
-    }
-}
