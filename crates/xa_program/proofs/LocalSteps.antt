@@ -4,11 +4,12 @@ use Rattle.std.proofs.Math.Seq.{take-add}
 use Rattle.std.proofs.lemmas.List.{take-append-drop}
 use Rattle.std.proofs.lemmas.List.Elements.{All-nil}
 use Rattle.xa_frame.specs.Spelling.{all_spelled, HasSpelling}
+use Rattle.xa_frame.specs.Stream.{IsPartial}
 use Rattle.xa_link.specs.Told.{Grew}
 use Rattle.xa_program.specs.declared.serving.Serving.{Serving}
 use Rattle.xa_program.specs.declared.serving.Halt.{Halt}
 use Rattle.xa_program.specs.declared.serving.Halt.TheVariants.{Waits, Ended, Bad}
-use Rattle.xa_program.specs.Child.{ChildState, after_all, admits_all, child_run, said}
+use Rattle.xa_program.specs.Child.{ChildState, begun, after_all, admits_all, child_run, said}
 use Rattle.xa_program.specs.ChildWork.{place_after}
 use Rattle.xa_program.specs.ChildTurns.{Turns, SoFar, TurnsTo, GoesOn}
 use Rattle.xa_program.specs.Serving.{TakesUpTo, HaltsAt}
@@ -26,6 +27,7 @@ says_of name true serving taken given h = record {
   spelling = h.spelling;
   admitted = h.admitted;
   whole = grew_all taken _ h.given;
+  upto = inr h.partial;
   spoken = grew_all given _ h.grew;
 }
 says_of name false serving taken given h = h
@@ -80,9 +82,14 @@ local_turns taken given octets due old mid new halt more on child place fed t =
       };
     }
 
+done_upto : (s : ChildState) (rest : List ℕ) (end : Type 0) → (s.ended ≡ true) ⊎ ((rest ≡ []) × end) → (s.ended ≡ true) ⊎ IsPartial rest
+done_upto s rest end (inl over) = inl over
+done_upto s rest end (inr (none, e)) = inr (subst IsPartial (sym none) (inl (omega arith)))
+
 joined_holds : (name taken given : List ℕ) (new : Serving) (more : Bool) → Joined name None None (Some []) (Some taken) (Some []) (Some given) new (Ok more) → Holds name more new taken given
 joined_holds name taken given new true j = so_far_more name None None (Some []) (Some taken) (Some []) (Some given) new j
 joined_holds name taken given new false j = record {
+  upto = done_upto (after_all begun j.frames) j.rest _ j.turns.1;
   frames = j.frames;
   rest = j.rest;
   spelling = j.spelling;

@@ -5,6 +5,8 @@
 mod calls;
 mod child;
 mod child_pipe;
+#[cfg(test)]
+mod child_tests;
 mod halt;
 mod life;
 mod local;

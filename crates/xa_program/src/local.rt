@@ -133,8 +133,8 @@ impl LocalLink {
         })
     }
 
-    /// What came from the program and what is still to come is what the program of that server says to the frames
-    /// with which the octets that went to it begin.
+    /// What came from the program and what is still to come is what the program of that server says to the octets
+    /// that went to it.
     pub fn says(&self)
         ensures { Says self.now.name self.now.took (self.now.gave ++ self.now.left) }
     {
