@@ -4,6 +4,7 @@ use xa_link::Yard;
 use xa_types::{Generation, ServerId};
 
 /// A life of a server, and the pipes that its program had.
+#[derive(Drop)]
 pub struct Life<L> {
     pub server: ServerId,
     pub generation: Generation,
