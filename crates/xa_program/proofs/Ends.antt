@@ -3,10 +3,6 @@ use Rattle.std.proofs.Common.{◌≡◌, ℕ, zero, suc, ◌+◌, ◌<◌, ◌�
 use Rattle.xa_types.specs.declared.ids.RequestId.{RequestId}
 use Rattle.xa_events.specs.declared.event.Event.{Event}
 use Rattle.xa_events.specs.declared.event.Event.TheVariants.{Advertise, Start, Leave, Close, Stop}
-use Rattle.xa_events.specs.declared.event.Advertised.{Advertised}
-use Rattle.xa_events.specs.declared.event.Started.{Started}
-use Rattle.xa_events.specs.declared.event.Stopped.{Stopped}
-use Rattle.xa_events.specs.declared.event.StopCause.TheVariants.{Shutdown}
 use Rattle.xa_events.specs.declared.event.Doing.{Doing}
 use Rattle.xa_events.specs.declared.event.Doing.TheVariants.{Off, Idle}
 use Rattle.xa_events.specs.Words.{count}
@@ -22,14 +18,8 @@ use Rattle.xa_events.specs.Order.{TakesInOrder}
 use Rattle.xa_events.specs.Cases.{Case}
 use Rattle.xa_events.specs.Run.{Run, IsFinal}
 use Rattle.xa_program.specs.PlaySetup.{play_setup}
-use Rattle.xa_program.specs.Progress.{at, request, IsQuiet, IsFresh, KnowsAnswers}
+use Rattle.xa_program.specs.Progress.{at, request, advertise, start, stop, IsQuiet, IsFresh, KnowsAnswers}
 use Rattle.xa_program.proofs.Told.{Keeps}
-
-abbrev pub advertise : List ℕ → Advertised
-advertise service = record { by = record { 0 = 0 }; op = 0; service = service; queue = record { 0 = 1 }; routine = service; version = 1 }
-
-abbrev pub start : Started
-start = record { server = record { 0 = 1 }; generation = record { 0 = 1 }; tick = 0 }
 
 abbrev pub begun : List ℕ → List Event
 begun service = Start start ∷ Advertise (advertise service) ∷ []
@@ -72,9 +62,6 @@ knows_begun service m a newest = cc newest
 
 pub order_begun : (service : List ℕ) → TakesInOrder (play_setup service) (begun service)
 order_begun service = (tt, (tt, tt))
-
-abbrev pub stop : Stopped
-stop = record { server = record { 0 = 1 }; generation = record { 0 = 1 }; cause = Shutdown }
 
 abbrev pub closed : List Event → List Event
 closed past = Stop stop ∷ Close (record { 0 = 1 }) ∷ past

@@ -4,6 +4,7 @@ use Rattle.std.specs.Prelude.{◌≡◌, ℕ, ◌+◌, ◌<◌, ◌≤◌, true,
 use Rattle.xa_types.specs.declared.data.Data.{Data}
 use Rattle.xa_types.specs.declared.ids.RequestId.{RequestId}
 use Rattle.xa_types.specs.declared.call.Op.{Op}
+use Rattle.xa_types.specs.declared.call.Op.TheVariants.{Call}
 use Rattle.xa_types.specs.declared.call.Ask.{Ask}
 use Rattle.xa_types.specs.declared.call.Mode.TheVariants.{Reply}
 use Rattle.xa_types.specs.declared.reply.Answer.{Answer}
@@ -12,6 +13,10 @@ use Rattle.xa_types.specs.Rows.{Put}
 use Rattle.xa_events.specs.declared.event.Event.{Event}
 use Rattle.xa_events.specs.declared.event.Event.TheVariants.{Answer as Answers}
 use Rattle.xa_events.specs.declared.event.Accepted.{Accepted}
+use Rattle.xa_events.specs.declared.event.Advertised.{Advertised}
+use Rattle.xa_events.specs.declared.event.Started.{Started}
+use Rattle.xa_events.specs.declared.event.Stopped.{Stopped}
+use Rattle.xa_events.specs.declared.event.StopCause.TheVariants.{Shutdown}
 use Rattle.xa_events.specs.declared.event.Taken.{Taken}
 use Rattle.xa_events.specs.declared.event.Ended.{Ended}
 use Rattle.xa_events.specs.declared.event.Answered.{Answered}
@@ -115,3 +120,18 @@ pub record IsBuilt (service : List ℕ) (ask : Ask) : Type 0 where
   pub named : ask.service ≡ service
   pub plain : ask.expect ≡ None
   pub sound : is_sound (play_setup service) ask.payload ≡ true
+
+-- each of these calls may be served
+abbrev pub IsBuiltOp : List ℕ → Op → Type 0
+IsBuiltOp service (Call ask) = IsBuilt service ask
+IsBuiltOp service op = ⊥
+
+-- the events with which a run begins and ends
+abbrev pub advertise : List ℕ → Advertised
+advertise service = record { by = record { 0 = 0 }; op = 0; service = service; queue = record { 0 = 1 }; routine = service; version = 1 }
+
+abbrev pub start : Started
+start = record { server = record { 0 = 1 }; generation = record { 0 = 1 }; tick = 0 }
+
+abbrev pub stop : Stopped
+stop = record { server = record { 0 = 1 }; generation = record { 0 = 1 }; cause = Shutdown }

@@ -1,5 +1,5 @@
 // The loop of `play`: one client, one server, and each call carried to its end before the next begins.
-ghost use Rattle.std.specs.Prelude.{◌≡◌, ◌++◌, ◌∷◌, ◌+◌, [], ℕ, List, IfOk, OnOk, true};
+ghost use Rattle.std.specs.Prelude.{◌≡◌, ◌++◌, ◌∷◌, ◌+◌, ◌^◌, ◌<◌, [], ℕ, List, length, All, OnOk};
 ghost use Rattle.xa_types.specs.declared.call.Op.{Op};
 ghost use Rattle.xa_types.specs.declared.call.Op.TheVariants.{Call as CallOp};
 ghost use Rattle.xa_types.specs.declared.reply.Answer.TheVariants.{Success};
@@ -7,7 +7,7 @@ ghost use Rattle.xa_types.specs.declared.reply.Reply.TheVariants.{Answered as An
 ghost use Rattle.xa_events.specs.declared.event.Event.TheVariants.{Accept, Take, End, Answer as AnswerEvent};
 ghost use Rattle.xa_events.specs.declared.event.Outcome.TheVariants.{Returned};
 ghost use Rattle.xa_program.specs.Line.{line_text};
-ghost use Rattle.xa_program.specs.Progress.{accept, take_of, end_with, answer_of, IsPlaying, IsBuilt};
+ghost use Rattle.xa_program.specs.Progress.{accept, take_of, end_with, answer_of, IsPlaying, IsBuilt, IsBuiltOp};
 
 use crate::halt::Halt;
 use crate::line::push_line;
@@ -16,7 +16,7 @@ use std::alloc::Global;
 use xa_events::{Accepted, Answered, Ended, Event, Outcome, Taken};
 use xa_link::Link;
 use xa_types::{
-    Answer, Ask, CallerId, Data, Generation, Mode, Name, QueueId, Reply, RequestId, ServerId,
+    Answer, Ask, CallerId, Data, Generation, Mode, Name, Op, QueueId, Reply, RequestId, ServerId,
 };
 
 const CLIENT: CallerId = CallerId(1);
@@ -165,5 +165,39 @@ pub fn call<L: Link>(
         code,
         payload,
     )?;
+    Ok(())
+}
+
+fn ask_of<'a>(op: &'a Op, _service: &Name) -> &'a Ask
+    requires { IsBuiltOp _service.now op.now }
+    ensures ask { op.now ≡ CallOp result.now }
+    ensures built { IsBuilt _service.now result.now }
+{
+    match op {
+        Op::Call(ask) => ask,
+        _ => unreachable!(),
+    }
+}
+
+/// Makes these calls, one after another.
+pub fn make_calls<L: Link>(
+    alloc: Global,
+    pipe: &mut Pipe<L>,
+    account: &mut Account,
+    service: &Name,
+    name: &Name,
+    ops: &[Op],
+) -> Result<(), Halt>
+    requires built { All (IsBuiltOp service.now) ops.now }
+    requires few { length ops.now < 2 ^ 32 }
+    ensures { OnOk result (IsPlaying service.now name.now 1 0 [] account.old.history.items account.old.lines.items pipe.old
+        → IsPlaying service.now name.now 1 (length ops.now) ops.now account.new.history.items account.new.lines.items pipe.new) }
+{
+    let mut number = 0u32;
+    for op in ops {
+        number += 1;
+        let ask = ask_of(op, service);
+        call(alloc, pipe, account, service, name, number, ask)?;
+    }
     Ok(())
 }
