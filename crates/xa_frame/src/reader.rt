@@ -75,6 +75,13 @@ impl Reader {
         Ok(())
     }
 
+    /// How many octets the frames had that were taken, at most 2^64 - 1.
+    pub fn place(&self) -> u64
+        ensures { result ≡ self.now.place }
+    {
+        self.place
+    }
+
     /// How many octets were fed and are not taken.
     pub fn pending(&self) -> u32
         ensures { result ≡ length self.now.rest }

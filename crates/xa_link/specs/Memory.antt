@@ -1,9 +1,10 @@
 -- What the forms in memory tell.
-use Rattle.std.specs.Prelude.{ℕ, List, take, drop}
+use Rattle.std.specs.Prelude.{ℕ, List, take, drop, map, Option}
 use Rattle.xa_link.specs.declared.memory.source.MemorySource.{MemorySource}
 use Rattle.xa_link.specs.declared.memory.sink.MemorySink.{MemorySink}
 use Rattle.xa_link.specs.declared.memory.link.MemoryLink.{MemoryLink}
 use Rattle.xa_link.specs.declared.memory.shelf.MemoryShelf.{MemoryShelf}
+use Rattle.xa_link.specs.declared.memory.yard.MemoryYard.{MemoryYard}
 
 -- the octets that are still to come
 abbrev pub source_left : MemorySource → List ℕ
@@ -39,3 +40,7 @@ shelf_files s = s.files.items
 -- how often a read failed
 abbrev pub shelf_faults : MemoryShelf → ℕ
 shelf_faults s = s.faults
+
+-- the lives of each server, in the order of their generations
+abbrev pub yard_lives : MemoryYard → List (List (Option MemoryLink))
+yard_lives y = map (λ server. server.items) y.lives.items

@@ -75,29 +75,34 @@ pub struct ChildStarter<R: Processes + Files + AllocGlobal> {
 }
 
 impl<R: Processes + Files + AllocGlobal> ChildStarter<R> {
-    // A word of the monitor that can't be started is no failure, since the system knows where its program is.
     fn launch(&self, server: &Name) -> Result<ChildLink<R::Started>, StartRefused>
         ensures { IfOk result (λ l. (l.from.faults ≡ 0) × (l.to.faults ≡ 0)) }
     {
         let name = text(server.octets())?;
-        let Some(program) = &self.program else {
-            return match self.run(self.monitor.as_str(), name) {
-                Err(StartRefused::Failed) => {
-                    let monitor = env::current_exe(&self.rt).map_err(|_| StartRefused::Failed)?;
-                    self.run(monitor.as_str(), name)
-                }
-                done => done,
-            };
-        };
-        self.run(text(program.slice())?, name)
+        match &self.program {
+            Some(program) => self.run(text(program.slice())?, name),
+            None => self.run_monitor(name),
+        }
+    }
+
+    // A word of the monitor that can't be started is no failure, since the system knows where its program is.
+    fn run_monitor(&self, name: &str) -> Result<ChildLink<R::Started>, StartRefused>
+        ensures { IfOk result (λ l. (l.from.faults ≡ 0) × (l.to.faults ≡ 0)) }
+    {
+        match self.run(self.monitor.as_str(), name) {
+            Err(StartRefused::Failed) => {
+                let monitor = env::current_exe(&self.rt).map_err(|_| StartRefused::Failed)?;
+                self.run(monitor.as_str(), name)
+            }
+            done => done,
+        }
     }
 
     fn run(&self, program: &str, name: &str) -> Result<ChildLink<R::Started>, StartRefused>
         ensures { IfOk result (λ l. (l.from.faults ≡ 0) × (l.to.faults ≡ 0)) }
     {
-        let mut command = command(self.rt.alloc(), program, name).map_err(
-            |_| StartRefused::NoMemory,
-        )?;
+        let command = command(self.rt.alloc(), program, name);
+        let mut command = command.map_err(|_| StartRefused::NoMemory)?;
         spawn(&self.rt, &mut command).map_err(|_| StartRefused::Failed)
     }
 }

@@ -40,13 +40,17 @@ impl<R: Files> FileShelf<R> {
         ensures { IfOk result (λ octets. length octets ≤ limit) }
     {
         let file = self.open(name).map_err(|_| ShelfRefused::Failed)?;
-        let octets = read_all(&mut ReadSource::new(file), self.alloc, limit as usize)?;
+        let octets = read_all(self.alloc, &mut ReadSource::new(file), limit as usize)?;
         Ok(Octets::from_vec(octets))
     }
 }
 
-// What a source holds, if that is no more than the limit.
-fn read_all<S: Source>(source: &mut S, alloc: Global, limit: usize) -> Result<Vec<u8>, ShelfRefused>
+/// What a source holds, to its end. `TooLong` comes exactly where that is more octets than the limit.
+pub fn read_all<S: Source>(
+    alloc: Global,
+    source: &mut S,
+    limit: usize,
+) -> Result<Vec<u8>, ShelfRefused>
     ensures content { IfOk result (λ all. HasExactly (S.left source.old) all.items) }
     ensures short { IfOk result (λ all. length all.items ≤ limit) }
     ensures long { IsErrOf result ShelfRefused.TooLong → HasMore (S.left source.old) limit }

@@ -17,7 +17,7 @@ mod stream;
 mod tests;
 
 pub use child::{ChildLink, ChildStarter, ChildYard};
-pub use file::FileShelf;
+pub use file::{FileShelf, read_all};
 pub use gate::{Gate, OpenGate, Point};
 pub use link::Link;
 pub use memory::{MemoryLink, MemoryShelf, MemorySink, MemorySource, MemoryStarter, MemoryYard};

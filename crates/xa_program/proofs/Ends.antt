@@ -18,7 +18,7 @@ use Rattle.xa_events.specs.Order.{TakesInOrder}
 use Rattle.xa_events.specs.Cases.{Case}
 use Rattle.xa_events.specs.Run.{Run, IsFinal}
 use Rattle.xa_program.specs.PlaySetup.{play_setup}
-use Rattle.xa_program.specs.Progress.{at, request, advertise, start, stop, IsQuiet, IsFresh, KnowsAnswers}
+use Rattle.xa_program.specs.Progress.{at, request, advertise, start, stop, closed, IsLeft, IsQuiet, IsFresh, KnowsAnswers}
 use Rattle.xa_program.proofs.Told.{Keeps}
 
 abbrev pub begun : List ℕ → List Event
@@ -62,19 +62,6 @@ knows_begun service m a newest = cc newest
 
 pub order_begun : (service : List ℕ) → TakesInOrder (play_setup service) (begun service)
 order_begun service = (tt, (tt, tt))
-
-abbrev pub closed : List Event → List Event
-closed past = Stop stop ∷ Close (record { 0 = 1 }) ∷ past
-
--- all clients have left; the server is idle, and nothing waits
-pub record IsLeft (service : List ℕ) (clients : ℕ) (past : List Event) : Type 0 where
-  pub board : length (changes past) ≡ 1
-  pub server : doing 1 past ≡ Idle (record { 0 = 1 })
-  pub waits : waiting (play_setup service) 1 past ≡ []
-  pub still : is_closed 1 past ≡ false
-  pub open_server : opened (clients + 1) past ≡ []
-  pub matched : (r : RequestId) → count (is_end_of r) past ≡ count (is_accept_of r) past
-  pub left : all_left clients past ≡ true
 
 pub left_none : (service : List ℕ) (n : ℕ) (past : List Event) → IsQuiet service 0 n past → IsLeft service 0 past
 left_none service n past q = record {

@@ -5,4 +5,13 @@ pub mod Served
 pub mod Ends
 pub mod Pipes
 pub mod Playing
+pub mod Over
 pub mod ScriptText
+pub mod ScriptRead
+pub mod ScriptWords
+pub mod ScriptGrammar
+pub mod ScriptCut
+pub mod ChildFrames
+pub mod ServingSteps
+pub mod ChildTurned
+pub mod LocalSteps

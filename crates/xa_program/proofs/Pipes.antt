@@ -13,10 +13,9 @@ use Rattle.xa_events.specs.Words.{count}
 use Rattle.xa_frame.specs.declared.frame.Frame.{Frame}
 use Rattle.xa_frame.specs.declared.frame.Body.TheVariants.{Invoke, Return, Shutdown}
 use Rattle.xa_program.specs.Pipes.{invocation, is_take_in, frames_out, frames_in, next_frame, invoke_frame, return_frame, shutdown_frame, lives_of}
-use Rattle.xa_program.specs.Progress.{accept, take_of, end_with, request, invocations}
+use Rattle.xa_program.specs.Progress.{accept, take_of, end_with, request, closed, invocations}
 use Rattle.xa_program.proofs.Play.{same_request-self}
 use Rattle.xa_program.proofs.Served.{served}
-use Rattle.xa_program.proofs.Ends.{closed}
 
 module _ (service : List ℕ) (n : ℕ) (payload : Data) (past : List Event) (many : invocations past ≡ n) (small : n + 1 < 2 ^ 32) where
   number_now : invocation 1 1 (Take (take_of (n + 1)) ∷ Accept (accept service (n + 1) payload) ∷ past) ≡ n + 1

@@ -111,6 +111,7 @@ playing_more service name n ops ask code back history lines before after old bui
       read = subst (λ frames. HasRead after frames) (sym (in_served service n ask.payload past old.invoked small (83 ∷ []) code back told)) (gave (frames_in (83 ∷ []) 1 1 past) old.read);
       invoked = many_served service n ask.payload past old.invoked small outcome told;
       lives = lives_served service (n + 1) ask.payload outcome told past ∙ old.lives;
+      failed = old.failed;
     })
 
 -- what the steps of the call with that number did
@@ -127,11 +128,11 @@ playing_carried : (service name : List ℕ) (n : ℕ) (ops : List Op) (ask : Ask
     → IsPlaying service name 1 (n + 1) (ops ++ Call ask ∷ []) ended printed after
 playing_carried service name n ops ask code back history taken ended lines printed before after built sound old step =
     let whole : ended ≡ history ++ in_order service (n + 1) ask.payload code back =
-      (step.ended_so ∙ ap (λ (front : List Event). front ++ End (end_with (n + 1) (Returned code back)) ∷ Answers (answer_of (n + 1) (Success code back)) ∷ []) step.taken_so)
-      ∙ append_assoc history (Accept (accept service (n + 1) ask.payload) ∷ Take (take_of (n + 1)) ∷ []) (End (end_with (n + 1) (Returned code back)) ∷ Answers (answer_of (n + 1) (Success code back)) ∷ []) in
+    (step.ended_so ∙ ap (λ (front : List Event). front ++ End (end_with (n + 1) (Returned code back)) ∷ Answers (answer_of (n + 1) (Success code back)) ∷ []) step.taken_so)
+    ∙ append_assoc history (Accept (accept service (n + 1) ask.payload) ∷ Take (take_of (n + 1)) ∷ []) (End (end_with (n + 1) (Returned code back)) ∷ Answers (answer_of (n + 1) (Success code back)) ∷ []) in
     subst (λ (es : List Event). IsPlaying service name 1 (n + 1) (ops ++ Call ask ∷ []) es printed after) (sym whole)
-      (subst (λ (text : List ℕ). IsPlaying service name 1 (n + 1) (ops ++ Call ask ∷ []) (history ++ in_order service (n + 1) ask.payload code back) text after) (sym step.printed_so)
-        (playing_more service name n ops ask code back history lines before after old built sound step.small step.took step.gave))
+    (subst (λ (text : List ℕ). IsPlaying service name 1 (n + 1) (ops ++ Call ask ∷ []) (history ++ in_order service (n + 1) ask.payload code back) text after) (sym step.printed_so)
+    (playing_more service name n ops ask code back history lines before after old built sound step.small step.took step.gave))
 
 -- one call, by its number
 pub playing_call : (service name : List ℕ) (number n : ℕ) (ops : List Op) (ask : Ask) (code : ℤ) (back : Data) (history taken ended : List Event) (lines printed : List ℕ) (before after : Piped)
@@ -139,4 +140,4 @@ pub playing_call : (service name : List ℕ) (number n : ℕ) (ops : List Op) (a
     → IsPlaying service name 1 (n + 1) (ops ++ Call ask ∷ []) ended printed after
 playing_call service name number n ops ask code back history taken ended lines printed before after is built sound old step =
     playing_carried service name n ops ask code back history taken ended lines printed before after built sound old
-      (subst (λ (k : ℕ). IsCarried service name k ask code back history taken ended lines printed before after) is step)
+    (subst (λ (k : ℕ). IsCarried service name k ask code back history taken ended lines printed before after) is step)

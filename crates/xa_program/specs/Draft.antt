@@ -1,11 +1,14 @@
 -- How the lines of a script are read one after another: what the functions of the code compute.
-use Rattle.std.specs.Prelude.{ℕ, ◌≡◌, Bool, true, false, List, [], ◌∷◌, ◌++◌, Option, Some, None, option_and_then}
+use Rattle.std.specs.Prelude.{ℕ, ◌≡◌, ◌==◌, Bool, true, false, List, [], ◌∷◌, ◌++◌, Option, Some, None, option_and_then}
 use Rattle.xa_types.specs.declared.call.Op.{Op}
 use Rattle.xa_program.specs.declared.script.Client.{Client}
 use Rattle.xa_program.specs.declared.script_line.Line.{Line}
 use Rattle.xa_program.specs.declared.script_line.Line.TheVariants.{Skipped, Client as ClientLine, Call as CallLine}
 use Rattle.xa_program.specs.Script.{client_with}
 use Rattle.xa_program.specs.ScriptLine.{line_of}
+
+abbrev pub is_line_end : ℕ → Bool
+is_line_end octet = octet == 10
 
 -- the clients that are read so far
 abbrev pub drafted : Option (List ℕ) → List Op → List Client

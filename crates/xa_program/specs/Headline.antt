@@ -5,7 +5,7 @@ use Rattle.xa_types.specs.declared.setup.ServerSetup.{ServerSetup}
 use Rattle.xa_types.specs.Setup.{numbered}
 use Rattle.xa_link.specs.Told.{Rose, Grew, GrewByPrefix}
 use Rattle.xa_events.specs.declared.event.Event.{Event}
-use Rattle.xa_events.specs.State.{State, opening}
+use Rattle.xa_events.specs.State.{opening}
 use Rattle.xa_events.specs.Run.{Run, IsFinal}
 use Rattle.xa_events.specs.Order.{TakesInOrder}
 use Rattle.xa_events.specs.Laws.{LawOfEnds, LawOfAnswers, LawOfVersions}
@@ -26,20 +26,20 @@ abbrev pub EachMadeCalls : Setup → ℕ → List Client → List Event → Type
 EachMadeCalls setup number [] past = ⊤
 EachMadeCalls setup number (client ∷ clients) past = MadeCalls setup number client.ops past × EachMadeCalls setup (number + 1) clients past
 
--- after these events, of which the oldest is first
-abbrev pub after : Setup → ℕ → List Event → State
-after setup clients history = record { setup = setup; clients = clients; past = reverse history }
-
 -- the events are one history of the machine, from its opening to its end: each request is taken at most once and ended at most once,
--- each is answered at most once and as it ended, each queue was taken in order, and each client made exactly its calls
-pub record IsHistory (setup : Setup) (clients : List Client) (history : List Event) : Type 0 where
-  pub run : Run (opening setup (length clients)) history (after setup (length clients) history)
-  pub final : IsFinal (after setup (length clients) history)
-  pub ordered : TakesInOrder setup (reverse history)
-  pub once : LawOfEnds (reverse history)
-  pub answered : LawOfAnswers (reverse history)
-  pub forward : LawOfVersions (reverse history)
-  pub calls : EachMadeCalls setup 1 clients (reverse history)
+-- each is answered at most once and as it ended, each queue was taken in order, and each client made exactly its calls.
+-- past is the same events, the newest first
+pub record IsHistoryAt (setup : Setup) (clients : List Client) (history past : List Event) : Type 0 where
+  pub run : Run (opening setup (length clients)) history (record { setup = setup; clients = length clients; past = past })
+  pub final : IsFinal (record { setup = setup; clients = length clients; past = past })
+  pub ordered : TakesInOrder setup past
+  pub once : LawOfEnds past
+  pub answered : LawOfAnswers past
+  pub forward : LawOfVersions past
+  pub calls : EachMadeCalls setup 1 clients past
+
+abbrev pub IsHistory : Setup → List Client → List Event → Type 0
+IsHistory setup clients history = IsHistoryAt setup clients history (reverse history)
 
 abbrev pub name_in : Option ServerSetup → List ℕ
 name_in None = []

@@ -1,6 +1,6 @@
 -- What is known between two calls of `play`: events with their numbers filled in, and what is read off the events so far.
 -- Contracts inside this crate rest on this file, and no public one.
-use Rattle.std.specs.Prelude.{◌≡◌, ℕ, ◌+◌, ◌<◌, ◌≤◌, true, false, List, [], ◌∷◌, length, reverse, Option, Some, None}
+use Rattle.std.specs.Prelude.{◌≡◌, ℕ, ◌+◌, ◌<◌, ◌≤◌, ◌^◌, ⊤, All, true, false, List, [], ◌∷◌, length, reverse, Option, Some, None}
 use Rattle.xa_types.specs.declared.data.Data.{Data}
 use Rattle.xa_types.specs.declared.ids.RequestId.{RequestId}
 use Rattle.xa_types.specs.declared.call.Op.{Op}
@@ -11,7 +11,7 @@ use Rattle.xa_types.specs.declared.reply.Answer.{Answer}
 use Rattle.xa_types.specs.Kind.{is_sound}
 use Rattle.xa_types.specs.Rows.{Put}
 use Rattle.xa_events.specs.declared.event.Event.{Event}
-use Rattle.xa_events.specs.declared.event.Event.TheVariants.{Answer as Answers}
+use Rattle.xa_events.specs.declared.event.Event.TheVariants.{Answer as Answers, Close, Stop}
 use Rattle.xa_events.specs.declared.event.Accepted.{Accepted}
 use Rattle.xa_events.specs.declared.event.Advertised.{Advertised}
 use Rattle.xa_events.specs.declared.event.Started.{Started}
@@ -27,15 +27,17 @@ use Rattle.xa_events.specs.State.{State, opening}
 use Rattle.xa_events.specs.Board.{changes}
 use Rattle.xa_events.specs.Queue.{waiting, takes, is_down, is_closed}
 use Rattle.xa_events.specs.Server.{doing}
-use Rattle.xa_events.specs.Caller.{last_op, accepted, opened, floor, has_left}
+use Rattle.xa_events.specs.Caller.{last_op, accepted, opened, floor, has_left, all_left}
 use Rattle.xa_events.specs.Request.{ended, is_accept_of, is_end_of}
 use Rattle.xa_events.specs.Calls.{is_op, events_of_op, EachBecame, is_invalid_call}
 use Rattle.xa_events.specs.Order.{TakesInOrder}
 use Rattle.xa_events.specs.Run.{Run}
+use Rattle.xa_program.specs.declared.script.Client.{Client}
+use Rattle.xa_program.specs.Headline.{IsHistory, EachMadeCalls, names_of}
 use Rattle.xa_program.specs.Pipe.{Piped, Wrote, HasRead}
-use Rattle.xa_program.specs.Pipes.{is_take_in, frames_out, frames_in, lives_of}
+use Rattle.xa_program.specs.Pipes.{is_take_in, frames_out, frames_in, lives_of, failed_starts, IsLife}
 use Rattle.xa_program.specs.PlaySetup.{play_setup}
-use Rattle.xa_program.specs.Spoken.{lines_up_to}
+use Rattle.xa_program.specs.Spoken.{lines_up_to, spoken}
 
 -- the request of the n-th call of the one client
 abbrev pub request : ℕ → RequestId
@@ -110,6 +112,7 @@ pub record IsPlayingAt (service name : List ℕ) (clients n : ℕ) (ops : List O
   pub read : HasRead pipe (frames_in (83 ∷ []) 1 1 past)
   pub invoked : invocations past ≡ n
   pub lives : lives_of past ≡ (1, 1) ∷ []
+  pub failed : failed_starts 1 past ≡ 0
 
 abbrev pub IsPlaying : List ℕ → List ℕ → ℕ → ℕ → List Op → List Event → List ℕ → Piped → Type 0
 IsPlaying service name clients n ops history lines pipe = IsPlayingAt service name clients n ops history (reverse history) lines pipe
@@ -135,3 +138,51 @@ start = record { server = record { 0 = 1 }; generation = record { 0 = 1 }; tick 
 
 abbrev pub stop : Stopped
 stop = record { server = record { 0 = 1 }; generation = record { 0 = 1 }; cause = Shutdown }
+
+-- the clients of a script whose calls may all be served: none, or one
+abbrev pub IsBuiltScript : List ℕ → List Client → Type 0
+IsBuiltScript service [] = ⊤
+IsBuiltScript service (client ∷ []) = All (IsBuiltOp service) client.ops × (length client.ops < 2 ^ 32)
+IsBuiltScript service clients = ⊥
+
+abbrev pub closed : List Event → List Event
+closed past = Stop stop ∷ Close (record { 0 = 1 }) ∷ past
+
+-- all clients have left; the server is idle, and nothing waits
+pub record IsLeft (service : List ℕ) (clients : ℕ) (past : List Event) : Type 0 where
+  pub board : length (changes past) ≡ 1
+  pub server : doing 1 past ≡ Idle (record { 0 = 1 })
+  pub waits : waiting (play_setup service) 1 past ≡ []
+  pub still : is_closed 1 past ≡ false
+  pub open_server : opened (clients + 1) past ≡ []
+  pub matched : (r : RequestId) → count (is_end_of r) past ≡ count (is_accept_of r) past
+  pub left : all_left clients past ≡ true
+
+-- all clients have left, and nothing is under way; past is the history, the newest event first
+pub record IsLeavingAt (service : List ℕ) (clients : List Client) (history past : List Event) (lines : List ℕ) (pipe : Piped) : Type 0 where
+  pub run : Run (opening (play_setup service) (length clients)) history (at service (length clients) past)
+  pub left : IsLeft service (length clients) past
+  pub order : TakesInOrder (play_setup service) past
+  pub calls : EachMadeCalls (play_setup service) 1 clients (closed past)
+  pub said : lines ≡ spoken (names_of clients) (closed past)
+  pub wrote : Wrote pipe (frames_out 1 1 past)
+  pub read : HasRead pipe (frames_in (83 ∷ []) 1 1 past)
+  pub lives : lives_of past ≡ (1, 1) ∷ []
+  pub failed : failed_starts 1 past ≡ 0
+
+abbrev pub IsLeaving : List ℕ → List Client → List Event → List ℕ → Piped → Type 0
+IsLeaving service clients history lines pipe = IsLeavingAt service clients history (reverse history) lines pipe
+
+-- the script has that client alone, whose calls may all be served
+pub record IsOnly (service : List ℕ) (client : Client) (clients : List Client) : Type 0 where
+  pub alone : clients ≡ client ∷ []
+  pub built : All (IsBuiltOp service) client.ops
+  pub few : length client.ops < 2 ^ 32
+
+-- the run has come to its end, and all but the printing is done
+pub record IsOver (service : List ℕ) (clients : List Client) (history : List Event) (lines : List ℕ) (pipe : Piped) : Type 0 where
+  pub machine : IsHistory (play_setup service) clients history
+  pub said : lines ≡ spoken (names_of clients) (reverse history)
+  pub life : IsLife (83 ∷ []) 1 1 (reverse history) pipe.took pipe.gave
+  pub lives : lives_of (reverse history) ≡ (1, 1) ∷ []
+  pub failed : failed_starts 1 (reverse history) ≡ 0

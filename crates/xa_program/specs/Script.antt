@@ -102,3 +102,15 @@ pub record IsFirstFault (service octets : List ℕ) (line : ℕ) : Type 0 where
 abbrev pub Tells : List ℕ → List ℕ → ScriptRefused → Type 0
 Tells service octets (BadLine line cause) = (cause ≡ 9) × IsFirstFault service octets line
 Tells service octets NoMemory = ⊤
+
+-- the octets are one script at most
+abbrev pub OneScript : Type 0
+OneScript = (service octets : List ℕ) (a b : Script) → IsName service → IsScript service octets a → IsScript service octets b → a ≡ b
+
+-- octets with a faulty line are no script
+abbrev pub NoFaultyScript : Type 0
+NoFaultyScript = (service octets : List ℕ) (line : ℕ) (script : Script) → IsName service → IsFirstFault service octets line → IsScript service octets script → ⊥
+
+-- one line at most is the first fault
+abbrev pub OneFirstFault : Type 0
+OneFirstFault = (service octets : List ℕ) (line other : ℕ) → IsName service → IsFirstFault service octets line → IsFirstFault service octets other → line ≡ other

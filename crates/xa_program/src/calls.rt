@@ -19,13 +19,13 @@ use xa_types::{
     Answer, Ask, CallerId, Data, Generation, Mode, Name, Op, QueueId, Reply, RequestId, ServerId,
 };
 
-const CLIENT: CallerId = CallerId(1);
+pub const CLIENT: CallerId = CallerId(1);
 
-const SERVER: ServerId = ServerId(1);
+pub const SERVER: ServerId = ServerId(1);
 
-const QUEUE: QueueId = QueueId(1);
+pub const QUEUE: QueueId = QueueId(1);
 
-const LIFE: Generation = Generation(1);
+pub const LIFE: Generation = Generation(1);
 
 // Notes that the queue accepts the request of a call, and that the server takes it.
 fn note_taken(

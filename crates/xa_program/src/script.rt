@@ -1,6 +1,9 @@
-ghost use Rattle.std.specs.Prelude.{◌≡◌, ◌∷◌, [], ◌<◌, ◌^◌, length, IfOk, IfErr, MatchOption};
+ghost use Rattle.std.specs.Prelude.{◌≡◌, ◌∷◌, [], ◌<◌, ◌^◌, length, IfOk, IfErr, IfSome, MatchOption, Some};
+ghost use Rattle.std.specs.List.{position};
 ghost use Rattle.std.specs.Str.Lines.{lines, strip_carriage_return};
-ghost use Rattle.xa_program.specs.Script.{IsScript, Tells};
+ghost use Rattle.xa_types.specs.Name.{IsName};
+ghost use Rattle.xa_program.specs.Draft.{is_line_end};
+ghost use Rattle.xa_program.specs.Script.{IsScript, Tells, OneScript, NoFaultyScript, OneFirstFault};
 ghost use Rattle.xa_program.specs.ScriptLine.{line_of};
 ghost use Rattle.xa_program.specs.Draft.{kept, begun, added, with_line, read_all};
 
@@ -100,7 +103,7 @@ impl Draft {
     }
 
     // Whether the line goes on with the script.
-    fn take_line(&mut self, alloc: Global, line: &[u8], service: &Name) -> Result<bool, NoMemory>
+    fn take_line(&mut self, alloc: Global, line: &[u8], service: &[u8]) -> Result<bool, NoMemory>
         ensures { IfOk result (λ taken. kept taken self.new ≡ with_line self.old (line_of service.now line.now)) }
     {
         match read_line(alloc, line, service)? {
@@ -130,5 +133,156 @@ fn without_return(line: &[u8]) -> &[u8]
     match line {
         [front @ .., b'\r'] => front,
         _ => line,
+    }
+}
+
+fn line_len(octets: &[u8]) -> Option<usize>
+    ensures { result ≡ position is_line_end octets.now }
+{
+    octets.iter().position(|octet| *octet == b'\n')
+}
+
+// The first line, and what stands behind it.
+fn next_line(octets: &[u8]) -> Option<(&[u8], &[u8])>
+    ensures line { MatchOption result (lines octets.now ≡ []) (λ x. lines octets.now ≡ x.0.now ∷ lines x.1.now) }
+    ensures shorter { IfSome result (λ x. length x.1.now < length octets.now) }
+{
+    if octets.is_empty() {
+        return None;
+    }
+    match line_len(octets) {
+        Some(end) => Some((without_return(&octets[..end]), &octets[end + 1..])),
+        None => Some((octets, &octets[octets.len()..])),
+    }
+}
+
+fn read_lines(alloc: Global, octets: &[u8], service: &[u8]) -> Result<Draft, ScriptRefused>
+    requires short { length octets.now < 2 ^ 32 }
+    requires named { IsName service.now }
+    ensures found { IfOk result (λ draft. read_all service.now [] (lines octets.now) ≡ Some draft) }
+    ensures refused { IfErr result (Tells service.now octets.now) }
+{
+    let mut draft = Draft::new(alloc);
+    let mut rest = octets;
+    let mut line = 0;
+    while let Some((text, behind)) = next_line(rest) {
+        line += 1;
+        if !draft.take_line(alloc, text, service)? {
+            return Err(ScriptRefused::BadLine { line, cause: 9 });
+        }
+        rest = behind;
+    }
+    Ok(draft)
+}
+
+/// Reads a script whose calls go to that service. Each call becomes a tpcall without flags.
+///
+/// A refusal is for want of memory, or names with cause 9 the first line that breaks the form.
+pub fn read_script(alloc: Global, octets: &[u8], service: &Name) -> Result<Script, ScriptRefused>
+    requires { length octets.now < 2 ^ 32 }
+    ensures found { IfOk result (λ script. IsScript service.now octets.now script) }
+    ensures refused { IfErr result (Tells service.now octets.now) }
+{
+    let draft = read_lines(alloc, octets, service.octets())?;
+    Ok(draft.finish(alloc)?)
+}
+
+/// What `read_script` answers is determined: the octets are one script at most, and none where a line breaks the
+/// form; and one line at most is the first that does.
+pub fn one_reading()
+    ensures script { OneScript }
+    ensures fault { NoFaultyScript }
+    ensures line { OneFirstFault }
+{}
+
+#[cfg(test)]
+mod tests {
+    use super::{Script, ScriptRefused, read_script};
+    use std::test::Fail;
+    use xa_types::{Ask, Data, Name, Op};
+
+    fn calls(script: &Script) -> &[Op] {
+        match script.clients.slice() {
+            [client] => client.ops.slice(),
+            _ => &[],
+        }
+    }
+
+    fn last_text(script: &Script) -> &[u8] {
+        match calls(script) {
+            [
+                ..,
+                Op::Call(
+                    Ask {
+                        payload: Data::Octet(octets),
+                        ..
+                    },
+                ),
+            ] => octets.slice(),
+            _ => b"",
+        }
+    }
+
+    #[test]
+    fn built_lines_are_read(rt: HostRuntime) -> Result<(), Fail> {
+        let service = Name::read(b"TEST1")?;
+        let cases: [(&[u8], usize, &[u8]); 7] = [
+            (b"", 0, b""),
+            (b"\r\n\n", 0, b""),
+            (b"client a", 0, b""),
+            (b"client a\r\ncall TEST1 none\r\n", 1, b""),
+            (
+                b"# c\n\n   \n  client  a \n#x\n call  TEST1   text  \"hello\"  ",
+                1,
+                b"hello",
+            ),
+            (
+                b"client a\ncall TEST1 none\ncall TEST1 text \"a\\\"b\\\\c # d\"\n",
+                2,
+                b"a\"b\\c # d",
+            ),
+            (b"client a\ncall TEST1 text \"\"", 1, b""),
+        ];
+        for (octets, count, text) in cases {
+            assert!(rt; octets.len() < 1000);
+            let script = read_script(rt.alloc(), octets, &service)?;
+            assert_eq!(rt; calls(&script).len(), count);
+            assert_eq!(rt; last_text(&script), text);
+        }
+        Ok(())
+    }
+
+    #[test]
+    fn the_first_faulty_line_is_told(rt: HostRuntime) -> Result<(), Fail> {
+        let service = Name::read(b"TEST1")?;
+        let cases: [(&[u8], u32); 18] = [
+            (b"client a\ntick 1\n", 2),
+            (b"\n# c\n\nclient a\n\ncall TEST1 none\ncall TEST1\nx", 7),
+            (b"call TEST1 none\n", 1),
+            (b"client a\nclient b\n", 2),
+            (b"client a\ncall TEST2 none\n", 2),
+            (b"client a\ncall TEST1 text \"hello\n", 2),
+            (b"client a\ncall TEST1 text \"hello\"x\n", 2),
+            (b"client a\ncall TEST1 text \"hello\" x\n", 2),
+            (b"client a\ncall TEST1 text \"a\\n\"\n", 2),
+            (b"client a\ncall TEST1 text hello\n", 2),
+            (b"client a\ncall TEST1 none none\n", 2),
+            (b"client a\ncall TEST1 text \"\x80\"\n", 2),
+            (b"client a\n# \x80\n", 2),
+            (b"client\ta\n", 1),
+            (b"client .a\n", 1),
+            (b"client a b\n", 1),
+            (b"clienta\n", 1),
+            (b"client a\r", 1),
+        ];
+        for (octets, line) in cases {
+            assert!(rt; octets.len() < 1000);
+            let read = read_script(rt.alloc(), octets, &service);
+            assert!(rt;
+                matches!(&read, Err(ScriptRefused::BadLine { line: l, cause: 9 }) if *l == line),
+                "at line {line}"
+            );
+        }
+        Ok(())
     }
 }

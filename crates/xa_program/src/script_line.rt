@@ -125,11 +125,11 @@ fn payload_in(alloc: Global, octets: &[u8]) -> Result<Option<Data>, NoMemory>
 }
 
 #[tactic(auto, unfolding(crate::specs::ScriptLine::call_in))]
-fn call_in(alloc: Global, octets: &[u8], service: &Name) -> Result<Option<Op>, NoMemory>
+fn call_in(alloc: Global, octets: &[u8], service: &[u8]) -> Result<Option<Op>, NoMemory>
     ensures { IfOk result (λ found. found ≡ call_in service.now octets.now) }
 {
     let (word, rest) = next_word(octets);
-    if word != service.octets() {
+    if word != service {
         return Ok(None);
     }
     let Some(payload) = payload_in(alloc, rest)? else {
@@ -157,7 +157,7 @@ fn client_in(octets: &[u8]) -> Option<Name>
 
 /// What a line says under `play` with that service; nothing where it is no line of a script.
 #[tactic(auto, unfolding(crate::specs::ScriptLine::line_of))]
-pub fn read_line(alloc: Global, line: &[u8], service: &Name) -> Result<Option<Line>, NoMemory>
+pub fn read_line(alloc: Global, line: &[u8], service: &[u8]) -> Result<Option<Line>, NoMemory>
     ensures { IfOk result (λ read. read ≡ line_of service.now line.now) }
 {
     if !all_printed(line) {

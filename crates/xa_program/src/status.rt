@@ -1,3 +1,6 @@
+ghost use Rattle.std.specs.Prelude.{◌≡◌};
+ghost use Rattle.xa_program.specs.declared.status.Status.TheVariants as statuses;
+
 use xa_types::NoMemory;
 
 /// Which input was too long.
@@ -31,6 +34,8 @@ pub enum Status {
 }
 
 impl From<NoMemory> for Status {
+    ghost from_gives = { λ _ e. e ≡ statuses.NoMemory };
+
     fn from(_: NoMemory) -> Self {
         Status::NoMemory
     }

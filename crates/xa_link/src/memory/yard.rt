@@ -1,5 +1,5 @@
 // A yard in memory.
-ghost use Rattle.std.specs.Prelude.{◌≡◌};
+ghost use Rattle.std.specs.Prelude.{◌≡◌, map};
 ghost use Rattle.xa_link.specs.Lives.{life_of};
 
 use super::MemoryLink;
@@ -53,9 +53,13 @@ pub struct MemoryYard {
 }
 
 impl MemoryYard {
+    ghost use Rattle.xa_link.specs.Memory.{yard_lives};
+
     /// The lives stand by server, in the order of the setup, and then by generation. A start fails where a `None`
     /// stands for it, where it is beyond the last one, and where it is asked for again.
-    pub fn new(alloc: Global, lives: Vec<Vec<Option<MemoryLink>>>) -> MemoryYard {
+    pub fn new(alloc: Global, lives: Vec<Vec<Option<MemoryLink>>>) -> MemoryYard
+        ensures { yard_lives result ≡ map (λ server. server.items) lives.items }
+    {
         MemoryYard { alloc, lives }
     }
 }

@@ -12,11 +12,11 @@ pub loop-op-preserved : goal.loop-op-preserved
 loop-op-preserved g c = record {
   counted = omega arith;
   played = λ begun.
-    let place = c.loop-op.op-index in
-    let ops = c.args.ops.now in
-    let op : ops_at ops place c.op-item.result = c.op-item.is in
-    let more : take (place + 1) ops ≡ take place ops ++ Call c.ask_of-ask.result.now ∷ [] =
+      let place = c.loop-op.op-index in
+      let ops = c.args.ops.now in
+      let op : ops_at ops place c.op-item.result = c.op-item.is in
+      let more : take (place + 1) ops ≡ take place ops ++ Call c.ask_of-ask.result.now ∷ [] =
       take_more ops place c.op-item.result (omega arith) ∙ ap (λ (x : Op). take place ops ++ x ∷ []) (sym op ∙ c.ask_of-ask.ensures.ask) in
-    subst (λ (made : List Op). IsPlaying c.args.service.now c.args.name.now 1 (place + 1) made c.call.new.account.history.items c.call.new.account.lines.items c.call.new.pipe) (sym more)
+      subst (λ (made : List Op). IsPlaying c.args.service.now c.args.name.now 1 (place + 1) made c.call.new.account.history.items c.call.new.account.lines.items c.call.new.pipe) (sym more)
       (c.in_ok-call.ensures place (take place ops) (omega arith) (c.loop-op.invariant.played begun));
 }

@@ -1,0 +1,170 @@
+-- From the boot to the first call, and from the last call to the end.
+use Rattle.std.proofs.Common.{◌≡◌, ℕ, ◌+◌, true, List, [], ◌∷◌, ◌++◌, length, reverse, Option, Some, None, refl, sym, ◌∙◌, ap, subst, append-nil, append_assoc, arith}
+use Rattle.std.specs.Prelude.{IfSome, MatchOption}
+use Rattle.std.specs.Option.{option_copied}
+use Rattle.std.specs.List.{slice_get}
+use Rattle.std.specs.Borrow.{Bor}
+use Rattle.std.proofs.lemmas.List.{reverse-append}
+use Rattle.xa_link.specs.Told.{Grew}
+use Rattle.xa_types.specs.declared.call.Op.{Op}
+use Rattle.xa_events.specs.declared.event.Event.{Event}
+use Rattle.xa_events.specs.declared.event.Event.TheVariants.{Advertise, Start, Leave, Close, Stop}
+use Rattle.xa_events.specs.State.{State, opening, noted}
+use Rattle.xa_events.specs.Caller.{last_op}
+use Rattle.xa_events.specs.Calls.{MadeCalls, EachBecame}
+use Rattle.xa_events.specs.Order.{TakesInOrder}
+use Rattle.xa_events.specs.Run.{Run, IsFinal}
+use Rattle.xa_events.proofs.Stages.{agree_none, ends_along}
+use Rattle.xa_events.proofs.AnswersOnce.{unanswered_none, answers_along}
+use Rattle.xa_events.proofs.Versions.{none_read, versions_along}
+use Rattle.xa_frame.specs.declared.frame.Frame.{Frame}
+use Rattle.xa_frame.specs.Spelling.{spelled, all_spelled}
+use Rattle.xa_program.specs.declared.script.Client.{Client}
+use Rattle.xa_program.specs.Headline.{IsHistoryAt, EachMadeCalls, names_of}
+use Rattle.xa_program.specs.Pipe.{Piped, Wrote, HasRead}
+use Rattle.xa_program.specs.Pipes.{frames_out, frames_in, shutdown_frame, greeting, lives_of, failed_starts, IsLife}
+use Rattle.xa_program.specs.PlaySetup.{play_setup}
+use Rattle.xa_program.specs.Progress.{at, advertise, start, stop, closed, IsQuiet, IsLeft, IsPlaying, IsLeavingAt, IsLeaving, IsBuiltScript, IsOnly, IsOver}
+use Rattle.xa_program.specs.Spoken.{spoken, lines_up_to}
+use Rattle.xa_program.proofs.Frames.{read_same}
+use Rattle.xa_program.proofs.Told.{each_kept, lines_kept}
+use Rattle.xa_program.proofs.Ends.{begun, advertise_case, start_case, quiet_begun, fresh_begun, knows_begun, order_begun, left_none, left_one, leave_case, close_case, stop_case, final, keeps_leave, keeps_closed, last_op_leave, last_op_closed}
+use Rattle.xa_program.proofs.Pipes.{out_closed, in_closed, lives_closed}
+use Rattle.xa_program.proofs.Playing.{run_append, wrote_more}
+
+-- the server has started, and greeted
+pub playing_begun : (service name : List ℕ) (clients : ℕ) (pipe : Piped) → Wrote pipe [] → HasRead pipe (greeting (83 ∷ [])) → IsPlaying service name clients 0 [] (Advertise (advertise service) ∷ Start start ∷ []) [] pipe
+playing_begun service name clients pipe wrote read = record {
+  run = (advertise_case service clients, (start_case service clients, refl));
+  quiet = quiet_begun service clients;
+  fresh = fresh_begun service;
+  knows = knows_begun service;
+  order = order_begun service;
+  each = tt;
+  many = refl;
+  said = refl;
+  wrote = wrote;
+  read = read;
+  invoked = refl;
+  lives = refl;
+  failed = refl;
+}
+
+pub reverse_one : (history : List Event) (a : Event) → reverse (history ++ a ∷ []) ≡ a ∷ reverse history
+reverse_one history a = reverse-append history (a ∷ [])
+
+pub leaving_none : (service name : List ℕ) (history : List Event) (lines : List ℕ) (pipe : Piped) → IsPlaying service name 0 0 [] history lines pipe → IsLeaving service [] history lines pipe
+leaving_none service name history lines pipe old = record {
+  run = old.run;
+  left = left_none service 0 (reverse history) old.quiet;
+  order = old.order;
+  calls = tt;
+  said = old.said;
+  wrote = old.wrote;
+  read = old.read;
+  lives = old.lives;
+  failed = old.failed;
+}
+
+pub leaving_one : (service name : List ℕ) (n : ℕ) (ops : List Op) (history : List Event) (lines : List ℕ) (pipe : Piped) → IsPlaying service name 1 n ops history lines pipe
+    → IsLeaving service ((record { name = name; ops = ops }) ∷ []) (history ++ Leave (record { 0 = 1 }) ∷ []) lines pipe
+leaving_one service name n ops history lines pipe old =
+    let past = reverse history in
+    let gone = Leave (record { 0 = 1 }) ∷ past in
+    subst (λ (es : List Event). IsLeavingAt service ((record { name = name; ops = ops }) ∷ []) (history ++ Leave (record { 0 = 1 }) ∷ []) es lines pipe) (sym (reverse_one history (Leave (record { 0 = 1 })))) (record {
+      run = run_append history (Leave (record { 0 = 1 }) ∷ []) (opening (play_setup service) 1) (at service 1 past) (at service 1 gone) old.run (leave_case service n past old.quiet, refl);
+      left = left_one service n past old.quiet;
+      order = (tt, old.order);
+      calls = (
+        record {
+          all = last_op_closed gone ∙ (last_op_leave past ∙ (old.quiet.op ∙ sym old.many));
+          each = each_kept (play_setup service) n 1 ops gone (closed gone) (keeps_closed service n gone) (omega (arith, old.many))
+              (each_kept (play_setup service) n 1 ops past gone (keeps_leave service n past) (omega (arith, old.many)) old.each);
+        },
+        tt,
+      );
+      said = old.said ∙ (sym (lines_kept (play_setup service) name n past gone (keeps_leave service n past) old.knows n (omega arith))
+          ∙ (sym (lines_kept (play_setup service) name n gone (closed gone) (keeps_closed service n gone) old.knows n (omega arith))
+          ∙ (ap (λ k. lines_up_to name 1 (closed gone) k) (sym (last_op_closed gone ∙ (last_op_leave past ∙ old.quiet.op)))
+          ∙ sym (append-nil (lines_up_to name 1 (closed gone) (last_op 1 (closed gone)))))));
+      wrote = subst (λ frames. Wrote pipe frames) (sym (append-nil (frames_out 1 1 past))) old.wrote;
+      read = subst (λ frames. HasRead pipe frames) (sym (append-nil (frames_in (83 ∷ []) 1 1 past))) old.read;
+      lives = append-nil (lives_of past) ∙ old.lives;
+      failed = old.failed;
+    })
+
+reverse_two : (history : List Event) (a b : Event) → reverse (history ++ a ∷ b ∷ []) ≡ b ∷ a ∷ reverse history
+reverse_two history a b = reverse-append history (a ∷ b ∷ [])
+
+gave_life : (gave : Option (List ℕ)) (rest : List ℕ) (frames : List Frame) → IfSome gave (λ octets. octets ≡ all_spelled frames ++ rest) → IfSome gave (λ octets. (more : List ℕ) × (octets ≡ all_spelled frames ++ more))
+gave_life None rest frames read = tt
+gave_life (Some octets) rest frames read = (rest, read)
+
+-- the queue is closed and the server is shut down
+pub over : (service : List ℕ) (clients : List Client) (history : List Event) (lines : List ℕ) (before now : Piped) → IsLeaving service clients history lines before
+    → Grew before.took now.took (spelled shutdown_frame) → now.gave ≡ before.gave → now.rest ≡ before.rest
+    → IsOver service clients (history ++ Close (record { 0 = 1 }) ∷ Stop stop ∷ []) lines now
+over service clients history lines before now old took gave rest =
+    let past = reverse history in
+    let ended = history ++ Close (record { 0 = 1 }) ∷ Stop stop ∷ [] in
+    let count = length clients in
+    let run : Run (opening (play_setup service) count) ended (at service count (closed past)) =
+    run_append history (Close (record { 0 = 1 }) ∷ Stop stop ∷ []) (opening (play_setup service) count) (at service count past) (at service count (closed past)) old.run
+    (close_case service count past old.left, (stop_case service count past old.left, refl)) in
+    let reversed : reverse ended ≡ closed past = reverse_two history (Close (record { 0 = 1 })) (Stop stop) in
+    record {
+      machine = subst (λ (es : List Event). IsHistoryAt (play_setup service) clients ended es) (sym reversed) (record {
+        run = run;
+        final = final service count past old.left;
+        ordered = (tt, (tt, old.order));
+        once = ends_along ended (opening (play_setup service) count) (at service count (closed past)) (agree_none (play_setup service)) tt run;
+        answered = answers_along ended (opening (play_setup service) count) (at service count (closed past)) (agree_none (play_setup service)) unanswered_none tt run;
+        forward = versions_along ended (opening (play_setup service) count) (at service count (closed past)) none_read tt run;
+        calls = old.calls;
+      });
+      said = subst (λ (es : List Event). lines ≡ spoken (names_of clients) es) (sym reversed) old.said;
+      life = subst (λ (es : List Event). IsLife (83 ∷ []) 1 1 es now.took now.gave) (sym reversed) (record {
+        took_frames = subst (λ frames. Wrote now frames) (sym (out_closed past)) (wrote_more before.took now.took (frames_out 1 1 past) shutdown_frame old.wrote took);
+        gave_frames = gave_life now.gave now.rest (frames_in (83 ∷ []) 1 1 (closed past)) (subst (λ frames. HasRead now frames) (sym (in_closed (83 ∷ []) past)) (read_same before.gave now.gave before.rest now.rest (frames_in (83 ∷ []) 1 1 past) gave rest old.read));
+      });
+      lives = subst (λ (es : List Event). lives_of es ≡ (1, 1) ∷ []) (sym reversed) (lives_closed past ∙ old.lives);
+      failed = subst (λ (es : List Event). failed_starts 1 es ≡ 0) (sym reversed) old.failed;
+    }
+
+-- where the first client isn't there, there is none, and else it is alone
+pub first_client : (service : List ℕ) (clients : List Client) (first : Option (Bor Client)) → IsBuiltScript service clients → option_copied first ≡ slice_get clients 0
+    → MatchOption first (clients ≡ []) (λ client. IsOnly service client.now clients)
+first_client service [] None built is = refl
+first_client service [] (Some client) built is = cc is
+first_client service (x ∷ rest) None built is = cc is
+first_client service (x ∷ []) (Some client) built is =
+    let same : Some client.now ≡ Some x = is in
+    let alike : client.now ≡ x = cc same in
+    subst (λ (y : Client). IsOnly service y (x ∷ [])) (sym alike) (record { alone = refl; built = built.0; few = built.1 })
+first_client service (x ∷ y ∷ rest) (Some client) built is = absurd built
+
+pub leaving_all : (service : List ℕ) (client : Client) (clients : List Client) (started made ended : List Event) (silent lines : List ℕ) (before pipe : Piped)
+    → clients ≡ client ∷ []
+    → (IsPlaying service client.name 1 0 [] started silent before → IsPlaying service client.name 1 (length client.ops) client.ops made lines pipe)
+    → ended ≡ made ++ Leave (record { 0 = 1 }) ∷ []
+    → ((name : List ℕ) (count : ℕ) → IsPlaying service name count 0 [] started silent before)
+    → IsLeaving service clients ended lines pipe
+leaving_all service client clients started made ended silent lines before pipe alone played is begun =
+    subst (λ (all : List Client). IsLeaving service all ended lines pipe) (sym alone)
+    (subst (λ (es : List Event). IsLeaving service (client ∷ []) es lines pipe) (sym is)
+    (leaving_one service client.name (length client.ops) client.ops made lines pipe (played (begun client.name 1))))
+
+-- the whole of a life
+pub over_all : (service : List ℕ) (clients : List Client) (started left ended : List Event) (silent lines : List ℕ) (start_pipe before now : Piped)
+    → started ≡ Advertise (advertise service) ∷ Start start ∷ [] → silent ≡ [] → Wrote start_pipe [] → HasRead start_pipe (greeting (83 ∷ []))
+    → (((name : List ℕ) (count : ℕ) → IsPlaying service name count 0 [] started silent start_pipe) → IsLeaving service clients left lines before)
+    → ended ≡ left ++ Close (record { 0 = 1 }) ∷ Stop stop ∷ []
+    → Grew before.took now.took (spelled shutdown_frame) → now.gave ≡ before.gave → now.rest ≡ before.rest
+    → IsOver service clients ended lines now
+over_all service clients started left ended silent lines start_pipe before now started_is silent_is wrote read leaving ended_is took gave rest =
+    subst (λ (es : List Event). IsOver service clients es lines now) (sym ended_is)
+    (over service clients left lines before now
+    (leaving (λ name count. subst (λ (es : List Event). IsPlaying service name count 0 [] es silent start_pipe) (sym started_is)
+    (subst (λ (text : List ℕ). IsPlaying service name count 0 [] (Advertise (advertise service) ∷ Start start ∷ []) text start_pipe) (sym silent_is)
+    (playing_begun service name count start_pipe wrote read))))
+    took gave rest)

@@ -1,0 +1,94 @@
+-- A server's program, the child: which frames it admits, and what it says to each of them.
+use Rattle.std.specs.Prelude.{ℕ, ◌+◌, ◌%◌, ◌^◌, ◌==◌, ◌&&◌, not, Bool, true, false, if◌then◌else◌, pos, List, [], ◌∷◌, ◌++◌, codes}
+use Rattle.std.specs.Str.{bytes_eq}
+use Rattle.xa_types.specs.declared.data.Data.{Data}
+use Rattle.xa_types.specs.declared.data.Data.TheVariants.{Absent}
+use Rattle.xa_types.specs.declared.call.Rval.TheVariants.{Success, Fail}
+use Rattle.xa_frame.specs.declared.frame.Frame.{Frame}
+use Rattle.xa_frame.specs.declared.frame.Body.{Body}
+use Rattle.xa_frame.specs.declared.frame.Body.TheVariants.{Ready, Next, Return, Invoke, Shutdown}
+
+-- how many INVOKEs it took, modulo 2 ^ 32, and whether it has ended
+pub record ChildState : Type 0 where
+  pub invocations : ℕ
+  pub ended : Bool
+
+-- the child as it begins
+abbrev pub begun : ChildState
+begun = record { invocations = 0; ended = false }
+
+-- the number of the next INVOKE
+abbrev pub following : ℕ → ℕ
+following invocations = (invocations + 1) % 2 ^ 32
+
+abbrev pub admits_body : ℕ → ℕ → Body → Bool
+admits_body invocations tag (Invoke service routine mode payload) = tag == following invocations
+admits_body invocations tag Shutdown = tag == 0
+admits_body invocations tag body = false
+
+-- until it has ended it admits an INVOKE with the next number as its tag, and a SHUTDOWN with the tag 0
+abbrev pub admits : ChildState → Frame → Bool
+admits s f = not s.ended && admits_body s.invocations f.tag f.body
+
+-- the two routines that it has
+abbrev pub is_echo : List ℕ → Bool
+is_echo routine = bytes_eq routine (codes "ECHO")
+
+abbrev pub is_die : List ℕ → Bool
+is_die routine = bytes_eq routine (codes "DIE")
+
+-- ECHO succeeds with the data of its request; a routine that it doesn't have fails with code 99
+abbrev pub returned : List ℕ → Data → Body
+returned routine payload = if is_echo routine then Return Success (pos 0) payload else Return Fail (pos 99) Absent
+
+-- it wants a frame
+abbrev pub next : Frame
+next = record { tag = 0; body = Next }
+
+-- to an INVOKE with that tag: the RETURN with it, and NEXT; DIE says nothing
+abbrev pub served : ℕ → List ℕ → Data → List Frame
+served tag routine payload = if is_die routine then [] else (record { tag = tag; body = returned routine payload }) ∷ next ∷ []
+
+abbrev pub answer_body : ℕ → Body → List Frame
+answer_body tag (Invoke service routine mode payload) = served tag routine payload
+answer_body tag body = []
+
+-- what it says to a frame that it admits
+abbrev pub answer : Frame → List Frame
+answer f = answer_body f.tag f.body
+
+abbrev pub after_body : ChildState → Body → ChildState
+after_body s (Invoke service routine mode payload) = record { invocations = following s.invocations; ended = is_die routine }
+after_body s Shutdown = record { invocations = s.invocations; ended = true }
+after_body s body = s
+
+-- the child after a frame that it admits: SHUTDOWN and DIE end it
+abbrev pub after : ChildState → Frame → ChildState
+after s f = after_body s f.body
+
+-- it admits each of these frames, one after another
+abbrev pub admits_all : ChildState → List Frame → Bool
+admits_all s [] = true
+admits_all s (f ∷ fs) = admits s f && admits_all (after s f) fs
+
+-- the child after these frames
+abbrev pub after_all : ChildState → List Frame → ChildState
+after_all s [] = s
+after_all s (f ∷ fs) = after_all (after s f) fs
+
+-- what it says to these frames, up to the first that it doesn't admit
+abbrev pub said : ChildState → List Frame → List Frame
+said s [] = []
+said s (f ∷ fs) = if admits s f then answer f ++ said (after s f) fs else []
+
+-- what it begins with: READY with its server's name, and NEXT
+abbrev pub greeting : List ℕ → List Frame
+greeting name = (record { tag = 0; body = Ready name }) ∷ next ∷ []
+
+-- all that the child of that server says where these frames come to it
+abbrev pub child_run : List ℕ → List Frame → List Frame
+child_run name frames = greeting name ++ said begun frames
+
+-- these frames end it
+abbrev pub ended_after : List Frame → Bool
+ended_after frames = (after_all begun frames).ended
