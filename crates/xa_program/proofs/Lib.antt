@@ -6,6 +6,7 @@ pub mod Ends
 pub mod Pipes
 pub mod Playing
 pub mod Over
+pub mod Lines
 pub mod ScriptText
 pub mod ScriptRead
 pub mod ScriptWords

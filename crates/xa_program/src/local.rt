@@ -108,7 +108,6 @@ fn raise(count: &mut u64)
 }
 
 impl LocalLink {
-
     /// The program of that server as it begins.
     fn start(alloc: Global, name: &Name) -> Result<LocalLink, NoMemory>
         ensures took { IfOk result (λ link. link.took ≡ []) }
@@ -227,11 +226,7 @@ pub struct LocalStarter {
 impl Starter<LocalLink> for LocalStarter {
     ghost start_faults = { λ _. 0 };
 
-    fn start(
-        &mut self,
-        server: &Name,
-        _generation: Generation,
-    ) -> Result<LocalLink, StartRefused> {
+    fn start(&mut self, server: &Name, _generation: Generation) -> Result<LocalLink, StartRefused> {
         LocalLink::start(self.alloc, server).map_err(|_| StartRefused::NoMemory)
     }
 }
