@@ -16,3 +16,4 @@ pub mod ChildFrames
 pub mod ServingSteps
 pub mod ChildTurned
 pub mod LocalSteps
+pub mod Built

@@ -1,11 +1,16 @@
 -- From the boot to the first call, and from the last call to the end.
-use Rattle.std.proofs.Common.{◌≡◌, ℕ, ◌+◌, true, List, [], ◌∷◌, ◌++◌, length, reverse, Option, Some, None, refl, sym, ◌∙◌, ap, subst, append-nil, append_assoc, arith}
-use Rattle.std.specs.Prelude.{IfSome, MatchOption}
+use Rattle.std.proofs.Common.{◌≡◌, ℕ, ◌+◌, true, List, [], ◌∷◌, ◌++◌, length, reverse, Option, Some, None, refl, sym, ◌∙◌, ap, subst, append-nil, append_assoc, arith, slice_index_or}
+use Rattle.std.specs.Prelude.{IfSome, MatchOption, MatchResult, OnOk, Result, Ok, Err, All}
+use Rattle.xa_program.specs.declared.halt.Halt.{Halt}
+use Rattle.xa_program.specs.declared.halt.Halt.TheVariants.{NoMemory as HaltNoMemory, Unbuilt as HaltUnbuilt}
+use Rattle.xa_program.specs.declared.outcome.Life.{Life}
+use Rattle.xa_program.specs.declared.status.Status.{Status}
+use Rattle.xa_program.specs.declared.status.Status.TheVariants.{Done, WriteFault}
 use Rattle.std.specs.Option.{option_copied}
 use Rattle.std.specs.List.{slice_get}
 use Rattle.std.specs.Borrow.{Bor}
 use Rattle.std.proofs.lemmas.List.{reverse-append}
-use Rattle.xa_link.specs.Told.{Grew}
+use Rattle.xa_link.specs.Told.{Grew, GrewByPrefix}
 use Rattle.xa_types.specs.declared.call.Op.{Op}
 use Rattle.xa_events.specs.declared.event.Event.{Event}
 use Rattle.xa_events.specs.declared.event.Event.TheVariants.{Advertise, Start, Leave, Close, Stop}
@@ -20,11 +25,12 @@ use Rattle.xa_events.proofs.Versions.{none_read, versions_along}
 use Rattle.xa_frame.specs.declared.frame.Frame.{Frame}
 use Rattle.xa_frame.specs.Spelling.{spelled, all_spelled}
 use Rattle.xa_program.specs.declared.script.Client.{Client}
-use Rattle.xa_program.specs.Headline.{IsHistoryAt, EachMadeCalls, names_of}
+use Rattle.xa_program.specs.Headline.{IsHistoryAt, EachMadeCalls, names_of, name_in}
+use Rattle.xa_types.specs.Setup.{numbered}
 use Rattle.xa_program.specs.Pipe.{Piped, Wrote, HasRead}
 use Rattle.xa_program.specs.Pipes.{frames_out, frames_in, shutdown_frame, greeting, lives_of, failed_starts, IsLife}
 use Rattle.xa_program.specs.PlaySetup.{play_setup}
-use Rattle.xa_program.specs.Progress.{at, advertise, start, stop, closed, IsQuiet, IsLeft, IsPlaying, IsLeavingAt, IsLeaving, IsBuiltScript, IsOnly, IsOver}
+use Rattle.xa_program.specs.Progress.{at, advertise, start, stop, closed, IsQuiet, IsLeft, IsPlaying, IsLeavingAt, IsLeaving, IsBuiltScript, IsOnly, IsOver, IsServed, ServingEnds, Printed, status_of}
 use Rattle.xa_program.specs.Spoken.{spoken, lines_up_to}
 use Rattle.xa_program.proofs.Frames.{read_same}
 use Rattle.xa_program.proofs.Told.{each_kept, lines_kept}
@@ -168,3 +174,40 @@ over_all service clients started left ended silent lines start_pipe before now s
     (subst (λ (text : List ℕ). IsPlaying service name count 0 [] (Advertise (advertise service) ∷ Start start ∷ []) text start_pipe) (sym silent_is)
     (playing_begun service name count start_pipe wrote read))))
     took gave rest)
+
+abbrev IsLifeOf : {L : Type 0} → (L → Option (List ℕ)) → (L → Option (List ℕ)) → List ℕ → List Event → Life L → Type 0
+IsLifeOf took gave service past life =
+    IsLife (name_in (numbered life.server.0 (play_setup service).servers)) life.server.0 life.generation.0 past (took life.link) (gave life.link)
+
+served_life : {L : Type 0} (took gave : L → Option (List ℕ)) (link : L) (service : List ℕ) (clients : List Client) (history : List Event) (lines : List ℕ) (pipe : Piped) (lives : List (Life L))
+    → lives ≡ (record { server = record { 0 = 1 }; generation = record { 0 = 1 }; link = link }) ∷ [] → took link ≡ pipe.took → gave link ≡ pipe.gave
+    → IsOver service clients history lines pipe → IsServed took gave service clients history lives
+served_life {L} took gave link service clients history lines pipe lives is took_is gave_is over =
+    let life : IsLife (83 ∷ []) 1 1 (reverse history) (took link) (gave link) =
+      subst (λ (t : Option (List ℕ)). IsLife (83 ∷ []) 1 1 (reverse history) t (gave link)) (sym took_is)
+        (subst (λ (t : Option (List ℕ)). IsLife (83 ∷ []) 1 1 (reverse history) pipe.took t) (sym gave_is) over.life) in
+    subst (λ (all : List (Life L)). IsServed took gave service clients history all) (sym is) (record {
+      machine = over.machine;
+      lives_are = sym over.lives;
+      pipes = λ k d low.
+        let first : 0 ≡ k = omega arith in
+        subst (λ (j : ℕ). IsLifeOf took gave service (reverse history) (slice_index_or ((record { server = record { 0 = 1 }; generation = record { 0 = 1 }; link = link }) ∷ []) j d)) first life;
+      failed = over.failed;
+    })
+
+-- how a life and its transcript end
+pub serving_ends : {L : Type 0} (took gave : L → Option (List ℕ)) (link : L) (before after : Option (List ℕ)) (writes writes_after : ℕ) (service : List ℕ) (clients : List Client) (history : List Event) (lines : List ℕ) (pipe : Piped) (lives : List (Life L))
+    (served : Result (Unit {0}) Halt) (status : Status)
+    → lives ≡ (record { server = record { 0 = 1 }; generation = record { 0 = 1 }; link = link }) ∷ [] → took link ≡ pipe.took → gave link ≡ pipe.gave
+    → OnOk served (IsOver service clients history lines pipe)
+    → MatchResult served (λ _. Printed before after writes writes_after lines status) (λ halt. status ≡ status_of halt)
+    → ServingEnds took gave before after writes writes_after service clients status history lives
+serving_ends {L} took gave link before after writes writes_after service clients history lines pipe lives (Ok u) Done is took_is gave_is over printed =
+    (served_life took gave link service clients history lines pipe lives is took_is gave_is over, subst (λ text. Grew before after text) over.said printed)
+serving_ends {L} took gave link before after writes writes_after service clients history lines pipe lives (Ok u) WriteFault is took_is gave_is over printed =
+    (served_life took gave link service clients history lines pipe lives is took_is gave_is over, subst (λ text. GrewByPrefix before after text) over.said printed.0, printed.1)
+serving_ends {L} took gave link before after writes writes_after service clients history lines pipe lives (Ok u) status is took_is gave_is over printed = absurd printed
+serving_ends {L} took gave link before after writes writes_after service clients history lines pipe lives (Err HaltNoMemory) status is took_is gave_is over printed =
+    subst (λ s. ServingEnds took gave before after writes writes_after service clients s history lives) (sym printed) tt
+serving_ends {L} took gave link before after writes writes_after service clients history lines pipe lives (Err HaltUnbuilt) status is took_is gave_is over printed =
+    subst (λ s. ServingEnds took gave before after writes writes_after service clients s history lives) (sym printed) tt

@@ -1,7 +1,6 @@
 -- What a line says is what its reading gives.
 use Rattle.std.proofs.Common.{◌≡◌, ℕ, zero, suc, ◌≤◌, ◌==◌, ◌&&◌, nat_le, not, Bool, true, false, cond, ◌⊎◌, inl, inr, List, [], ◌∷◌, ◌++◌, length, Option, Some, None, option_map, codes, refl, ap, sym, ◌∙◌, subst, append_assoc, arith}
 use Rattle.std.proofs.lemmas.Bool.{eqb-true, ne_eqb, leb-true, le-leb}
-use Rattle.std.proofs.lemmas.Bool.Decides.{nat_tests}
 use Rattle.std.proofs.lemmas.Slice.Eq.{bytes_eq-Decides}
 use Rattle.std.specs.List.{list_all, flat_map}
 use Rattle.std.specs.Str.{bytes_eq}
@@ -11,10 +10,10 @@ use Rattle.xa_types.specs.declared.data.Data.{Data}
 use Rattle.xa_types.specs.declared.data.Data.TheVariants.{Absent, Octet, Struct}
 use Rattle.xa_program.specs.declared.script_line.Line.{Line}
 use Rattle.xa_program.specs.declared.script_line.Line.TheVariants.{Skipped, Client, Call}
-use Rattle.xa_program.specs.Script.{spaces, IsEnd, HasWords, is_printed, IsPrinted, escaped, quoted, IsSkipped, IsClientLine, IsWritten, data_words, call_with, IsCallLine}
+use Rattle.xa_program.specs.Script.{spaces, IsEnd, HasWords, is_printed, escaped, quoted, IsSkipped, IsClientLine, IsWritten, data_words, call_with, IsCallLine}
 use Rattle.xa_program.specs.ScriptLine.{skip_spaces, is_blank, is_skipped, next_word, text_in_front, ended, quoted_from, quoted_in, payload_in, call_in, client_in, line_of}
-use Rattle.xa_program.proofs.ScriptText.{some_is, parted, written, text_again, text_takes, printed_text}
-use Rattle.xa_program.proofs.ScriptWords.{and_true, skips, skipped, is_plain, IsWord, next_word_takes, next_word_again, words_take, words_again, blank_takes, blank_again, skipped_takes, skipped_again, not_skipped, printed_words, printed_parts, printed-append}
+use Rattle.xa_program.proofs.ScriptText.{some_is, written, text_again, text_takes, printed_text}
+use Rattle.xa_program.proofs.ScriptWords.{and_true, skips, skipped, is_plain, IsWord, next_word_takes, words_take, words_again, blank_takes, blank_again, skipped_takes, skipped_again, not_skipped, printed_words, printed_parts, printed-append}
 
 -- what the line says
 abbrev pub Says : List ℕ → List ℕ → Line → Type 0

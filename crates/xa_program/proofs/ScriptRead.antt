@@ -1,5 +1,5 @@
 -- The lines of a script, read one after another: what they read as.
-use Rattle.std.proofs.Common.{◌≡◌, ℕ, ◌+◌, ◌-◌, ◌≤◌, ◌<◌, length, List, [], ◌∷◌, ◌++◌, take, drop, Option, Some, None, option_and_then, ◌⊎◌, inl, inr, refl, ap, sym, ◌∙◌, subst, append_assoc, append-nil, length-drop, arith}
+use Rattle.std.proofs.Common.{◌≡◌, ℕ, ◌+◌, ◌-◌, ◌<◌, length, List, [], ◌∷◌, ◌++◌, take, drop, Some, None, option_and_then, inl, inr, refl, ap, sym, ◌∙◌, subst, append_assoc, append-nil, length-drop, arith}
 use Rattle.std.proofs.Math.Seq.{take-add}
 use Rattle.std.proofs.lemmas.Bool.{cases_lt}
 use Rattle.std.proofs.lemmas.List.{drop-drop, take-append-drop}
@@ -8,13 +8,12 @@ use Rattle.xa_types.specs.Name.{IsName}
 use Rattle.xa_types.specs.declared.call.Op.{Op}
 use Rattle.xa_program.specs.declared.script.Client.{Client}
 use Rattle.xa_program.specs.declared.script.Script.{Script}
-use Rattle.xa_program.specs.declared.script_line.Line.{Line}
 use Rattle.xa_program.specs.declared.script_line.Line.TheVariants.{Skipped, Client as ClientLine, Call as CallLine}
-use Rattle.xa_program.specs.Script.{IsSkipped, IsClientLine, IsCallLine, ReadsCalls, Reads, client_with, IsScript, IsFirstFault}
+use Rattle.xa_program.specs.Script.{ReadsCalls, Reads, client_with, IsScript, IsFirstFault}
 use Rattle.xa_program.specs.ScriptLine.{line_of}
-use Rattle.xa_program.specs.Draft.{with_line, begun, added, read_all}
+use Rattle.xa_program.specs.Draft.{with_line, read_all}
 use Rattle.xa_program.proofs.ScriptText.{some_is}
-use Rattle.xa_program.proofs.ScriptGrammar.{Says, line_takes, line_again, some_of_none}
+use Rattle.xa_program.proofs.ScriptGrammar.{line_takes, line_again, some_of_none}
 
 -- the first n lines are read, and these are left
 pub record IsReadTo (service : List ℕ) (all : List (List ℕ)) (n : ℕ) (clients : List Client) (rest : List (List ℕ)) : Type 0 where

@@ -1,6 +1,6 @@
 -- What is known between two calls of `play`: events with their numbers filled in, and what is read off the events so far.
 -- Contracts inside this crate rest on this file, and no public one.
-use Rattle.std.specs.Prelude.{◌≡◌, ℕ, ◌+◌, ◌<◌, ◌≤◌, ◌^◌, ⊤, All, true, false, List, [], ◌∷◌, length, reverse, Option, Some, None}
+use Rattle.std.specs.Prelude.{◌≡◌, ℕ, ◌+◌, ◌<◌, ◌≤◌, ◌^◌, ⊤, All, true, false, List, [], ◌∷◌, length, map, reverse, Option, Some, None}
 use Rattle.xa_types.specs.declared.data.Data.{Data}
 use Rattle.xa_types.specs.declared.ids.RequestId.{RequestId}
 use Rattle.xa_types.specs.declared.call.Op.{Op}
@@ -33,7 +33,14 @@ use Rattle.xa_events.specs.Calls.{is_op, events_of_op, EachBecame, is_invalid_ca
 use Rattle.xa_events.specs.Order.{TakesInOrder}
 use Rattle.xa_events.specs.Run.{Run}
 use Rattle.xa_program.specs.declared.script.Client.{Client}
-use Rattle.xa_program.specs.Headline.{IsHistory, EachMadeCalls, names_of}
+use Rattle.xa_program.specs.Headline.{IsHistory, EachMadeCalls, names_of, name_in}
+use Rattle.xa_program.specs.declared.outcome.Life.{Life}
+use Rattle.xa_program.specs.declared.halt.Halt.{Halt}
+use Rattle.xa_program.specs.declared.halt.Halt.TheVariants.{NoMemory as HaltNoMemory, Unbuilt as HaltUnbuilt}
+use Rattle.xa_program.specs.declared.status.Status.{Status}
+use Rattle.xa_program.specs.declared.status.Status.TheVariants.{Done, WriteFault, NoMemory, Unbuilt}
+use Rattle.xa_link.specs.Told.{Rose, Grew, GrewByPrefix}
+use Rattle.xa_types.specs.Setup.{numbered}
 use Rattle.xa_program.specs.Pipe.{Piped, Wrote, HasRead}
 use Rattle.xa_program.specs.Pipes.{is_take_in, frames_out, frames_in, lives_of, failed_starts, IsLife}
 use Rattle.xa_program.specs.PlaySetup.{play_setup}
@@ -186,3 +193,30 @@ pub record IsOver (service : List ℕ) (clients : List Client) (history : List E
   pub life : IsLife (83 ∷ []) 1 1 (reverse history) pipe.took pipe.gave
   pub lives : lives_of (reverse history) ≡ (1, 1) ∷ []
   pub failed : failed_starts 1 (reverse history) ≡ 0
+
+-- the history, its lives and the octets of their links
+pub record IsServed {L : Type 0} (took gave : L → Option (List ℕ)) (service : List ℕ) (clients : List Client) (history : List Event) (lives : List (Life L)) : Type 0 where
+  pub machine : IsHistory (play_setup service) clients history
+  pub lives_are : map (λ life. (life.server.0, life.generation.0)) lives ≡ lives_of (reverse history)
+  pub pipes : All (λ life. IsLife (name_in (numbered life.server.0 (play_setup service).servers)) life.server.0 life.generation.0 (reverse history) (took life.link) (gave life.link)) lives
+  pub failed : failed_starts 1 (reverse history) ≡ 0
+
+-- how serving a script ends, and what that shows; the output is seen before and after
+abbrev pub ServingEnds : {L : Type 0} → (L → Option (List ℕ)) → (L → Option (List ℕ)) → Option (List ℕ) → Option (List ℕ) → ℕ → ℕ → List ℕ → List Client → Status → List Event → List (Life L) → Type 0
+ServingEnds took gave before after writes writes_after service clients Done history lives =
+    IsServed took gave service clients history lives × Grew before after (spoken (names_of clients) (reverse history))
+ServingEnds took gave before after writes writes_after service clients WriteFault history lives =
+    IsServed took gave service clients history lives × GrewByPrefix before after (spoken (names_of clients) (reverse history)) × Rose writes writes_after
+ServingEnds took gave before after writes writes_after service clients NoMemory history lives = ⊤
+ServingEnds took gave before after writes writes_after service clients Unbuilt history lives = ⊤
+ServingEnds took gave before after writes writes_after service clients status history lives = ⊥
+
+-- the lines were written whole, or in part and the output failed
+abbrev pub Printed : Option (List ℕ) → Option (List ℕ) → ℕ → ℕ → List ℕ → Status → Type 0
+Printed before after writes writes_after lines Done = Grew before after lines
+Printed before after writes writes_after lines WriteFault = GrewByPrefix before after lines × Rose writes writes_after
+Printed before after writes writes_after lines status = ⊥
+
+abbrev pub status_of : Halt → Status
+status_of HaltNoMemory = NoMemory
+status_of HaltUnbuilt = Unbuilt

@@ -1,9 +1,8 @@
 -- What a script says: its lines, and the calls that they make.
-use Rattle.std.specs.Prelude.{ℕ, ◌+◌, ◌-◌, ◌≤◌, ◌==◌, ◌≡◌, ◌⊎◌, ◌&&◌, nat_le, Bool, true, false, IsTrue, if◌then◌else◌, List, [], ◌∷◌, ◌++◌, length, take, replicate, codes, Option, Some, None, ⊤}
+use Rattle.std.specs.Prelude.{ℕ, ◌-◌, ◌≤◌, ◌==◌, ◌≡◌, ◌⊎◌, ◌&&◌, nat_le, Bool, false, IsTrue, if◌then◌else◌, List, [], ◌∷◌, ◌++◌, length, take, replicate, codes, None, ⊤}
 use Rattle.std.specs.List.{list_all, flat_map}
 use Rattle.std.specs.Str.Lines.{lines}
 use Rattle.xa_types.specs.Name.{IsName}
-use Rattle.xa_types.specs.declared.call.Ask.{Ask}
 use Rattle.xa_types.specs.declared.call.CallFlags.{CallFlags}
 use Rattle.xa_types.specs.declared.call.Direction.TheVariants.{Neither}
 use Rattle.xa_types.specs.declared.call.Op.{Op}

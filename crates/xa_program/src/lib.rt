@@ -11,6 +11,7 @@ mod line;
 mod local;
 mod one_life;
 mod outcome;
+mod performing;
 mod pipe;
 mod script;
 mod script_line;

@@ -1,4 +1,4 @@
-use Rattle.std.proofs.Common.{◌≡◌, ap, List}
+use Rattle.std.proofs.Common.{ap, List}
 use Rattle.std.specs.Str.Lines.{lines}
 use Rattle.xa_program.specs.declared.script.Client.{Client}
 use Rattle.xa_program.specs.declared.script.Script.{Script}

@@ -1,4 +1,4 @@
-use Rattle.std.proofs.Common.{◌≡◌, ◌+◌, ◌≤◌, length, [], refl, ap, sym, ◌∙◌, subst, arith}
+use Rattle.std.proofs.Common.{refl, ap, sym, ◌∙◌, subst, arith}
 use Rattle.std.specs.Str.Lines.{lines}
 use Rattle.xa_program.specs.Draft.{kept}
 use Rattle.xa_program.proofs.ScriptRead.{IsReadTo, reads_on, first_fault, nothing_read, all_read}

@@ -1,6 +1,5 @@
-use Rattle.std.proofs.Common.{◌≡◌, ◌+◌, ◌≤◌, length, [], take, drop, Some}
+use Rattle.std.proofs.Common.{◌+◌, ◌≤◌, length}
 use Rattle.std.specs.Str.Lines.{lines}
-use Rattle.xa_program.specs.Draft.{read_all}
 use Rattle.xa_program.proofs.ScriptRead.{IsReadTo}
 use Rattle.xa_program.proofs.script.read_lines.Given as goal
 

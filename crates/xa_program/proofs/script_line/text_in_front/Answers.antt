@@ -1,5 +1,5 @@
-use Rattle.std.proofs.Common.{◌≡◌, ℕ, List, [], ◌∷◌, ◌++◌, Option, Some, None, refl, ap, sym, ◌∙◌, append-nil}
-use Rattle.xa_program.specs.ScriptLine.{next_octet, put, text_in_front}
+use Rattle.std.proofs.Common.{[], ◌∷◌, ◌++◌, ap, sym, ◌∙◌, append-nil}
+use Rattle.xa_program.specs.ScriptLine.{put, text_in_front}
 use Rattle.xa_program.proofs.ScriptText.{one_octet, no_octet, put-put}
 use Rattle.xa_program.proofs.script_line.text_in_front.Goals as goal
 

@@ -1,0 +1,158 @@
+// A script is served, and its transcript is written.
+ghost use Rattle.std.specs.Prelude.{◌≡◌, ◌∷◌, ◌++◌, ◌<◌, [], vec_len, vec_capacity, MatchResult};
+ghost use Rattle.xa_link.specs.Told.{Empty};
+ghost use Rattle.xa_events.specs.declared.event.Event.TheVariants.{Advertise};
+ghost use Rattle.xa_program.specs.Progress.{advertise, status_of, IsBuiltScript, Printed, ServingEnds};
+
+use crate::calls::{Account, LIFE, SERVER};
+use crate::halt::Halt;
+use crate::one_life::{note_boot, serve};
+use crate::outcome::Life;
+use crate::pipe::Pipe;
+use crate::script::Script;
+use crate::setup::name_of;
+use crate::status::Status;
+use std::alloc::Global;
+use xa_events::Event;
+use xa_link::{Link, Sink, StartRefused, Starter, put};
+use xa_types::Name;
+
+/// How a script was served.
+pub struct Served<L> {
+    pub status: Status,
+    pub history: Vec<Event>,
+    pub lives: Vec<Life<L>>,
+}
+
+impl From<Halt> for Status {
+    ghost from_gives = { λ halt status. status ≡ status_of halt };
+
+    fn from(halt: Halt) -> Status {
+        match halt {
+            Halt::NoMemory => Status::NoMemory,
+            Halt::Unbuilt => Status::Unbuilt,
+        }
+    }
+}
+
+/// Starts the server, serves the script, and writes the transcript.
+pub fn perform<O: Sink, L: Link, S: Starter<L>>(
+    alloc: Global,
+    service: &Name,
+    script: &Script,
+    out: &mut O,
+    starter: &mut S,
+) -> Served<L>
+    requires { IsBuiltScript service.now script.now.clients }
+    ensures { ServingEnds L.took L.gave (O.took out.old) (O.took out.new) (O.write_faults out.old) (O.write_faults out.new)
+        service.now script.now.clients result.status result.history.items result.lives.items }
+{
+    let mut account = Account {
+        history: Vec::new(alloc),
+        lines: Vec::new(alloc),
+    };
+    let Ok(lives) = Vec::with_capacity(alloc, 1) else {
+        return stopped(alloc, account, Status::NoMemory);
+    };
+    if note_boot(&mut account.history, service).is_err() {
+        return not_started(account, lives, Status::NoMemory);
+    }
+    match starter.start(&name_of(b"S"), LIFE) {
+        Ok(link) => live(alloc, service, script, out, account, lives, link),
+        Err(StartRefused::Failed) => not_started(account, lives, Status::Unbuilt),
+        Err(StartRefused::NoMemory) => not_started(account, lives, Status::NoMemory),
+    }
+}
+
+fn stopped<L>(alloc: Global, account: Account, status: Status) -> Served<L>
+    ensures { result.status ≡ status }
+{
+    Served {
+        status,
+        history: account.history,
+        lives: Vec::new(alloc),
+    }
+}
+
+fn not_started<L>(account: Account, lives: Vec<Life<L>>, status: Status) -> Served<L>
+    ensures { result.status ≡ status }
+{
+    Served {
+        status,
+        history: account.history,
+        lives,
+    }
+}
+
+// The life of a server that was just started, and the transcript.
+fn live<O: Sink, L: Link>(
+    alloc: Global,
+    service: &Name,
+    script: &Script,
+    out: &mut O,
+    mut account: Account,
+    mut lives: Vec<Life<L>>,
+    link: L,
+) -> Served<L>
+    requires built { IsBuiltScript service.now script.now.clients }
+    requires booted { account.history.items ≡ Advertise (advertise service.now) ∷ [] }
+    requires silent { account.lines.items ≡ [] }
+    requires none { lives.items ≡ [] }
+    requires room { vec_len lives < vec_capacity lives }
+    requires took { Empty (L.took link) }
+    requires gave { Empty (L.gave link) }
+    ensures { ServingEnds L.took L.gave (O.took out.old) (O.took out.new) (O.write_faults out.old) (O.write_faults out.new)
+        service.now script.now.clients result.status result.history.items result.lives.items }
+{
+    let mut pipe = Pipe::new(alloc, link);
+    let served = serve(
+        alloc,
+        &mut pipe,
+        &mut account,
+        service,
+        &name_of(b"S"),
+        script,
+    );
+    keep_life(&mut lives, pipe.into_link());
+    let status = conclude(served, out, account.lines.as_slice());
+    Served {
+        status,
+        history: account.history,
+        lives,
+    }
+}
+
+fn keep_life<L>(lives: &mut Vec<Life<L>>, link: L)
+    requires { vec_len lives.old < vec_capacity lives.old }
+    ensures { lives.new.items ≡ lives.old.items ++ (record { server = record { 0 = 1 }; generation = record { 0 = 1 }; link = link }) ∷ [] }
+{
+    let life = Life {
+        server: SERVER,
+        generation: LIFE,
+        link,
+    };
+    match lives.push(life) {
+        Ok(()) => {}
+        Err(_) => unreachable!(),
+    }
+}
+
+// Where the script was served its lines are written.
+fn conclude<O: Sink>(served: Result<(), Halt>, out: &mut O, lines: &[u8]) -> Status
+    ensures { MatchResult served (λ _. Printed (O.took out.old) (O.took out.new) (O.write_faults out.old) (O.write_faults out.new) lines.now result)
+        (λ halt. result ≡ status_of halt) }
+{
+    match served {
+        Ok(()) => write_lines(out, lines),
+        Err(halt) => Status::from(halt),
+    }
+}
+
+fn write_lines<O: Sink>(out: &mut O, lines: &[u8]) -> Status
+    ensures { Printed (O.took out.old) (O.took out.new) (O.write_faults out.old) (O.write_faults out.new) lines.now result }
+{
+    match put(out, lines) {
+        Ok(()) => Status::Done,
+        Err(_) => Status::WriteFault,
+    }
+}
