@@ -10,12 +10,12 @@ use Rattle.xa_types.specs.declared.data.Data.TheVariants.{Absent, Octet, Struct}
 use Rattle.xa_types.specs.declared.call.Op.{Op}
 use Rattle.xa_types.specs.Kind.{is_sound}
 use Rattle.xa_events.specs.Calls.{is_invalid_call}
-use Rattle.xa_program.specs.declared.script.Client.{Client}
+use Rattle.xa_script.specs.declared.script.Client.{Client}
 use Rattle.xa_program.specs.PlaySetup.{play_setup}
 use Rattle.xa_program.specs.Progress.{IsBuilt, IsBuiltOp, IsBuiltScript}
-use Rattle.xa_program.specs.Script.{Reads, ReadsCalls, IsWritten, call_with, no_flags}
-use Rattle.xa_program.specs.Draft.{is_line_end}
-use Rattle.xa_program.proofs.ScriptCut.{lines_at, lines_last}
+use Rattle.xa_script.specs.Script.{Reads, ReadsCalls, IsWritten, call_with, no_flags}
+use Rattle.xa_script.specs.Draft.{is_line_end}
+use Rattle.xa_script.proofs.ScriptCut.{lines_at, lines_last}
 
 lines_from : (octets : List ℕ) → 0 < length octets → ((rest : List ℕ) → length rest < length octets → length (lines rest) ≤ length rest)
     → (end : Option ℕ) → position is_line_end octets ≡ end → length (lines octets) ≤ length octets
@@ -62,7 +62,7 @@ calls_built service (line ∷ rest) ops named (inr said) =
     let more = calls_built service rest tail named said.4 in
     let this : IsBuiltOp service op = subst (λ (o : Op). IsBuiltOp service o) (sym call.2) (built_call service call.0 named call.1) in
     subst (λ (os : List Op). All (IsBuiltOp service) os × (length os ≤ length (line ∷ rest))) (sym said.2)
-      (All-cons (IsBuiltOp service) op tail this more.0, omega (arith, more.1))
+    (All-cons (IsBuiltOp service) op tail this more.0, omega (arith, more.1))
 
 pub script_built : (service : List ℕ) (all : List (List ℕ)) (clients : List Client) → IsName service → length all < 2 ^ 32 → Reads service all clients → IsBuiltScript service clients
 script_built service [] clients named few reads = subst (λ (cs : List Client). IsBuiltScript service cs) (sym reads) tt

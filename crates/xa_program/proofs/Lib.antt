@@ -6,12 +6,6 @@ pub mod Ends
 pub mod Pipes
 pub mod Playing
 pub mod Over
-pub mod Lines
-pub mod ScriptText
-pub mod ScriptRead
-pub mod ScriptWords
-pub mod ScriptGrammar
-pub mod ScriptCut
 pub mod ChildFrames
 pub mod ServingSteps
 pub mod ChildTurned

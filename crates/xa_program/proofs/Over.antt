@@ -24,7 +24,7 @@ use Rattle.xa_events.proofs.AnswersOnce.{unanswered_none, answers_along}
 use Rattle.xa_events.proofs.Versions.{none_read, versions_along}
 use Rattle.xa_frame.specs.declared.frame.Frame.{Frame}
 use Rattle.xa_frame.specs.Spelling.{spelled, all_spelled}
-use Rattle.xa_program.specs.declared.script.Client.{Client}
+use Rattle.xa_script.specs.declared.script.Client.{Client}
 use Rattle.xa_program.specs.Headline.{IsHistoryAt, EachMadeCalls, names_of, name_in}
 use Rattle.xa_types.specs.Setup.{numbered}
 use Rattle.xa_program.specs.Pipe.{Piped, Wrote, HasRead}
@@ -184,14 +184,14 @@ served_life : {L : Type 0} (took gave : L → Option (List ℕ)) (link : L) (ser
     → IsOver service clients history lines pipe → IsServed took gave service clients history lives
 served_life {L} took gave link service clients history lines pipe lives is took_is gave_is over =
     let life : IsLife (83 ∷ []) 1 1 (reverse history) (took link) (gave link) =
-      subst (λ (t : Option (List ℕ)). IsLife (83 ∷ []) 1 1 (reverse history) t (gave link)) (sym took_is)
-        (subst (λ (t : Option (List ℕ)). IsLife (83 ∷ []) 1 1 (reverse history) pipe.took t) (sym gave_is) over.life) in
+    subst (λ (t : Option (List ℕ)). IsLife (83 ∷ []) 1 1 (reverse history) t (gave link)) (sym took_is)
+    (subst (λ (t : Option (List ℕ)). IsLife (83 ∷ []) 1 1 (reverse history) pipe.took t) (sym gave_is) over.life) in
     subst (λ (all : List (Life L)). IsServed took gave service clients history all) (sym is) (record {
       machine = over.machine;
       lives_are = sym over.lives;
       pipes = λ k d low.
-        let first : 0 ≡ k = omega arith in
-        subst (λ (j : ℕ). IsLifeOf took gave service (reverse history) (slice_index_or ((record { server = record { 0 = 1 }; generation = record { 0 = 1 }; link = link }) ∷ []) j d)) first life;
+          let first : 0 ≡ k = omega arith in
+          subst (λ (j : ℕ). IsLifeOf took gave service (reverse history) (slice_index_or ((record { server = record { 0 = 1 }; generation = record { 0 = 1 }; link = link }) ∷ []) j d)) first life;
       failed = over.failed;
     })
 

@@ -25,7 +25,7 @@ use Rattle.xa_events.specs.Order.{TakesInOrder}
 use Rattle.xa_events.specs.Calls.{EachBecame, is_invalid_call}
 use Rattle.xa_frame.specs.declared.frame.Frame.{Frame}
 use Rattle.xa_frame.specs.Spelling.{spelled, all_spelled}
-use Rattle.xa_program.specs.Line.{line_text}
+use Rattle.xa_text.specs.Line.{line_text}
 use Rattle.xa_program.specs.Pipe.{Piped, Wrote, HasRead}
 use Rattle.xa_program.specs.Pipes.{frames_out, frames_in, next_frame, invoke_frame, return_frame, lives_of}
 use Rattle.xa_program.specs.PlaySetup.{play_setup}

@@ -25,7 +25,7 @@ use Rattle.xa_events.specs.Befell.{reply_of, answer_to}
 use Rattle.xa_events.specs.Said.{reply_at, reply_in}
 use Rattle.xa_events.specs.Order.{TakesInOrder, next_of, first_of_highest}
 use Rattle.xa_program.specs.PlaySetup.{play_setup}
-use Rattle.xa_program.specs.Line.{line_text}
+use Rattle.xa_text.specs.Line.{line_text}
 use Rattle.xa_program.specs.Spoken.{lines_up_to}
 use Rattle.xa_program.specs.Progress.{request, accept, take_of, end_with, answer_of, IsQuiet, IsFresh, KnowsAnswers}
 use Rattle.xa_program.proofs.Play.{same_request-self, waits_one}

@@ -22,7 +22,7 @@ use Rattle.xa_events.specs.Board.{listed_in}
 use Rattle.xa_events.specs.Befell.{answer_to}
 use Rattle.xa_events.specs.Calls.{is_op, events_of_op, Became, CallRefused, EachBecame}
 use Rattle.xa_events.specs.Said.{reply_at, reply_in}
-use Rattle.xa_program.specs.Line.{line_text}
+use Rattle.xa_text.specs.Line.{line_text}
 use Rattle.xa_program.specs.Spoken.{lines_up_to}
 use Rattle.xa_program.specs.Progress.{KnowsAnswers}
 

@@ -10,15 +10,15 @@ use Rattle.xa_events.specs.Run.{Run, IsFinal}
 use Rattle.xa_events.specs.Order.{TakesInOrder}
 use Rattle.xa_events.specs.Laws.{LawOfEnds, LawOfAnswers, LawOfVersions}
 use Rattle.xa_events.specs.Calls.{MadeCalls}
-use Rattle.xa_program.specs.declared.script.Client.{Client}
-use Rattle.xa_program.specs.declared.script.Script.{Script}
+use Rattle.xa_script.specs.declared.script.Client.{Client}
+use Rattle.xa_script.specs.declared.script.Script.{Script}
 use Rattle.xa_program.specs.declared.outcome.Life.{Life}
 use Rattle.xa_program.specs.declared.status.Status.{Status}
 use Rattle.xa_program.specs.declared.status.Status.TheVariants.{Done, Usage, ScriptRead, TooLong, BadLine, WriteFault, BadFrame, NoMemory, Unbuilt}
 use Rattle.xa_program.specs.declared.status.Input.TheVariants as inputs
 use Rattle.xa_program.specs.Pipes.{IsLife, lives_of, failed_starts}
 use Rattle.xa_program.specs.PlaySetup.{play_setup}
-use Rattle.xa_program.specs.Script.{IsScript, IsFirstFault}
+use Rattle.xa_script.specs.Script.{IsScript, IsFirstFault}
 use Rattle.xa_program.specs.Spoken.{spoken}
 
 -- each client, of which the first has that number, made exactly its calls
@@ -103,3 +103,11 @@ PlayEnds took gave start_faults streams service (BadLine line cause) history liv
 PlayEnds took gave start_faults streams service Unbuilt history lives starters = (clients : List Client) × IsTheScript streams.told service clients
 PlayEnds took gave start_faults streams service NoMemory history lives starters = ⊤
 PlayEnds took gave start_faults streams service status history lives starters = ⊥
+
+-- no server was started where the words, the input or the script were refused
+abbrev pub EndsEarly : {L S : Type 0} → Status → List Event → List (Life L) → List S → Type 0
+EndsEarly Usage history lives starters = (history ≡ []) × (lives ≡ []) × (starters ≡ [])
+EndsEarly ScriptRead history lives starters = (history ≡ []) × (lives ≡ []) × (starters ≡ [])
+EndsEarly (TooLong which) history lives starters = (history ≡ []) × (lives ≡ []) × (starters ≡ [])
+EndsEarly (BadLine line cause) history lives starters = (history ≡ []) × (lives ≡ []) × (starters ≡ [])
+EndsEarly status history lives starters = ⊤

@@ -1,17 +1,13 @@
 pub mod Child
 pub mod ChildTurns
 pub mod ChildWork
-pub mod Draft
 pub mod Headline
-pub mod Line
 pub mod Local
 pub mod LocalHolds
 pub mod Pipe
 pub mod Pipes
 pub mod PlaySetup
 pub mod Progress
-pub mod Script
-pub mod ScriptLine
 pub mod Serving
 pub mod Spoken
 pub mod Words

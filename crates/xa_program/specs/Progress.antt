@@ -1,6 +1,6 @@
 -- What is known between two calls of `play`: events with their numbers filled in, and what is read off the events so far.
 -- Contracts inside this crate rest on this file, and no public one.
-use Rattle.std.specs.Prelude.{◌≡◌, ℕ, ◌+◌, ◌<◌, ◌≤◌, ◌^◌, ⊤, All, true, false, List, [], ◌∷◌, length, map, reverse, Option, Some, None}
+use Rattle.std.specs.Prelude.{◌≡◌, ℕ, ◌+◌, ◌<◌, ◌≤◌, ◌^◌, ⊤, All, true, false, List, [], ◌∷◌, length, map, reverse, Option, Some, None, IfSome}
 use Rattle.xa_types.specs.declared.data.Data.{Data}
 use Rattle.xa_types.specs.declared.ids.RequestId.{RequestId}
 use Rattle.xa_types.specs.declared.call.Op.{Op}
@@ -32,13 +32,14 @@ use Rattle.xa_events.specs.Request.{ended, is_accept_of, is_end_of}
 use Rattle.xa_events.specs.Calls.{is_op, events_of_op, EachBecame, is_invalid_call}
 use Rattle.xa_events.specs.Order.{TakesInOrder}
 use Rattle.xa_events.specs.Run.{Run}
-use Rattle.xa_program.specs.declared.script.Client.{Client}
-use Rattle.xa_program.specs.Headline.{IsHistory, EachMadeCalls, names_of, name_in}
+use Rattle.xa_script.specs.declared.script.Client.{Client}
+use Rattle.xa_program.specs.Headline.{IsHistory, EachMadeCalls, HasFirstFault, longest_script, names_of, name_in}
 use Rattle.xa_program.specs.declared.outcome.Life.{Life}
 use Rattle.xa_program.specs.declared.halt.Halt.{Halt}
 use Rattle.xa_program.specs.declared.halt.Halt.TheVariants.{NoMemory as HaltNoMemory, Unbuilt as HaltUnbuilt}
 use Rattle.xa_program.specs.declared.status.Status.{Status}
-use Rattle.xa_program.specs.declared.status.Status.TheVariants.{Done, WriteFault, NoMemory, Unbuilt}
+use Rattle.xa_program.specs.declared.status.Status.TheVariants.{Done, ScriptRead, TooLong, BadLine, WriteFault, NoMemory, Unbuilt}
+use Rattle.xa_program.specs.declared.status.Input.TheVariants as inputs
 use Rattle.xa_link.specs.Told.{Rose, Grew, GrewByPrefix}
 use Rattle.xa_types.specs.Setup.{numbered}
 use Rattle.xa_program.specs.Pipe.{Piped, Wrote, HasRead}
@@ -220,3 +221,11 @@ Printed before after writes writes_after lines status = ⊥
 abbrev pub status_of : Halt → Status
 status_of HaltNoMemory = NoMemory
 status_of HaltUnbuilt = Unbuilt
+
+-- why there is no script
+abbrev pub ScriptRefusedAs : Option (List ℕ) → ℕ → ℕ → List ℕ → Status → Type 0
+ScriptRefusedAs told reads reads_after service ScriptRead = Rose reads reads_after
+ScriptRefusedAs told reads reads_after service (TooLong inputs.Script) = IfSome told (λ octets. longest_script < length octets)
+ScriptRefusedAs told reads reads_after service (BadLine line cause) = (cause ≡ 9) × HasFirstFault told service line
+ScriptRefusedAs told reads reads_after service NoMemory = ⊤
+ScriptRefusedAs told reads reads_after service status = ⊥

@@ -3,7 +3,7 @@ use Rattle.std.specs.Prelude.{ℕ, zero, suc, ◌+◌, List, [], ◌∷◌, ◌+
 use Rattle.xa_events.specs.declared.event.Event.{Event}
 use Rattle.xa_events.specs.Caller.{last_op}
 use Rattle.xa_events.specs.Said.{reply_at}
-use Rattle.xa_program.specs.Line.{line_text}
+use Rattle.xa_text.specs.Line.{line_text}
 
 -- the lines of a client's first calls, so many of them
 abbrev pub lines_up_to : List ℕ → ℕ → List Event → ℕ → List ℕ

@@ -6,15 +6,15 @@ ghost use Rattle.xa_types.specs.declared.reply.Answer.TheVariants.{Success};
 ghost use Rattle.xa_types.specs.declared.reply.Reply.TheVariants.{Answered as AnsweredReply};
 ghost use Rattle.xa_events.specs.declared.event.Event.TheVariants.{Accept, Take, End, Answer as AnswerEvent};
 ghost use Rattle.xa_events.specs.declared.event.Outcome.TheVariants.{Returned};
-ghost use Rattle.xa_program.specs.Line.{line_text};
+ghost use Rattle.xa_text.specs.Line.{line_text};
 ghost use Rattle.xa_program.specs.Progress.{accept, take_of, end_with, answer_of, IsPlaying, IsBuilt, IsBuiltOp};
 
 use crate::halt::Halt;
-use crate::line::push_line;
 use crate::pipe::Pipe;
 use std::alloc::Global;
 use xa_events::{Accepted, Answered, Ended, Event, Outcome, Taken};
 use xa_link::Link;
+use xa_text::push_line;
 use xa_types::{
     Answer, Ask, CallerId, Data, Generation, Mode, Name, Op, QueueId, Reply, RequestId, ServerId,
 };

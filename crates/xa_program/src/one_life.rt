@@ -7,10 +7,10 @@ ghost use Rattle.xa_program.specs.Progress.{advertise, start, stop, IsPlaying, I
 use crate::calls::{Account, CLIENT, LIFE, QUEUE, SERVER, make_calls};
 use crate::halt::Halt;
 use crate::pipe::Pipe;
-use crate::script::{Client, Script};
 use std::alloc::Global;
 use xa_events::{Advertised, Event, Started, StopCause, Stopped};
 use xa_link::Link;
+use xa_script::{Client, Script};
 use xa_types::{CallerId, Name};
 
 /// Notes that the boot advertises the service.

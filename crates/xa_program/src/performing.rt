@@ -9,12 +9,12 @@ use crate::halt::Halt;
 use crate::one_life::{note_boot, serve};
 use crate::outcome::Life;
 use crate::pipe::Pipe;
-use crate::script::Script;
 use crate::setup::name_of;
 use crate::status::Status;
 use std::alloc::Global;
 use xa_events::Event;
 use xa_link::{Link, Sink, StartRefused, Starter, put};
+use xa_script::Script;
 use xa_types::Name;
 
 /// How a script was served.

@@ -1,6 +1,6 @@
 use Rattle.std.proofs.Common.{List, [], length, subst, sym}
 use Rattle.xa_types.specs.declared.call.Op.{Op}
-use Rattle.xa_program.specs.declared.script.Client.{Client}
+use Rattle.xa_script.specs.declared.script.Client.{Client}
 use Rattle.xa_program.specs.Progress.{IsLeaving, IsPlaying}
 use Rattle.xa_program.proofs.Over.{leaving_none, leaving_all}
 use Rattle.xa_program.proofs.one_life.make_all.Goals as goal

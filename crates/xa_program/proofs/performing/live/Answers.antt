@@ -8,10 +8,10 @@ use Rattle.xa_program.proofs.performing.live.Goals as goal
 pub returns : goal.returns
 returns g c =
     serving_ends g.L.Sink.took g.L.Source.gave c.into_link.result (g.O.Sink.took c.args.out.now) (g.O.Sink.took c.conclude-status.new.out) (g.O.Sink.write_faults c.args.out.now) (g.O.Sink.write_faults c.conclude-status.new.out)
-      c.args.service.now c.args.script.now.clients c.serve-served.new.account.history.items c.serve-served.new.account.lines.items c.serve-served.new.pipe c.keep_life.new.lives.items c.serve-served.result c.conclude-status.result
-      (c.keep_life.ensures ∙ ap (λ lives. lives ++ (record { server = record { 0 = 1 }; generation = record { 0 = 1 }; link = c.into_link.result }) ∷ []) c.requires.none)
-      c.into_link.ensures.took
-      c.into_link.ensures.gave
-      c.serve-served.ensures
-      (subst (λ lines. MatchResult c.serve-served.result (λ _. Printed (g.O.Sink.took c.args.out.now) (g.O.Sink.took c.conclude-status.new.out) (g.O.Sink.write_faults c.args.out.now) (g.O.Sink.write_faults c.conclude-status.new.out) lines c.conclude-status.result) (λ halt. c.conclude-status.result ≡ status_of halt))
-        c.as_slice.ensures.value c.conclude-status.ensures)
+    c.args.service.now c.args.script.now.clients c.serve-served.new.account.history.items c.serve-served.new.account.lines.items c.serve-served.new.pipe c.keep_life.new.lives.items c.serve-served.result c.conclude-status.result
+    (c.keep_life.ensures ∙ ap (λ lives. lives ++ (record { server = record { 0 = 1 }; generation = record { 0 = 1 }; link = c.into_link.result }) ∷ []) c.requires.none)
+    c.into_link.ensures.took
+    c.into_link.ensures.gave
+    c.serve-served.ensures
+    (subst (λ lines. MatchResult c.serve-served.result (λ _. Printed (g.O.Sink.took c.args.out.now) (g.O.Sink.took c.conclude-status.new.out) (g.O.Sink.write_faults c.args.out.now) (g.O.Sink.write_faults c.conclude-status.new.out) lines c.conclude-status.result) (λ halt. c.conclude-status.result ≡ status_of halt))
+    c.as_slice.ensures.value c.conclude-status.ensures)

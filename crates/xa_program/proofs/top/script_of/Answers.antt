@@ -1,0 +1,12 @@
+use Rattle.std.proofs.Common.{List, ℕ, ◌<◌, ◌^◌, ◌≡◌, ◌≤◌, length, subst, ap, arith}
+use Rattle.std.specs.Str.Lines.{lines}
+use Rattle.xa_program.proofs.Built.{script_built, few_lines}
+use Rattle.xa_program.proofs.top.script_of.Goals as goal
+
+pub returns-in-Ok-read_script-clause-built : goal.returns-in-Ok-read_script-clause-built
+returns-in-Ok-read_script-clause-built g c =
+    let octets = c.as_slice.result.now in
+    let same : length octets ≡ length c.in-Ok.octets.items = ap length c.as_slice.ensures.value in
+    let short : length c.in-Ok.octets.items ≤ 1048576 = c.in-Ok.ensures.short in
+    let fewer = few_lines octets in
+    script_built c.args.service.now (lines octets) c.in-Ok-read_script.script.clients c.octets-named.ensures.named (omega (arith, fewer, same, short)) c.in-Ok-read_script.ensures.found

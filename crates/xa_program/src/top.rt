@@ -1,0 +1,185 @@
+// The top call.
+ghost use Rattle.std.specs.Prelude.{◌≡◌, ◌≤◌, ◌↔◌, [], ◌∷◌, ℕ, List, map, string_bytes, None, Some, IfOk, IfErr, length, vec_len};
+ghost use Rattle.xa_types.specs.Name.{IsName};
+ghost use Rattle.xa_program.specs.declared.words.Command.TheVariants.{Play, Server};
+ghost use Rattle.xa_program.specs.ChildWork.{Worked, Counts};
+ghost use Rattle.xa_program.specs.Headline.{Streams, PlayEnds, IsTheScript, EndsEarly};
+ghost use Rattle.xa_program.specs.Progress.{IsBuiltScript, ScriptRefusedAs};
+ghost use Rattle.xa_program.specs.Words.{command_in};
+
+use crate::child_pipe::child_work;
+use crate::outcome::Outcome;
+use crate::performing::{Served, perform};
+use crate::setup::play_setup;
+use crate::status::{Input, Status};
+use crate::words::{Command, read_words};
+use std::alloc::Global;
+use xa_link::{Gate, Shelf, ShelfRefused, Sink, Source, Yard, read_all};
+use xa_script::{Script, ScriptRefused, read_script};
+use xa_types::{Name, NoMemory};
+
+/// How many octets a script may have.
+const LONGEST_SCRIPT: usize = 1_048_576;
+
+/// Runs the command that these words are, which stand behind the program's own name.
+///
+/// `play SERVICE` reads a script of at most one client from the input, serves it by one server, and writes the client's
+/// transcript. `server NAME` is the program of a server, on the input and the output.
+pub fn run<R, S: Shelf, I: Source, O: Sink, Y: Yard, G: Gate>(
+    _rt: &R,
+    alloc: Global,
+    words: &[String],
+    _shelf: &mut S,
+    input: &mut I,
+    out: &mut O,
+    yard: &mut Y,
+    _gate: &G,
+) -> Outcome<Y>
+    // The words are no command's.
+    ensures usage { (result.status ≡ Status.Usage) ↔ (command_in (map string_bytes words.now) ≡ None) }
+
+    // What `play` comes to.
+    ensures play { (service : List ℕ) → command_in (map string_bytes words.now) ≡ Some (Play service)
+        → PlayEnds Y.Line.took Y.Line.gave Y.Start.start_faults
+        (record {
+          told = I.left input.old;
+          reads_before = I.read_faults input.old;
+          reads_after = I.read_faults input.new;
+          took_before = O.took out.old;
+          took_after = O.took out.new;
+          writes_before = O.write_faults out.old;
+          writes_after = O.write_faults out.new;
+        })
+        service result.status result.history.items result.lives.items result.starters.items }
+
+    // What the program of a server comes to.
+    ensures server { (name : List ℕ) → command_in (map string_bytes words.now) ≡ Some (Server name)
+        → Worked name (I.left input.old) (I.left input.new) (I.gave input.old) (I.gave input.new) (O.took out.old) (O.took out.new) result.status
+        × Counts result.status (I.read_faults input.old) (I.read_faults input.new) (O.write_faults out.old) (O.write_faults out.new) }
+
+    // Before a server starts nothing is handed back.
+    ensures early { EndsEarly result.status result.history.items result.lives.items result.starters.items }
+{
+    match read_words(words) {
+        None => nothing(alloc, Status::Usage),
+        Some(command) => obey(alloc, command, input, out, yard),
+    }
+}
+
+fn obey<I: Source, O: Sink, Y: Yard>(
+    alloc: Global,
+    command: Command,
+    input: &mut I,
+    out: &mut O,
+    yard: &mut Y,
+) -> Outcome<Y>
+    ensures known { result.status ≡ Status.Usage → ⊥ }
+    ensures play { (service : List ℕ) → command ≡ Play service
+        → PlayEnds Y.Line.took Y.Line.gave Y.Start.start_faults
+        (record {
+          told = I.left input.old;
+          reads_before = I.read_faults input.old;
+          reads_after = I.read_faults input.new;
+          took_before = O.took out.old;
+          took_after = O.took out.new;
+          writes_before = O.write_faults out.old;
+          writes_after = O.write_faults out.new;
+        })
+        service result.status result.history.items result.lives.items result.starters.items }
+    ensures server { (name : List ℕ) → command ≡ Server name
+        → Worked name (I.left input.old) (I.left input.new) (I.gave input.old) (I.gave input.new) (O.took out.old) (O.took out.new) result.status
+        × Counts result.status (I.read_faults input.old) (I.read_faults input.new) (O.write_faults out.old) (O.write_faults out.new) }
+    ensures early { EndsEarly result.status result.history.items result.lives.items result.starters.items }
+{
+    match command {
+        Command::Play(service) => play(alloc, &service, input, out, yard),
+        Command::Server(name) => nothing(alloc, child_work(alloc, &name, input, out)),
+    }
+}
+
+fn nothing<Y: Yard>(alloc: Global, status: Status) -> Outcome<Y>
+    ensures status { result.status ≡ status }
+    ensures history { result.history.items ≡ [] }
+    ensures lives { result.lives.items ≡ [] }
+    ensures starters { result.starters.items ≡ [] }
+{
+    Outcome {
+        status,
+        history: Vec::new(alloc),
+        lives: Vec::new(alloc),
+        starters: Vec::new(alloc),
+    }
+}
+
+// The script that the input holds, to its end.
+fn script_of<I: Source>(alloc: Global, service: &Name, input: &mut I) -> Result<Script, Status>
+    ensures script { IfOk result (λ script. IsTheScript (I.left input.old) service.now script.clients) }
+    ensures built { IfOk result (λ script. IsBuiltScript service.now script.clients) }
+    ensures refused { IfErr result (ScriptRefusedAs (I.left input.old) (I.read_faults input.old) (I.read_faults input.new) service.now) }
+{
+    let octets = match read_all(alloc, input, LONGEST_SCRIPT) {
+        Ok(octets) => octets,
+        Err(ShelfRefused::Failed) => return Err(Status::ScriptRead),
+        Err(ShelfRefused::TooLong) => return Err(Status::TooLong(Input::Script)),
+        Err(ShelfRefused::NoMemory) => return Err(Status::NoMemory),
+    };
+    let _named = service.octets();
+    match read_script(alloc, octets.as_slice(), service) {
+        Ok(script) => Ok(script),
+        Err(ScriptRefused::BadLine { line, cause }) => Err(Status::BadLine { line, cause }),
+        Err(ScriptRefused::NoMemory) => Err(Status::NoMemory),
+    }
+}
+
+fn play<I: Source, O: Sink, Y: Yard>(
+    alloc: Global,
+    service: &Name,
+    input: &mut I,
+    out: &mut O,
+    yard: &mut Y,
+) -> Outcome<Y>
+    ensures play { PlayEnds Y.Line.took Y.Line.gave Y.Start.start_faults
+        (record {
+          told = I.left input.old;
+          reads_before = I.read_faults input.old;
+          reads_after = I.read_faults input.new;
+          took_before = O.took out.old;
+          took_after = O.took out.new;
+          writes_before = O.write_faults out.old;
+          writes_after = O.write_faults out.new;
+        })
+        service.now result.status result.history.items result.lives.items result.starters.items }
+    ensures early { EndsEarly result.status result.history.items result.lives.items result.starters.items }
+{
+    let script = match script_of(alloc, service, input) {
+        Ok(script) => script,
+        Err(status) => return nothing(alloc, status),
+    };
+    match starters_of(alloc, service, yard) {
+        Ok(mut starters) => {
+            let Served {
+                status,
+                history,
+                lives,
+            } = perform(alloc, service, &script, out, &mut starters[0]);
+            Outcome {
+                status,
+                history,
+                lives,
+                starters,
+            }
+        }
+        Err(NoMemory) => nothing(alloc, Status::NoMemory),
+    }
+}
+
+fn starters_of<Y: Yard>(
+    alloc: Global,
+    service: &Name,
+    yard: &mut Y,
+) -> Result<Vec<Y::Start>, NoMemory>
+    ensures { IfOk result (λ starters. length starters.items ≡ 1) }
+{
+    let setup = play_setup(alloc, service)?;
+    yard.starters(&setup)
+}

@@ -1,0 +1,5 @@
+pub mod ScriptText
+pub mod ScriptWords
+pub mod ScriptGrammar
+pub mod ScriptRead
+pub mod ScriptCut

@@ -1,0 +1,18 @@
+use Rattle.std.proofs.Common.{ap, List}
+use Rattle.std.specs.Str.Lines.{lines}
+use Rattle.xa_script.specs.declared.script.Client.{Client}
+use Rattle.xa_script.specs.declared.script.Script.{Script}
+use Rattle.xa_script.proofs.ScriptRead.{one_reading, no_fault, one_fault}
+use Rattle.xa_script.proofs.script.one_reading.Goals as goal
+
+abbrev script_of : List Client → Script
+script_of clients = record { clients = clients }
+
+pub returns-clause-script : goal.returns-clause-script
+returns-clause-script c = λ service octets a b named left right. ap script_of (one_reading service (lines octets) a.clients b.clients named left right)
+
+pub returns-clause-fault : goal.returns-clause-fault
+returns-clause-fault c = λ service octets line script named fault read. no_fault service octets line script named read fault
+
+pub returns-clause-line : goal.returns-clause-line
+returns-clause-line c = λ service octets line other named first second. one_fault service octets line other named first second

@@ -1,0 +1,3 @@
+pub mod Script
+pub mod ScriptLine
+pub mod Draft

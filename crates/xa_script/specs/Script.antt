@@ -1,0 +1,115 @@
+-- What a script says: its lines, and the calls that they make.
+use Rattle.std.specs.Prelude.{ℕ, ◌-◌, ◌≤◌, ◌==◌, ◌≡◌, ◌⊎◌, ◌&&◌, nat_le, Bool, false, IsTrue, if◌then◌else◌, List, [], ◌∷◌, ◌++◌, length, take, replicate, codes, None, ⊤}
+use Rattle.std.specs.List.{list_all, flat_map}
+use Rattle.std.specs.Str.Lines.{lines}
+use Rattle.xa_types.specs.Name.{IsName}
+use Rattle.xa_types.specs.declared.call.CallFlags.{CallFlags}
+use Rattle.xa_types.specs.declared.call.Direction.TheVariants.{Neither}
+use Rattle.xa_types.specs.declared.call.Op.{Op}
+use Rattle.xa_types.specs.declared.call.Op.TheVariants.{Call}
+use Rattle.xa_types.specs.declared.data.Data.{Data}
+use Rattle.xa_types.specs.declared.data.Data.TheVariants.{Absent, Octet, Struct}
+use Rattle.xa_script.specs.declared.script.Client.{Client}
+use Rattle.xa_script.specs.declared.script.Script.{Script}
+use Rattle.xa_script.specs.declared.script.ScriptRefused.{ScriptRefused}
+use Rattle.xa_script.specs.declared.script.ScriptRefused.TheVariants.{BadLine, NoMemory}
+
+abbrev pub is_printed : ℕ → Bool
+is_printed octet = nat_le 32 octet && nat_le octet 126
+
+abbrev pub IsPrinted : List ℕ → Type 0
+IsPrinted octets = IsTrue (list_all is_printed octets)
+
+abbrev pub spaces : ℕ → List ℕ
+spaces n = replicate n 32
+
+-- nothing follows, or a space
+abbrev pub IsEnd : List ℕ → Type 0
+IsEnd [] = ⊤
+IsEnd (octet ∷ rest) = octet ≡ 32
+
+-- the line has these words: one or more spaces between them, any number at both ends
+abbrev pub HasWords : List (List ℕ) → List ℕ → Type 0
+HasWords [] line = (n : ℕ) × (line ≡ spaces n)
+HasWords (word ∷ words) line = (n : ℕ) × (rest : List ℕ) × (line ≡ spaces n ++ word ++ rest) × IsEnd rest × HasWords words rest
+
+-- in a quoted text a double quote and a backslash have a backslash before them
+abbrev pub escaped : ℕ → List ℕ
+escaped octet = if octet == 34 then codes "\\\"" else (if octet == 92 then codes "\\\\" else octet ∷ [])
+
+abbrev pub quoted : List ℕ → List ℕ
+quoted text = codes "\"" ++ flat_map escaped text ++ codes "\""
+
+-- a line of spaces, or one that begins with `#`
+abbrev pub IsSkipped : List ℕ → Type 0
+IsSkipped line = IsPrinted line × (HasWords [] line ⊎ ((rest : List ℕ) × (line ≡ codes "#" ++ rest)))
+
+-- `client NAME`
+abbrev pub IsClientLine : List ℕ → List ℕ → Type 0
+IsClientLine name line = IsName name × HasWords (codes "client" ∷ name ∷ []) line
+
+-- the data that a script can write: none, or at most 65,536 printed octets
+abbrev pub IsWritten : Data → Type 0
+IsWritten Absent = ⊤
+IsWritten (Octet octets) = (length octets ≤ 65536) × IsPrinted octets
+IsWritten (Struct subtype octets) = ⊥
+
+-- `none`, or `text "..."`
+abbrev pub data_words : Data → List (List ℕ)
+data_words Absent = codes "none" ∷ []
+data_words (Octet octets) = codes "text" ∷ quoted octets ∷ []
+data_words (Struct subtype octets) = []
+
+abbrev pub no_flags : CallFlags
+no_flags = record { no_block = false; no_time = false; no_reply = false; no_tran = false; sig_restart = false }
+
+-- a tpcall of that service with that data and without flags
+abbrev pub call_with : List ℕ → Data → Op
+call_with service payload = Call (record { service = service; payload = payload; flags = no_flags; expect = None; direction = Neither })
+
+-- `call SERVICE DATA`
+abbrev pub IsCallLine : List ℕ → Op → List ℕ → Type 0
+IsCallLine service op line = (payload : Data) × IsWritten payload × (op ≡ call_with service payload) × HasWords (codes "call" ∷ service ∷ data_words payload) line
+
+-- the lines that aren't skipped are calls, one for one these
+abbrev pub ReadsCalls : List ℕ → List (List ℕ) → List Op → Type 0
+ReadsCalls service [] ops = ops ≡ []
+ReadsCalls service (line ∷ lines) ops = (IsSkipped line × ReadsCalls service lines ops)
+    ⊎ ((op : Op) × (more : List Op) × (ops ≡ op ∷ more) × IsCallLine service op line × ReadsCalls service lines more)
+
+abbrev pub client_with : List ℕ → List Op → Client
+client_with name ops = record { name = name; ops = ops }
+
+-- the lines that aren't skipped are none, or a client's line and then its calls
+abbrev pub Reads : List ℕ → List (List ℕ) → List Client → Type 0
+Reads service [] clients = clients ≡ []
+Reads service (line ∷ lines) clients = (IsSkipped line × Reads service lines clients)
+    ⊎ ((name : List ℕ) × (ops : List Op) × (clients ≡ client_with name ops ∷ []) × IsClientLine name line × ReadsCalls service lines ops)
+
+-- the octets are a script, with these clients
+abbrev pub IsScript : List ℕ → List ℕ → Script → Type 0
+IsScript service octets script = Reads service (lines octets) script.clients
+
+-- the lines before that one, counted from 1, are read, and with it they are not
+pub record IsFirstFault (service octets : List ℕ) (line : ℕ) : Type 0 where
+  pub counted : 1 ≤ line
+  pub within : line ≤ length (lines octets)
+  pub before : (clients : List Client) × Reads service (take (line - 1) (lines octets)) clients
+  pub faulty : (clients : List Client) → Reads service (take line (lines octets)) clients → ⊥
+
+-- a refusal other than for want of memory has cause 9, and names the first line that breaks the form
+abbrev pub Tells : List ℕ → List ℕ → ScriptRefused → Type 0
+Tells service octets (BadLine line cause) = (cause ≡ 9) × IsFirstFault service octets line
+Tells service octets NoMemory = ⊤
+
+-- the octets are one script at most
+abbrev pub OneScript : Type 0
+OneScript = (service octets : List ℕ) (a b : Script) → IsName service → IsScript service octets a → IsScript service octets b → a ≡ b
+
+-- octets with a faulty line are no script
+abbrev pub NoFaultyScript : Type 0
+NoFaultyScript = (service octets : List ℕ) (line : ℕ) (script : Script) → IsName service → IsFirstFault service octets line → IsScript service octets script → ⊥
+
+-- one line at most is the first fault
+abbrev pub OneFirstFault : Type 0
+OneFirstFault = (service octets : List ℕ) (line other : ℕ) → IsName service → IsFirstFault service octets line → IsFirstFault service octets other → line ≡ other

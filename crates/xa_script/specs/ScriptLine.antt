@@ -1,0 +1,81 @@
+-- How a line of a script is read: what the functions of the code compute. Each equals the relation of Script.antt.
+use Rattle.std.specs.Prelude.{ℕ, ◌==◌, ◌||◌, ◌&&◌, not, nat_le, Bool, true, if◌then◌else◌, List, [], ◌∷◌, ◌++◌, length, drop, codes, Option, Some, None, option_map}
+use Rattle.std.specs.List.{list_all, before_first, position_or_len}
+use Rattle.std.specs.Str.{bytes_eq}
+use Rattle.xa_types.specs.Name.{is_name}
+use Rattle.xa_types.specs.declared.call.Op.{Op}
+use Rattle.xa_types.specs.declared.data.Data.{Data}
+use Rattle.xa_types.specs.declared.data.Data.TheVariants.{Absent, Octet}
+use Rattle.xa_script.specs.declared.script_line.Line.{Line}
+use Rattle.xa_script.specs.declared.script_line.Line.TheVariants.{Skipped, Client, Call}
+use Rattle.xa_script.specs.Script.{is_printed, call_with}
+
+abbrev pub skip_spaces : List ℕ → List ℕ
+skip_spaces [] = []
+skip_spaces (octet ∷ rest) = if octet == 32 then skip_spaces rest else octet ∷ rest
+
+abbrev pub is_blank : List ℕ → Bool
+is_blank octets = length (skip_spaces octets) == 0
+
+abbrev pub is_skipped : List ℕ → Bool
+is_skipped [] = true
+is_skipped (octet ∷ rest) = if octet == 35 then true else is_blank (octet ∷ rest)
+
+abbrev pub is_space : ℕ → Bool
+is_space octet = octet == 32
+
+abbrev pub behind_word : List ℕ → List ℕ
+behind_word octets = drop (position_or_len is_space octets) octets
+
+-- the word in front, and what stands behind it
+unfoldable pub next_word : List ℕ → List ℕ × List ℕ
+next_word octets = (before_first is_space (skip_spaces octets), behind_word (skip_spaces octets))
+
+abbrev pub is_marked : ℕ → Bool
+is_marked octet = octet == 34 || octet == 92
+
+abbrev pub next_octet : List ℕ → Option (ℕ × List ℕ)
+next_octet [] = None
+next_octet (x ∷ []) = if is_marked x then None else Some (x, [])
+next_octet (x ∷ y ∷ rest) = if x == 34 then None else (if x == 92 then (if is_marked y then Some (y, rest) else None) else Some (x, y ∷ rest))
+
+abbrev pub put : List ℕ → List ℕ × List ℕ → List ℕ × List ℕ
+put front x = (front ++ x.0, x.1)
+
+-- the octets of a quoted text, as far as they go, and what stands behind them
+unfoldable pub text_in_front : List ℕ → List ℕ × List ℕ
+text_in_front [] = ([], [])
+text_in_front (x ∷ []) = if is_marked x then ([], x ∷ []) else (x ∷ [], [])
+text_in_front (x ∷ y ∷ rest) = if x == 34 then ([], x ∷ y ∷ rest)
+    else (if x == 92 then (if is_marked y then put (y ∷ []) (text_in_front rest) else ([], x ∷ y ∷ rest)) else put (x ∷ []) (text_in_front (y ∷ rest)))
+
+abbrev pub ended : List ℕ → List ℕ → Option Data
+ended text [] = None
+ended text (octet ∷ rest) = if octet == 34 && (is_blank rest && nat_le (length text) 65536) then Some (Octet text) else None
+
+abbrev pub quoted_from : List ℕ → Option Data
+quoted_from [] = None
+quoted_from (octet ∷ front) = if octet == 34 then ended (text_in_front front).0 (text_in_front front).1 else None
+
+unfoldable pub quoted_in : List ℕ → Option Data
+quoted_in octets = quoted_from (skip_spaces octets)
+
+unfoldable pub payload_in : List ℕ → Option Data
+payload_in octets = let word = next_word octets in
+    if bytes_eq word.0 (codes "text") then quoted_in word.1 else (if bytes_eq word.0 (codes "none") && is_blank word.1 then Some Absent else None)
+
+unfoldable pub call_in : List ℕ → List ℕ → Option Op
+call_in service octets = let word = next_word octets in
+    if bytes_eq word.0 service then option_map (call_with service) (payload_in word.1) else None
+
+unfoldable pub client_in : List ℕ → Option (List ℕ)
+client_in octets = let word = next_word octets in
+    if is_blank word.1 && is_name word.0 then Some word.0 else None
+
+unfoldable pub line_of : List ℕ → List ℕ → Option Line
+line_of service line =
+    if not (list_all is_printed line) then None
+    else (if is_skipped line then Some Skipped
+    else (if bytes_eq (next_word line).0 (codes "client") then option_map (λ name. Client name) (client_in (next_word line).1)
+    else (if bytes_eq (next_word line).0 (codes "call") then option_map (λ op. Call op) (call_in service (next_word line).1)
+    else None)))

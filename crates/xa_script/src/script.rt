@@ -1,0 +1,288 @@
+ghost use Rattle.std.specs.Prelude.{◌≡◌, ◌∷◌, [], ◌<◌, ◌^◌, length, IfOk, IfErr, IfSome, MatchOption, Some};
+ghost use Rattle.std.specs.List.{position};
+ghost use Rattle.std.specs.Str.Lines.{lines, strip_carriage_return};
+ghost use Rattle.xa_types.specs.Name.{IsName};
+ghost use Rattle.xa_script.specs.Draft.{is_line_end};
+ghost use Rattle.xa_script.specs.Script.{IsScript, Tells, OneScript, NoFaultyScript, OneFirstFault};
+ghost use Rattle.xa_script.specs.ScriptLine.{line_of};
+ghost use Rattle.xa_script.specs.Draft.{kept, begun, added, with_line, read_all};
+
+use crate::script_line::{Line, read_line};
+use std::alloc::{AllocError, AllocFailed, Global};
+use std::marker::Model;
+use xa_types::{Name, NoMemory, Op, Sequence};
+
+/// A client of a script: its name and its calls, in order.
+#[derive(Debug, Drop)]
+pub struct Client {
+    pub name: Name,
+    pub ops: Sequence<Op>,
+}
+
+/// A script: its clients, in order.
+#[derive(Debug, Drop)]
+pub struct Script {
+    pub clients: Sequence<Client>,
+}
+
+/// Why a script was not read. Lines count from 1.
+#[derive(Clone, Copy, Debug, PartialEq, Eq)]
+pub enum ScriptRefused {
+    BadLine { line: u32, cause: u8 },
+    NoMemory,
+}
+
+impl From<NoMemory> for ScriptRefused {
+    ghost use Rattle.std.specs.Prelude.{◌≡◌};
+    ghost use Rattle.xa_script.specs.declared.script.ScriptRefused.TheVariants.{NoMemory};
+
+    ghost from_gives = { λ _ e. e ≡ NoMemory };
+
+    fn from(_: NoMemory) -> Self {
+        ScriptRefused::NoMemory
+    }
+}
+
+// What is read so far, seen as the list of its clients, of which there is at most one.
+#[derive(Drop)]
+struct Draft {
+    name: Option<Name>,
+    ops: Vec<Op>,
+}
+
+impl Model for Draft {
+    ghost use Rattle.std.specs.Prelude.{List};
+    ghost use Rattle.xa_script.specs.declared.script.Client.{Client};
+    ghost use Rattle.xa_script.specs.Draft.{drafted, IsBegun};
+
+    ghost Value = { List Client };
+
+    ghost view = { λ d. drafted d.name d.ops.items };
+
+    ghost invariant = { λ d. IsBegun d.name d.ops.items };
+}
+
+impl Draft {
+    fn new(alloc: Global) -> Draft
+        ensures { result ≡ [] }
+    {
+        Draft {
+            name: None,
+            ops: Vec::new(alloc),
+        }
+    }
+
+    fn begin(&mut self, name: Name) -> bool
+        ensures { kept result self.new ≡ begun self.old name }
+    {
+        if self.name.is_some() {
+            return false;
+        }
+        self.name = Some(name);
+        true
+    }
+
+    fn add(&mut self, op: Op) -> Result<bool, NoMemory>
+        ensures { IfOk result (λ taken. kept taken self.new ≡ added self.old op) }
+    {
+        if self.name.is_none() {
+            return Ok(false);
+        }
+        self.ops.push(op)?;
+        Ok(true)
+    }
+
+    fn take(&mut self, said: Line) -> Result<bool, NoMemory>
+        ensures { IfOk result (λ taken. kept taken self.new ≡ with_line self.old (Some said)) }
+    {
+        match said {
+            Line::Skipped => Ok(true),
+            Line::Client(name) => Ok(self.begin(name)),
+            Line::Call(op) => self.add(op),
+        }
+    }
+
+    // Whether the line goes on with the script.
+    fn take_line(&mut self, alloc: Global, line: &[u8], service: &[u8]) -> Result<bool, NoMemory>
+        ensures { IfOk result (λ taken. kept taken self.new ≡ with_line self.old (line_of service.now line.now)) }
+    {
+        match read_line(alloc, line, service)? {
+            None => Ok(false),
+            Some(said) => self.take(said),
+        }
+    }
+
+    fn finish(self, alloc: Global) -> Result<Script, NoMemory>
+        ensures { IfOk result (λ script. script.clients ≡ self) }
+    {
+        let Draft { name, ops } = self;
+        let mut clients = Vec::new(alloc);
+        if let Some(name) = name {
+            let ops = Sequence::from_vec(ops);
+            clients.push(Client { name, ops })?;
+        }
+        Ok(Script {
+            clients: Sequence::from_vec(clients),
+        })
+    }
+}
+
+fn without_return(line: &[u8]) -> &[u8]
+    ensures { result.now ≡ strip_carriage_return line.now }
+{
+    match line {
+        [front @ .., b'\r'] => front,
+        _ => line,
+    }
+}
+
+fn line_len(octets: &[u8]) -> Option<usize>
+    ensures { result ≡ position is_line_end octets.now }
+{
+    octets.iter().position(|octet| *octet == b'\n')
+}
+
+// The first line, and what stands behind it.
+fn next_line(octets: &[u8]) -> Option<(&[u8], &[u8])>
+    ensures line { MatchOption result (lines octets.now ≡ []) (λ x. lines octets.now ≡ x.0.now ∷ lines x.1.now) }
+    ensures shorter { IfSome result (λ x. length x.1.now < length octets.now) }
+{
+    if octets.is_empty() {
+        return None;
+    }
+    match line_len(octets) {
+        Some(end) => Some((without_return(&octets[..end]), &octets[end + 1..])),
+        None => Some((octets, &octets[octets.len()..])),
+    }
+}
+
+fn read_lines(alloc: Global, octets: &[u8], service: &[u8]) -> Result<Draft, ScriptRefused>
+    requires short { length octets.now < 2 ^ 32 }
+    requires named { IsName service.now }
+    ensures found { IfOk result (λ draft. read_all service.now [] (lines octets.now) ≡ Some draft) }
+    ensures refused { IfErr result (Tells service.now octets.now) }
+{
+    let mut draft = Draft::new(alloc);
+    let mut rest = octets;
+    let mut line = 0;
+    while let Some((text, behind)) = next_line(rest) {
+        line += 1;
+        if !draft.take_line(alloc, text, service)? {
+            return Err(ScriptRefused::BadLine { line, cause: 9 });
+        }
+        rest = behind;
+    }
+    Ok(draft)
+}
+
+/// Reads a script whose calls go to that service. Each call becomes a tpcall without flags.
+///
+/// A refusal is for want of memory, or names with cause 9 the first line that breaks the form.
+pub fn read_script(alloc: Global, octets: &[u8], service: &Name) -> Result<Script, ScriptRefused>
+    requires { length octets.now < 2 ^ 32 }
+    ensures found { IfOk result (λ script. IsScript service.now octets.now script) }
+    ensures refused { IfErr result (Tells service.now octets.now) }
+{
+    let draft = read_lines(alloc, octets, service.octets())?;
+    Ok(draft.finish(alloc)?)
+}
+
+/// What `read_script` answers is determined: the octets are one script at most, and none where a line breaks the
+/// form; and one line at most is the first that does.
+pub fn one_reading()
+    ensures script { OneScript }
+    ensures fault { NoFaultyScript }
+    ensures line { OneFirstFault }
+{}
+
+#[cfg(test)]
+mod tests {
+    use super::{Script, ScriptRefused, read_script};
+    use std::test::Fail;
+    use xa_types::{Ask, Data, Name, Op};
+
+    fn calls(script: &Script) -> &[Op] {
+        match script.clients.slice() {
+            [client] => client.ops.slice(),
+            _ => &[],
+        }
+    }
+
+    fn last_text(script: &Script) -> &[u8] {
+        match calls(script) {
+            [
+                ..,
+                Op::Call(
+                    Ask {
+                        payload: Data::Octet(octets),
+                        ..
+                    },
+                ),
+            ] => octets.slice(),
+            _ => b"",
+        }
+    }
+
+    #[test]
+    fn built_lines_are_read(rt: HostRuntime) -> Result<(), Fail> {
+        let service = Name::read(b"TEST1")?;
+        let cases: [(&[u8], usize, &[u8]); 7] = [
+            (b"", 0, b""),
+            (b"\r\n\n", 0, b""),
+            (b"client a", 0, b""),
+            (b"client a\r\ncall TEST1 none\r\n", 1, b""),
+            (
+                b"# c\n\n   \n  client  a \n#x\n call  TEST1   text  \"hello\"  ",
+                1,
+                b"hello",
+            ),
+            (
+                b"client a\ncall TEST1 none\ncall TEST1 text \"a\\\"b\\\\c # d\"\n",
+                2,
+                b"a\"b\\c # d",
+            ),
+            (b"client a\ncall TEST1 text \"\"", 1, b""),
+        ];
+        for (octets, count, text) in cases {
+            assert!(rt; octets.len() < 1000);
+            let script = read_script(rt.alloc(), octets, &service)?;
+            assert_eq!(rt; calls(&script).len(), count);
+            assert_eq!(rt; last_text(&script), text);
+        }
+        Ok(())
+    }
+
+    #[test]
+    fn the_first_faulty_line_is_told(rt: HostRuntime) -> Result<(), Fail> {
+        let service = Name::read(b"TEST1")?;
+        let cases: [(&[u8], u32); 18] = [
+            (b"client a\ntick 1\n", 2),
+            (b"\n# c\n\nclient a\n\ncall TEST1 none\ncall TEST1\nx", 7),
+            (b"call TEST1 none\n", 1),
+            (b"client a\nclient b\n", 2),
+            (b"client a\ncall TEST2 none\n", 2),
+            (b"client a\ncall TEST1 text \"hello\n", 2),
+            (b"client a\ncall TEST1 text \"hello\"x\n", 2),
+            (b"client a\ncall TEST1 text \"hello\" x\n", 2),
+            (b"client a\ncall TEST1 text \"a\\n\"\n", 2),
+            (b"client a\ncall TEST1 text hello\n", 2),
+            (b"client a\ncall TEST1 none none\n", 2),
+            (b"client a\ncall TEST1 text \"\x80\"\n", 2),
+            (b"client a\n# \x80\n", 2),
+            (b"client\ta\n", 1),
+            (b"client .a\n", 1),
+            (b"client a b\n", 1),
+            (b"clienta\n", 1),
+            (b"client a\r", 1),
+        ];
+        for (octets, line) in cases {
+            assert!(rt; octets.len() < 1000);
+            let read = read_script(rt.alloc(), octets, &service);
+            assert!(rt;
+                matches!(&read, Err(ScriptRefused::BadLine { line: l, cause: 9 }) if *l == line),
+                "at line {line}"
+            );
+        }
+        Ok(())
+    }
+}

@@ -1,0 +1,266 @@
+ghost use Rattle.std.specs.Prelude.{◌≡◌, ◌++◌, ◌+◌, ◌==◌, ◌<◌, ◌∷◌, [], if◌then◌else◌, OnOk, OnErr, IfErr, codes, decimal};
+ghost use Rattle.std.specs.Fmt.{signed_decimal};
+ghost use Rattle.xa_types.specs.Fault.{fault_text, event_text};
+ghost use Rattle.std.specs.List.{flat_map};
+ghost use Rattle.xa_text.specs.Line.{hex_digit, hex_pair, hex, data_text, coded, answer_text, event_rest, reply_text, call_text, line_text, Begins};
+
+use itoa::Buffer;
+use xa_types::{Answer, ConvEvent, Data, Name, NoMemory, Reply};
+
+fn hex_digit(n: u8) -> u8
+    requires { n < 16 }
+    ensures { result ≡ hex_digit n }
+{
+    if n < 10 { b'0' + n } else { b'a' - 10 + n }
+}
+
+fn push_text(out: &mut Vec<u8>, text: &[u8]) -> Result<(), NoMemory>
+    ensures ok { OnOk result (out.new.items ≡ out.old.items ++ text.now) }
+    ensures err { OnErr result (Begins out.old.items out.new.items) }
+{
+    Ok(out.extend_from_slice(text)?)
+}
+
+fn push_number(out: &mut Vec<u8>, number: u64) -> Result<(), NoMemory>
+    ensures ok { OnOk result (out.new.items ≡ out.old.items ++ decimal number) }
+    ensures err { OnErr result (Begins out.old.items out.new.items) }
+{
+    push_text(out, Buffer::new().format(number).as_bytes())
+}
+
+fn push_code(out: &mut Vec<u8>, code: i32) -> Result<(), NoMemory>
+    ensures ok { OnOk result (out.new.items ≡ out.old.items ++ signed_decimal code) }
+    ensures err { OnErr result (Begins out.old.items out.new.items) }
+{
+    push_text(out, Buffer::new().format(code).as_bytes())
+}
+
+fn push_pair(out: &mut Vec<u8>, octet: u8) -> Result<(), NoMemory>
+    ensures ok { OnOk result (out.new.items ≡ out.old.items ++ hex_pair octet) }
+    ensures err { OnErr result (Begins out.old.items out.new.items) }
+{
+    out.push(hex_digit(octet / 16))?;
+    Ok(out.push(hex_digit(octet % 16))?)
+}
+
+fn push_pairs(out: &mut Vec<u8>, octets: &[u8]) -> Result<(), NoMemory>
+    ensures ok { OnOk result (out.new.items ≡ out.old.items ++ flat_map hex_pair octets.now) }
+    ensures err { OnErr result (Begins out.old.items out.new.items) }
+{
+    for octet in octets {
+        push_pair(out, *octet)?;
+    }
+    Ok(())
+}
+
+fn push_hex(out: &mut Vec<u8>, octets: &[u8]) -> Result<(), NoMemory>
+    ensures ok { OnOk result (out.new.items ≡ out.old.items ++ hex octets.now) }
+    ensures err { OnErr result (Begins out.old.items out.new.items) }
+{
+    if octets.is_empty() {
+        return push_text(out, b"-");
+    }
+    push_pairs(out, octets)
+}
+
+fn push_data(out: &mut Vec<u8>, payload: &Data) -> Result<(), NoMemory>
+    ensures ok { OnOk result (out.new.items ≡ out.old.items ++ data_text payload.now) }
+    ensures err { OnErr result (Begins out.old.items out.new.items) }
+{
+    match payload {
+        Data::Absent => push_text(out, b"none"),
+        Data::Octet(octets) => {
+            push_text(out, b"octet ")?;
+            push_hex(out, octets.slice())
+        }
+        Data::Struct(subtype, octets) => {
+            push_text(out, b"c:")?;
+            push_text(out, subtype.octets())?;
+            push_text(out, b" ")?;
+            push_hex(out, octets.slice())
+        }
+    }
+}
+
+fn push_coded(out: &mut Vec<u8>, code: i32, payload: &Data) -> Result<(), NoMemory>
+    ensures ok { OnOk result (out.new.items ≡ out.old.items ++ coded code payload.now) }
+    ensures err { OnErr result (Begins out.old.items out.new.items) }
+{
+    push_text(out, b" ")?;
+    push_code(out, code)?;
+    push_text(out, b" ")?;
+    push_data(out, payload)
+}
+
+fn push_answer(out: &mut Vec<u8>, answer: &Answer) -> Result<(), NoMemory>
+    ensures ok { OnOk result (out.new.items ≡ out.old.items ++ answer_text answer.now) }
+    ensures err { OnErr result (Begins out.old.items out.new.items) }
+{
+    match answer {
+        Answer::Success(code, payload) => {
+            push_text(out, b"OK")?;
+            push_coded(out, *code, payload)
+        }
+        Answer::Failed(code, payload) => {
+            push_text(out, b"TPESVCFAIL")?;
+            push_coded(out, *code, payload)
+        }
+        Answer::Error(fault) => push_text(out, fault.text().as_bytes()),
+    }
+}
+
+fn push_descriptor(out: &mut Vec<u8>, descriptor: u64) -> Result<(), NoMemory>
+    ensures ok { OnOk result (out.new.items
+        ≡ out.old.items ++ (if descriptor == 0 then [] else codes "CD " ++ decimal descriptor ++ codes " ")) }
+    ensures err { OnErr result (Begins out.old.items out.new.items) }
+{
+    if descriptor == 0 {
+        return Ok(());
+    }
+    push_text(out, b"CD ")?;
+    push_number(out, descriptor)?;
+    push_text(out, b" ")
+}
+
+fn push_event_rest(
+    out: &mut Vec<u8>,
+    event: ConvEvent,
+    code: i32,
+    payload: &Data,
+) -> Result<(), NoMemory>
+    ensures ok { OnOk result (out.new.items ≡ out.old.items ++ event_rest event code payload.now) }
+    ensures err { OnErr result (Begins out.old.items out.new.items) }
+{
+    match event {
+        ConvEvent::SendOnly => {
+            push_text(out, b" ")?;
+            push_data(out, payload)
+        }
+        ConvEvent::SvcFail | ConvEvent::SvcSucc => push_coded(out, code, payload),
+        ConvEvent::DisconImm | ConvEvent::SvcErr | ConvEvent::NoMemory => Ok(()),
+    }
+}
+
+fn push_reply(out: &mut Vec<u8>, reply: &Reply) -> Result<(), NoMemory>
+    ensures ok { OnOk result (out.new.items ≡ out.old.items ++ reply_text reply.now) }
+    ensures err { OnErr result (Begins out.old.items out.new.items) }
+{
+    match reply {
+        Reply::Done => push_text(out, b"DONE"),
+        Reply::Descriptor(descriptor) => {
+            push_text(out, b"CD ")?;
+            push_number(out, *descriptor)
+        }
+        Reply::Now(tick) => {
+            push_text(out, b"NOW ")?;
+            push_number(out, *tick)
+        }
+        Reply::Answered(descriptor, answer) => {
+            push_descriptor(out, *descriptor)?;
+            push_answer(out, answer)
+        }
+        Reply::Message(payload) => {
+            push_text(out, b"DATA ")?;
+            push_data(out, payload)
+        }
+        Reply::Event(event, code, payload) => {
+            push_text(out, b"TPEEVENT ")?;
+            push_text(out, event.text().as_bytes())?;
+            push_event_rest(out, *event, *code, payload)
+        }
+        Reply::Fault(fault) => push_text(out, fault.text().as_bytes()),
+    }
+}
+
+fn push_call(out: &mut Vec<u8>, name: &Name, op: u32) -> Result<(), NoMemory>
+    ensures ok { OnOk result (out.new.items ≡ out.old.items ++ call_text name.now op) }
+    ensures err { OnErr result (Begins out.old.items out.new.items) }
+{
+    push_text(out, name.octets())?;
+    push_text(out, b" ")?;
+    push_number(out, u64::from(op))?;
+    push_text(out, b" ")
+}
+
+/// Puts one line of the transcript at the end: what the client of that name was told of its call with that number.
+/// Where memory runs out a part of the line may stand there.
+pub fn push_line(out: &mut Vec<u8>, name: &Name, op: u32, reply: &Reply) -> Result<(), NoMemory>
+    ensures ok { OnOk result (out.new.items ≡ out.old.items ++ line_text name.now op reply.now) }
+    ensures err { OnErr result (Begins out.old.items out.new.items) }
+{
+    push_call(out, name, op)?;
+    push_reply(out, reply)?;
+    push_text(out, b"\n")
+}
+
+#[cfg(test)]
+mod tests {
+    use super::push_line;
+    use std::alloc::Global;
+    use std::test::Fail;
+    use xa_types::{Answer, ConvEvent, Data, Fault, Name, Octets, Reply};
+
+    fn told(alloc: Global) -> Result<[(Reply, &'static [u8]); 9], Fail> {
+        let entry = Name::read(b"entry")?;
+        Ok([
+            (
+                Reply::Answered(
+                    0,
+                    Answer::Success(0, Data::Octet(Octets::of(alloc, b"hello")?)),
+                ),
+                b"a 1 OK 0 octet 68656c6c6f\n",
+            ),
+            (
+                Reply::Answered(0, Answer::Success(0, Data::Absent)),
+                b"a 1 OK 0 none\n",
+            ),
+            (
+                Reply::Answered(0, Answer::Success(0, Data::Octet(Octets::of(alloc, b"")?))),
+                b"a 1 OK 0 octet -\n",
+            ),
+            (
+                Reply::Answered(0, Answer::Failed(7, Data::Octet(Octets::of(alloc, b"no")?))),
+                b"a 1 TPESVCFAIL 7 octet 6e6f\n",
+            ),
+            (
+                Reply::Answered(1, Answer::Error(Fault::OType)),
+                b"a 1 CD 1 TPEOTYPE\n",
+            ),
+            (
+                Reply::Answered(
+                    12,
+                    Answer::Success(
+                        -40,
+                        Data::Struct(entry, Octets::of(alloc, b"\x00\x7f\xff")?),
+                    ),
+                ),
+                b"a 1 CD 12 OK -40 c:entry 007fff\n",
+            ),
+            (
+                Reply::Event(
+                    ConvEvent::SvcSucc,
+                    3,
+                    Data::Octet(Octets::of(alloc, b"bye")?),
+                ),
+                b"a 1 TPEEVENT TPEV_SVCSUCC 3 octet 627965\n",
+            ),
+            (
+                Reply::Now(18446744073709551615),
+                b"a 1 NOW 18446744073709551615\n",
+            ),
+            (Reply::Done, b"a 1 DONE\n"),
+        ])
+    }
+
+    #[test]
+    fn lines_read_as_they_should(rt: HostRuntime) -> Result<(), Fail> {
+        let alloc = rt.alloc();
+        let name = Name::read(b"a")?;
+        for (reply, line) in told(alloc)? {
+            let mut out = Vec::new(alloc);
+            push_line(&mut out, &name, 1, &reply)?;
+            assert_eq!(rt; out.as_slice(), line);
+        }
+        Ok(())
+    }
+}
