@@ -1,9 +1,10 @@
 -- Quoted texts: what reading them gives.
-use Rattle.std.proofs.Common.{◌≡◌, ℕ, ◌==◌, Bool, true, false, cond, List, [], ◌∷◌, ◌++◌, Some, None, unwrap_or, refl, ap, sym, ◌∙◌, append_assoc, ◌||◌, ◌&&◌}
-use Rattle.std.specs.List.{flat_map, list_all}
+use Rattle.std.proofs.Common.{◌≡◌, ℕ, suc, ◌==◌, not, Bool, true, false, cond, List, [], ◌∷◌, ◌++◌, ◌+◌, ◌≤◌, nat_lt, take, drop, arith, Option, Some, None, unwrap_or, refl, ap, sym, ◌∙◌, append_assoc, ◌||◌, ◌&&◌}
+use Rattle.std.specs.List.{flat_map, list_all, position_or_len}
 use Rattle.std.proofs.lemmas.List.Folds.{list_all-append}
 use Rattle.std.proofs.Math.Bool.{and-true}
 use Rattle.std.proofs.lemmas.Bool.{eqb-true}
+use Rattle.std.proofs.lemmas.Bool.Decides.{nat_tests}
 use Rattle.xa_script.specs.Script.{escaped, is_printed}
 use Rattle.xa_script.specs.ScriptLine.{next_octet, is_marked, put, text_in_front}
 
@@ -162,3 +163,39 @@ printed_text [] = refl
 printed_text (x ∷ text) =
     list_all-append is_printed (escaped x) (flat_map escaped text)
     ∙ ap (λ b. b && list_all is_printed (flat_map escaped text)) (printed_octet x) ∙ ap (λ b. is_printed x && b) (printed_text text)
+
+unmarked : (x : ℕ) (more : List ℕ) → is_marked x ≡ false → next_octet (x ∷ more) ≡ Some (spelled x more)
+unmarked x [] h = ap (λ m. cond m None (Some (spelled x []))) h
+unmarked x (y ∷ more) h = grind arith
+
+at_mark : (x : ℕ) (more : List ℕ) → is_marked x ≡ true → position_or_len is_marked (x ∷ more) ≡ 0
+at_mark x more h = ap (λ m. cond (not m) (1 + position_or_len is_marked more) 0) h
+
+one_more : (n : ℕ) → 1 + n ≡ suc n
+one_more n = grind arith
+
+past_plain : (x : ℕ) (more : List ℕ) → is_marked x ≡ false → position_or_len is_marked (x ∷ more) ≡ suc (position_or_len is_marked more)
+past_plain x more h = ap (λ m. cond (not m) (1 + position_or_len is_marked more) 0) h ∙ one_more (position_or_len is_marked more)
+
+abbrev pub split : ℕ → List ℕ → List ℕ × List ℕ
+split n xs = put (take n xs) (text_in_front (drop n xs))
+
+abbrev split_here : List ℕ → List ℕ × List ℕ
+split_here xs = split (position_or_len is_marked xs) xs
+
+by_mark : (x : ℕ) (more : List ℕ) (m : Bool) → is_marked x ≡ m → split_here more ≡ text_in_front more → split_here (x ∷ more) ≡ text_in_front (x ∷ more)
+by_mark x more true h rest = ap (λ n. split n (x ∷ more)) (at_mark x more h)
+by_mark x more false h rest =
+    ap (λ n. split n (x ∷ more)) (past_plain x more h)
+    ∙ sym (put-put (x ∷ []) (take (position_or_len is_marked more) more) (text_in_front (drop (position_or_len is_marked more) more)))
+    ∙ ap (λ found. put (x ∷ []) found) rest
+    ∙ sym (one_octet (x ∷ more) x more (unmarked x more h))
+
+-- the octets before the first mark are the text's first
+pub plain_octets : (xs : List ℕ) → split_here xs ≡ text_in_front xs
+plain_octets [] = refl
+plain_octets (x ∷ more) = by_mark x more (is_marked x) refl (plain_octets more)
+
+-- a place that is found, or else the end
+pub unwrapped : (place n : ℕ) → place ≤ n → unwrap_or (cond (nat_lt place n) (Some place) None) n ≡ place
+unwrapped place n within = elim (nat_lt place n) as (λ b. nat_lt place n ≡ b → unwrap_or (cond b (Some place) None) n ≡ place) [ true ↦ λ e. refl | false ↦ λ e. grind (arith, nat_tests) ] refl

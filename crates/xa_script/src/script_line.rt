@@ -1,7 +1,7 @@
 ghost use Rattle.std.specs.Prelude.{◌≡◌, ◌==◌, ◌<◌, ◌≤◌, IfOk, MatchOption, Some, None, length, option_map};
 ghost use Rattle.std.specs.List.{list_all, position, position_or_len};
 ghost use Rattle.xa_script.specs.Script.{is_printed};
-ghost use Rattle.xa_script.specs.ScriptLine.{skip_spaces, is_blank, is_space, next_word, is_skipped, next_octet, text_in_front, quoted_in, payload_in, call_in, client_in, line_of};
+ghost use Rattle.xa_script.specs.ScriptLine.{skip_spaces, is_blank, is_space, next_word, is_skipped, next_octet, is_marked, put, text_in_front, quoted_in, payload_in, call_in, client_in, line_of};
 
 use std::alloc::Global;
 use xa_types::{Ask, CallFlags, Data, Direction, Name, NoMemory, Octets, Op};
@@ -79,13 +79,33 @@ fn next_octet(octets: &[u8]) -> Option<(u8, &[u8])>
     }
 }
 
+fn is_marked(octet: u8) -> bool
+    ensures { result ≡ is_marked octet }
+{
+    octet == b'"' || octet == b'\\'
+}
+
+fn place_of_mark(octets: &[u8]) -> Option<usize>
+    ensures { result ≡ position is_marked octets.now }
+{
+    octets.iter().position(|octet| is_marked(*octet))
+}
+
+// The octets before the first double quote or backslash, and what stands behind them.
+fn plain_in_front(octets: &[u8]) -> (&[u8], &[u8])
+    ensures { put result.0.now (text_in_front result.1.now) ≡ text_in_front octets.now }
+{
+    octets.split_at(place_of_mark(octets).unwrap_or(octets.len()))
+}
+
 // The quoted text in front, as far as it goes, and what stands behind it.
 fn text_in_front(alloc: Global, octets: &[u8]) -> Result<(Vec<u8>, &[u8]), NoMemory>
     ensures text { IfOk result (λ x. x.0.items ≡ (text_in_front octets.now).0) }
     ensures rest { IfOk result (λ x. x.1.now ≡ (text_in_front octets.now).1) }
 {
+    let (plain, mut rest) = plain_in_front(octets);
     let mut text = Vec::with_capacity(alloc, octets.len())?;
-    let mut rest = octets;
+    text.extend_from_slice(plain)?;
     while let Some((octet, after)) = next_octet(rest) {
         text.push(octet)?;
         rest = after;

@@ -35,12 +35,20 @@ fn push_code(out: &mut Vec<u8>, code: i32) -> Result<(), NoMemory>
     push_text(out, Buffer::new().format(code).as_bytes())
 }
 
+fn push_pair(out: &mut Vec<u8>, octet: u8) -> Result<(), NoMemory>
+    ensures ok { OnOk result (out.new.items ≡ out.old.items ++ hex_pair octet) }
+    ensures err { OnErr result (Begins out.old.items out.new.items) }
+{
+    out.push(hex_digit(octet / 16))?;
+    Ok(out.push(hex_digit(octet % 16))?)
+}
+
 fn push_pairs(out: &mut Vec<u8>, octets: &[u8]) -> Result<(), NoMemory>
     ensures ok { OnOk result (out.new.items ≡ out.old.items ++ flat_map hex_pair octets.now) }
     ensures err { OnErr result (Begins out.old.items out.new.items) }
 {
     for octet in octets {
-        push_text(out, &[hex_digit(*octet / 16), hex_digit(*octet % 16)])?;
+        push_pair(out, *octet)?;
     }
     Ok(())
 }

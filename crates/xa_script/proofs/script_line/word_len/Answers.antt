@@ -1,11 +1,8 @@
 use Rattle.std.proofs.Common.{◌≡◌, ℕ, ◌≤◌, not, length, cond, nat_lt, Some, None, unwrap_or, true, false, sym, ap, ◌∙◌, refl, subst, arith}
 use Rattle.std.proofs.lemmas.List.Sums.{prefix_len-le-length}
-use Rattle.std.proofs.lemmas.Bool.Decides.{nat_tests}
 use Rattle.xa_script.specs.ScriptLine.{is_space}
+use Rattle.xa_script.proofs.ScriptText.{unwrapped}
 use Rattle.xa_script.proofs.script_line.word_len.Goals as goal
-
-unwrapped : (place n : ℕ) → place ≤ n → unwrap_or (cond (nat_lt place n) (Some place) None) n ≡ place
-unwrapped place n within = elim (nat_lt place n) as (λ b. nat_lt place n ≡ b → unwrap_or (cond b (Some place) None) n ≡ place) [ true ↦ λ e. refl | false ↦ λ e. grind (arith, nat_tests) ] refl
 
 pub returns-clause-place : goal.returns-clause-place
 returns-clause-place c =
