@@ -1,5 +1,5 @@
-use crate::{LocalYard, Status, child_work};
 use crate::setup::play_setup;
+use crate::{LocalYard, Status, child_work};
 use std::test::Fail;
 use xa_link::{MemorySink, MemorySource, Source, Starter, Yard, put};
 use xa_types::{Generation, Name, Octets, Setup};
