@@ -1,5 +1,5 @@
 // A script is served, and its transcript is written.
-ghost use Rattle.std.specs.Prelude.{◌≡◌, ◌∷◌, ◌++◌, ◌<◌, [], vec_len, vec_capacity, MatchResult};
+ghost use Rattle.std.specs.Prelude.{◌≡◌, ◌∷◌, ◌++◌, ◌<◌, [], vec_len, vec_capacity, IfOk, MatchResult};
 ghost use Rattle.xa_link.specs.Told.{Empty};
 ghost use Rattle.xa_events.specs.declared.event.Event.TheVariants.{Advertise};
 ghost use Rattle.xa_program.specs.Progress.{advertise, status_of, IsBuiltScript, Printed, ServingEnds};
@@ -15,7 +15,7 @@ use std::alloc::Global;
 use xa_events::Event;
 use xa_link::{Link, Sink, StartRefused, Starter, put};
 use xa_script::Script;
-use xa_types::Name;
+use xa_types::{Data, Name, NoMemory, Op};
 
 /// How a script was served.
 pub struct Served<L> {
@@ -35,6 +35,37 @@ impl From<Halt> for Status {
     }
 }
 
+// About how many octets the line of a call takes.
+fn line_room(op: &Op) -> usize {
+    let Op::Call(ask) = op else {
+        return 0;
+    };
+    let octets = match &ask.payload {
+        Data::Absent => 0,
+        Data::Octet(octets) | Data::Struct(_, octets) => octets.slice().len(),
+    };
+    octets.saturating_mul(2).saturating_add(48)
+}
+
+// Room for the events and the lines of a script, so that neither moves as it grows.
+fn account_for(alloc: Global, script: &Script) -> Result<Account, NoMemory>
+    ensures history { IfOk result (λ account. account.history.items ≡ []) }
+    ensures lines { IfOk result (λ account. account.lines.items ≡ []) }
+{
+    let mut events = 8usize;
+    let mut octets = 0usize;
+    for client in script.clients.slice() {
+        for op in client.ops.slice() {
+            events = events.saturating_add(4);
+            octets = octets.saturating_add(line_room(op));
+        }
+    }
+    Ok(Account {
+        history: Vec::with_capacity(alloc, events)?,
+        lines: Vec::with_capacity(alloc, octets)?,
+    })
+}
+
 /// Starts the server, serves the script, and writes the transcript.
 pub fn perform<O: Sink, L: Link, S: Starter<L>>(
     alloc: Global,
@@ -47,12 +78,11 @@ pub fn perform<O: Sink, L: Link, S: Starter<L>>(
     ensures { ServingEnds L.took L.gave (O.took out.old) (O.took out.new) (O.write_faults out.old) (O.write_faults out.new)
         service.now script.now.clients result.status result.history.items result.lives.items }
 {
-    let mut account = Account {
-        history: Vec::new(alloc),
-        lines: Vec::new(alloc),
+    let Ok(mut account) = account_for(alloc, script) else {
+        return stopped(alloc, Vec::new(alloc), Status::NoMemory);
     };
     let Ok(lives) = Vec::with_capacity(alloc, 1) else {
-        return stopped(alloc, account, Status::NoMemory);
+        return stopped(alloc, account.history, Status::NoMemory);
     };
     if note_boot(&mut account.history, service).is_err() {
         return not_started(account, lives, Status::NoMemory);
@@ -64,12 +94,12 @@ pub fn perform<O: Sink, L: Link, S: Starter<L>>(
     }
 }
 
-fn stopped<L>(alloc: Global, account: Account, status: Status) -> Served<L>
+fn stopped<L>(alloc: Global, history: Vec<Event>, status: Status) -> Served<L>
     ensures { result.status ≡ status }
 {
     Served {
         status,
-        history: account.history,
+        history,
         lives: Vec::new(alloc),
     }
 }
