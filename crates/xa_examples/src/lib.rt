@@ -1,0 +1,38 @@
+//! Worked examples of the machine's definitions: histories written out event by event, of which the checker computes
+//! that they are runs, that the calls became what they may, and what the client was told. No crate stands on this one.
+#![tactic(auto)]
+
+ghost use Rattle.std.specs.Prelude.{◌≡◌, reverse, [], ◌∷◌};
+ghost use Rattle.xa_types.specs.declared.fault.Fault.TheVariants.{SvcErr, NoEnt, Inval};
+ghost use Rattle.xa_types.specs.declared.reply.Answer.TheVariants.{Success, Error};
+ghost use Rattle.xa_types.specs.declared.reply.Reply.TheVariants.{Answered, Fault};
+ghost use Rattle.xa_events.specs.Run.{Run, IsFinal};
+ghost use Rattle.xa_events.specs.State.{opening};
+ghost use Rattle.xa_events.specs.Calls.{MadeCalls};
+ghost use Rattle.xa_events.specs.Said.{reply_at};
+ghost use Rattle.xa_examples.specs.Histories.{bank, after, answered, died, refused, hello, none, dotted, greeting};
+
+/// A tpcall of ECHO with `hello` comes back with its data.
+pub fn a_call_is_answered()
+    ensures run { Run (opening bank 1) answered (after answered) }
+    ensures calls { MadeCalls bank 1 (hello ∷ []) (reverse answered) }
+    ensures last { IsFinal (after answered) }
+    ensures told { reply_at (reverse answered) 1 1 ≡ Answered 0 (Success greeting.0 greeting.1) }
+{}
+
+/// The server dies with the call in hand: TPESVCERR. Its queue goes down, and the next call finds no row: TPENOENT.
+pub fn a_server_dies()
+    ensures run { Run (opening bank 1) died (after died) }
+    ensures calls { MadeCalls bank 1 (hello ∷ none ∷ []) (reverse died) }
+    ensures last { IsFinal (after died) }
+    ensures told { reply_at (reverse died) 1 1 ≡ Answered 0 (Error SvcErr) }
+    ensures then_told { reply_at (reverse died) 1 2 ≡ Fault NoEnt }
+{}
+
+/// A service that is no name: TPEINVAL.
+pub fn a_call_is_refused()
+    ensures run { Run (opening bank 1) refused (after refused) }
+    ensures calls { MadeCalls bank 1 (dotted ∷ []) (reverse refused) }
+    ensures last { IsFinal (after refused) }
+    ensures told { reply_at (reverse refused) 1 1 ≡ Fault Inval }
+{}
