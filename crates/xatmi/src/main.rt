@@ -8,20 +8,21 @@ use xa_link::{ChildYard, FileShelf, OpenGate, ReadSource, WriteSink};
 use xa_program::{Input, Outcome, Status, run};
 
 // The word that this program was started by, and the words after it.
-fn read_words<R: Env + AllocGlobal>(rt: &R) -> io::Result<(String, Vec<String>)> {
-    let mut args = env::args(rt)?;
+fn read_words<R: Env + AllocGlobal>(rt: &R) -> Result<(String, Vec<String>), Status> {
+    let mut args = env::args(rt).map_err(|_| Status::Usage)?;
     let program = args.next().unwrap_or(String::new(rt.alloc()));
     let mut words = Vec::new(rt.alloc());
     for word in args {
-        words.push(word)?;
+        words.push(word).map_err(|_| Status::NoMemory)?;
     }
     Ok((program, words))
 }
 
 // Runs the command. The processes that it started are waited for before it answers.
 fn run_command(rt: HostRuntime) -> Status {
-    let Ok((program, words)) = read_words(&rt) else {
-        return Status::Usage;
+    let (program, words) = match read_words(&rt) {
+        Ok(read) => read,
+        Err(status) => return status,
     };
     let Outcome {
         status,
