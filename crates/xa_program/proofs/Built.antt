@@ -1,19 +1,18 @@
 -- The calls of a script that is built may be served, and are few.
-use Rattle.std.proofs.Common.{◌≡◌, ℕ, zero, suc, ◌+◌, ◌-◌, ◌<◌, ◌≤◌, ◌^◌, Bool, true, false, List, [], ◌∷◌, ◌++◌, length, take, drop, Option, Some, None, inl, inr, ◌⊎◌, refl, sym, ◌∙◌, ap, subst, arith, length-drop, le-leb, leb}
-use Rattle.std.specs.Prelude.{All, IfSome}
+use Rattle.std.proofs.Common.{◌≡◌, ℕ, zero, suc, ◌+◌, ◌-◌, ◌<◌, ◌≤◌, ◌^◌, true, List, [], ◌∷◌, length, drop, Option, Some, None, inl, inr, refl, sym, subst, arith, length-drop, le-leb}
+use Rattle.std.specs.Prelude.{All}
 use Rattle.std.specs.List.{position}
-use Rattle.std.specs.Str.Lines.{lines, strip_carriage_return}
+use Rattle.std.specs.Str.Lines.{lines}
 use Rattle.std.proofs.lemmas.List.Elements.{All-cons}
 use Rattle.xa_types.specs.Name.{IsName}
 use Rattle.xa_types.specs.declared.data.Data.{Data}
 use Rattle.xa_types.specs.declared.data.Data.TheVariants.{Absent, Octet, Struct}
 use Rattle.xa_types.specs.declared.call.Op.{Op}
 use Rattle.xa_types.specs.Kind.{is_sound}
-use Rattle.xa_events.specs.Calls.{is_invalid_call}
 use Rattle.xa_script.specs.declared.script.Client.{Client}
 use Rattle.xa_program.specs.PlaySetup.{play_setup}
-use Rattle.xa_program.specs.Progress.{IsBuilt, IsBuiltOp, IsBuiltScript}
-use Rattle.xa_script.specs.Script.{Reads, ReadsCalls, IsWritten, call_with, no_flags}
+use Rattle.xa_program.specs.Progress.{IsBuiltOp, IsBuiltScript}
+use Rattle.xa_script.specs.Script.{Reads, ReadsCalls, IsWritten, call_with}
 use Rattle.xa_script.specs.Draft.{is_line_end}
 use Rattle.xa_script.proofs.ScriptCut.{lines_at, lines_last}
 

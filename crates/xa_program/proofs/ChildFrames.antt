@@ -1,8 +1,8 @@
 -- Lists of a child's frames, and their spellings.
-use Rattle.std.proofs.Common.{◌≡◌, ℕ, ◌+◌, ◌<◌, ◌^◌, ◌==◌, ◌&&◌, Bool, true, false, if◌then◌else◌, pos, List, [], ◌∷◌, ◌++◌, append_assoc, append-nil, length, take, get_or, add-one, refl, sym, ◌∙◌, ap, subst, arith, rules}
+use Rattle.std.proofs.Common.{◌≡◌, ℕ, ◌+◌, ◌<◌, ◌^◌, ◌&&◌, Bool, true, false, if◌then◌else◌, pos, List, [], ◌∷◌, ◌++◌, append_assoc, append-nil, length, take, get_or, add-one, refl, sym, ◌∙◌, ap, arith, rules}
 use Rattle.std.proofs.Math.Bool.{and_assoc}
 use Rattle.std.proofs.Math.Seq.{take-suc}
-use Rattle.std.proofs.lemmas.List.Elements.{All-nil, All-cons, All-append}
+use Rattle.std.proofs.lemmas.List.Elements.{All-nil, All-cons}
 use Rattle.std.specs.List.{All}
 use Rattle.xa_types.specs.Name.{IsName}
 use Rattle.xa_types.specs.declared.data.Data.{Data}
@@ -12,7 +12,7 @@ use Rattle.xa_frame.specs.declared.frame.Frame.{Frame}
 use Rattle.xa_frame.specs.declared.frame.Body.{Body}
 use Rattle.xa_frame.specs.declared.frame.Body.TheVariants.{Ready, Next, Return, Invoke, Shutdown}
 use Rattle.xa_frame.specs.Spelling.{spelled, all_spelled, HasSpelling, IsBody, IsData}
-use Rattle.xa_program.specs.Child.{ChildState, admits, admits_all, after, after_all, answer, answer_body, said, greeting, returned, served, next, is_die, is_echo}
+use Rattle.xa_program.specs.Child.{ChildState, admits, admits_all, after, after_all, answer, answer_body, said, greeting, returned, next, is_die, is_echo}
 
 pub all_spelled-append : (xs ys : List Frame) → all_spelled (xs ++ ys) ≡ all_spelled xs ++ all_spelled ys
 all_spelled-append [] ys = refl

@@ -1,21 +1,20 @@
 -- The reads of a server's program, one after another.
-use Rattle.std.proofs.Common.{◌≡◌, ℕ, ◌+◌, ◌-◌, ◌<◌, ◌≤◌, ◌^◌, min, ◌==◌, ◌&&◌, Bool, true, false, List, [], ◌∷◌, ◌++◌, append_assoc, append-nil, length, length-append, take, Option, Some, None, option_map, Result, Ok, Err, inl, inr, ◌⊎◌, refl, sym, ◌∙◌, ap, subst, arith, rules}
+use Rattle.std.proofs.Common.{◌≡◌, ℕ, ◌+◌, ◌<◌, ◌^◌, ◌&&◌, Bool, true, false, List, [], ◌++◌, append_assoc, append-nil, length, length-append, take, Option, Some, None, option_map, Result, Ok, Err, inl, inr, refl, sym, ◌∙◌, ap, subst, arith}
 use Rattle.std.proofs.Math.Seq.{take-append-add}
 use Rattle.std.proofs.lemmas.List.{take_all}
 use Rattle.std.proofs.lemmas.List.Elements.{All-nil, All-append}
 use Rattle.std.specs.List.{All}
 use Rattle.xa_frame.specs.declared.frame.Frame.{Frame}
-use Rattle.xa_frame.specs.Spelling.{spelled, all_spelled, HasSpelling}
+use Rattle.xa_frame.specs.Spelling.{all_spelled, HasSpelling}
 use Rattle.xa_frame.specs.Stream.{Incoming, IsPartial}
 use Rattle.xa_link.specs.Told.{Grew, GrewByPrefix, Shrank, Empty}
 use Rattle.xa_program.specs.declared.status.Status.{Status}
 use Rattle.xa_program.specs.declared.status.Status.TheVariants.{Done, Usage, ScriptRead, TooLong, BadLine, WriteFault, BadFrame, NoMemory, Unbuilt}
 use Rattle.xa_program.specs.declared.serving.Serving.{Serving}
-use Rattle.xa_program.specs.declared.serving.Halt.{Halt}
-use Rattle.xa_program.specs.declared.serving.Halt.TheVariants.{Waits, Ended, Bad}
-use Rattle.xa_program.specs.Child.{ChildState, begun, admits, admits_all, after, after_all, answer, said, greeting, child_run}
+use Rattle.xa_program.specs.declared.serving.Halt.TheVariants.{Bad}
+use Rattle.xa_program.specs.Child.{ChildState, begun, admits_all, after_all, said, greeting, child_run}
 use Rattle.xa_program.specs.ChildWork.{IsBad, place_after, IsBegun, CameTo, Worked}
-use Rattle.xa_program.specs.ChildTurns.{GoesOn, TurnsTo, Hears, Turns, AtEnd, Unanswered, SoFar}
+use Rattle.xa_program.specs.ChildTurns.{TurnsTo, Hears, Turns, AtEnd, Unanswered, SoFar}
 use Rattle.xa_program.specs.Serving.{TakesUpTo}
 use Rattle.xa_program.proofs.ChildFrames.{all_spelled-append, admits_all-append, after_all-append, said-append}
 

@@ -1,24 +1,20 @@
 -- How a run of `play` begins and how it ends.
-use Rattle.std.proofs.Common.{◌≡◌, ℕ, zero, suc, ◌+◌, ◌<◌, ◌≤◌, ◌&&◌, Bool, true, false, List, [], ◌∷◌, ◌++◌, length, Option, Some, None, inl, inr, refl, sym, ◌∙◌, ap, subst, arith, leb, le-leb}
-use Rattle.xa_types.specs.declared.ids.RequestId.{RequestId}
+use Rattle.std.proofs.Common.{◌≡◌, ℕ, zero, suc, ◌&&◌, true, List, [], ◌∷◌, length, inl, refl, ◌∙◌, ap, subst, arith}
 use Rattle.xa_events.specs.declared.event.Event.{Event}
 use Rattle.xa_events.specs.declared.event.Event.TheVariants.{Advertise, Start, Leave, Close, Stop}
-use Rattle.xa_events.specs.declared.event.Doing.{Doing}
-use Rattle.xa_events.specs.declared.event.Doing.TheVariants.{Off, Idle}
-use Rattle.xa_events.specs.Words.{count}
-use Rattle.xa_events.specs.State.{State, opening, noted}
+use Rattle.xa_events.specs.declared.event.Doing.TheVariants.{Off}
 use Rattle.xa_events.specs.Board.{changes, published, listed_in}
 use Rattle.xa_events.specs.Queue.{waiting, takes, is_down, is_closed}
 use Rattle.xa_events.specs.Server.{doing, starts, is_gone, let_go, last_outcome}
 use Rattle.xa_events.specs.Caller.{last_op, accepted, opened, floor, has_left, all_left}
-use Rattle.xa_events.specs.Request.{ended, sent_by_op, is_accept_of, is_end_of}
+use Rattle.xa_events.specs.Request.{ended, sent_by_op}
 use Rattle.xa_events.specs.Clock.{is_shown}
-use Rattle.xa_events.specs.Calls.{is_op, events_of_op}
+use Rattle.xa_events.specs.Calls.{events_of_op}
 use Rattle.xa_events.specs.Order.{TakesInOrder}
 use Rattle.xa_events.specs.Cases.{Case}
-use Rattle.xa_events.specs.Run.{Run, IsFinal}
+use Rattle.xa_events.specs.Run.{IsFinal}
 use Rattle.xa_program.specs.PlaySetup.{play_setup}
-use Rattle.xa_program.specs.Progress.{at, request, advertise, start, stop, closed, IsLeft, IsQuiet, IsFresh, KnowsAnswers}
+use Rattle.xa_program.specs.Progress.{at, advertise, start, stop, closed, IsLeft, IsQuiet, IsFresh, KnowsAnswers}
 use Rattle.xa_program.proofs.Told.{Keeps}
 
 abbrev pub begun : List ℕ → List Event

@@ -1,4 +1,5 @@
 pub mod Frames
+pub mod Plain
 pub mod Play
 pub mod Told
 pub mod Served
@@ -6,6 +7,7 @@ pub mod Ends
 pub mod Pipes
 pub mod Playing
 pub mod Over
+pub mod Played
 pub mod ChildFrames
 pub mod ServingSteps
 pub mod ChildTurned

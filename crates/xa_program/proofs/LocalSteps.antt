@@ -1,17 +1,16 @@
 -- A program in memory: what it holds after each write.
-use Rattle.std.proofs.Common.{◌≡◌, ℕ, ◌+◌, Bool, true, false, List, [], ◌∷◌, ◌++◌, length, take, drop, Option, Some, None, Result, Ok, Err, inl, inr, ◌⊎◌, refl, sym, ◌∙◌, ap, subst, arith, rules}
+use Rattle.std.proofs.Common.{◌≡◌, ℕ, ◌+◌, Bool, true, false, List, [], ◌++◌, take, drop, Option, Some, None, Ok, inl, inr, ◌⊎◌, refl, sym, ◌∙◌, ap, subst, arith, rules}
 use Rattle.std.proofs.Math.Seq.{take-add}
 use Rattle.std.proofs.lemmas.List.{take-append-drop}
-use Rattle.std.proofs.lemmas.List.Elements.{All-nil}
-use Rattle.xa_frame.specs.Spelling.{all_spelled, HasSpelling}
+use Rattle.xa_frame.specs.Spelling.{all_spelled}
 use Rattle.xa_frame.specs.Stream.{IsPartial}
 use Rattle.xa_link.specs.Told.{Grew}
 use Rattle.xa_program.specs.declared.serving.Serving.{Serving}
 use Rattle.xa_program.specs.declared.serving.Halt.{Halt}
 use Rattle.xa_program.specs.declared.serving.Halt.TheVariants.{Waits, Ended, Bad}
-use Rattle.xa_program.specs.Child.{ChildState, begun, after_all, admits_all, child_run, said}
+use Rattle.xa_program.specs.Child.{ChildState, begun, after_all, admits_all, said}
 use Rattle.xa_program.specs.ChildWork.{place_after}
-use Rattle.xa_program.specs.ChildTurns.{Turns, SoFar, TurnsTo, GoesOn}
+use Rattle.xa_program.specs.ChildTurns.{Turns, TurnsTo}
 use Rattle.xa_program.specs.Serving.{TakesUpTo, HaltsAt}
 use Rattle.xa_program.specs.LocalHolds.{Says, Holds}
 use Rattle.xa_program.proofs.ChildTurned.{Joined, joined, so_far_more, turns_weaker}

@@ -1,6 +1,6 @@
 -- From the boot to the first call, and from the last call to the end.
-use Rattle.std.proofs.Common.{◌≡◌, ℕ, ◌+◌, true, List, [], ◌∷◌, ◌++◌, length, reverse, Option, Some, None, refl, sym, ◌∙◌, ap, subst, append-nil, append_assoc, arith, slice_index_or}
-use Rattle.std.specs.Prelude.{IfSome, MatchOption, MatchResult, OnOk, Result, Ok, Err, All}
+use Rattle.std.proofs.Common.{◌≡◌, ℕ, ◌+◌, List, [], ◌∷◌, ◌++◌, length, reverse, Option, Some, None, inl, refl, sym, ◌∙◌, ap, subst, append-nil, arith, slice_index_or}
+use Rattle.std.specs.Prelude.{IfSome, MatchOption, MatchResult, OnOk, Result, Ok, Err}
 use Rattle.xa_program.specs.declared.halt.Halt.{Halt}
 use Rattle.xa_program.specs.declared.halt.Halt.TheVariants.{NoMemory as HaltNoMemory, Unbuilt as HaltUnbuilt}
 use Rattle.xa_program.specs.declared.outcome.Life.{Life}
@@ -14,23 +14,22 @@ use Rattle.xa_link.specs.Told.{Grew, GrewByPrefix}
 use Rattle.xa_types.specs.declared.call.Op.{Op}
 use Rattle.xa_events.specs.declared.event.Event.{Event}
 use Rattle.xa_events.specs.declared.event.Event.TheVariants.{Advertise, Start, Leave, Close, Stop}
-use Rattle.xa_events.specs.State.{State, opening, noted}
+use Rattle.xa_events.specs.State.{opening}
 use Rattle.xa_events.specs.Caller.{last_op}
-use Rattle.xa_events.specs.Calls.{MadeCalls, EachBecame}
-use Rattle.xa_events.specs.Order.{TakesInOrder}
-use Rattle.xa_events.specs.Run.{Run, IsFinal}
+use Rattle.xa_events.specs.Run.{Run}
 use Rattle.xa_events.proofs.Stages.{agree_none, ends_along}
 use Rattle.xa_events.proofs.AnswersOnce.{unanswered_none, answers_along}
 use Rattle.xa_events.proofs.Versions.{none_read, versions_along}
 use Rattle.xa_frame.specs.declared.frame.Frame.{Frame}
 use Rattle.xa_frame.specs.Spelling.{spelled, all_spelled}
 use Rattle.xa_script.specs.declared.script.Client.{Client}
-use Rattle.xa_program.specs.Headline.{IsHistoryAt, EachMadeCalls, names_of, name_in}
+use Rattle.xa_program.specs.Headline.{IsHistoryAt, names_of}
 use Rattle.xa_types.specs.Setup.{numbered}
 use Rattle.xa_program.specs.Pipe.{Piped, Wrote, HasRead}
-use Rattle.xa_program.specs.Pipes.{frames_out, frames_in, shutdown_frame, greeting, lives_of, failed_starts, IsLife}
+use Rattle.xa_program.specs.Pipes.{name_in, frames_out, frames_in, shutdown_frame, greeting, lives_of, failed_starts, IsLife}
+use Rattle.xa_program.specs.Plain.{IsTalk, Greeted, IsPlain, IsNotPlain, Breaks, calls_in, ArePlain}
 use Rattle.xa_program.specs.PlaySetup.{play_setup}
-use Rattle.xa_program.specs.Progress.{at, advertise, start, stop, closed, IsQuiet, IsLeft, IsPlaying, IsLeavingAt, IsLeaving, IsBuiltScript, IsOnly, IsOver, IsServed, ServingEnds, Printed, status_of}
+use Rattle.xa_program.specs.Progress.{at, advertise, start, stop, closed, IsPlaying, IsLeavingAt, IsLeaving, IsBuiltScript, IsOnly, IsOver, IsServed, ServingEnds, Printed, status_of}
 use Rattle.xa_program.specs.Spoken.{spoken, lines_up_to}
 use Rattle.xa_program.proofs.Frames.{read_same}
 use Rattle.xa_program.proofs.Told.{each_kept, lines_kept}
@@ -51,6 +50,7 @@ playing_begun service name clients pipe wrote read = record {
   said = refl;
   wrote = wrote;
   read = read;
+  talk = Greeted;
   invoked = refl;
   lives = refl;
   failed = refl;
@@ -68,6 +68,7 @@ leaving_none service name history lines pipe old = record {
   said = old.said;
   wrote = old.wrote;
   read = old.read;
+  talk = old.talk;
   lives = old.lives;
   failed = old.failed;
 }
@@ -95,6 +96,7 @@ leaving_one service name n ops history lines pipe old =
           ∙ sym (append-nil (lines_up_to name 1 (closed gone) (last_op 1 (closed gone)))))));
       wrote = subst (λ frames. Wrote pipe frames) (sym (append-nil (frames_out 1 1 past))) old.wrote;
       read = subst (λ frames. HasRead pipe frames) (sym (append-nil (frames_in (83 ∷ []) 1 1 past))) old.read;
+      talk = subst (λ frames. IsTalk (83 ∷ []) (length ops + 0) frames) (sym (append-nil (frames_in (83 ∷ []) 1 1 past))) (subst (λ (k : ℕ). IsTalk (83 ∷ []) k (frames_in (83 ∷ []) 1 1 past)) (omega (arith, old.many)) old.talk);
       lives = append-nil (lives_of past) ∙ old.lives;
       failed = old.failed;
     })
@@ -133,6 +135,7 @@ over service clients history lines before now old took gave rest =
         took_frames = subst (λ frames. Wrote now frames) (sym (out_closed past)) (wrote_more before.took now.took (frames_out 1 1 past) shutdown_frame old.wrote took);
         gave_frames = gave_life now.gave now.rest (frames_in (83 ∷ []) 1 1 (closed past)) (subst (λ frames. HasRead now frames) (sym (in_closed (83 ∷ []) past)) (read_same before.gave now.gave before.rest now.rest (frames_in (83 ∷ []) 1 1 past) gave rest old.read));
       });
+      talk = subst (λ (es : List Event). IsTalk (83 ∷ []) (calls_in clients) (frames_in (83 ∷ []) 1 1 es)) (sym reversed) (subst (λ frames. IsTalk (83 ∷ []) (calls_in clients) frames) (sym (in_closed (83 ∷ []) past)) old.talk);
       lives = subst (λ (es : List Event). lives_of es ≡ (1, 1) ∷ []) (sym reversed) (lives_closed past ∙ old.lives);
       failed = subst (λ (es : List Event). failed_starts 1 es ≡ 0) (sym reversed) old.failed;
     }
@@ -160,24 +163,32 @@ leaving_all service client clients started made ended silent lines before pipe a
     (subst (λ (es : List Event). IsLeaving service (client ∷ []) es lines pipe) (sym is)
     (leaving_one service client.name (length client.ops) client.ops made lines pipe (played (begun client.name 1))))
 
+pub playing_started : (service : List ℕ) (started : List Event) (silent : List ℕ) (pipe : Piped)
+    → started ≡ Advertise (advertise service) ∷ Start start ∷ [] → silent ≡ [] → Wrote pipe [] → HasRead pipe (greeting (83 ∷ []))
+    → (name : List ℕ) (count : ℕ) → IsPlaying service name count 0 [] started silent pipe
+playing_started service started silent pipe started_is silent_is wrote read name count =
+    subst (λ (es : List Event). IsPlaying service name count 0 [] es silent pipe) (sym started_is)
+    (subst (λ (text : List ℕ). IsPlaying service name count 0 [] (Advertise (advertise service) ∷ Start start ∷ []) text pipe) (sym silent_is)
+    (playing_begun service name count pipe wrote read))
+
 -- the whole of a life
 pub over_all : (service : List ℕ) (clients : List Client) (started left ended : List Event) (silent lines : List ℕ) (start_pipe before now : Piped)
-    → started ≡ Advertise (advertise service) ∷ Start start ∷ [] → silent ≡ [] → Wrote start_pipe [] → HasRead start_pipe (greeting (83 ∷ []))
+    → ((name : List ℕ) (count : ℕ) → IsPlaying service name count 0 [] started silent start_pipe)
     → (((name : List ℕ) (count : ℕ) → IsPlaying service name count 0 [] started silent start_pipe) → IsLeaving service clients left lines before)
     → ended ≡ left ++ Close (record { 0 = 1 }) ∷ Stop stop ∷ []
     → Grew before.took now.took (spelled shutdown_frame) → now.gave ≡ before.gave → now.rest ≡ before.rest
     → IsOver service clients ended lines now
-over_all service clients started left ended silent lines start_pipe before now started_is silent_is wrote read leaving ended_is took gave rest =
+over_all service clients started left ended silent lines start_pipe before now playing leaving ended_is took gave rest =
     subst (λ (es : List Event). IsOver service clients es lines now) (sym ended_is)
-    (over service clients left lines before now
-    (leaving (λ name count. subst (λ (es : List Event). IsPlaying service name count 0 [] es silent start_pipe) (sym started_is)
-    (subst (λ (text : List ℕ). IsPlaying service name count 0 [] (Advertise (advertise service) ∷ Start start ∷ []) text start_pipe) (sym silent_is)
-    (playing_begun service name count start_pipe wrote read))))
-    took gave rest)
+    (over service clients left lines before now (leaving playing) took gave rest)
 
 abbrev IsLifeOf : {L : Type 0} → (L → Option (List ℕ)) → (L → Option (List ℕ)) → List ℕ → List Event → Life L → Type 0
 IsLifeOf took gave service past life =
     IsLife (name_in (numbered life.server.0 (play_setup service).servers)) life.server.0 life.generation.0 past (took life.link) (gave life.link)
+
+abbrev IsPlainLife : {L : Type 0} → (L → Option (List ℕ)) → (L → ℕ) → (L → ℕ) → List ℕ → List Client → Life L → Type 0
+IsPlainLife gave reads writes service clients life =
+    IsPlain (name_in (numbered life.server.0 (play_setup service).servers)) (calls_in clients) (gave life.link) (reads life.link) (writes life.link)
 
 served_life : {L : Type 0} (took gave : L → Option (List ℕ)) (link : L) (service : List ℕ) (clients : List Client) (history : List Event) (lines : List ℕ) (pipe : Piped) (lives : List (Life L))
     → lives ≡ (record { server = record { 0 = 1 }; generation = record { 0 = 1 }; link = link }) ∷ [] → took link ≡ pipe.took → gave link ≡ pipe.gave
@@ -195,19 +206,67 @@ served_life {L} took gave link service clients history lines pipe lives is took_
       failed = over.failed;
     })
 
+served_plain : {L : Type 0} (gave : L → Option (List ℕ)) (reads writes : L → ℕ) (link : L) (service : List ℕ) (clients : List Client) (lives : List (Life L))
+    → lives ≡ (record { server = record { 0 = 1 }; generation = record { 0 = 1 }; link = link }) ∷ [] → IsPlain (83 ∷ []) (calls_in clients) (gave link) (reads link) (writes link)
+    → ArePlain gave reads writes service clients lives
+served_plain {L} gave reads writes link service clients lives is plain =
+    subst (λ (all : List (Life L)). ArePlain gave reads writes service clients all) (sym is) (λ k d low.
+    let first : 0 ≡ k = omega arith in
+    subst (λ (j : ℕ). IsPlainLife gave reads writes service clients (slice_index_or ((record { server = record { 0 = 1 }; generation = record { 0 = 1 }; link = link }) ∷ []) j d)) first plain)
+
+talk_given : (name : List ℕ) (calls : ℕ) (gave : Option (List ℕ)) (frames : List Frame) → IsTalk name calls frames → IfSome gave (λ octets. (rest : List ℕ) × (octets ≡ all_spelled frames ++ rest))
+    → IfSome gave (λ octets. (heard : List Frame) × (rest : List ℕ) × IsTalk name calls heard × (octets ≡ all_spelled heard ++ rest))
+talk_given name calls None frames talk given = tt
+talk_given name calls (Some octets) frames talk given = (frames, given.0, talk, given.1)
+
+-- a count that stays so is still none
+pub none_more : (n m : ℕ) (served : Result (Unit {0}) Halt) → OnOk served (n ≡ m) → m ≡ 0 → OnOk served (n ≡ 0)
+none_more n m (Ok u) same none = same ∙ none
+none_more n m (Err halt) same none = tt
+
+-- what the link of a life shows of its pipes
+pub record Shows {L : Type 0} (took gave left : L → Option (List ℕ)) (reads writes : L → ℕ) (link : L) (pipe : Piped) : Type 0 where
+  pub took_is : took link ≡ pipe.took
+  pub gave_is : gave link ≡ pipe.gave
+  pub left_is : left link ≡ pipe.left
+  pub reads_is : reads link ≡ pipe.reads
+  pub writes_is : writes link ≡ pipe.writes
+
+over_plain : {L : Type 0} (took gave left : L → Option (List ℕ)) (reads writes : L → ℕ) (link : L) (clients : List Client) (service : List ℕ) (history : List Event) (lines : List ℕ) (pipe : Piped)
+    → Shows took gave left reads writes link pipe → pipe.reads ≡ 0 → pipe.writes ≡ 0 → IsOver service clients history lines pipe → IsPlain (83 ∷ []) (calls_in clients) (gave link) (reads link) (writes link)
+over_plain took gave left reads writes link clients service history lines pipe shows reads_none writes_none over = record {
+  reads_well = shows.reads_is ∙ reads_none;
+  writes_well = shows.writes_is ∙ writes_none;
+  talk = subst (λ (t : Option (List ℕ)). IfSome t (λ octets. (frames : List Frame) × (rest : List ℕ) × IsTalk (83 ∷ []) (calls_in clients) frames × (octets ≡ all_spelled frames ++ rest))) (sym shows.gave_is)
+      (talk_given (83 ∷ []) (calls_in clients) pipe.gave (frames_in (83 ∷ []) 1 1 (reverse history)) over.talk over.life.gave_frames);
+}
+
+not_plain : {L : Type 0} (took gave left : L → Option (List ℕ)) (reads writes : L → ℕ) (link : L) (calls : ℕ) (pipe : Piped)
+    → Shows took gave left reads writes link pipe → Breaks calls pipe → IsNotPlain (83 ∷ []) calls (gave link) (left link) (reads link) (writes link)
+not_plain took gave left reads writes link calls pipe shows broken = rw (shows.gave_is, shows.left_is, shows.reads_is, shows.writes_is) broken
+
 -- how a life and its transcript end
-pub serving_ends : {L : Type 0} (took gave : L → Option (List ℕ)) (link : L) (before after : Option (List ℕ)) (writes writes_after : ℕ) (service : List ℕ) (clients : List Client) (history : List Event) (lines : List ℕ) (pipe : Piped) (lives : List (Life L))
-    (served : Result (Unit {0}) Halt) (status : Status)
-    → lives ≡ (record { server = record { 0 = 1 }; generation = record { 0 = 1 }; link = link }) ∷ [] → took link ≡ pipe.took → gave link ≡ pipe.gave
-    → OnOk served (IsOver service clients history lines pipe)
-    → MatchResult served (λ _. Printed before after writes writes_after lines status) (λ halt. status ≡ status_of halt)
-    → ServingEnds took gave before after writes writes_after service clients status history lives
-serving_ends {L} took gave link before after writes writes_after service clients history lines pipe lives (Ok u) Done is took_is gave_is over printed =
-    (served_life took gave link service clients history lines pipe lives is took_is gave_is over, subst (λ text. Grew before after text) over.said printed)
-serving_ends {L} took gave link before after writes writes_after service clients history lines pipe lives (Ok u) WriteFault is took_is gave_is over printed =
-    (served_life took gave link service clients history lines pipe lives is took_is gave_is over, subst (λ text. GrewByPrefix before after text) over.said printed.0, printed.1)
-serving_ends {L} took gave link before after writes writes_after service clients history lines pipe lives (Ok u) status is took_is gave_is over printed = absurd printed
-serving_ends {L} took gave link before after writes writes_after service clients history lines pipe lives (Err HaltNoMemory) status is took_is gave_is over printed =
-    subst (λ s. ServingEnds took gave before after writes writes_after service clients s history lives) (sym printed) tt
-serving_ends {L} took gave link before after writes writes_after service clients history lines pipe lives (Err HaltUnbuilt) status is took_is gave_is over printed =
-    subst (λ s. ServingEnds took gave before after writes writes_after service clients s history lives) (sym printed) tt
+pub serving_ends : {L : Type 0} (took gave left : L → Option (List ℕ)) (reads writes : L → ℕ) (link : L) (before after : Option (List ℕ)) (faults faults_after starts starts_after : ℕ) (service : List ℕ) (clients : List Client)
+    (history : List Event) (lines : List ℕ) (pipe : Piped) (lives : List (Life L)) (served : Result (Unit {0}) Halt) (status : Status)
+    → lives ≡ (record { server = record { 0 = 1 }; generation = record { 0 = 1 }; link = link }) ∷ [] → Shows took gave left reads writes link pipe
+    → OnOk served (IsOver service clients history lines pipe) → OnOk served (pipe.reads ≡ 0) → OnOk served (pipe.writes ≡ 0)
+    → (served ≡ Err HaltUnbuilt → Breaks (calls_in clients) pipe)
+    → MatchResult served (λ _. Printed before after faults faults_after lines status) (λ halt. status ≡ status_of halt)
+    → ServingEnds took gave left reads writes before after faults faults_after starts starts_after service clients status history lives
+serving_ends {L} took gave left reads writes link before after faults faults_after starts starts_after service clients history lines pipe lives (Ok u) Done is shows over reads_none writes_none broken printed = (
+  served_life took gave link service clients history lines pipe lives is shows.took_is shows.gave_is over,
+  served_plain gave reads writes link service clients lives is (over_plain took gave left reads writes link clients service history lines pipe shows reads_none writes_none over),
+  subst (λ text. Grew before after text) over.said printed,
+)
+serving_ends {L} took gave left reads writes link before after faults faults_after starts starts_after service clients history lines pipe lives (Ok u) WriteFault is shows over reads_none writes_none broken printed = (
+  served_life took gave link service clients history lines pipe lives is shows.took_is shows.gave_is over,
+  served_plain gave reads writes link service clients lives is (over_plain took gave left reads writes link clients service history lines pipe shows reads_none writes_none over),
+  subst (λ text. GrewByPrefix before after text) over.said printed.0,
+  printed.1,
+)
+serving_ends {L} took gave left reads writes link before after faults faults_after starts starts_after service clients history lines pipe lives (Ok u) status is shows over reads_none writes_none broken printed = absurd printed
+serving_ends {L} took gave left reads writes link before after faults faults_after starts starts_after service clients history lines pipe lives (Err HaltNoMemory) status is shows over reads_none writes_none broken printed =
+    subst (λ s. ServingEnds took gave left reads writes before after faults faults_after starts starts_after service clients s history lives) (sym printed) tt
+serving_ends {L} took gave left reads writes link before after faults faults_after starts starts_after service clients history lines pipe lives (Err HaltUnbuilt) status is shows over reads_none writes_none broken printed =
+    subst (λ s. ServingEnds took gave left reads writes before after faults faults_after starts starts_after service clients s history lives) (sym printed)
+    (inl (record { server = record { 0 = 1 }; generation = record { 0 = 1 }; link = link }, is, not_plain took gave left reads writes link (calls_in clients) pipe shows (broken refl)))

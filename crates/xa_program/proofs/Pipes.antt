@@ -1,19 +1,14 @@
 -- What goes through the pipes at a call that is served, at the beginning and at the end.
-use Rattle.std.proofs.Common.{◌≡◌, ℕ, ◌+◌, ◌<◌, ◌^◌, ◌%◌, List, [], ◌∷◌, ◌++◌, length, Some, refl, sym, ◌∙◌, ap, subst, arith, eq-eqb, append-nil, ℤ}
+use Rattle.std.proofs.Common.{◌≡◌, ℕ, ◌+◌, ◌<◌, ◌^◌, ◌%◌, List, [], ◌∷◌, ◌++◌, refl, ◌∙◌, ap, append-nil, ℤ}
 use Rattle.std.proofs.Math.Nat.{mod-eq_of_lt}
 use Rattle.xa_types.specs.declared.data.Data.{Data}
-use Rattle.xa_types.specs.declared.call.Mode.TheVariants.{Reply}
-use Rattle.xa_types.specs.declared.call.Rval.TheVariants.{Success}
 use Rattle.xa_types.specs.declared.reply.Answer.{Answer}
 use Rattle.xa_events.specs.declared.event.Event.{Event}
-use Rattle.xa_events.specs.declared.event.Event.TheVariants.{Take, Accept, End}
+use Rattle.xa_events.specs.declared.event.Event.TheVariants.{Take, Accept}
 use Rattle.xa_events.specs.declared.event.Outcome.{Outcome}
 use Rattle.xa_events.specs.declared.event.Outcome.TheVariants.{Returned}
-use Rattle.xa_events.specs.Words.{count}
-use Rattle.xa_frame.specs.declared.frame.Frame.{Frame}
-use Rattle.xa_frame.specs.declared.frame.Body.TheVariants.{Invoke, Return, Shutdown}
-use Rattle.xa_program.specs.Pipes.{invocation, is_take_in, frames_out, frames_in, next_frame, invoke_frame, return_frame, shutdown_frame, lives_of}
-use Rattle.xa_program.specs.Progress.{accept, take_of, end_with, request, closed, invocations}
+use Rattle.xa_program.specs.Pipes.{invocation, frames_out, frames_in, next_frame, invoke_frame, return_frame, shutdown_frame, lives_of}
+use Rattle.xa_program.specs.Progress.{accept, take_of, closed, invocations}
 use Rattle.xa_program.proofs.Play.{same_request-self}
 use Rattle.xa_program.proofs.Served.{served}
 

@@ -1,33 +1,26 @@
 -- What is read off the events of `play` between two calls, and how a call that is answered goes on.
-use Rattle.std.proofs.Common.{◌≡◌, ℕ, ◌+◌, ◌<◌, ◌≤◌, ◌==◌, ◌&&◌, Bool, true, false, cond, List, [], ◌∷◌, ◌++◌, length, Option, Some, None, inl, inr, ◌⊎◌, refl, sym, ◌∙◌, ap, subst, arith, eq-eqb, ℤ, lit<}
+use Rattle.std.proofs.Common.{◌≡◌, ℕ, ◌+◌, ◌<◌, true, false, cond, List, [], ◌∷◌, ◌++◌, length, Some, inl, inr, refl, sym, ◌∙◌, ap, arith, eq-eqb, lit<}
 use Rattle.xa_types.specs.declared.data.Data.{Data}
 use Rattle.xa_types.specs.declared.ids.RequestId.{RequestId}
-use Rattle.xa_types.specs.declared.setup.Setup.{Setup}
-use Rattle.xa_types.specs.declared.call.Mode.TheVariants.{Reply}
 use Rattle.xa_types.specs.declared.reply.Answer.{Answer}
-use Rattle.xa_types.specs.Setup.{same_name, queue_of}
+use Rattle.xa_types.specs.Setup.{same_name}
 use Rattle.xa_types.specs.declared.data.Data.TheVariants.{Absent, Octet, Struct}
 use Rattle.xa_types.specs.Kind.{is_sound, is_accepted, kind_of}
 use Rattle.xa_types.specs.declared.row.Row.{Row}
-use Rattle.xa_types.specs.Rows.{Change, Put, row_for, row_of, all_kinds}
+use Rattle.xa_types.specs.Rows.{Put, row_for, row_of, all_kinds}
 use Rattle.xa_events.specs.declared.event.Event.{Event}
 use Rattle.xa_events.specs.declared.event.Event.TheVariants.{Accept, Take, End, Answer as Answers}
 use Rattle.xa_events.specs.declared.event.Outcome.{Outcome}
 use Rattle.xa_events.specs.declared.event.Doing.{Doing}
 use Rattle.xa_events.specs.Befell.{reply_of}
-use Rattle.xa_events.specs.declared.event.Doing.TheVariants.{Off, Idle, Busy}
-use Rattle.xa_events.specs.declared.event.Accepted.{Accepted}
-use Rattle.xa_events.specs.declared.event.Taken.{Taken}
-use Rattle.xa_events.specs.declared.event.Ended.{Ended}
-use Rattle.xa_events.specs.declared.event.Answered.{Answered}
-use Rattle.xa_events.specs.Words.{latest, count, has, without, same_request}
-use Rattle.xa_events.specs.State.{State, noted}
+use Rattle.xa_events.specs.declared.event.Doing.TheVariants.{Idle, Busy}
+use Rattle.xa_events.specs.Words.{count, has, without, same_request}
 use Rattle.xa_events.specs.Board.{changes, published, rows_of_version}
 use Rattle.xa_events.specs.Queue.{waiting, takes, is_down, is_closed}
-use Rattle.xa_events.specs.Server.{doing, after_end, last_outcome}
+use Rattle.xa_events.specs.Server.{doing, after_end}
 use Rattle.xa_events.specs.Caller.{last_op, accepted, opened, floor, has_left, just_accepted}
 use Rattle.xa_events.specs.Request.{ended, is_accept_of, is_end_of}
-use Rattle.xa_events.specs.Cases.{Case, AcceptCase, TakeCase, EndCase, AnswerCase, is_sound_outcome}
+use Rattle.xa_events.specs.Cases.{AcceptCase, TakeCase, EndCase, AnswerCase, is_sound_outcome}
 use Rattle.xa_program.specs.PlaySetup.{play_setup}
 use Rattle.xa_program.specs.Progress.{request, accept, take_of, end_with, answer_of, at, IsQuiet}
 

@@ -1,5 +1,5 @@
 -- The whole of what is known between two calls, and how it goes on.
-use Rattle.std.proofs.Common.{◌≡◌, ℕ, ◌+◌, ◌<◌, ◌≤◌, ◌^◌, ℤ, true, false, List, [], ◌∷◌, ◌++◌, length, reverse, Option, Some, None, option_map, refl, sym, ◌∙◌, ap, subst, arith, append_assoc, append-nil}
+use Rattle.std.proofs.Common.{◌≡◌, ℕ, ◌+◌, ◌<◌, ◌^◌, ℤ, true, List, [], ◌∷◌, ◌++◌, length, reverse, Option, Some, None, refl, sym, ◌∙◌, ap, subst, arith, append_assoc}
 use Rattle.std.proofs.lemmas.List.{reverse-append, length_push}
 use Rattle.xa_types.specs.declared.data.Kind.{Kind}
 use Rattle.xa_events.specs.Befell.{answer_to}
@@ -14,25 +14,22 @@ use Rattle.xa_types.specs.declared.reply.Reply.TheVariants.{Answered as Answered
 use Rattle.xa_types.specs.Kind.{is_sound}
 use Rattle.xa_events.specs.declared.event.Event.{Event}
 use Rattle.xa_events.specs.declared.event.Event.TheVariants.{Accept, Take, End, Answer as Answers}
-use Rattle.xa_events.specs.declared.event.Outcome.{Outcome}
 use Rattle.xa_events.specs.declared.event.Outcome.TheVariants.{Returned}
 use Rattle.xa_events.specs.declared.event.Doing.TheVariants.{Idle}
 use Rattle.xa_events.specs.State.{State, opening, noted}
 use Rattle.xa_events.specs.Board.{published, changes}
 use Rattle.xa_events.specs.Cases.{Case}
 use Rattle.xa_events.specs.Run.{Run}
-use Rattle.xa_events.specs.Order.{TakesInOrder}
-use Rattle.xa_events.specs.Calls.{EachBecame, is_invalid_call}
 use Rattle.xa_frame.specs.declared.frame.Frame.{Frame}
 use Rattle.xa_frame.specs.Spelling.{spelled, all_spelled}
 use Rattle.xa_text.specs.Line.{line_text}
 use Rattle.xa_program.specs.Pipe.{Piped, Wrote, HasRead}
-use Rattle.xa_program.specs.Pipes.{frames_out, frames_in, next_frame, invoke_frame, return_frame, lives_of}
+use Rattle.xa_program.specs.Pipes.{frames_out, frames_in, next_frame, invoke_frame, return_frame}
+use Rattle.xa_program.specs.Plain.{IsTalk, Further}
 use Rattle.xa_program.specs.PlaySetup.{play_setup}
-use Rattle.xa_program.specs.Spoken.{lines_up_to}
 use Rattle.xa_program.proofs.Frames.{all_spelled-push}
-use Rattle.xa_program.specs.Progress.{at, request, accept, take_of, end_with, answer_of, IsQuiet, IsPlayingAt, IsPlaying, IsBuilt}
-use Rattle.xa_program.proofs.Play.{IsServing, IsEnded, accepted_case, take_case, serving, ends, answer_case, answered, end_case}
+use Rattle.xa_program.specs.Progress.{at, accept, take_of, end_with, answer_of, IsQuiet, IsPlayingAt, IsPlaying, IsBuilt}
+use Rattle.xa_program.proofs.Play.{accepted_case, take_case, serving, ends, answer_case, answered, end_case}
 use Rattle.xa_program.proofs.Served.{served, fresh_more, answers_more, lines_more, calls_more, order_more}
 use Rattle.xa_program.proofs.Pipes.{out_served, in_served, many_served, lives_served}
 
@@ -109,6 +106,7 @@ playing_more service name n ops ask code back history lines before after old bui
       said = ap (λ front. front ++ line_text name (n + 1) (AnsweredReply 0 told)) old.said ∙ sym (lines_more service n ask.payload outcome told past name old.fresh old.knows);
       wrote = subst (λ frames. Wrote after frames) (sym (out_served service n ask.payload past old.invoked small outcome told)) (wrote_more before.took after.took (frames_out 1 1 past) (invoke_frame service (n + 1) ask.payload) old.wrote took);
       read = subst (λ frames. HasRead after frames) (sym (in_served service n ask.payload past old.invoked small (83 ∷ []) code back told)) (gave (frames_in (83 ∷ []) 1 1 past) old.read);
+      talk = subst (λ frames. IsTalk (83 ∷ []) (n + 1) frames) (sym (in_served service n ask.payload past old.invoked small (83 ∷ []) code back told)) (Further old.talk (code, back, sound, refl));
       invoked = many_served service n ask.payload past old.invoked small outcome told;
       lives = lives_served service (n + 1) ask.payload outcome told past ∙ old.lives;
       failed = old.failed;

@@ -1,33 +1,31 @@
 -- A call that is served: its request is accepted, taken and ended, and its caller is told.
-use Rattle.std.proofs.Common.{◌≡◌, ℕ, zero, suc, ◌+◌, ◌<◌, ◌≤◌, ◌==◌, ◌&&◌, Bool, true, false, cond, List, [], ◌∷◌, ◌++◌, length, Option, Some, None, inl, inr, ◌⊎◌, refl, sym, ◌∙◌, ap, subst, arith, eq-eqb, if◌then◌else◌, ◌%◌, add-one, eqb-true, le-leb}
+use Rattle.std.proofs.Common.{◌≡◌, ℕ, ◌+◌, ◌<◌, ◌≤◌, ◌==◌, ◌&&◌, true, false, List, [], ◌∷◌, ◌++◌, length, Some, inl, inr, refl, sym, ◌∙◌, ap, subst, arith, eq-eqb, if◌then◌else◌, ◌%◌, add-one, eqb-true, le-leb}
 use Rattle.std.proofs.lemmas.Bool.{ne_eqb, cases_Bool, and_parts}
 use Rattle.std.specs.Option.{IsSomeAnd}
 use Rattle.std.proofs.Math.Bool.{and-false}
-use Rattle.std.specs.List.{filter, filter_map}
 use Rattle.xa_types.specs.declared.data.Data.{Data}
 use Rattle.xa_types.specs.declared.ids.RequestId.{RequestId}
-use Rattle.xa_types.specs.declared.setup.Setup.{Setup}
 use Rattle.xa_types.specs.declared.call.Op.{Op}
 use Rattle.xa_types.specs.declared.call.Op.TheVariants.{Call}
 use Rattle.xa_types.specs.declared.call.Ask.{Ask}
 use Rattle.xa_types.specs.declared.reply.Answer.{Answer}
 use Rattle.xa_types.specs.declared.reply.Reply.TheVariants.{Answered as AnsweredReply}
 use Rattle.xa_events.specs.declared.event.Event.{Event}
-use Rattle.xa_events.specs.declared.event.Event.TheVariants.{Accept, Take, End, Answer as Answers, Refuse}
+use Rattle.xa_events.specs.declared.event.Event.TheVariants.{Accept, Take, End, Answer as Answers}
 use Rattle.xa_events.specs.declared.event.Answered.{Answered}
 use Rattle.xa_events.specs.declared.event.Outcome.{Outcome}
 use Rattle.xa_events.specs.Words.{latest, same_request}
 use Rattle.xa_events.specs.Board.{listed_in, changes}
 use Rattle.xa_events.specs.Queue.{waiting}
-use Rattle.xa_events.specs.Request.{ended, sent_by_op, is_end_of, is_accept_of, priority_at}
+use Rattle.xa_events.specs.Request.{ended, sent_by_op, priority_at}
 use Rattle.xa_events.specs.Calls.{is_op, events_of_op, Became, EachBecame, is_invalid_call}
-use Rattle.xa_events.specs.Befell.{reply_of, answer_to}
+use Rattle.xa_events.specs.Befell.{answer_to}
 use Rattle.xa_events.specs.Said.{reply_at, reply_in}
 use Rattle.xa_events.specs.Order.{TakesInOrder, next_of, first_of_highest}
 use Rattle.xa_program.specs.PlaySetup.{play_setup}
 use Rattle.xa_text.specs.Line.{line_text}
 use Rattle.xa_program.specs.Spoken.{lines_up_to}
-use Rattle.xa_program.specs.Progress.{request, accept, take_of, end_with, answer_of, IsQuiet, IsFresh, KnowsAnswers}
+use Rattle.xa_program.specs.Progress.{request, accept, take_of, end_with, answer_of, IsFresh, KnowsAnswers}
 use Rattle.xa_program.proofs.Play.{same_request-self, waits_one}
 use Rattle.xa_program.proofs.Told.{Keeps, lines_kept, each_kept, each_more}
 

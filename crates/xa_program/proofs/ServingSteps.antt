@@ -1,17 +1,15 @@
 -- Taking frames one after another.
-use Rattle.std.proofs.Common.{◌≡◌, ℕ, ◌+◌, ◌-◌, ◌<◌, ◌^◌, min, ◌==◌, ◌&&◌, Bool, true, false, List, [], ◌∷◌, ◌++◌, append_assoc, append-nil, length, length-append, Option, Some, None, Result, Ok, Err, IfOk, inr, refl, sym, ◌∙◌, ap, subst, arith, rules}
+use Rattle.std.proofs.Common.{◌≡◌, ℕ, ◌+◌, ◌-◌, ◌<◌, ◌^◌, min, ◌&&◌, Bool, true, false, List, [], ◌∷◌, ◌++◌, append_assoc, length, length-append, Option, Some, None, Result, Ok, Err, IfOk, inr, refl, sym, ◌∙◌, ap, subst, arith}
 use Rattle.std.proofs.lemmas.List.Elements.{All-nil, All-cons, All-append}
-use Rattle.std.specs.List.{All}
 use Rattle.xa_types.specs.declared.memory.NoMemory.{NoMemory}
 use Rattle.xa_frame.specs.declared.frame.Frame.{Frame}
 use Rattle.xa_frame.specs.Spelling.{spelled, all_spelled, HasSpelling}
-use Rattle.xa_frame.specs.Stream.{Incoming, Took}
+use Rattle.xa_frame.specs.Stream.{Took}
 use Rattle.xa_program.specs.declared.serving.Serving.{Serving}
 use Rattle.xa_program.specs.declared.serving.Halt.{Halt}
-use Rattle.xa_program.specs.declared.serving.Halt.TheVariants.{Waits, Ended, Bad}
-use Rattle.xa_program.specs.Child.{ChildState, admits, admits_all, after, after_all, answer, said}
+use Rattle.xa_program.specs.Child.{admits, after, after_all, answer, said}
 use Rattle.xa_program.specs.ChildWork.{place_after}
-use Rattle.xa_program.specs.Serving.{HaltsAt, TakesOne, StepsTo, Answers, Takes, TakesUpTo}
+use Rattle.xa_program.specs.Serving.{HaltsAt, StepsTo, Answers, Takes, TakesUpTo}
 use Rattle.xa_program.proofs.ChildFrames.{all_spelled-append, all_spelled-push, admits_all-append, after_all-append, said-append, said-one}
 
 -- these frames were taken so far

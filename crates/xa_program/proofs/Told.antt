@@ -1,7 +1,6 @@
 -- What is told of the calls of the one client, while further calls are made.
-use Rattle.std.proofs.Common.{◌≡◌, ℕ, zero, suc, ◌+◌, ◌<◌, ◌≤◌, ◌==◌, ◌&&◌, Bool, true, false, cond, List, [], ◌∷◌, ◌++◌, length, Option, Some, None, inl, inr, ◌⊎◌, refl, sym, ◌∙◌, ap, subst, arith, eq-eqb, if◌then◌else◌, add-zero}
+use Rattle.std.proofs.Common.{◌≡◌, ℕ, zero, suc, ◌+◌, ◌≤◌, ◌==◌, false, List, [], ◌∷◌, ◌++◌, length, Option, Some, None, refl, sym, ◌∙◌, ap, subst, arith, if◌then◌else◌, add-zero}
 use Rattle.std.specs.Option.{IsSomeAnd}
-use Rattle.std.specs.List.{filter}
 use Rattle.xa_types.specs.declared.ids.RequestId.{RequestId}
 use Rattle.xa_types.specs.declared.setup.Setup.{Setup}
 use Rattle.xa_types.specs.declared.call.Op.{Op}

@@ -3,7 +3,7 @@ use Rattle.std.specs.Prelude.{ℕ, ◌≡◌, true, false, Bool, List, [], ◌++
 use Rattle.std.specs.List.{All}
 use Rattle.xa_frame.specs.declared.frame.Frame.{Frame}
 use Rattle.xa_frame.specs.Spelling.{all_spelled, HasSpelling}
-use Rattle.xa_frame.specs.Stream.{Incoming, IsPartial}
+use Rattle.xa_frame.specs.Stream.{IsPartial}
 use Rattle.xa_link.specs.Told.{Grew, Shrank, Empty}
 use Rattle.xa_program.specs.declared.status.Status.{Status}
 use Rattle.xa_program.specs.declared.status.Status.TheVariants.{Done, BadFrame, WriteFault, NoMemory}

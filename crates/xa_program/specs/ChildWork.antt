@@ -7,7 +7,7 @@ use Rattle.xa_frame.specs.Stream.{IsPartial, IsMalformed, Begins}
 use Rattle.xa_link.specs.Told.{Rose, Grew, Shrank, Empty}
 use Rattle.xa_program.specs.declared.status.Status.{Status}
 use Rattle.xa_program.specs.declared.status.Status.TheVariants.{Done, ScriptRead, WriteFault, BadFrame, NoMemory}
-use Rattle.xa_program.specs.Child.{ChildState, begun, admits, admits_all, after_all, child_run, ended_after}
+use Rattle.xa_program.specs.Child.{ChildState, begun, admits, admits_all, after_all, child_run}
 
 -- what stands first is no frame, or none that the child admits
 abbrev pub IsBad : ChildState → List ℕ → Type 0

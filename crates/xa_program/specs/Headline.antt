@@ -1,7 +1,6 @@
 -- What a run of `play` comes to.
-use Rattle.std.specs.Prelude.{◌≡◌, ◌≤◌, ◌<◌, ◌+◌, ℕ, List, [], ◌∷◌, length, reverse, map, Option, Some, None, IfSome, All, ⊤}
+use Rattle.std.specs.Prelude.{◌≡◌, ◌⊎◌, ◌≤◌, ◌<◌, ◌+◌, ℕ, List, [], ◌∷◌, length, reverse, map, Option, IfSome, All, ⊤}
 use Rattle.xa_types.specs.declared.setup.Setup.{Setup}
-use Rattle.xa_types.specs.declared.setup.ServerSetup.{ServerSetup}
 use Rattle.xa_types.specs.Setup.{numbered}
 use Rattle.xa_link.specs.Told.{Rose, Grew, GrewByPrefix}
 use Rattle.xa_events.specs.declared.event.Event.{Event}
@@ -11,12 +10,12 @@ use Rattle.xa_events.specs.Order.{TakesInOrder}
 use Rattle.xa_events.specs.Laws.{LawOfEnds, LawOfAnswers, LawOfVersions}
 use Rattle.xa_events.specs.Calls.{MadeCalls}
 use Rattle.xa_script.specs.declared.script.Client.{Client}
-use Rattle.xa_script.specs.declared.script.Script.{Script}
 use Rattle.xa_program.specs.declared.outcome.Life.{Life}
 use Rattle.xa_program.specs.declared.status.Status.{Status}
-use Rattle.xa_program.specs.declared.status.Status.TheVariants.{Done, Usage, ScriptRead, TooLong, BadLine, WriteFault, BadFrame, NoMemory, Unbuilt}
+use Rattle.xa_program.specs.declared.status.Status.TheVariants.{Done, Usage, ScriptRead, TooLong, BadLine, WriteFault, NoMemory, Unbuilt}
 use Rattle.xa_program.specs.declared.status.Input.TheVariants as inputs
-use Rattle.xa_program.specs.Pipes.{IsLife, lives_of, failed_starts}
+use Rattle.xa_program.specs.Pipes.{name_in, IsLife, lives_of, failed_starts}
+use Rattle.xa_program.specs.Plain.{ArePlain, OneIsNotPlain}
 use Rattle.xa_program.specs.PlaySetup.{play_setup}
 use Rattle.xa_script.specs.Script.{IsScript, IsFirstFault}
 use Rattle.xa_program.specs.Spoken.{spoken}
@@ -40,10 +39,6 @@ pub record IsHistoryAt (setup : Setup) (clients : List Client) (history past : L
 
 abbrev pub IsHistory : Setup → List Client → List Event → Type 0
 IsHistory setup clients history = IsHistoryAt setup clients history (reverse history)
-
-abbrev pub name_in : Option ServerSetup → List ℕ
-name_in None = []
-name_in (Some server) = server.name
 
 -- each starter, of which the first is of the server with that number, counts at least the failed starts of its server
 abbrev pub EachCounts : {S : Type 0} → (S → ℕ) → ℕ → List S → List Event → Type 0
@@ -88,21 +83,29 @@ pub record Streams : Type 0 where
 abbrev pub names_of : List Client → List (List ℕ)
 names_of clients = map (λ client. client.name) clients
 
--- how `play SERVICE` ends, and what that shows
-abbrev pub PlayEnds : {L S : Type 0} → (L → Option (List ℕ)) → (L → Option (List ℕ)) → (S → ℕ) → Streams → List ℕ → Status → List Event → List (Life L) → List S → Type 0
-PlayEnds took gave start_faults streams service Done history lives starters =
+-- one of the starters counts a failed start
+abbrev pub OneFailed : {S : Type 0} → (S → ℕ) → List S → Type 0
+OneFailed start_faults [] = ⊥
+OneFailed start_faults (starter ∷ starters) = (0 < start_faults starter) ⊎ OneFailed start_faults starters
+
+-- how `play SERVICE` ends, and what that shows: `Unbuilt` comes exactly where the server wasn't started or its life isn't plain
+abbrev pub PlayEnds : {L S : Type 0} → (L → Option (List ℕ)) → (L → Option (List ℕ)) → (L → Option (List ℕ)) → (L → ℕ) → (L → ℕ) → (S → ℕ) → Streams → List ℕ → Status → List Event → List (Life L) → List S → Type 0
+PlayEnds took gave left reads writes start_faults streams service Done history lives starters =
     (clients : List Client) × IsPlayed took gave start_faults streams.told service clients history lives starters
+    × ArePlain gave reads writes service clients lives
     × Grew streams.took_before streams.took_after (spoken (names_of clients) (reverse history))
-PlayEnds took gave start_faults streams service WriteFault history lives starters =
+PlayEnds took gave left reads writes start_faults streams service WriteFault history lives starters =
     (clients : List Client) × IsPlayed took gave start_faults streams.told service clients history lives starters
+    × ArePlain gave reads writes service clients lives
     × GrewByPrefix streams.took_before streams.took_after (spoken (names_of clients) (reverse history))
     × Rose streams.writes_before streams.writes_after
-PlayEnds took gave start_faults streams service ScriptRead history lives starters = Rose streams.reads_before streams.reads_after
-PlayEnds took gave start_faults streams service (TooLong inputs.Script) history lives starters = IfSome streams.told (λ octets. longest_script < length octets)
-PlayEnds took gave start_faults streams service (BadLine line cause) history lives starters = (cause ≡ 9) × HasFirstFault streams.told service line
-PlayEnds took gave start_faults streams service Unbuilt history lives starters = (clients : List Client) × IsTheScript streams.told service clients
-PlayEnds took gave start_faults streams service NoMemory history lives starters = ⊤
-PlayEnds took gave start_faults streams service status history lives starters = ⊥
+PlayEnds took gave left reads writes start_faults streams service ScriptRead history lives starters = Rose streams.reads_before streams.reads_after
+PlayEnds took gave left reads writes start_faults streams service (TooLong inputs.Script) history lives starters = IfSome streams.told (λ octets. longest_script < length octets)
+PlayEnds took gave left reads writes start_faults streams service (BadLine line cause) history lives starters = (cause ≡ 9) × HasFirstFault streams.told service line
+PlayEnds took gave left reads writes start_faults streams service Unbuilt history lives starters =
+    (clients : List Client) × IsTheScript streams.told service clients × (OneIsNotPlain gave left reads writes service clients lives ⊎ ((lives ≡ []) × OneFailed start_faults starters))
+PlayEnds took gave left reads writes start_faults streams service NoMemory history lives starters = ⊤
+PlayEnds took gave left reads writes start_faults streams service status history lives starters = ⊥
 
 -- no server was started where the words, the input or the script were refused
 abbrev pub EndsEarly : {L S : Type 0} → Status → List Event → List (Life L) → List S → Type 0

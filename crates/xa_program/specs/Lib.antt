@@ -6,6 +6,7 @@ pub mod Local
 pub mod LocalHolds
 pub mod Pipe
 pub mod Pipes
+pub mod Plain
 pub mod PlaySetup
 pub mod Progress
 pub mod Serving

@@ -1,6 +1,7 @@
 -- The octets that go through the pipes of a life, read off the events of the run.
-use Rattle.std.specs.Prelude.{◌≡◌, ℕ, ℤ, ◌%◌, ◌^◌, ◌==◌, ◌&&◌, Bool, true, false, cond, List, [], ◌∷◌, ◌++◌, Option, Some, None, IfSome, if◌then◌else◌}
+use Rattle.std.specs.Prelude.{◌≡◌, ℕ, ℤ, ◌%◌, ◌^◌, ◌==◌, ◌&&◌, Bool, false, List, [], ◌∷◌, ◌++◌, Option, Some, None, IfSome, if◌then◌else◌}
 use Rattle.xa_types.specs.declared.data.Data.{Data}
+use Rattle.xa_types.specs.declared.setup.ServerSetup.{ServerSetup}
 use Rattle.xa_types.specs.declared.call.Mode.TheVariants.{Reply}
 use Rattle.xa_types.specs.declared.call.Rval.TheVariants.{Success}
 use Rattle.xa_events.specs.declared.event.Event.{Event}
@@ -84,6 +85,10 @@ frames_in name server g [] = greeting name
 frames_in name server g (e ∷ past) = frames_in name server g past ++ given_at server g e past
 
 -- ---- a life and its link
+
+abbrev pub name_in : Option ServerSetup → List ℕ
+name_in None = []
+name_in (Some server) = server.name
 
 -- what a link that tells took is the spelling of what the monitor wrote, and what it gave begins with the spelling of what the program wrote
 pub record IsLife (name : List ℕ) (server g : ℕ) (past : List Event) (took gave : Option (List ℕ)) : Type 0 where

@@ -1,6 +1,6 @@
 -- What is known between two calls of `play`: events with their numbers filled in, and what is read off the events so far.
 -- Contracts inside this crate rest on this file, and no public one.
-use Rattle.std.specs.Prelude.{◌≡◌, ℕ, ◌+◌, ◌<◌, ◌≤◌, ◌^◌, ⊤, All, true, false, List, [], ◌∷◌, length, map, reverse, Option, Some, None, IfSome}
+use Rattle.std.specs.Prelude.{◌≡◌, ℕ, ◌+◌, ◌<◌, ◌≤◌, ◌^◌, ⊤, All, true, false, List, [], ◌∷◌, length, map, reverse, Option, Some, None, IfSome, ◌⊎◌}
 use Rattle.xa_types.specs.declared.data.Data.{Data}
 use Rattle.xa_types.specs.declared.ids.RequestId.{RequestId}
 use Rattle.xa_types.specs.declared.call.Op.{Op}
@@ -33,7 +33,7 @@ use Rattle.xa_events.specs.Calls.{is_op, events_of_op, EachBecame, is_invalid_ca
 use Rattle.xa_events.specs.Order.{TakesInOrder}
 use Rattle.xa_events.specs.Run.{Run}
 use Rattle.xa_script.specs.declared.script.Client.{Client}
-use Rattle.xa_program.specs.Headline.{IsHistory, EachMadeCalls, HasFirstFault, longest_script, names_of, name_in}
+use Rattle.xa_program.specs.Headline.{IsHistory, EachMadeCalls, HasFirstFault, longest_script, names_of}
 use Rattle.xa_program.specs.declared.outcome.Life.{Life}
 use Rattle.xa_program.specs.declared.halt.Halt.{Halt}
 use Rattle.xa_program.specs.declared.halt.Halt.TheVariants.{NoMemory as HaltNoMemory, Unbuilt as HaltUnbuilt}
@@ -43,7 +43,8 @@ use Rattle.xa_program.specs.declared.status.Input.TheVariants as inputs
 use Rattle.xa_link.specs.Told.{Rose, Grew, GrewByPrefix}
 use Rattle.xa_types.specs.Setup.{numbered}
 use Rattle.xa_program.specs.Pipe.{Piped, Wrote, HasRead}
-use Rattle.xa_program.specs.Pipes.{is_take_in, frames_out, frames_in, lives_of, failed_starts, IsLife}
+use Rattle.xa_program.specs.Pipes.{name_in, is_take_in, frames_out, frames_in, lives_of, failed_starts, IsLife}
+use Rattle.xa_program.specs.Plain.{IsTalk, calls_in, ArePlain, OneIsNotPlain}
 use Rattle.xa_program.specs.PlaySetup.{play_setup}
 use Rattle.xa_program.specs.Spoken.{lines_up_to, spoken}
 
@@ -118,6 +119,7 @@ pub record IsPlayingAt (service name : List ℕ) (clients n : ℕ) (ops : List O
   pub said : lines ≡ lines_up_to name 1 past n
   pub wrote : Wrote pipe (frames_out 1 1 past)
   pub read : HasRead pipe (frames_in (83 ∷ []) 1 1 past)
+  pub talk : IsTalk (83 ∷ []) n (frames_in (83 ∷ []) 1 1 past)
   pub invoked : invocations past ≡ n
   pub lives : lives_of past ≡ (1, 1) ∷ []
   pub failed : failed_starts 1 past ≡ 0
@@ -175,6 +177,7 @@ pub record IsLeavingAt (service : List ℕ) (clients : List Client) (history pas
   pub said : lines ≡ spoken (names_of clients) (closed past)
   pub wrote : Wrote pipe (frames_out 1 1 past)
   pub read : HasRead pipe (frames_in (83 ∷ []) 1 1 past)
+  pub talk : IsTalk (83 ∷ []) (calls_in clients) (frames_in (83 ∷ []) 1 1 past)
   pub lives : lives_of past ≡ (1, 1) ∷ []
   pub failed : failed_starts 1 past ≡ 0
 
@@ -192,6 +195,7 @@ pub record IsOver (service : List ℕ) (clients : List Client) (history : List E
   pub machine : IsHistory (play_setup service) clients history
   pub said : lines ≡ spoken (names_of clients) (reverse history)
   pub life : IsLife (83 ∷ []) 1 1 (reverse history) pipe.took pipe.gave
+  pub talk : IsTalk (83 ∷ []) (calls_in clients) (frames_in (83 ∷ []) 1 1 (reverse history))
   pub lives : lives_of (reverse history) ≡ (1, 1) ∷ []
   pub failed : failed_starts 1 (reverse history) ≡ 0
 
@@ -202,15 +206,18 @@ pub record IsServed {L : Type 0} (took gave : L → Option (List ℕ)) (service 
   pub pipes : All (λ life. IsLife (name_in (numbered life.server.0 (play_setup service).servers)) life.server.0 life.generation.0 (reverse history) (took life.link) (gave life.link)) lives
   pub failed : failed_starts 1 (reverse history) ≡ 0
 
--- how serving a script ends, and what that shows; the output is seen before and after
-abbrev pub ServingEnds : {L : Type 0} → (L → Option (List ℕ)) → (L → Option (List ℕ)) → Option (List ℕ) → Option (List ℕ) → ℕ → ℕ → List ℕ → List Client → Status → List Event → List (Life L) → Type 0
-ServingEnds took gave before after writes writes_after service clients Done history lives =
-    IsServed took gave service clients history lives × Grew before after (spoken (names_of clients) (reverse history))
-ServingEnds took gave before after writes writes_after service clients WriteFault history lives =
-    IsServed took gave service clients history lives × GrewByPrefix before after (spoken (names_of clients) (reverse history)) × Rose writes writes_after
-ServingEnds took gave before after writes writes_after service clients NoMemory history lives = ⊤
-ServingEnds took gave before after writes writes_after service clients Unbuilt history lives = ⊤
-ServingEnds took gave before after writes writes_after service clients status history lives = ⊥
+-- how serving a script ends, and what that shows; the output and the starter are seen before and after
+abbrev pub ServingEnds : {L : Type 0} → (L → Option (List ℕ)) → (L → Option (List ℕ)) → (L → Option (List ℕ)) → (L → ℕ) → (L → ℕ) → Option (List ℕ) → Option (List ℕ) → ℕ → ℕ → ℕ → ℕ
+    → List ℕ → List Client → Status → List Event → List (Life L) → Type 0
+ServingEnds took gave left reads writes before after faults faults_after starts starts_after service clients Done history lives =
+    IsServed took gave service clients history lives × ArePlain gave reads writes service clients lives × Grew before after (spoken (names_of clients) (reverse history))
+ServingEnds took gave left reads writes before after faults faults_after starts starts_after service clients WriteFault history lives =
+    IsServed took gave service clients history lives × ArePlain gave reads writes service clients lives
+    × GrewByPrefix before after (spoken (names_of clients) (reverse history)) × Rose faults faults_after
+ServingEnds took gave left reads writes before after faults faults_after starts starts_after service clients NoMemory history lives = ⊤
+ServingEnds took gave left reads writes before after faults faults_after starts starts_after service clients Unbuilt history lives =
+    OneIsNotPlain gave left reads writes service clients lives ⊎ ((lives ≡ []) × Rose starts starts_after)
+ServingEnds took gave left reads writes before after faults faults_after starts starts_after service clients status history lives = ⊥
 
 -- the lines were written whole, or in part and the output failed
 abbrev pub Printed : Option (List ℕ) → Option (List ℕ) → ℕ → ℕ → List ℕ → Status → Type 0

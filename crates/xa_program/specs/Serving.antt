@@ -1,7 +1,6 @@
 -- How the frames that stand in a reader are taken. No public contract rests on these.
-use Rattle.std.specs.Prelude.{ℕ, ◌≡◌, true, false, List, ◌++◌, Option, Some, None, Result, Ok, Err, ⊤}
+use Rattle.std.specs.Prelude.{ℕ, ◌≡◌, true, false, List, ◌++◌, Option, Some, None}
 use Rattle.std.specs.List.{All}
-use Rattle.xa_types.specs.declared.memory.NoMemory.{NoMemory}
 use Rattle.xa_frame.specs.declared.frame.Frame.{Frame}
 use Rattle.xa_frame.specs.Spelling.{all_spelled, HasSpelling}
 use Rattle.xa_frame.specs.Stream.{Incoming, IsPartial, Took}

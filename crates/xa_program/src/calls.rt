@@ -7,6 +7,7 @@ ghost use Rattle.xa_types.specs.declared.reply.Reply.TheVariants.{Answered as An
 ghost use Rattle.xa_events.specs.declared.event.Event.TheVariants.{Accept, Take, End, Answer as AnswerEvent};
 ghost use Rattle.xa_events.specs.declared.event.Outcome.TheVariants.{Returned};
 ghost use Rattle.xa_text.specs.Line.{line_text};
+ghost use Rattle.xa_program.specs.Plain.{Breaks};
 ghost use Rattle.xa_program.specs.Progress.{accept, take_of, end_with, answer_of, IsPlaying, IsBuilt, IsBuiltOp};
 
 use crate::halt::Halt;
@@ -16,7 +17,8 @@ use xa_events::{Accepted, Answered, Ended, Event, Outcome, Taken};
 use xa_link::Link;
 use xa_text::push_line;
 use xa_types::{
-    Answer, Ask, CallerId, Data, Generation, Mode, Name, Op, QueueId, Reply, RequestId, ServerId,
+    Answer, Ask, CallerId, Data, Generation, Mode, Name, NoMemory, Op, QueueId, Reply, RequestId,
+    ServerId,
 };
 
 pub const CLIENT: CallerId = CallerId(1);
@@ -34,7 +36,7 @@ fn note_taken(
     service: &Name,
     number: u32,
     payload: &Data,
-) -> Result<(), Halt>
+) -> Result<(), NoMemory>
     ensures { OnOk result (history.new.items ≡ history.old.items ++ Accept (accept service.now number payload.now) ∷ Take (take_of number) ∷ []) }
 {
     history.push(Event::Accept(Accepted {
@@ -73,7 +75,7 @@ fn note_answered(
     number: u32,
     code: i32,
     payload: Data,
-) -> Result<(), Halt>
+) -> Result<(), NoMemory>
     ensures history { OnOk result (history.new.items ≡ history.old.items ++ End (end_with number (Returned code payload)) ∷ AnswerEvent (answer_of number (Success code payload)) ∷ []) }
     ensures lines { OnOk result (lines.new.items ≡ lines.old.items ++ line_text name.now number (AnsweredReply 0 (Success code payload))) }
 {
@@ -94,7 +96,7 @@ fn say_success(
     number: u32,
     code: i32,
     payload: &Data,
-) -> Result<(), Halt>
+) -> Result<(), NoMemory>
     ensures { OnOk result (lines.new.items ≡ lines.old.items ++ line_text name.now number (AnsweredReply 0 (Success code payload.now))) }
 {
     let reply = Reply::Answered(0, Answer::Success(code, payload.copy(alloc)?));
@@ -102,7 +104,7 @@ fn say_success(
     Ok(())
 }
 
-fn note_end(history: &mut Vec<Event>, number: u32, outcome: Outcome) -> Result<(), Halt>
+fn note_end(history: &mut Vec<Event>, number: u32, outcome: Outcome) -> Result<(), NoMemory>
     ensures { OnOk result (history.new.items ≡ history.old.items ++ End (end_with number outcome) ∷ []) }
 {
     history.push(Event::End(Ended {
@@ -117,7 +119,7 @@ fn note_end(history: &mut Vec<Event>, number: u32, outcome: Outcome) -> Result<(
     Ok(())
 }
 
-fn note_answer(history: &mut Vec<Event>, number: u32, answer: Answer) -> Result<(), Halt>
+fn note_answer(history: &mut Vec<Event>, number: u32, answer: Answer) -> Result<(), NoMemory>
     ensures { OnOk result (history.new.items ≡ history.old.items ++ AnswerEvent (answer_of number answer) ∷ []) }
 {
     history.push(Event::Answer(Answered {
@@ -150,9 +152,13 @@ pub fn call<L: Link>(
     ask: &Ask,
 ) -> Result<(), Halt>
     requires { IsBuilt service.now ask.now }
-    ensures { OnOk result ((n : ℕ) (ops : List Op) → number ≡ n + 1
+    ensures goes { OnOk result ((n : ℕ) (ops : List Op) → number ≡ n + 1
         → IsPlaying service.now name.now 1 n ops account.old.history.items account.old.lines.items pipe.old
         → IsPlaying service.now name.now 1 (n + 1) (ops ++ CallOp ask.now ∷ []) account.new.history.items account.new.lines.items pipe.new) }
+    ensures reads { OnOk result (pipe.new.reads ≡ pipe.old.reads) }
+    ensures writes { OnOk result (pipe.new.writes ≡ pipe.old.writes) }
+    ensures unbuilt { result ≡ Err Halt.Unbuilt → (n calls : ℕ) (ops : List Op) → number ≡ n + 1 → n < calls
+        → IsPlaying service.now name.now 1 n ops account.old.history.items account.old.lines.items pipe.old → Breaks calls pipe.new }
 {
     note_taken(alloc, &mut account.history, service, number, &ask.payload)?;
     let (code, payload) = pipe.invoke(alloc, service, number, &ask.payload)?;
@@ -190,8 +196,12 @@ pub fn make_calls<L: Link>(
 ) -> Result<(), Halt>
     requires built { All (IsBuiltOp service.now) ops.now }
     requires few { length ops.now < 2 ^ 32 }
-    ensures { OnOk result (IsPlaying service.now name.now 1 0 [] account.old.history.items account.old.lines.items pipe.old
+    ensures goes { OnOk result (IsPlaying service.now name.now 1 0 [] account.old.history.items account.old.lines.items pipe.old
         → IsPlaying service.now name.now 1 (length ops.now) ops.now account.new.history.items account.new.lines.items pipe.new) }
+    ensures reads { OnOk result (pipe.new.reads ≡ pipe.old.reads) }
+    ensures writes { OnOk result (pipe.new.writes ≡ pipe.old.writes) }
+    ensures unbuilt { result ≡ Err Halt.Unbuilt → IsPlaying service.now name.now 1 0 [] account.old.history.items account.old.lines.items pipe.old
+        → Breaks (length ops.now) pipe.new }
 {
     let mut number = 0u32;
     for op in ops {

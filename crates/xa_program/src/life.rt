@@ -1,11 +1,13 @@
 // What the monitor says to the program of a server in a life that is plain, and what it hears.
-ghost use Rattle.std.specs.Prelude.{◌≡◌, ◌++◌, ◌∷◌, [], ℕ, List, IfOk, OnOk, true, FitsSigned};
+ghost use Rattle.std.specs.Prelude.{◌≡◌, ◌⊎◌, ◌++◌, ◌∷◌, ◌<◌, [], ℕ, List, IfOk, OnOk, MatchOption, true, false, FitsSigned};
 ghost use Rattle.std.specs.Int.{w32};
 ghost use Rattle.xa_link.specs.Told.{Grew};
 ghost use Rattle.xa_types.specs.Kind.{is_sound};
 ghost use Rattle.xa_frame.specs.declared.frame.Frame.{Frame};
 ghost use Rattle.xa_frame.specs.Spelling.{spelled, HasSpelling};
 ghost use Rattle.xa_program.specs.Pipe.{HasRead};
+ghost use Rattle.xa_program.specs.Plain.{IsPlainReturn, Awaited, Misses, MissesGreeting, MissesReturn};
+ghost use Rattle.xa_program.specs.Plain.Awaited.{Ready as AwaitsReady, Next as AwaitsNext, ReturnTo};
 ghost use Rattle.xa_program.specs.Pipes.{greeting, ready_frame, next_frame, invoke_frame, return_frame, shutdown_frame};
 ghost use Rattle.xa_program.specs.PlaySetup.{play_setup};
 
@@ -27,10 +29,43 @@ pub fn is_plain(payload: &Data) -> bool
     }
 }
 
-fn is_same(a: &Name, b: &Name) -> bool
-    ensures { result ≡ true → a.now ≡ b.now }
+fn is_ready(frame: &Frame, server: &Name) -> bool
+    ensures yes { result ≡ true → frame.now ≡ ready_frame server.now }
+    ensures no { result ≡ false → frame.now ≡ ready_frame server.now → ⊥ }
 {
-    a.octets() == b.octets()
+    match &frame.body {
+        Body::Ready(name) => frame.tag == 0 && name.octets() == server.octets(),
+        _ => false,
+    }
+}
+
+fn is_next(frame: &Frame) -> bool
+    ensures yes { result ≡ true → frame.now ≡ next_frame }
+    ensures no { result ≡ false → frame.now ≡ next_frame → ⊥ }
+{
+    match &frame.body {
+        Body::Next => frame.tag == 0,
+        _ => false,
+    }
+}
+
+// The code and the data of a RETURN to that invocation with TPSUCCESS and sound data.
+fn plain_return(frame: Frame, number: u32) -> Option<(i32, Data)>
+    requires { HasSpelling frame }
+    ensures { MatchOption result (IsPlainReturn number frame → ⊥) (λ back. (frame ≡ return_frame number back.0 back.1)
+        × ((service : List ℕ) → is_sound (play_setup service) back.1 ≡ true) × FitsSigned w32 back.0) }
+{
+    let Frame { tag, body } = frame;
+    match body {
+        Body::Return(Rval::Success, code, payload) => {
+            if tag == number && is_plain(&payload) {
+                Some((code, payload))
+            } else {
+                None
+            }
+        }
+        _ => None,
+    }
 }
 
 impl<L: Link> Pipe<L> {
@@ -38,6 +73,9 @@ impl<L: Link> Pipe<L> {
     pub fn greet(&mut self, server: &Name) -> Result<(), Halt>
         ensures read { OnOk result ((frames : List Frame) → HasRead self.old frames → HasRead self.new (frames ++ greeting server.now)) }
         ensures took { self.new.took ≡ self.old.took }
+        ensures writes { self.new.writes ≡ self.old.writes }
+        ensures well { OnOk result (self.new.reads ≡ self.old.reads) }
+        ensures unbuilt { result ≡ Err Halt.Unbuilt → HasRead self.old [] → MissesGreeting server.now self.new }
     {
         self.read_ready(server)?;
         self.read_next()
@@ -57,6 +95,9 @@ impl<L: Link> Pipe<L> {
             → HasRead self.new (frames ++ return_frame number back.0 back.1 ∷ next_frame ∷ [])) }
         ensures sound { IfOk result (λ back. is_sound (play_setup service.now) back.1 ≡ true) }
         ensures fits { IfOk result (λ back. FitsSigned w32 back.0) }
+        ensures reads { OnOk result (self.new.reads ≡ self.old.reads) }
+        ensures writes { OnOk result (self.new.writes ≡ self.old.writes) }
+        ensures unbuilt { result ≡ Err Halt.Unbuilt → (name : List ℕ) (frames : List Frame) → HasRead self.old frames → MissesReturn name number frames self.new }
     {
         self.send(alloc, service, number, payload)?;
         let back = self.read_return(number)?;
@@ -69,6 +110,9 @@ impl<L: Link> Pipe<L> {
         ensures took { OnOk result (Grew self.old.took self.new.took (spelled shutdown_frame)) }
         ensures gave { self.new.gave ≡ self.old.gave }
         ensures rest { self.new.rest ≡ self.old.rest }
+        ensures reads { self.new.reads ≡ self.old.reads }
+        ensures well { OnOk result (self.new.writes ≡ self.old.writes) }
+        ensures unbuilt { result ≡ Err Halt.Unbuilt → 0 < self.new.writes }
     {
         self.write(
             alloc,
@@ -90,6 +134,9 @@ impl<L: Link> Pipe<L> {
         ensures took { OnOk result (Grew self.old.took self.new.took (spelled (invoke_frame service.now number payload.now))) }
         ensures gave { self.new.gave ≡ self.old.gave }
         ensures rest { self.new.rest ≡ self.old.rest }
+        ensures reads { self.new.reads ≡ self.old.reads }
+        ensures well { OnOk result (self.new.writes ≡ self.old.writes) }
+        ensures unbuilt { result ≡ Err Halt.Unbuilt → 0 < self.new.writes }
     {
         let _named = service.octets();
         let frame = Frame {
@@ -102,30 +149,30 @@ impl<L: Link> Pipe<L> {
     fn read_ready(&mut self, server: &Name) -> Result<(), Halt>
         ensures read { OnOk result ((frames : List Frame) → HasRead self.old frames → HasRead self.new (frames ++ ready_frame server.now ∷ [])) }
         ensures took { self.new.took ≡ self.old.took }
+        ensures writes { self.new.writes ≡ self.old.writes }
+        ensures well { OnOk result (self.new.reads ≡ self.old.reads) }
+        ensures unbuilt { result ≡ Err Halt.Unbuilt → (frames : List Frame) → HasRead self.old frames → Misses server.now AwaitsReady frames self.new }
     {
-        let Frame { tag, body } = self.read()?;
-        match body {
-            Body::Ready(name) => {
-                if tag == 0 && is_same(&name, server) {
-                    Ok(())
-                } else {
-                    Err(Halt::Unbuilt)
-                }
-            }
-            _ => Err(Halt::Unbuilt),
+        let frame = self.read()?;
+        if is_ready(&frame, server) {
+            Ok(())
+        } else {
+            Err(Halt::Unbuilt)
         }
     }
 
     fn read_next(&mut self) -> Result<(), Halt>
         ensures read { OnOk result ((frames : List Frame) → HasRead self.old frames → HasRead self.new (frames ++ next_frame ∷ [])) }
         ensures took { self.new.took ≡ self.old.took }
+        ensures writes { self.new.writes ≡ self.old.writes }
+        ensures well { OnOk result (self.new.reads ≡ self.old.reads) }
+        ensures unbuilt { result ≡ Err Halt.Unbuilt → (name : List ℕ) (frames : List Frame) → HasRead self.old frames → Misses name AwaitsNext frames self.new }
     {
-        match self.read()? {
-            Frame {
-                tag: 0,
-                body: Body::Next,
-            } => Ok(()),
-            _ => Err(Halt::Unbuilt),
+        let frame = self.read()?;
+        if is_next(&frame) {
+            Ok(())
+        } else {
+            Err(Halt::Unbuilt)
         }
     }
 
@@ -134,17 +181,14 @@ impl<L: Link> Pipe<L> {
         ensures sound { IfOk result (λ back. (service : List ℕ) → is_sound (play_setup service) back.1 ≡ true) }
         ensures fits { IfOk result (λ back. FitsSigned w32 back.0) }
         ensures took { self.new.took ≡ self.old.took }
+        ensures writes { self.new.writes ≡ self.old.writes }
+        ensures well { OnOk result (self.new.reads ≡ self.old.reads) }
+        ensures unbuilt { result ≡ Err Halt.Unbuilt → (name : List ℕ) (frames : List Frame) → HasRead self.old frames → Misses name (ReturnTo number) frames self.new }
     {
-        let Frame { tag, body } = self.read()?;
-        match body {
-            Body::Return(Rval::Success, code, payload) => {
-                if tag == number && is_plain(&payload) {
-                    Ok((code, payload))
-                } else {
-                    Err(Halt::Unbuilt)
-                }
-            }
-            _ => Err(Halt::Unbuilt),
+        let frame = self.read()?;
+        match plain_return(frame, number) {
+            Some(back) => Ok(back),
+            None => Err(Halt::Unbuilt),
         }
     }
 }

@@ -2,6 +2,7 @@
 ghost use Rattle.std.specs.Prelude.{◌≡◌, ◌++◌, ◌∷◌, [], ℕ, List, OnOk, MatchOption};
 ghost use Rattle.xa_events.specs.declared.event.Event.TheVariants.{Advertise, Start, Leave, Close, Stop};
 ghost use Rattle.xa_program.specs.Pipe.{Wrote, HasRead};
+ghost use Rattle.xa_program.specs.Plain.{Breaks, calls_in};
 ghost use Rattle.xa_program.specs.Progress.{advertise, start, stop, IsPlaying, IsLeaving, IsOver, IsBuiltScript, IsOnly};
 
 use crate::calls::{Account, CLIENT, LIFE, QUEUE, SERVER, make_calls};
@@ -11,10 +12,10 @@ use std::alloc::Global;
 use xa_events::{Advertised, Event, Started, StopCause, Stopped};
 use xa_link::Link;
 use xa_script::{Client, Script};
-use xa_types::{CallerId, Name};
+use xa_types::{CallerId, Name, NoMemory};
 
 /// Notes that the boot advertises the service.
-pub fn note_boot(history: &mut Vec<Event>, service: &Name) -> Result<(), Halt>
+pub fn note_boot(history: &mut Vec<Event>, service: &Name) -> Result<(), NoMemory>
     ensures { OnOk result (history.new.items ≡ history.old.items ++ Advertise (advertise service.now) ∷ []) }
 {
     history.push(Event::Advertise(Advertised {
@@ -28,7 +29,7 @@ pub fn note_boot(history: &mut Vec<Event>, service: &Name) -> Result<(), Halt>
     Ok(())
 }
 
-fn note_start(history: &mut Vec<Event>) -> Result<(), Halt>
+fn note_start(history: &mut Vec<Event>) -> Result<(), NoMemory>
     ensures { OnOk result (history.new.items ≡ history.old.items ++ Start start ∷ []) }
 {
     history.push(Event::Start(Started {
@@ -39,14 +40,14 @@ fn note_start(history: &mut Vec<Event>) -> Result<(), Halt>
     Ok(())
 }
 
-fn note_leave(history: &mut Vec<Event>) -> Result<(), Halt>
+fn note_leave(history: &mut Vec<Event>) -> Result<(), NoMemory>
     ensures { OnOk result (history.new.items ≡ history.old.items ++ Leave (record { 0 = 1 }) ∷ []) }
 {
     history.push(Event::Leave(CLIENT))?;
     Ok(())
 }
 
-fn note_close(history: &mut Vec<Event>) -> Result<(), Halt>
+fn note_close(history: &mut Vec<Event>) -> Result<(), NoMemory>
     ensures { OnOk result (history.new.items ≡ history.old.items ++ Close (record { 0 = 1 }) ∷ Stop stop ∷ []) }
 {
     history.push(Event::Close(QUEUE))?;
@@ -67,8 +68,13 @@ fn make_all<L: Link>(
     script: &Script,
 ) -> Result<(), Halt>
     requires { IsBuiltScript service.now script.now.clients }
-    ensures { OnOk result (((name : List ℕ) (clients : ℕ) → IsPlaying service.now name clients 0 [] account.old.history.items account.old.lines.items pipe.old)
+    ensures goes { OnOk result (((name : List ℕ) (clients : ℕ) → IsPlaying service.now name clients 0 [] account.old.history.items account.old.lines.items pipe.old)
         → IsLeaving service.now script.now.clients account.new.history.items account.new.lines.items pipe.new) }
+    ensures reads { OnOk result (pipe.new.reads ≡ pipe.old.reads) }
+    ensures writes { OnOk result (pipe.new.writes ≡ pipe.old.writes) }
+    ensures unbuilt { result ≡ Err Halt.Unbuilt
+        → ((name : List ℕ) (clients : ℕ) → IsPlaying service.now name clients 0 [] account.old.history.items account.old.lines.items pipe.old)
+        → Breaks (calls_in script.now.clients) pipe.new }
 {
     match only_client(script, service) {
         None => Ok(()),
@@ -111,7 +117,10 @@ pub fn serve<L: Link>(
     requires silent { account.old.lines.items ≡ [] }
     requires wrote { Wrote pipe.old [] }
     requires read { HasRead pipe.old [] }
-    ensures { OnOk result (IsOver service.now script.now.clients account.new.history.items account.new.lines.items pipe.new) }
+    ensures over { OnOk result (IsOver service.now script.now.clients account.new.history.items account.new.lines.items pipe.new) }
+    ensures reads { OnOk result (pipe.new.reads ≡ pipe.old.reads) }
+    ensures writes { OnOk result (pipe.new.writes ≡ pipe.old.writes) }
+    ensures unbuilt { result ≡ Err Halt.Unbuilt → Breaks (calls_in script.now.clients) pipe.new }
 {
     note_start(&mut account.history)?;
     pipe.greet(server)?;

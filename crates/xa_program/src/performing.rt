@@ -1,5 +1,5 @@
 // A script is served, and its transcript is written.
-ghost use Rattle.std.specs.Prelude.{◌≡◌, ◌∷◌, ◌++◌, ◌<◌, [], vec_len, vec_capacity, IfOk, MatchResult};
+ghost use Rattle.std.specs.Prelude.{◌≡◌, ◌∷◌, ◌++◌, ◌<◌, ℕ, [], vec_len, vec_capacity, IfOk, MatchResult};
 ghost use Rattle.xa_link.specs.Told.{Empty};
 ghost use Rattle.xa_events.specs.declared.event.Event.TheVariants.{Advertise};
 ghost use Rattle.xa_program.specs.Progress.{advertise, status_of, IsBuiltScript, Printed, ServingEnds};
@@ -75,7 +75,8 @@ pub fn perform<O: Sink, L: Link, S: Starter<L>>(
     starter: &mut S,
 ) -> Served<L>
     requires { IsBuiltScript service.now script.now.clients }
-    ensures { ServingEnds L.took L.gave (O.took out.old) (O.took out.new) (O.write_faults out.old) (O.write_faults out.new)
+    ensures { ServingEnds L.took L.gave L.left L.read_faults L.write_faults (O.took out.old) (O.took out.new) (O.write_faults out.old) (O.write_faults out.new)
+        (S.start_faults starter.old) (S.start_faults starter.new)
         service.now script.now.clients result.status result.history.items result.lives.items }
 {
     let Ok(mut account) = account_for(alloc, script) else {
@@ -105,7 +106,8 @@ fn stopped<L>(alloc: Global, history: Vec<Event>, status: Status) -> Served<L>
 }
 
 fn not_started<L>(account: Account, lives: Vec<Life<L>>, status: Status) -> Served<L>
-    ensures { result.status ≡ status }
+    ensures status { result.status ≡ status }
+    ensures lives { result.lives.items ≡ lives.items }
 {
     Served {
         status,
@@ -131,7 +133,10 @@ fn live<O: Sink, L: Link>(
     requires room { vec_len lives < vec_capacity lives }
     requires took { Empty (L.took link) }
     requires gave { Empty (L.gave link) }
-    ensures { ServingEnds L.took L.gave (O.took out.old) (O.took out.new) (O.write_faults out.old) (O.write_faults out.new)
+    requires reads { L.read_faults link ≡ 0 }
+    requires writes { L.write_faults link ≡ 0 }
+    ensures { (starts starts_after : ℕ) → ServingEnds L.took L.gave L.left L.read_faults L.write_faults
+        (O.took out.old) (O.took out.new) (O.write_faults out.old) (O.write_faults out.new) starts starts_after
         service.now script.now.clients result.status result.history.items result.lives.items }
 {
     let mut pipe = Pipe::new(alloc, link);

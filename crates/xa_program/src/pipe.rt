@@ -1,8 +1,9 @@
-ghost use Rattle.std.specs.Prelude.{◌≡◌, ◌++◌, ◌∷◌, ◌<◌, [], ℕ, List, length, IfOk, OnOk};
+ghost use Rattle.std.specs.Prelude.{◌≡◌, ◌++◌, ◌∷◌, ◌+◌, ◌<◌, ◌≤◌, [], ℕ, List, length, IfOk, OnOk, OnErr};
 ghost use Rattle.xa_link.specs.Told.{Grew, Empty};
 ghost use Rattle.xa_frame.specs.declared.frame.Frame.{Frame};
 ghost use Rattle.xa_frame.specs.Spelling.{spelled, HasSpelling};
-ghost use Rattle.xa_program.specs.Pipe.{Wrote, HasRead, Finds};
+ghost use Rattle.xa_program.specs.Pipe.{Wrote, HasRead, Finds, ReadsNone};
+ghost use Rattle.xa_frame.specs.Stream.{IsPartial, IsMalformed};
 
 use crate::halt::Halt;
 use std::alloc::Global;
@@ -24,7 +25,7 @@ impl<L: Link> Model for Pipe<L> {
 
     ghost Value = { Piped };
 
-    ghost view = { λ p. record { took = L.took p.link; gave = L.gave p.link; rest = p.reader.rest } };
+    ghost view = { λ p. record { took = L.took p.link; gave = L.gave p.link; left = L.left p.link; reads = L.read_faults p.link; writes = L.write_faults p.link; rest = p.reader.rest } };
 }
 
 impl<L: Link> Pipe<L> {
@@ -32,6 +33,8 @@ impl<L: Link> Pipe<L> {
     pub fn new(alloc: Global, link: L) -> Pipe<L>
         requires took { Empty (L.took link) }
         requires gave { Empty (L.gave link) }
+        ensures reads { result.reads ≡ L.read_faults link }
+        ensures writes { result.writes ≡ L.write_faults link }
         ensures wrote { Wrote result [] }
         ensures read { HasRead result [] }
     {
@@ -45,6 +48,9 @@ impl<L: Link> Pipe<L> {
     pub fn into_link(self) -> L
         ensures took { L.took result ≡ self.took }
         ensures gave { L.gave result ≡ self.gave }
+        ensures left { L.left result ≡ self.left }
+        ensures reads { L.read_faults result ≡ self.reads }
+        ensures writes { L.write_faults result ≡ self.writes }
     {
         let Pipe { link, reader: _ } = self;
         link
@@ -56,6 +62,9 @@ impl<L: Link> Pipe<L> {
         ensures took { OnOk result (Grew self.old.took self.new.took (spelled frame.now)) }
         ensures gave { self.new.gave ≡ self.old.gave }
         ensures rest { self.new.rest ≡ self.old.rest }
+        ensures reads { self.new.reads ≡ self.old.reads }
+        ensures well { OnOk result (self.new.writes ≡ self.old.writes) }
+        ensures unbuilt { result ≡ Err Halt.Unbuilt → 0 < self.new.writes }
     {
         let octets = encode(alloc, frame)?;
         match put(&mut self.link, octets.slice()) {
@@ -69,6 +78,10 @@ impl<L: Link> Pipe<L> {
         ensures frame { IfOk result (λ f. (frames : List Frame) → HasRead self.old frames → HasRead self.new (frames ++ f ∷ [])) }
         ensures spelling { IfOk result (λ f. HasSpelling f) }
         ensures took { self.new.took ≡ self.old.took }
+        ensures writes { self.new.writes ≡ self.old.writes }
+        ensures well { OnOk result (self.new.reads ≡ self.old.reads) }
+        ensures unbuilt { result ≡ Err Halt.Unbuilt → ReadsNone self.new }
+        ensures kept { result ≡ Err Halt.Unbuilt → (frames : List Frame) → HasRead self.old frames → HasRead self.new frames }
     {
         for _ in 0..u64::MAX {
             if let Some(frame) = self.next()? {
@@ -76,14 +89,19 @@ impl<L: Link> Pipe<L> {
             }
             self.pull()?;
         }
-        Err(Halt::Unbuilt)
+        unreachable!()
     }
 
     // The frame that stands whole in what was read, if one does.
     fn next(&mut self) -> Result<Option<Frame>, Halt>
         ensures took { self.new.took ≡ self.old.took }
         ensures gave { self.new.gave ≡ self.old.gave }
+        ensures left { self.new.left ≡ self.old.left }
+        ensures reads { self.new.reads ≡ self.old.reads }
+        ensures writes { self.new.writes ≡ self.old.writes }
         ensures found { IfOk result (λ found. Finds self.old.rest self.new.rest found) }
+        ensures kept { OnErr result (self.new.rest ≡ self.old.rest) }
+        ensures unbuilt { result ≡ Err Halt.Unbuilt → IsMalformed self.old.rest }
     {
         match self.reader.next() {
             Ok(found) => Ok(found),
@@ -94,9 +112,16 @@ impl<L: Link> Pipe<L> {
 
     // Reads a piece of the link.
     fn pull(&mut self) -> Result<(), Halt>
-        requires { length self.old.rest < 66_012 }
+        requires few { length self.old.rest < 66_012 }
+        requires partial { IsPartial self.old.rest }
         ensures took { self.new.took ≡ self.old.took }
+        ensures writes { self.new.writes ≡ self.old.writes }
         ensures grew { OnOk result ((frames : List Frame) → HasRead self.old frames → HasRead self.new frames) }
+        ensures more { OnOk result (length self.old.rest < length self.new.rest) }
+        ensures within { OnOk result (length self.new.rest ≤ length self.old.rest + 8192) }
+        ensures well { OnOk result (self.new.reads ≡ self.old.reads) }
+        ensures kept { result ≡ Err Halt.Unbuilt → (frames : List Frame) → HasRead self.old frames → HasRead self.new frames }
+        ensures unbuilt { result ≡ Err Halt.Unbuilt → ReadsNone self.new }
     {
         let mut piece = [0u8; PIECE];
         let Ok(count) = self.link.read(&mut piece) else {

@@ -1,5 +1,5 @@
 // The top call.
-ghost use Rattle.std.specs.Prelude.{◌≡◌, ◌≤◌, ◌↔◌, [], ◌∷◌, ℕ, List, map, string_bytes, None, Some, IfOk, IfErr, length, vec_len};
+ghost use Rattle.std.specs.Prelude.{◌≡◌, ◌≤◌, ◌↔◌, [], ◌∷◌, ℕ, List, map, string_bytes, None, Some, All, IfOk, IfErr, length, vec_len};
 ghost use Rattle.xa_types.specs.Name.{IsName};
 ghost use Rattle.xa_program.specs.declared.words.Command.TheVariants.{Play, Server};
 ghost use Rattle.xa_program.specs.ChildWork.{Worked, Counts};
@@ -40,7 +40,7 @@ pub fn run<R, S: Shelf, I: Source, O: Sink, Y: Yard, G: Gate>(
 
     // What `play` comes to.
     ensures play { (service : List ℕ) → command_in (map string_bytes words.now) ≡ Some (Play service)
-        → PlayEnds Y.Line.took Y.Line.gave Y.Start.start_faults
+        → PlayEnds Y.Line.took Y.Line.gave Y.Line.left Y.Line.read_faults Y.Line.write_faults Y.Start.start_faults
         (record {
           told = I.left input.old;
           reads_before = I.read_faults input.old;
@@ -75,7 +75,7 @@ fn obey<I: Source, O: Sink, Y: Yard>(
 ) -> Outcome<Y>
     ensures known { result.status ≡ Status.Usage → ⊥ }
     ensures play { (service : List ℕ) → command ≡ Play service
-        → PlayEnds Y.Line.took Y.Line.gave Y.Start.start_faults
+        → PlayEnds Y.Line.took Y.Line.gave Y.Line.left Y.Line.read_faults Y.Line.write_faults Y.Start.start_faults
         (record {
           told = I.left input.old;
           reads_before = I.read_faults input.old;
@@ -138,7 +138,7 @@ fn play<I: Source, O: Sink, Y: Yard>(
     out: &mut O,
     yard: &mut Y,
 ) -> Outcome<Y>
-    ensures play { PlayEnds Y.Line.took Y.Line.gave Y.Start.start_faults
+    ensures play { PlayEnds Y.Line.took Y.Line.gave Y.Line.left Y.Line.read_faults Y.Line.write_faults Y.Start.start_faults
         (record {
           told = I.left input.old;
           reads_before = I.read_faults input.old;
@@ -178,7 +178,8 @@ fn starters_of<Y: Yard>(
     service: &Name,
     yard: &mut Y,
 ) -> Result<Vec<Y::Start>, NoMemory>
-    ensures { IfOk result (λ starters. length starters.items ≡ 1) }
+    ensures one { IfOk result (λ starters. length starters.items ≡ 1) }
+    ensures counts { IfOk result (λ starters. All (λ s. Y.Start.start_faults s ≡ 0) starters.items) }
 {
     let setup = play_setup(alloc, service)?;
     yard.starters(&setup)

@@ -1,11 +1,16 @@
+use Rattle.std.proofs.Common.{rules, Err, ◌≡◌, ℕ, [], ◌∷◌, reverse, subst}
+use Rattle.xa_program.specs.declared.halt.Halt.TheVariants.{Unbuilt}
+use Rattle.xa_program.specs.Pipes.{frames_in}
+use Rattle.xa_program.specs.Plain.{MissesReturn}
+use Rattle.xa_program.proofs.Plain.{breaks_return}
 use Rattle.std.proofs.lemmas.Int.{to_z-of_z}
 use mir.Val.{SFits}
 use mir.Syntax.{w32}
 use Rattle.xa_program.proofs.Playing.{playing_call}
 use Rattle.xa_program.proofs.calls.call.Goals as goal
 
-pub returns : goal.returns
-returns g c n ops first old =
+pub returns-clause-goes : goal.returns-clause-goes
+returns-clause-goes g c n ops first old =
     let fits : SFits w32 c.in_ok-code.code = c.in_ok-code.ensures.fits in
     let history = simp to_z-of_z at c.in_ok-note_answered.ensures.history in
     let lines = simp to_z-of_z at c.in_ok-note_answered.ensures.lines in
@@ -20,3 +25,10 @@ returns g c n ops first old =
       took = c.in_ok-code.ensures.took;
       gave = c.in_ok-code.ensures.read;
     })
+
+pub returns-in_err-code-clause-unbuilt : goal.returns-in_err-code-clause-unbuilt
+returns-in_err-code-clause-unbuilt g c failed n calls ops first more old =
+    let halt : c.invoke.result ≡ Err Unbuilt = search (rules, failed, c.in_err-code.was, c.from_residual-in_err-code.ensures) in
+    let heard = frames_in (83 ∷ []) 1 1 (reverse c.args.account.now.history.items) in
+    breaks_return calls n heard c.invoke.new.self old.talk more
+    (subst (λ (tag : ℕ). MissesReturn (83 ∷ []) tag heard c.invoke.new.self) first (c.invoke.ensures.unbuilt halt (83 ∷ []) heard old.read))

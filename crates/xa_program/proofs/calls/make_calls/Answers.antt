@@ -11,6 +11,8 @@ ops_at ops place op = op ≡ get_or ops place op
 pub loop-op-preserved : goal.loop-op-preserved
 loop-op-preserved g c = record {
   counted = omega arith;
+  reads = c.in_ok-call.ensures.reads ∙ c.loop-op.invariant.reads;
+  writes = c.in_ok-call.ensures.writes ∙ c.loop-op.invariant.writes;
   played = λ begun.
       let place = c.loop-op.op-index in
       let ops = c.args.ops.now in
@@ -18,5 +20,5 @@ loop-op-preserved g c = record {
       let more : take (place + 1) ops ≡ take place ops ++ Call c.ask_of-ask.result.now ∷ [] =
       take_more ops place c.op-item.result (omega arith) ∙ ap (λ (x : Op). take place ops ++ x ∷ []) (sym op ∙ c.ask_of-ask.ensures.ask) in
       subst (λ (made : List Op). IsPlaying c.args.service.now c.args.name.now 1 (place + 1) made c.call.new.account.history.items c.call.new.account.lines.items c.call.new.pipe) (sym more)
-      (c.in_ok-call.ensures place (take place ops) (omega arith) (c.loop-op.invariant.played begun));
+      (c.in_ok-call.ensures.goes place (take place ops) (omega arith) (c.loop-op.invariant.played begun));
 }

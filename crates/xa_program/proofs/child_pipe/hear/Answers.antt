@@ -1,4 +1,4 @@
-use Rattle.std.proofs.Common.{rules, ◌≡◌, ◌∙◌, ap, sym, subst, refl}
+use Rattle.std.proofs.Common.{rules, subst, refl}
 use Rattle.xa_program.specs.declared.serving.Serving.{Serving}
 use Rattle.xa_program.specs.Serving.{TakesUpTo}
 use Rattle.xa_program.proofs.ChildTurned.{hears_no_memory, hears_bad}

@@ -1,8 +1,7 @@
-use Rattle.std.proofs.Common.{rules, ◌≡◌, ◌∙◌, ap, sym, subst, List, ℕ, [], take, Ok, Err, IfOk, true, false, Result, Bool}
+use Rattle.std.proofs.Common.{rules, ◌≡◌, sym, subst, Ok, Err}
 use Rattle.xa_program.specs.ChildWork.{Worked}
 use Rattle.xa_program.specs.ChildTurns.{Turns, Unanswered, status_of}
-use Rattle.xa_program.specs.declared.status.Status.{Status}
-use Rattle.xa_program.proofs.ChildTurned.{so_far_begun, joined, so_far_more, worked_done, worked_refused, worked_spent, worked_unbegun}
+use Rattle.xa_program.proofs.ChildTurned.{joined, so_far_more, worked_done, worked_refused, worked_spent, worked_unbegun}
 use Rattle.xa_program.proofs.child_pipe.serve.Goals as goal
 
 pub returns-in_err-serving-clause-worked : goal.returns-in_err-serving-clause-worked

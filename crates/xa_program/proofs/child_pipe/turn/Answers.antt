@@ -1,4 +1,4 @@
-use Rattle.std.proofs.Common.{rules, ◌≡◌, ◌∙◌, ap, sym, subst, List, ℕ, [], take, Ok, IfOk}
+use Rattle.std.proofs.Common.{rules, ◌≡◌, ◌∙◌, ap, subst, [], take, Ok, IfOk}
 use Rattle.xa_link.specs.Told.{Grew, Shrank, Empty}
 use Rattle.xa_program.proofs.ChildTurned.{turns_of, turns_failed, turns_ended}
 use Rattle.xa_program.proofs.child_pipe.turn.Goals as goal

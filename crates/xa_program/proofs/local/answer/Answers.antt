@@ -1,6 +1,5 @@
-use Rattle.std.proofs.Common.{rules, refl, subst, sym, ◌≡◌, ◌∙◌, ap, Ok, Some, IfOk, ◌++◌, true, false}
+use Rattle.std.proofs.Common.{rules, refl, subst, sym, ◌≡◌, ◌∙◌, ap, Ok, Some, ◌++◌}
 use Rattle.xa_program.specs.declared.serving.Serving.{Serving}
-use Rattle.xa_program.specs.declared.serving.Halt.{Halt}
 use Rattle.xa_program.specs.Serving.{TakesUpTo}
 use Rattle.xa_program.specs.LocalHolds.{Holds}
 use Rattle.xa_program.proofs.LocalSteps.{goes, local_holds}

@@ -1,17 +1,18 @@
-use Rattle.std.proofs.Common.{List, [], ◌∷◌, ◌++◌, ◌∙◌, ap, subst, ◌≡◌}
+use Rattle.std.proofs.Common.{[], ◌∷◌, ◌++◌, ◌∙◌, ap, subst, ◌≡◌}
 use Rattle.std.specs.Prelude.{MatchResult}
-use Rattle.xa_program.specs.declared.outcome.Life.{Life}
 use Rattle.xa_program.specs.Progress.{Printed, status_of}
-use Rattle.xa_program.proofs.Over.{serving_ends}
+use Rattle.xa_program.proofs.Over.{serving_ends, none_more}
 use Rattle.xa_program.proofs.performing.live.Goals as goal
 
 pub returns : goal.returns
-returns g c =
-    serving_ends g.L.Sink.took g.L.Source.gave c.into_link.result (g.O.Sink.took c.args.out.now) (g.O.Sink.took c.conclude-status.new.out) (g.O.Sink.write_faults c.args.out.now) (g.O.Sink.write_faults c.conclude-status.new.out)
+returns g c starts starts_after =
+    serving_ends g.L.Sink.took g.L.Source.gave g.L.Source.left g.L.Source.read_faults g.L.Sink.write_faults c.into_link.result (g.O.Sink.took c.args.out.now) (g.O.Sink.took c.conclude-status.new.out) (g.O.Sink.write_faults c.args.out.now) (g.O.Sink.write_faults c.conclude-status.new.out) starts starts_after
     c.args.service.now c.args.script.now.clients c.serve-served.new.account.history.items c.serve-served.new.account.lines.items c.serve-served.new.pipe c.keep_life.new.lives.items c.serve-served.result c.conclude-status.result
     (c.keep_life.ensures ∙ ap (λ lives. lives ++ (record { server = record { 0 = 1 }; generation = record { 0 = 1 }; link = c.into_link.result }) ∷ []) c.requires.none)
-    c.into_link.ensures.took
-    c.into_link.ensures.gave
-    c.serve-served.ensures
+    (record { took_is = c.into_link.ensures.took; gave_is = c.into_link.ensures.gave; left_is = c.into_link.ensures.left; reads_is = c.into_link.ensures.reads; writes_is = c.into_link.ensures.writes })
+    c.serve-served.ensures.over
+    (none_more _ _ c.serve-served.result c.serve-served.ensures.reads (c.new-pipe.ensures.reads ∙ c.requires.reads))
+    (none_more _ _ c.serve-served.result c.serve-served.ensures.writes (c.new-pipe.ensures.writes ∙ c.requires.writes))
+    c.serve-served.ensures.unbuilt
     (subst (λ lines. MatchResult c.serve-served.result (λ _. Printed (g.O.Sink.took c.args.out.now) (g.O.Sink.took c.conclude-status.new.out) (g.O.Sink.write_faults c.args.out.now) (g.O.Sink.write_faults c.conclude-status.new.out) lines c.conclude-status.result) (λ halt. c.conclude-status.result ≡ status_of halt))
     c.as_slice.ensures.value c.conclude-status.ensures)

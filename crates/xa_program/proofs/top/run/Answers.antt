@@ -1,5 +1,4 @@
-use Rattle.std.proofs.Common.{◌∙◌, ◌≡◌, sym, Some, Option}
-use Rattle.xa_program.specs.declared.words.Command.{Command}
+use Rattle.std.proofs.Common.{◌∙◌, ◌≡◌, Some}
 use Rattle.xa_program.specs.declared.words.Command.TheVariants.{Server}
 use Rattle.xa_program.proofs.top.run.Goals as goal
 

@@ -1,4 +1,4 @@
-use Rattle.std.proofs.Common.{List, ℕ, ◌<◌, ◌^◌, ◌≡◌, ◌≤◌, length, subst, ap, arith}
+use Rattle.std.proofs.Common.{◌≡◌, ◌≤◌, length, ap, arith}
 use Rattle.std.specs.Str.Lines.{lines}
 use Rattle.xa_program.proofs.Built.{script_built, few_lines}
 use Rattle.xa_program.proofs.top.script_of.Goals as goal

@@ -1,4 +1,4 @@
-use Rattle.std.proofs.Common.{ap, subst, ◌∙◌, ◌++◌, take, rules}
+use Rattle.std.proofs.Common.{ap, ◌∙◌, ◌++◌, take, rules}
 use Rattle.xa_program.specs.Local.{LocalTold}
 use Rattle.xa_program.proofs.LocalSteps.{gave_more}
 use Rattle.xa_program.proofs.local.LocalLink.copy.Goals as goal

@@ -1,4 +1,4 @@
-use Rattle.std.proofs.Common.{sym, subst, rules, Some, None, ap}
+use Rattle.std.proofs.Common.{subst}
 use Rattle.xa_program.specs.Serving.{StepsTo}
 use Rattle.xa_program.proofs.ServingSteps.{taken_none, taken_more, taken_all}
 use Rattle.xa_program.proofs.serving.Serving.take_all.Goals as goal

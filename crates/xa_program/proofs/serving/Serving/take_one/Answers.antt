@@ -1,4 +1,4 @@
-use Rattle.std.proofs.Common.{sym, subst, rules, ap, refl}
+use Rattle.std.proofs.Common.{subst, rules, refl}
 use Rattle.xa_frame.specs.Stream.{Found}
 use Rattle.xa_program.proofs.ServingSteps.{answers_step}
 use Rattle.xa_program.proofs.serving.Serving.take_one.Goals as goal
