@@ -32,4 +32,6 @@ pub use reader::{NextRefused, Reader};
 pub use writing::encode;
 
 #[cfg(test)]
+mod hostile_tests;
+#[cfg(test)]
 mod tests;

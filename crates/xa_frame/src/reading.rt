@@ -76,6 +76,7 @@ fn data_of(alloc: Global, octets: &[u8]) -> Result<Data, ReadError>
 }
 
 #[tactic(auto, unfolding(crate::specs::Reading::ready_of))]
+#[inline(never)]
 fn ready_of(octets: &[u8]) -> Result<Body, NoFrame>
     ensures { Reads (λ x. x) result (ready_of octets.now) }
 {
@@ -88,6 +89,7 @@ fn ready_of(octets: &[u8]) -> Result<Body, NoFrame>
 }
 
 #[tactic(auto, unfolding(crate::specs::Reading::return_of))]
+#[inline(never)]
 fn return_of(alloc: Global, octets: &[u8]) -> Result<Body, ReadError>
     ensures { Makes (λ x. x) result (return_of octets.now) }
 {
@@ -99,6 +101,7 @@ fn return_of(alloc: Global, octets: &[u8]) -> Result<Body, ReadError>
 }
 
 #[tactic(auto, unfolding(crate::specs::Reading::invoke_of))]
+#[inline(never)]
 fn invoke_of(alloc: Global, octets: &[u8]) -> Result<Body, ReadError>
     ensures { Makes (λ x. x) result (invoke_of octets.now) }
 {
@@ -133,6 +136,7 @@ fn shutdown_of(octets: &[u8]) -> Result<Body, NoFrame>
 }
 
 /// The body of that kind that all of the octets are.
+#[inline(never)]
 fn body_of(alloc: Global, kind: FrameKind, octets: &[u8]) -> Result<Body, ReadError>
     ensures { Makes (λ x. x) result (body_of kind octets.now) }
 {
@@ -147,6 +151,7 @@ fn body_of(alloc: Global, kind: FrameKind, octets: &[u8]) -> Result<Body, ReadEr
 
 /// The frame that stands first, and how many octets it has; `None` where more octets are to come.
 #[tactic(auto, unfolding(crate::specs::Reading::front_at))]
+#[inline(never)]
 fn front_at(alloc: Global, octets: &[u8]) -> Result<Option<(Frame, usize)>, ReadError>
     ensures { Stands result (front_at octets.now) }
 {
