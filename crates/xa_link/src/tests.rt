@@ -180,10 +180,19 @@ fn shelves_read_whole_files(rt: HostRuntime) -> Result<(), Fail> {
     fs::write(&rt, "empty", "")?;
     let mut shelf = FileShelf::new(&rt, rt.alloc());
     assert!(rt; reads(&mut shelf, &want));
-    // A folder can be opened, but not read.
-    assert!(rt; reads(&mut shelf, &[(".", 9, Err(ShelfRefused::Failed))]));
-    fs::remove_file(&rt, "a")?;
-    fs::remove_file(&rt, "empty")?;
+    // Of this file a read gives but a part, and a folder can be opened, but not read.
+    let long = [b'x'; 4097];
+    let long = str::from_utf8(&long)?;
+    fs::write(&rt, "long", long)?;
+    let want = [
+        ("long", 4097, Ok(long)),
+        ("long", 4096, Err(ShelfRefused::TooLong)),
+        (".", 9, Err(ShelfRefused::Failed)),
+    ];
+    assert!(rt; reads(&mut shelf, &want));
+    for name in ["a", "empty", "long"] {
+        fs::remove_file(&rt, name)?;
+    }
     Ok(())
 }
 
@@ -287,7 +296,7 @@ fn children_end_alone_and_leave_nothing(rt: HostRuntime) -> Result<(), Fail> {
             &[Step::Gives("abc"), Step::Ends],
         ),
         (
-            "read -r all < /proc/$PPID/task/$PPID/children; test $all = $$ && echo alone",
+            "read -r all < /proc/$PPID/task/$PPID/children; test \"$all\" = $$ && echo alone",
             &[Step::Gives("alone\n"), Step::Ends],
         ),
     ];
