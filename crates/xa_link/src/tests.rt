@@ -1,7 +1,8 @@
 // How the forms in memory cut and fail, and what the system does behind the real ones.
 use crate::{
     ChildYard, Failed, FileShelf, Link, MemoryLink, MemoryShelf, MemorySink, MemorySource,
-    MemoryYard, Shelf, ShelfRefused, Sink, Source, StartRefused, Starter, Yard, put,
+    MemoryYard, ReadSource, Shelf, ShelfRefused, Sink, Source, StartRefused, Starter, WriteSink,
+    Yard, put,
 };
 use std::alloc::Global;
 use std::fs;
@@ -177,7 +178,30 @@ fn shelves_read_whole_files(rt: HostRuntime) -> Result<(), Fail> {
     );
     fs::write(&rt, "a", "xyz")?;
     fs::write(&rt, "empty", "")?;
-    assert!(rt; reads(&mut FileShelf::new(&rt, rt.alloc()), &want));
+    let mut shelf = FileShelf::new(&rt, rt.alloc());
+    assert!(rt; reads(&mut shelf, &want));
+    // Of this file a read gives but a part, and a folder can be opened, but not read.
+    let long = [b'x'; 4097];
+    let long = str::from_utf8(&long)?;
+    fs::write(&rt, "long", long)?;
+    let want = [
+        ("long", 4097, Ok(long)),
+        ("long", 4096, Err(ShelfRefused::TooLong)),
+        (".", 9, Err(ShelfRefused::Failed)),
+    ];
+    assert!(rt; reads(&mut shelf, &want));
+    for name in ["a", "empty", "long"] {
+        fs::remove_file(&rt, name)?;
+    }
+    Ok(())
+}
+
+// A test's standard input is empty.
+#[test]
+fn standard_streams_end_and_take(rt: HostRuntime) -> Result<(), Fail> {
+    assert!(rt; gives(&mut ReadSource::new(rt.stdin()), &[Some(""), Some("")]));
+    put(&mut WriteSink::new(rt.stdout()), b"to standard output\n")?;
+    put(&mut WriteSink::new(rt.stderr()), b"to standard error\n")?;
     Ok(())
 }
 
@@ -204,6 +228,87 @@ fn children_write_into_their_links(rt: HostRuntime) -> Result<(), Fail> {
     assert!(rt; starts(&mut starters, 0, 1, &echoed)?);
     assert!(rt; starts(&mut starters, 1, 1, &[])?);
     assert!(rt; starts(&mut starters, 2, 1, &echoed)?);
+    assert_eq!(rt; count_descriptors(&rt)?, before);
+    Ok(())
+}
+
+// What a link is to do next.
+enum Step<'a> {
+    Takes(&'a str),
+    Refuses(&'a str),
+    Gives(&'a str),
+    Ends,
+}
+
+// The octets are read one by one, so it is all the same in which pieces they were written.
+fn gives_each<S: Source>(source: &mut S, want: &str) -> bool {
+    for octet in want.as_bytes() {
+        let mut piece = [0u8];
+        if source.read(&mut piece) != Ok(1) || piece[0] != *octet {
+            return false;
+        }
+    }
+    true
+}
+
+fn does<L: Link>(link: &mut L, step: &Step<'_>) -> bool {
+    match step {
+        Step::Takes(text) => put(link, text.as_bytes()).is_ok(),
+        Step::Refuses(text) => put(link, text.as_bytes()).is_err(),
+        Step::Gives(text) => gives_each(link, text),
+        Step::Ends => link.read(&mut [0u8]) == Ok(0),
+    }
+}
+
+// Whether what the first starter starts does these in turn.
+fn runs<L: Link + Drop, S: Starter<L>>(
+    starters: &mut [S],
+    steps: &[Step<'_>],
+) -> Result<bool, Fail> {
+    let name = Name::read(b"S")?;
+    let Some(starter) = starters.first_mut() else {
+        return Ok(false);
+    };
+    let mut link = starter.start(&name, Generation(1))?;
+    for step in steps {
+        if !does(&mut link, step) {
+            return Ok(false);
+        }
+    }
+    Ok(true)
+}
+
+// A server is started with the words `server` and its name, so `sh` reads its script from the file `server`.
+#[test]
+fn children_end_alone_and_leave_nothing(rt: HostRuntime) -> Result<(), Fail> {
+    let setup = setup(rt.alloc(), &[("S", Some("/bin/sh"))])?;
+    let mut starters = child_yard(&rt, "sh")?.starters(&setup)?;
+    let before = count_descriptors(&rt)?;
+    let scripts: [(&str, &[Step<'_>]); 5] = [
+        ("exec cat", &[Step::Takes("hello"), Step::Gives("hello")]),
+        ("exit 0", &[Step::Ends, Step::Ends]),
+        (
+            "exec 0<&-; echo shut",
+            &[Step::Gives("shut\n"), Step::Refuses("x"), Step::Ends],
+        ),
+        (
+            "printf a; printf b; printf c",
+            &[Step::Gives("abc"), Step::Ends],
+        ),
+        (
+            "read -r all < /proc/$PPID/task/$PPID/children; test \"$all\" = $$ && echo alone",
+            &[Step::Gives("alone\n"), Step::Ends],
+        ),
+    ];
+    for (script, steps) in scripts {
+        fs::write(&rt, "server", script)?;
+        assert!(rt; runs(&mut starters, steps)?, "{script}");
+    }
+    fs::remove_file(&rt, "server")?;
+    assert_eq!(rt;
+        fs::read_to_string(&rt, "/proc/thread-self/children")?.as_str(),
+        ""
+    );
     assert_eq!(rt; count_descriptors(&rt)?, before);
     Ok(())
 }
