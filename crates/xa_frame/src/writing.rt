@@ -1,5 +1,5 @@
 ghost use Rattle.std.specs.Prelude.{◌≡◌, ◌≤◌, ◌++◌, length, IfOk, OnOk};
-ghost use Rattle.xa_frame.specs.Spelling.{kind_octet, rval_octet, mode_octet, word, sized, data_octets, body_octets, spelled, IsData, IsBody, HasSpelling};
+ghost use Rattle.xa_frame.specs.Spelling.{kind_octet, rval_octet, mode_octet, word, sized, data_octets, body_octets, header, spelled, IsData, IsBody, HasSpelling};
 
 use crate::frame::{Body, Frame};
 use crate::header::{HEADER, MARK};
@@ -130,17 +130,35 @@ fn put_body(out: &mut Vec<u8>, body: &Body) -> Result<(), NoMemory>
     Ok(())
 }
 
+fn put_header(out: &mut Vec<u8>, kind: u8, size: u32, tag: u32) -> Result<(), NoMemory>
+    ensures { OnOk result (out.new.items ≡ out.old.items ++ header kind size tag) }
+{
+    let [x, a, version] = MARK;
+    let [s0, s1, s2, s3] = size.to_be_bytes();
+    let [t0, t1, t2, t3] = tag.to_be_bytes();
+    out.extend_from_slice(&[x, a, version, kind, s0, s1, s2, s3, t0, t1, t2, t3])?;
+    Ok(())
+}
+
+/// Puts the octets of a frame, whose data has at most 65,536 octets, at the end. Where memory runs out, some of them may
+/// stand there.
+pub fn append(out: &mut Vec<u8>, frame: &Frame) -> Result<(), NoMemory>
+    requires { HasSpelling frame.now }
+    ensures { OnOk result (out.new.items ≡ out.old.items ++ spelled frame.now) }
+{
+    let size = body_len(&frame.body);
+    out.reserve(HEADER + size)?;
+    put_header(out, kind_octet(&frame.body), size as u32, frame.tag)?;
+    put_body(out, &frame.body)?;
+    Ok(())
+}
+
 /// The octets of a frame, whose data has at most 65,536 octets.
 pub fn encode(alloc: Global, frame: &Frame) -> Result<Octets, NoMemory>
     requires { HasSpelling frame.now }
     ensures { IfOk result (λ octets. octets ≡ spelled frame.now) }
 {
-    let size = body_len(&frame.body);
-    let mut out = Vec::with_capacity(alloc, HEADER + size)?;
-    out.extend_from_slice(&MARK)?;
-    out.push(kind_octet(&frame.body))?;
-    out.extend_from_slice(&(size as u32).to_be_bytes())?;
-    out.extend_from_slice(&frame.tag.to_be_bytes())?;
-    put_body(&mut out, &frame.body)?;
+    let mut out = Vec::new(alloc);
+    append(&mut out, frame)?;
     Ok(Octets::from_vec(out))
 }

@@ -18,6 +18,7 @@ const PIECE: usize = 8192;
 pub struct Pipe<L: Link> {
     link: L,
     reader: Reader,
+    piece: [u8; PIECE],
 }
 
 impl<L: Link> Model for Pipe<L> {
@@ -41,6 +42,7 @@ impl<L: Link> Pipe<L> {
         Pipe {
             link,
             reader: Reader::new(alloc),
+            piece: [0; PIECE],
         }
     }
 
@@ -52,7 +54,11 @@ impl<L: Link> Pipe<L> {
         ensures reads { L.read_faults result ≡ self.reads }
         ensures writes { L.write_faults result ≡ self.writes }
     {
-        let Pipe { link, reader: _ } = self;
+        let Pipe {
+            link,
+            reader: _,
+            piece: _,
+        } = self;
         link
     }
 
@@ -123,14 +129,13 @@ impl<L: Link> Pipe<L> {
         ensures kept { result ≡ Err Halt.Unbuilt → (frames : List Frame) → HasRead self.old frames → HasRead self.new frames }
         ensures unbuilt { result ≡ Err Halt.Unbuilt → ReadsNone self.new }
     {
-        let mut piece = [0u8; PIECE];
-        let Ok(count) = self.link.read(&mut piece) else {
+        let Ok(count) = self.link.read(&mut self.piece) else {
             return Err(Halt::Unbuilt);
         };
         if count == 0 {
             return Err(Halt::Unbuilt);
         }
-        self.reader.feed(&piece[..count])?;
+        self.reader.feed(&self.piece[..count])?;
         Ok(())
     }
 }

@@ -3,3 +3,4 @@ pub mod ScriptWords
 pub mod ScriptGrammar
 pub mod ScriptRead
 pub mod ScriptCut
+pub mod Places

@@ -9,6 +9,7 @@ ghost use Rattle.xa_script.specs.Draft.{kept, begun, added, with_line, read_all}
 
 use crate::script_line::{Line, read_line};
 use std::alloc::{AllocError, AllocFailed, Global};
+use memchr::memchr;
 use std::marker::Model;
 use xa_types::{Name, NoMemory, Op, Sequence};
 
@@ -139,7 +140,7 @@ fn without_return(line: &[u8]) -> &[u8]
 fn line_len(octets: &[u8]) -> Option<usize>
     ensures { result ≡ position is_line_end octets.now }
 {
-    octets.iter().position(|octet| *octet == b'\n')
+    memchr(b'\n', octets)
 }
 
 // The first line, and what stands behind it.

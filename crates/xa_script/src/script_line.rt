@@ -3,6 +3,7 @@ ghost use Rattle.std.specs.List.{list_all, position, position_or_len};
 ghost use Rattle.xa_script.specs.Script.{is_printed};
 ghost use Rattle.xa_script.specs.ScriptLine.{skip_spaces, is_blank, is_space, next_word, is_skipped, next_octet, is_marked, put, text_in_front, quoted_in, payload_in, call_in, client_in, line_of};
 
+use memchr::memchr2;
 use std::alloc::Global;
 use xa_types::{Ask, CallFlags, Data, Direction, Name, NoMemory, Octets, Op};
 
@@ -79,16 +80,10 @@ fn next_octet(octets: &[u8]) -> Option<(u8, &[u8])>
     }
 }
 
-fn is_marked(octet: u8) -> bool
-    ensures { result ≡ is_marked octet }
-{
-    octet == b'"' || octet == b'\\'
-}
-
 fn place_of_mark(octets: &[u8]) -> Option<usize>
     ensures { result ≡ position is_marked octets.now }
 {
-    octets.iter().position(|octet| is_marked(*octet))
+    memchr2(b'"', b'\\', octets)
 }
 
 // The octets before the first double quote or backslash, and what stands behind them.

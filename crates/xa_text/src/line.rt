@@ -7,13 +7,6 @@ ghost use Rattle.xa_text.specs.Line.{hex_digit, hex_pair, hex, data_text, coded,
 use itoa::Buffer;
 use xa_types::{Answer, ConvEvent, Data, Name, NoMemory, Reply};
 
-fn hex_digit(n: u8) -> u8
-    requires { n < 16 }
-    ensures { result ≡ hex_digit n }
-{
-    if n < 10 { b'0' + n } else { b'a' - 10 + n }
-}
-
 fn push_text(out: &mut Vec<u8>, text: &[u8]) -> Result<(), NoMemory>
     ensures ok { OnOk result (out.new.items ≡ out.old.items ++ text.now) }
     ensures err { OnErr result (Begins out.old.items out.new.items) }
@@ -35,22 +28,16 @@ fn push_code(out: &mut Vec<u8>, code: i32) -> Result<(), NoMemory>
     push_text(out, Buffer::new().format(code).as_bytes())
 }
 
-fn push_pair(out: &mut Vec<u8>, octet: u8) -> Result<(), NoMemory>
-    ensures ok { OnOk result (out.new.items ≡ out.old.items ++ hex_pair octet) }
-    ensures err { OnErr result (Begins out.old.items out.new.items) }
-{
-    out.push(hex_digit(octet / 16))?;
-    Ok(out.push(hex_digit(octet % 16))?)
-}
-
 fn push_pairs(out: &mut Vec<u8>, octets: &[u8]) -> Result<(), NoMemory>
     ensures ok { OnOk result (out.new.items ≡ out.old.items ++ flat_map hex_pair octets.now) }
     ensures err { OnErr result (Begins out.old.items out.new.items) }
 {
-    for octet in octets {
-        push_pair(out, *octet)?;
+    let at = out.len();
+    out.resize(at.saturating_add(octets.len().saturating_mul(2)), 0)?;
+    match hex::encode_to_slice(octets, &mut out[at..]) {
+        Ok(()) => Ok(()),
+        Err(_) => unreachable!(),
     }
-    Ok(())
 }
 
 fn push_hex(out: &mut Vec<u8>, octets: &[u8]) -> Result<(), NoMemory>

@@ -1,11 +1,14 @@
-use Rattle.std.proofs.Common.{rules, ◌≡◌, take, Err, OnErr, subst, sym}
+use Rattle.std.proofs.Common.{rules, ◌≡◌, ◌++◌, ◌+◌, ◌-◌, ◌∷◌, [], OnOk, ℕ, length, take, arith, sym, refl, ap, ◌∙◌, replicate}
 use Rattle.std.specs.List.{flat_map}
-use Rattle.xa_text.specs.Line.{hex_pair, Begins}
-use Rattle.xa_text.proofs.Lines.{begins_behind}
+use Rattle.xa_text.specs.Line.{hex_pair}
+use Rattle.xa_text.proofs.Pairs.{pairs, filled, front_kept, none_behind}
 use Rattle.xa_text.proofs.line.push_pairs.Goals as goal
 
-pub returns-in_err-push_pair-clause-err : goal.returns-in_err-push_pair-clause-err
-returns-in_err-push_pair-clause-err c =
-    let same : c.from_residual.result ≡ Err c.in_err-push_pair.field-0.0 = search rules in
-    let b = begins_behind c.args.out.now.items (flat_map hex_pair (take c.loop-octet.octet-index c.args.octets.now)) c.loop-octet.out.items c.push_pair.new.out.items c.loop-octet.invariant c.in_err-push_pair.ensures.err in
-    subst (λ result. OnErr result (Begins c.args.out.now.items c.push_pair.new.out.items)) (sym same) b
+pub returns-clause-ok : goal.returns-clause-ok
+returns-clause-ok c =
+    let old = c.args.out.now.items in
+    let now = c.deref_mut.result.now in
+    let at = c.len-at.result in
+    let same = pairs c.args.octets.now (λ i. (c.type_inv.octets i).fits) in
+    filled at c.resize.new.self.len old now c.encode_to_slice.new.output _ _ (front_kept at c.resize.new.self.len old now (replicate (c.resize.new.self.len - at) 0) (search rules) (omega (arith, c.in_ok-resize.ensures.len, c.saturating_add.ensures)) (search rules)) (none_behind at now (search rules)) (omega (arith, c.in_ok-resize.ensures.len))
+    ∙ ap (λ text. old ++ text) ((c.in-Ok.ensures.written) ∙ same)
