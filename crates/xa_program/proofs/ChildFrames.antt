@@ -54,10 +54,10 @@ served_spelling : (b : Bool) (fs : List Frame) → All HasSpelling fs → All Ha
 served_spelling true fs h = All-nil HasSpelling
 served_spelling false fs h = h
 
-two_spellings : (f g : Frame) → HasSpelling f → HasSpelling g → All HasSpelling (f ∷ g ∷ [])
+pub two_spellings : (f g : Frame) → HasSpelling f → HasSpelling g → All HasSpelling (f ∷ g ∷ [])
 two_spellings f g h k = All-cons HasSpelling f (g ∷ []) h (All-cons HasSpelling g [] k (All-nil HasSpelling))
 
-next_spelling : HasSpelling next
+pub next_spelling : HasSpelling next
 next_spelling = record { tag = omega arith; body = tt }
 
 answer_spelling : (tag : ℕ) (body : Body) → tag < 2 ^ 32 → IsBody body → All HasSpelling (answer_body tag body)
@@ -72,10 +72,11 @@ answer_spelling tag Shutdown low h = All-nil HasSpelling
 pub spelling-answer : (f : Frame) → HasSpelling f → All HasSpelling (answer f)
 spelling-answer f h = answer_spelling f.tag f.body h.tag h.body
 
+pub ready_spelling : (name : List ℕ) → IsName name → HasSpelling (record { tag = 0; body = Ready name })
+ready_spelling name h = record { tag = omega arith; body = h }
+
 pub spelling-greeting : (name : List ℕ) → IsName name → All HasSpelling (greeting name)
-spelling-greeting name h =
-    let first : HasSpelling (record { tag = 0; body = Ready name }) = record { tag = omega arith; body = h } in
-    two_spellings _ next first next_spelling
+spelling-greeting name h = two_spellings _ next (ready_spelling name h) next_spelling
 
 pub all_spelled-push : (fs : List Frame) (f : Frame) → all_spelled (fs ++ f ∷ []) ≡ all_spelled fs ++ spelled f
 all_spelled-push fs f = all_spelled-append fs (f ∷ []) ∙ ap (λ z. all_spelled fs ++ z) (append-nil (spelled f))

@@ -1,5 +1,6 @@
 pub mod Frames
 pub mod Plain
+pub mod PlainOrNot
 pub mod Play
 pub mod Told
 pub mod Served

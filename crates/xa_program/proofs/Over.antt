@@ -27,8 +27,9 @@ use Rattle.xa_program.specs.Headline.{IsHistoryAt, names_of}
 use Rattle.xa_types.specs.Setup.{numbered}
 use Rattle.xa_program.specs.Pipe.{Piped, Wrote, HasRead}
 use Rattle.xa_program.specs.Pipes.{name_in, frames_out, frames_in, shutdown_frame, greeting, lives_of, failed_starts, IsLife}
-use Rattle.xa_program.specs.Plain.{IsTalk, Greeted, IsPlain, IsNotPlain, Breaks, calls_in, ArePlain}
-use Rattle.xa_program.specs.PlaySetup.{play_setup}
+use Rattle.xa_program.specs.Plain.{IsTalk, Greeted, IsPlain, IsNotPlain, calls_in, ArePlain}
+use Rattle.xa_program.specs.Misses.{Breaks}
+use Rattle.xa_program.specs.PlaySetup.{play_setup, server_name}
 use Rattle.xa_program.specs.Progress.{at, advertise, start, stop, closed, IsPlaying, IsLeavingAt, IsLeaving, IsBuiltScript, IsOnly, IsOver, IsServed, ServingEnds, Printed, status_of}
 use Rattle.xa_program.specs.Spoken.{spoken, lines_up_to}
 use Rattle.xa_program.proofs.Frames.{read_same}
@@ -38,7 +39,7 @@ use Rattle.xa_program.proofs.Pipes.{out_closed, in_closed, lives_closed}
 use Rattle.xa_program.proofs.Playing.{run_append, wrote_more}
 
 -- the server has started, and greeted
-pub playing_begun : (service name : List ℕ) (clients : ℕ) (pipe : Piped) → Wrote pipe [] → HasRead pipe (greeting (83 ∷ [])) → IsPlaying service name clients 0 [] (Advertise (advertise service) ∷ Start start ∷ []) [] pipe
+pub playing_begun : (service name : List ℕ) (clients : ℕ) (pipe : Piped) → Wrote pipe [] → HasRead pipe (greeting server_name) → IsPlaying service name clients 0 [] (Advertise (advertise service) ∷ Start start ∷ []) [] pipe
 playing_begun service name clients pipe wrote read = record {
   run = (advertise_case service clients, (start_case service clients, refl));
   quiet = quiet_begun service clients;
@@ -95,8 +96,8 @@ leaving_one service name n ops history lines pipe old =
           ∙ (ap (λ k. lines_up_to name 1 (closed gone) k) (sym (last_op_closed gone ∙ (last_op_leave past ∙ old.quiet.op)))
           ∙ sym (append-nil (lines_up_to name 1 (closed gone) (last_op 1 (closed gone)))))));
       wrote = subst (λ frames. Wrote pipe frames) (sym (append-nil (frames_out 1 1 past))) old.wrote;
-      read = subst (λ frames. HasRead pipe frames) (sym (append-nil (frames_in (83 ∷ []) 1 1 past))) old.read;
-      talk = subst (λ frames. IsTalk (83 ∷ []) (length ops + 0) frames) (sym (append-nil (frames_in (83 ∷ []) 1 1 past))) (subst (λ (k : ℕ). IsTalk (83 ∷ []) k (frames_in (83 ∷ []) 1 1 past)) (omega (arith, old.many)) old.talk);
+      read = subst (λ frames. HasRead pipe frames) (sym (append-nil (frames_in server_name 1 1 past))) old.read;
+      talk = subst (λ frames. IsTalk server_name (length ops + 0) frames) (sym (append-nil (frames_in server_name 1 1 past))) (subst (λ (k : ℕ). IsTalk server_name k (frames_in server_name 1 1 past)) (omega (arith, old.many)) old.talk);
       lives = append-nil (lives_of past) ∙ old.lives;
       failed = old.failed;
     })
@@ -131,11 +132,11 @@ over service clients history lines before now old took gave rest =
         calls = old.calls;
       });
       said = subst (λ (es : List Event). lines ≡ spoken (names_of clients) es) (sym reversed) old.said;
-      life = subst (λ (es : List Event). IsLife (83 ∷ []) 1 1 es now.took now.gave) (sym reversed) (record {
+      life = subst (λ (es : List Event). IsLife server_name 1 1 es now.took now.gave) (sym reversed) (record {
         took_frames = subst (λ frames. Wrote now frames) (sym (out_closed past)) (wrote_more before.took now.took (frames_out 1 1 past) shutdown_frame old.wrote took);
-        gave_frames = gave_life now.gave now.rest (frames_in (83 ∷ []) 1 1 (closed past)) (subst (λ frames. HasRead now frames) (sym (in_closed (83 ∷ []) past)) (read_same before.gave now.gave before.rest now.rest (frames_in (83 ∷ []) 1 1 past) gave rest old.read));
+        gave_frames = gave_life now.gave now.rest (frames_in server_name 1 1 (closed past)) (subst (λ frames. HasRead now frames) (sym (in_closed server_name past)) (read_same before.gave now.gave before.rest now.rest (frames_in server_name 1 1 past) gave rest old.read));
       });
-      talk = subst (λ (es : List Event). IsTalk (83 ∷ []) (calls_in clients) (frames_in (83 ∷ []) 1 1 es)) (sym reversed) (subst (λ frames. IsTalk (83 ∷ []) (calls_in clients) frames) (sym (in_closed (83 ∷ []) past)) old.talk);
+      talk = subst (λ (es : List Event). IsTalk server_name (calls_in clients) (frames_in server_name 1 1 es)) (sym reversed) (subst (λ frames. IsTalk server_name (calls_in clients) frames) (sym (in_closed server_name past)) old.talk);
       lives = subst (λ (es : List Event). lives_of es ≡ (1, 1) ∷ []) (sym reversed) (lives_closed past ∙ old.lives);
       failed = subst (λ (es : List Event). failed_starts 1 es ≡ 0) (sym reversed) old.failed;
     }
@@ -164,7 +165,7 @@ leaving_all service client clients started made ended silent lines before pipe a
     (leaving_one service client.name (length client.ops) client.ops made lines pipe (played (begun client.name 1))))
 
 pub playing_started : (service : List ℕ) (started : List Event) (silent : List ℕ) (pipe : Piped)
-    → started ≡ Advertise (advertise service) ∷ Start start ∷ [] → silent ≡ [] → Wrote pipe [] → HasRead pipe (greeting (83 ∷ []))
+    → started ≡ Advertise (advertise service) ∷ Start start ∷ [] → silent ≡ [] → Wrote pipe [] → HasRead pipe (greeting server_name)
     → (name : List ℕ) (count : ℕ) → IsPlaying service name count 0 [] started silent pipe
 playing_started service started silent pipe started_is silent_is wrote read name count =
     subst (λ (es : List Event). IsPlaying service name count 0 [] es silent pipe) (sym started_is)
@@ -194,9 +195,9 @@ served_life : {L : Type 0} (took gave : L → Option (List ℕ)) (link : L) (ser
     → lives ≡ (record { server = record { 0 = 1 }; generation = record { 0 = 1 }; link = link }) ∷ [] → took link ≡ pipe.took → gave link ≡ pipe.gave
     → IsOver service clients history lines pipe → IsServed took gave service clients history lives
 served_life {L} took gave link service clients history lines pipe lives is took_is gave_is over =
-    let life : IsLife (83 ∷ []) 1 1 (reverse history) (took link) (gave link) =
-    subst (λ (t : Option (List ℕ)). IsLife (83 ∷ []) 1 1 (reverse history) t (gave link)) (sym took_is)
-    (subst (λ (t : Option (List ℕ)). IsLife (83 ∷ []) 1 1 (reverse history) pipe.took t) (sym gave_is) over.life) in
+    let life : IsLife server_name 1 1 (reverse history) (took link) (gave link) =
+    subst (λ (t : Option (List ℕ)). IsLife server_name 1 1 (reverse history) t (gave link)) (sym took_is)
+    (subst (λ (t : Option (List ℕ)). IsLife server_name 1 1 (reverse history) pipe.took t) (sym gave_is) over.life) in
     subst (λ (all : List (Life L)). IsServed took gave service clients history all) (sym is) (record {
       machine = over.machine;
       lives_are = sym over.lives;
@@ -207,7 +208,7 @@ served_life {L} took gave link service clients history lines pipe lives is took_
     })
 
 served_plain : {L : Type 0} (gave : L → Option (List ℕ)) (reads writes : L → ℕ) (link : L) (service : List ℕ) (clients : List Client) (lives : List (Life L))
-    → lives ≡ (record { server = record { 0 = 1 }; generation = record { 0 = 1 }; link = link }) ∷ [] → IsPlain (83 ∷ []) (calls_in clients) (gave link) (reads link) (writes link)
+    → lives ≡ (record { server = record { 0 = 1 }; generation = record { 0 = 1 }; link = link }) ∷ [] → IsPlain server_name (calls_in clients) (gave link) (reads link) (writes link)
     → ArePlain gave reads writes service clients lives
 served_plain {L} gave reads writes link service clients lives is plain =
     subst (λ (all : List (Life L)). ArePlain gave reads writes service clients all) (sym is) (λ k d low.
@@ -233,16 +234,16 @@ pub record Shows {L : Type 0} (took gave left : L → Option (List ℕ)) (reads 
   pub writes_is : writes link ≡ pipe.writes
 
 over_plain : {L : Type 0} (took gave left : L → Option (List ℕ)) (reads writes : L → ℕ) (link : L) (clients : List Client) (service : List ℕ) (history : List Event) (lines : List ℕ) (pipe : Piped)
-    → Shows took gave left reads writes link pipe → pipe.reads ≡ 0 → pipe.writes ≡ 0 → IsOver service clients history lines pipe → IsPlain (83 ∷ []) (calls_in clients) (gave link) (reads link) (writes link)
+    → Shows took gave left reads writes link pipe → pipe.reads ≡ 0 → pipe.writes ≡ 0 → IsOver service clients history lines pipe → IsPlain server_name (calls_in clients) (gave link) (reads link) (writes link)
 over_plain took gave left reads writes link clients service history lines pipe shows reads_none writes_none over = record {
   reads_well = shows.reads_is ∙ reads_none;
   writes_well = shows.writes_is ∙ writes_none;
-  talk = subst (λ (t : Option (List ℕ)). IfSome t (λ octets. (frames : List Frame) × (rest : List ℕ) × IsTalk (83 ∷ []) (calls_in clients) frames × (octets ≡ all_spelled frames ++ rest))) (sym shows.gave_is)
-      (talk_given (83 ∷ []) (calls_in clients) pipe.gave (frames_in (83 ∷ []) 1 1 (reverse history)) over.talk over.life.gave_frames);
+  talk = subst (λ (t : Option (List ℕ)). IfSome t (λ octets. (frames : List Frame) × (rest : List ℕ) × IsTalk server_name (calls_in clients) frames × (octets ≡ all_spelled frames ++ rest))) (sym shows.gave_is)
+      (talk_given server_name (calls_in clients) pipe.gave (frames_in server_name 1 1 (reverse history)) over.talk over.life.gave_frames);
 }
 
 not_plain : {L : Type 0} (took gave left : L → Option (List ℕ)) (reads writes : L → ℕ) (link : L) (calls : ℕ) (pipe : Piped)
-    → Shows took gave left reads writes link pipe → Breaks calls pipe → IsNotPlain (83 ∷ []) calls (gave link) (left link) (reads link) (writes link)
+    → Shows took gave left reads writes link pipe → Breaks calls pipe → IsNotPlain server_name calls (gave link) (left link) (reads link) (writes link)
 not_plain took gave left reads writes link calls pipe shows broken = rw (shows.gave_is, shows.left_is, shows.reads_is, shows.writes_is) broken
 
 -- how a life and its transcript end

@@ -21,12 +21,12 @@ use Rattle.xa_events.specs.Board.{published, changes}
 use Rattle.xa_events.specs.Cases.{Case}
 use Rattle.xa_events.specs.Run.{Run}
 use Rattle.xa_frame.specs.declared.frame.Frame.{Frame}
-use Rattle.xa_frame.specs.Spelling.{spelled, all_spelled}
+use Rattle.xa_frame.specs.Spelling.{spelled, all_spelled, HasSpelling}
 use Rattle.xa_text.specs.Line.{line_text}
 use Rattle.xa_program.specs.Pipe.{Piped, Wrote, HasRead}
 use Rattle.xa_program.specs.Pipes.{frames_out, frames_in, next_frame, invoke_frame, return_frame}
 use Rattle.xa_program.specs.Plain.{IsTalk, Further}
-use Rattle.xa_program.specs.PlaySetup.{play_setup}
+use Rattle.xa_program.specs.PlaySetup.{play_setup, server_name}
 use Rattle.xa_program.proofs.Frames.{all_spelled-push}
 use Rattle.xa_program.specs.Progress.{at, accept, take_of, end_with, answer_of, IsQuiet, IsPlayingAt, IsPlaying, IsBuilt}
 use Rattle.xa_program.proofs.Play.{accepted_case, take_case, serving, ends, answer_case, answered, end_case}
@@ -84,11 +84,11 @@ told_plain wanted code back none = rw none refl
 
 -- one more call that is served
 pub playing_more : (service name : List ℕ) (n : ℕ) (ops : List Op) (ask : Ask) (code : ℤ) (back : Data) (history : List Event) (lines : List ℕ) (before after : Piped)
-    → IsPlaying service name 1 n ops history lines before → IsBuilt service ask → is_sound (play_setup service) back ≡ true → n + 1 < 2 ^ 32
+    → IsPlaying service name 1 n ops history lines before → IsBuilt service ask → is_sound (play_setup service) back ≡ true → HasSpelling (return_frame (n + 1) code back) → n + 1 < 2 ^ 32
     → Grew before.took after.took (spelled (invoke_frame service (n + 1) ask.payload))
     → ((frames : List Frame) → HasRead before frames → HasRead after (frames ++ return_frame (n + 1) code back ∷ next_frame ∷ []))
     → IsPlaying service name 1 (n + 1) (ops ++ Call ask ∷ []) (history ++ in_order service (n + 1) ask.payload code back) (lines ++ line_text name (n + 1) (AnsweredReply 0 (Success code back))) after
-playing_more service name n ops ask code back history lines before after old built sound small took gave =
+playing_more service name n ops ask code back history lines before after old built sound spelling small took gave =
     let past = reverse history in
     let outcome = Returned code back in
     let told = Success code back in
@@ -105,8 +105,8 @@ playing_more service name n ops ask code back history lines before after old bui
       many = length_push ops (Call ask) ∙ ap (λ k. k + 1) old.many;
       said = ap (λ front. front ++ line_text name (n + 1) (AnsweredReply 0 told)) old.said ∙ sym (lines_more service n ask.payload outcome told past name old.fresh old.knows);
       wrote = subst (λ frames. Wrote after frames) (sym (out_served service n ask.payload past old.invoked small outcome told)) (wrote_more before.took after.took (frames_out 1 1 past) (invoke_frame service (n + 1) ask.payload) old.wrote took);
-      read = subst (λ frames. HasRead after frames) (sym (in_served service n ask.payload past old.invoked small (83 ∷ []) code back told)) (gave (frames_in (83 ∷ []) 1 1 past) old.read);
-      talk = subst (λ frames. IsTalk (83 ∷ []) (n + 1) frames) (sym (in_served service n ask.payload past old.invoked small (83 ∷ []) code back told)) (Further old.talk (code, back, sound, refl));
+      read = subst (λ frames. HasRead after frames) (sym (in_served service n ask.payload past old.invoked small server_name code back told)) (gave (frames_in server_name 1 1 past) old.read);
+      talk = subst (λ frames. IsTalk server_name (n + 1) frames) (sym (in_served service n ask.payload past old.invoked small server_name code back told)) (Further old.talk (code, back, sound, spelling, refl));
       invoked = many_served service n ask.payload past old.invoked small outcome told;
       lives = lives_served service (n + 1) ask.payload outcome told past ∙ old.lives;
       failed = old.failed;
@@ -122,20 +122,20 @@ pub record IsCarried (service name : List ℕ) (number : ℕ) (ask : Ask) (code 
   pub gave : (frames : List Frame) → HasRead before frames → HasRead after (frames ++ return_frame number code back ∷ next_frame ∷ [])
 
 playing_carried : (service name : List ℕ) (n : ℕ) (ops : List Op) (ask : Ask) (code : ℤ) (back : Data) (history taken ended : List Event) (lines printed : List ℕ) (before after : Piped)
-    → IsBuilt service ask → is_sound (play_setup service) back ≡ true → IsPlaying service name 1 n ops history lines before → IsCarried service name (n + 1) ask code back history taken ended lines printed before after
+    → IsBuilt service ask → is_sound (play_setup service) back ≡ true → HasSpelling (return_frame (n + 1) code back) → IsPlaying service name 1 n ops history lines before → IsCarried service name (n + 1) ask code back history taken ended lines printed before after
     → IsPlaying service name 1 (n + 1) (ops ++ Call ask ∷ []) ended printed after
-playing_carried service name n ops ask code back history taken ended lines printed before after built sound old step =
+playing_carried service name n ops ask code back history taken ended lines printed before after built sound spelling old step =
     let whole : ended ≡ history ++ in_order service (n + 1) ask.payload code back =
     (step.ended_so ∙ ap (λ (front : List Event). front ++ End (end_with (n + 1) (Returned code back)) ∷ Answers (answer_of (n + 1) (Success code back)) ∷ []) step.taken_so)
     ∙ append_assoc history (Accept (accept service (n + 1) ask.payload) ∷ Take (take_of (n + 1)) ∷ []) (End (end_with (n + 1) (Returned code back)) ∷ Answers (answer_of (n + 1) (Success code back)) ∷ []) in
     subst (λ (es : List Event). IsPlaying service name 1 (n + 1) (ops ++ Call ask ∷ []) es printed after) (sym whole)
     (subst (λ (text : List ℕ). IsPlaying service name 1 (n + 1) (ops ++ Call ask ∷ []) (history ++ in_order service (n + 1) ask.payload code back) text after) (sym step.printed_so)
-    (playing_more service name n ops ask code back history lines before after old built sound step.small step.took step.gave))
+    (playing_more service name n ops ask code back history lines before after old built sound spelling step.small step.took step.gave))
 
 -- one call, by its number
 pub playing_call : (service name : List ℕ) (number n : ℕ) (ops : List Op) (ask : Ask) (code : ℤ) (back : Data) (history taken ended : List Event) (lines printed : List ℕ) (before after : Piped)
-    → number ≡ n + 1 → IsBuilt service ask → is_sound (play_setup service) back ≡ true → IsPlaying service name 1 n ops history lines before → IsCarried service name number ask code back history taken ended lines printed before after
+    → number ≡ n + 1 → IsBuilt service ask → is_sound (play_setup service) back ≡ true → HasSpelling (return_frame number code back) → IsPlaying service name 1 n ops history lines before → IsCarried service name number ask code back history taken ended lines printed before after
     → IsPlaying service name 1 (n + 1) (ops ++ Call ask ∷ []) ended printed after
-playing_call service name number n ops ask code back history taken ended lines printed before after is built sound old step =
-    playing_carried service name n ops ask code back history taken ended lines printed before after built sound old
+playing_call service name number n ops ask code back history taken ended lines printed before after is built sound spelling old step =
+    playing_carried service name n ops ask code back history taken ended lines printed before after built sound (subst (λ (k : ℕ). HasSpelling (return_frame k code back)) is spelling) old
     (subst (λ (k : ℕ). IsCarried service name k ask code back history taken ended lines printed before after) is step)

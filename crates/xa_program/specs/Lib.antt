@@ -4,6 +4,7 @@ pub mod ChildWork
 pub mod Headline
 pub mod Local
 pub mod LocalHolds
+pub mod Misses
 pub mod Pipe
 pub mod Pipes
 pub mod Plain

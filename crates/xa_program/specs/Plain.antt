@@ -7,15 +7,14 @@ use Rattle.xa_types.specs.Setup.{numbered}
 use Rattle.xa_program.specs.declared.outcome.Life.{Life}
 use Rattle.xa_script.specs.declared.script.Client.{Client}
 use Rattle.xa_frame.specs.declared.frame.Frame.{Frame}
-use Rattle.xa_frame.specs.Spelling.{all_spelled}
+use Rattle.xa_frame.specs.Spelling.{all_spelled, HasSpelling}
 use Rattle.xa_frame.specs.Stream.{IsPartial, IsMalformed, Begins}
-use Rattle.xa_program.specs.Pipe.{Piped}
 use Rattle.xa_program.specs.Pipes.{name_in, next_frame, ready_frame, return_frame, greeting}
 use Rattle.xa_program.specs.PlaySetup.{play_setup}
 
--- a RETURN to that invocation, with TPSUCCESS and sound data
+-- a RETURN to that invocation that has a spelling, with TPSUCCESS and sound data
 abbrev pub IsPlainReturn : ℕ → Frame → Type 0
-IsPlainReturn tag f = (code : ℤ) × (payload : Data) × (is_sound (play_setup []) payload ≡ true) × (f ≡ return_frame tag code payload)
+IsPlainReturn tag f = (code : ℤ) × (payload : Data) × (is_sound (play_setup []) payload ≡ true) × HasSpelling f × (f ≡ return_frame tag code payload)
 
 -- these are the greeting and the answers to so many invocations
 pub data IsTalk : List ℕ → ℕ → List Frame → Type 0 where
@@ -45,20 +44,6 @@ abbrev pub Lacks : List ℕ → Awaited → Option (List ℕ) → List ℕ → T
 Lacks name awaited left rest =
     IsMalformed rest ⊎ ((f : Frame) × (more : List ℕ) × Begins rest f more × (IsAwaited name awaited f → ⊥)) ⊎ (IsPartial rest × Empty left)
 
--- after these frames that isn't said: a pipe failed, or the link gave something else
-abbrev pub Misses : List ℕ → Awaited → List Frame → Piped → Type 0
-Misses name awaited frames pipe =
-    (0 < pipe.reads) ⊎ (0 < pipe.writes) ⊎ IfSome pipe.gave (λ octets. (rest : List ℕ) × (octets ≡ all_spelled frames ++ rest) × Lacks name awaited pipe.left rest)
-
--- that goes for READY, or for the NEXT behind it
-abbrev pub MissesGreeting : List ℕ → Piped → Type 0
-MissesGreeting name pipe = Misses name Ready [] pipe ⊎ Misses name Next (ready_frame name ∷ []) pipe
-
--- that goes for the RETURN, or for the NEXT behind it
-abbrev pub MissesReturn : List ℕ → ℕ → List Frame → Piped → Type 0
-MissesReturn name tag frames pipe =
-    Misses name (ReturnTo tag) frames pipe ⊎ ((f : Frame) × IsPlainReturn tag f × Misses name Next (frames ++ f ∷ []) pipe)
-
 -- what the link gave is plain up to a place, and not there
 abbrev pub BreaksOff : List ℕ → ℕ → Option (List ℕ) → Option (List ℕ) → Type 0
 BreaksOff name calls gave left = IfSome gave (λ octets. (frames : List Frame) × (awaited : Awaited) × (rest : List ℕ)
@@ -67,9 +52,6 @@ BreaksOff name calls gave left = IfSome gave (λ octets. (frames : List Frame) �
 -- the life isn't plain: a pipe failed, or the link gave something else
 abbrev pub IsNotPlain : List ℕ → ℕ → Option (List ℕ) → Option (List ℕ) → ℕ → ℕ → Type 0
 IsNotPlain name calls gave left reads writes = (0 < reads) ⊎ (0 < writes) ⊎ BreaksOff name calls gave left
-
-abbrev pub Breaks : ℕ → Piped → Type 0
-Breaks calls pipe = IsNotPlain (83 ∷ []) calls pipe.gave pipe.left pipe.reads pipe.writes
 
 -- the life is plain: no pipe failed, and the program greeted and answered each invocation
 pub record IsPlain (name : List ℕ) (calls : ℕ) (gave : Option (List ℕ)) (reads writes : ℕ) : Type 0 where

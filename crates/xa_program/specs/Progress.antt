@@ -45,7 +45,7 @@ use Rattle.xa_types.specs.Setup.{numbered}
 use Rattle.xa_program.specs.Pipe.{Piped, Wrote, HasRead}
 use Rattle.xa_program.specs.Pipes.{name_in, is_take_in, frames_out, frames_in, lives_of, failed_starts, IsLife}
 use Rattle.xa_program.specs.Plain.{IsTalk, calls_in, ArePlain, OneIsNotPlain}
-use Rattle.xa_program.specs.PlaySetup.{play_setup}
+use Rattle.xa_program.specs.PlaySetup.{play_setup, server_name}
 use Rattle.xa_program.specs.Spoken.{lines_up_to, spoken}
 
 -- the request of the n-th call of the one client
@@ -118,8 +118,8 @@ pub record IsPlayingAt (service name : List ℕ) (clients n : ℕ) (ops : List O
   pub many : length ops ≡ n
   pub said : lines ≡ lines_up_to name 1 past n
   pub wrote : Wrote pipe (frames_out 1 1 past)
-  pub read : HasRead pipe (frames_in (83 ∷ []) 1 1 past)
-  pub talk : IsTalk (83 ∷ []) n (frames_in (83 ∷ []) 1 1 past)
+  pub read : HasRead pipe (frames_in server_name 1 1 past)
+  pub talk : IsTalk server_name n (frames_in server_name 1 1 past)
   pub invoked : invocations past ≡ n
   pub lives : lives_of past ≡ (1, 1) ∷ []
   pub failed : failed_starts 1 past ≡ 0
@@ -176,8 +176,8 @@ pub record IsLeavingAt (service : List ℕ) (clients : List Client) (history pas
   pub calls : EachMadeCalls (play_setup service) 1 clients (closed past)
   pub said : lines ≡ spoken (names_of clients) (closed past)
   pub wrote : Wrote pipe (frames_out 1 1 past)
-  pub read : HasRead pipe (frames_in (83 ∷ []) 1 1 past)
-  pub talk : IsTalk (83 ∷ []) (calls_in clients) (frames_in (83 ∷ []) 1 1 past)
+  pub read : HasRead pipe (frames_in server_name 1 1 past)
+  pub talk : IsTalk server_name (calls_in clients) (frames_in server_name 1 1 past)
   pub lives : lives_of past ≡ (1, 1) ∷ []
   pub failed : failed_starts 1 past ≡ 0
 
@@ -194,8 +194,8 @@ pub record IsOnly (service : List ℕ) (client : Client) (clients : List Client)
 pub record IsOver (service : List ℕ) (clients : List Client) (history : List Event) (lines : List ℕ) (pipe : Piped) : Type 0 where
   pub machine : IsHistory (play_setup service) clients history
   pub said : lines ≡ spoken (names_of clients) (reverse history)
-  pub life : IsLife (83 ∷ []) 1 1 (reverse history) pipe.took pipe.gave
-  pub talk : IsTalk (83 ∷ []) (calls_in clients) (frames_in (83 ∷ []) 1 1 (reverse history))
+  pub life : IsLife server_name 1 1 (reverse history) pipe.took pipe.gave
+  pub talk : IsTalk server_name (calls_in clients) (frames_in server_name 1 1 (reverse history))
   pub lives : lives_of (reverse history) ≡ (1, 1) ∷ []
   pub failed : failed_starts 1 (reverse history) ≡ 0
 

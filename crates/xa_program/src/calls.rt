@@ -7,7 +7,7 @@ ghost use Rattle.xa_types.specs.declared.reply.Reply.TheVariants.{Answered as An
 ghost use Rattle.xa_events.specs.declared.event.Event.TheVariants.{Accept, Take, End, Answer as AnswerEvent};
 ghost use Rattle.xa_events.specs.declared.event.Outcome.TheVariants.{Returned};
 ghost use Rattle.xa_text.specs.Line.{line_text};
-ghost use Rattle.xa_program.specs.Plain.{Breaks};
+ghost use Rattle.xa_program.specs.Misses.{Breaks};
 ghost use Rattle.xa_program.specs.Progress.{accept, take_of, end_with, answer_of, IsPlaying, IsBuilt, IsBuiltOp};
 
 use crate::halt::Halt;

@@ -8,6 +8,7 @@ mod child_pipe;
 #[cfg(test)]
 mod child_tests;
 mod halt;
+mod laws;
 mod life;
 mod local;
 mod one_life;
@@ -24,6 +25,7 @@ mod words;
 
 pub use child::{Child, ChildRefused, child_step};
 pub use child_pipe::child_work;
+pub use laws::plain_or_not;
 pub use local::{LocalLink, LocalStarter, LocalYard};
 pub use outcome::{Life, Outcome};
 pub use status::{Input, Status};

@@ -1,12 +1,12 @@
 // What the monitor says to the program of a server in a life that is plain, and what it hears.
-ghost use Rattle.std.specs.Prelude.{◌≡◌, ◌⊎◌, ◌++◌, ◌∷◌, ◌<◌, [], ℕ, List, IfOk, OnOk, MatchOption, true, false, FitsSigned};
-ghost use Rattle.std.specs.Int.{w32};
+ghost use Rattle.std.specs.Prelude.{◌≡◌, ◌⊎◌, ◌++◌, ◌∷◌, ◌<◌, [], ℕ, List, IfOk, OnOk, MatchOption, true, false};
 ghost use Rattle.xa_link.specs.Told.{Grew};
 ghost use Rattle.xa_types.specs.Kind.{is_sound};
 ghost use Rattle.xa_frame.specs.declared.frame.Frame.{Frame};
 ghost use Rattle.xa_frame.specs.Spelling.{spelled, HasSpelling};
 ghost use Rattle.xa_program.specs.Pipe.{HasRead};
-ghost use Rattle.xa_program.specs.Plain.{IsPlainReturn, Awaited, Misses, MissesGreeting, MissesReturn};
+ghost use Rattle.xa_program.specs.Plain.{IsPlainReturn, Awaited};
+ghost use Rattle.xa_program.specs.Misses.{Misses, MissesGreeting, MissesReturn};
 ghost use Rattle.xa_program.specs.Plain.Awaited.{Ready as AwaitsReady, Next as AwaitsNext, ReturnTo};
 ghost use Rattle.xa_program.specs.Pipes.{greeting, ready_frame, next_frame, invoke_frame, return_frame, shutdown_frame};
 ghost use Rattle.xa_program.specs.PlaySetup.{play_setup};
@@ -53,7 +53,7 @@ fn is_next(frame: &Frame) -> bool
 fn plain_return(frame: Frame, number: u32) -> Option<(i32, Data)>
     requires { HasSpelling frame }
     ensures { MatchOption result (IsPlainReturn number frame → ⊥) (λ back. (frame ≡ return_frame number back.0 back.1)
-        × ((service : List ℕ) → is_sound (play_setup service) back.1 ≡ true) × FitsSigned w32 back.0) }
+        × ((service : List ℕ) → is_sound (play_setup service) back.1 ≡ true) × HasSpelling (return_frame number back.0 back.1)) }
 {
     let Frame { tag, body } = frame;
     match body {
@@ -94,7 +94,7 @@ impl<L: Link> Pipe<L> {
         ensures read { IfOk result (λ back. (frames : List Frame) → HasRead self.old frames
             → HasRead self.new (frames ++ return_frame number back.0 back.1 ∷ next_frame ∷ [])) }
         ensures sound { IfOk result (λ back. is_sound (play_setup service.now) back.1 ≡ true) }
-        ensures fits { IfOk result (λ back. FitsSigned w32 back.0) }
+        ensures spelling { IfOk result (λ back. HasSpelling (return_frame number back.0 back.1)) }
         ensures reads { OnOk result (self.new.reads ≡ self.old.reads) }
         ensures writes { OnOk result (self.new.writes ≡ self.old.writes) }
         ensures unbuilt { result ≡ Err Halt.Unbuilt → (name : List ℕ) (frames : List Frame) → HasRead self.old frames → MissesReturn name number frames self.new }
@@ -179,7 +179,7 @@ impl<L: Link> Pipe<L> {
     fn read_return(&mut self, number: u32) -> Result<(i32, Data), Halt>
         ensures read { IfOk result (λ back. (frames : List Frame) → HasRead self.old frames → HasRead self.new (frames ++ return_frame number back.0 back.1 ∷ [])) }
         ensures sound { IfOk result (λ back. (service : List ℕ) → is_sound (play_setup service) back.1 ≡ true) }
-        ensures fits { IfOk result (λ back. FitsSigned w32 back.0) }
+        ensures spelling { IfOk result (λ back. HasSpelling (return_frame number back.0 back.1)) }
         ensures took { self.new.took ≡ self.old.took }
         ensures writes { self.new.writes ≡ self.old.writes }
         ensures well { OnOk result (self.new.reads ≡ self.old.reads) }

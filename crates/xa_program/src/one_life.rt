@@ -2,8 +2,10 @@
 ghost use Rattle.std.specs.Prelude.{◌≡◌, ◌++◌, ◌∷◌, [], ℕ, List, OnOk, MatchOption};
 ghost use Rattle.xa_events.specs.declared.event.Event.TheVariants.{Advertise, Start, Leave, Close, Stop};
 ghost use Rattle.xa_program.specs.Pipe.{Wrote, HasRead};
-ghost use Rattle.xa_program.specs.Plain.{Breaks, calls_in};
+ghost use Rattle.xa_program.specs.Plain.{calls_in};
+ghost use Rattle.xa_program.specs.Misses.{Breaks};
 ghost use Rattle.xa_program.specs.Progress.{advertise, start, stop, IsPlaying, IsLeaving, IsOver, IsBuiltScript, IsOnly};
+ghost use Rattle.xa_program.specs.PlaySetup.{server_name};
 
 use crate::calls::{Account, CLIENT, LIFE, QUEUE, SERVER, make_calls};
 use crate::halt::Halt;
@@ -112,7 +114,7 @@ pub fn serve<L: Link>(
     script: &Script,
 ) -> Result<(), Halt>
     requires built { IsBuiltScript service.now script.now.clients }
-    requires server { server.now ≡ 83 ∷ [] }
+    requires server { server.now ≡ server_name }
     requires booted { account.old.history.items ≡ Advertise (advertise service.now) ∷ [] }
     requires silent { account.old.lines.items ≡ [] }
     requires wrote { Wrote pipe.old [] }

@@ -1,7 +1,8 @@
-use Rattle.std.proofs.Common.{rules, Err, ◌≡◌, ℕ, [], ◌∷◌, reverse, subst}
+use Rattle.std.proofs.Common.{rules, Err, ◌≡◌, ℕ, reverse, subst}
 use Rattle.xa_program.specs.declared.halt.Halt.TheVariants.{Unbuilt}
 use Rattle.xa_program.specs.Pipes.{frames_in}
-use Rattle.xa_program.specs.Plain.{MissesReturn}
+use Rattle.xa_program.specs.PlaySetup.{server_name}
+use Rattle.xa_program.specs.Misses.{MissesReturn}
 use Rattle.xa_program.proofs.Plain.{breaks_return}
 use Rattle.std.proofs.lemmas.Int.{to_z-of_z}
 use mir.Val.{SFits}
@@ -11,12 +12,12 @@ use Rattle.xa_program.proofs.calls.call.Goals as goal
 
 pub returns-clause-goes : goal.returns-clause-goes
 returns-clause-goes g c n ops first old =
-    let fits : SFits w32 c.in_ok-code.code = c.in_ok-code.ensures.fits in
+    let fits : SFits w32 c.in_ok-code.code = c.in_ok-code.ensures.spelling.body.0 in
     let history = simp to_z-of_z at c.in_ok-note_answered.ensures.history in
     let lines = simp to_z-of_z at c.in_ok-note_answered.ensures.lines in
     playing_call c.args.service.now c.args.name.now c.args.number n ops c.args.ask.now c.in_ok-code.code c.in_ok-code.payload
     c.args.account.now.history.items c.note_taken.new.history.items c.note_answered.new.history.items c.args.account.now.lines.items c.note_answered.new.lines.items c.args.pipe.now c.invoke.new.self
-    first c.requires c.in_ok-code.ensures.sound old
+    first c.requires c.in_ok-code.ensures.sound c.in_ok-code.ensures.spelling old
     (record {
       small = c.ranges.number.fits;
       taken_so = c.in_ok-note_taken.ensures;
@@ -29,6 +30,6 @@ returns-clause-goes g c n ops first old =
 pub returns-in_err-code-clause-unbuilt : goal.returns-in_err-code-clause-unbuilt
 returns-in_err-code-clause-unbuilt g c failed n calls ops first more old =
     let halt : c.invoke.result ≡ Err Unbuilt = search (rules, failed, c.in_err-code.was, c.from_residual-in_err-code.ensures) in
-    let heard = frames_in (83 ∷ []) 1 1 (reverse c.args.account.now.history.items) in
+    let heard = frames_in server_name 1 1 (reverse c.args.account.now.history.items) in
     breaks_return calls n heard c.invoke.new.self old.talk more
-    (subst (λ (tag : ℕ). MissesReturn (83 ∷ []) tag heard c.invoke.new.self) first (c.invoke.ensures.unbuilt halt (83 ∷ []) heard old.read))
+    (subst (λ (tag : ℕ). MissesReturn server_name tag heard c.invoke.new.self) first (c.invoke.ensures.unbuilt halt server_name heard old.read))

@@ -5,7 +5,7 @@ use Rattle.xa_events.specs.declared.event.Event.TheVariants.{Start}
 use Rattle.xa_program.specs.declared.halt.Halt.TheVariants.{Unbuilt}
 use Rattle.xa_program.specs.Pipe.{HasRead}
 use Rattle.xa_program.specs.Pipes.{greeting}
-use Rattle.xa_program.specs.Plain.{MissesGreeting}
+use Rattle.xa_program.specs.Misses.{MissesGreeting}
 use Rattle.xa_program.specs.Progress.{start}
 use Rattle.xa_program.proofs.Over.{over_all, playing_started}
 use Rattle.xa_program.proofs.Plain.{breaks_greeting}

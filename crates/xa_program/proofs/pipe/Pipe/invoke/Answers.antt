@@ -20,7 +20,7 @@ returns-in_err-read_next-clause-unbuilt g c failed name frames read =
     let halt : c.read_next.result ≡ Err Unbuilt = search (rules, failed, c.in_err-read_next.was, c.from_residual-in_err-read_next.ensures) in
     inr (
       return_frame c.args.number c.in_ok-back.back.0 c.in_ok-back.back.1,
-      (c.in_ok-back.back.0, c.in_ok-back.back.1, c.in_ok-back.ensures.sound [], refl),
+      (c.in_ok-back.back.0, c.in_ok-back.back.1, c.in_ok-back.ensures.sound [], c.in_ok-back.ensures.spelling, refl),
       c.read_next.ensures.unbuilt halt name (frames ++ return_frame c.args.number c.in_ok-back.back.0 c.in_ok-back.back.1 ∷ [])
           (c.in_ok-back.ensures.read frames (read_same c.args.self.now.gave c.send.new.self.gave c.args.self.now.rest c.send.new.self.rest frames c.in_ok-send.ensures.gave c.in_ok-send.ensures.rest read)),
     )
