@@ -2,6 +2,7 @@
 ghost use Rattle.std.specs.Prelude.{◌≡◌, ◌++◌, ◌∷◌, ◌+◌, ◌^◌, ◌<◌, [], ℕ, List, length, All, OnOk};
 ghost use Rattle.xa_types.specs.declared.call.Op.{Op};
 ghost use Rattle.xa_types.specs.declared.call.Op.TheVariants.{Call as CallOp};
+ghost use Rattle.xa_types.specs.declared.reply.Answer.{Answer};
 ghost use Rattle.xa_types.specs.declared.reply.Answer.TheVariants.{Success};
 ghost use Rattle.xa_types.specs.declared.reply.Reply.TheVariants.{Answered as AnsweredReply};
 ghost use Rattle.xa_events.specs.declared.event.Event.TheVariants.{Accept, Take, End, Answer as AnswerEvent};
@@ -84,24 +85,27 @@ fn note_answered(
         number,
         Outcome::Returned(code, payload.copy(alloc)?),
     )?;
-    say_success(alloc, lines, name, number, code, &payload)?;
-    note_answer(history, number, Answer::Success(code, payload))?;
+    let reply = success(code, payload);
+    push_line(lines, name, number, &reply)?;
+    note_answer(history, number, answer_in(reply))?;
     Ok(())
 }
 
-fn say_success(
-    alloc: Global,
-    lines: &mut Vec<u8>,
-    name: &Name,
-    number: u32,
-    code: i32,
-    payload: &Data,
-) -> Result<(), NoMemory>
-    ensures { OnOk result (lines.new.items ≡ lines.old.items ++ line_text name.now number (AnsweredReply 0 (Success code payload.now))) }
+fn success(code: i32, payload: Data) -> Reply
+    ensures { result ≡ AnsweredReply 0 (Success code payload) }
 {
-    let reply = Reply::Answered(0, Answer::Success(code, payload.copy(alloc)?));
-    push_line(lines, name, number, &reply)?;
-    Ok(())
+    Reply::Answered(0, Answer::Success(code, payload))
+}
+
+// The answer that the reply of a tpcall has.
+fn answer_in(reply: Reply) -> Answer
+    requires { (answer : Answer) × (reply ≡ AnsweredReply 0 answer) }
+    ensures { reply ≡ AnsweredReply 0 result }
+{
+    match reply {
+        Reply::Answered(_, answer) => answer,
+        _ => unreachable!(),
+    }
 }
 
 fn note_end(history: &mut Vec<Event>, number: u32, outcome: Outcome) -> Result<(), NoMemory>
@@ -160,8 +164,10 @@ pub fn call<L: Link>(
     ensures unbuilt { result ≡ Err Halt.Unbuilt → (n calls : ℕ) (ops : List Op) → number ≡ n + 1 → n < calls
         → IsPlaying service.now name.now 1 n ops account.old.history.items account.old.lines.items pipe.old → Breaks calls pipe.new }
 {
+    pipe.send(alloc, service, number, &ask.payload)?;
+    // The server's program works while this is noted.
     note_taken(alloc, &mut account.history, service, number, &ask.payload)?;
-    let (code, payload) = pipe.invoke(alloc, service, number, &ask.payload)?;
+    let (code, payload) = pipe.hear(number)?;
     note_answered(
         alloc,
         &mut account.history,

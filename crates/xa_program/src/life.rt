@@ -81,32 +81,24 @@ impl<L: Link> Pipe<L> {
         self.read_next()
     }
 
-    /// Sends a request, and reads the RETURN with TPSUCCESS and sound data, and NEXT.
-    pub fn invoke(
-        &mut self,
-        alloc: Global,
-        service: &Name,
-        number: u32,
-        payload: &Data,
-    ) -> Result<(i32, Data), Halt>
-        requires { is_sound (play_setup service.now) payload.now ≡ true }
-        ensures took { OnOk result (Grew self.old.took self.new.took (spelled (invoke_frame service.now number payload.now))) }
+    /// Reads the RETURN to that invocation, with TPSUCCESS and sound data, and NEXT.
+    pub fn hear(&mut self, number: u32) -> Result<(i32, Data), Halt>
         ensures read { IfOk result (λ back. (frames : List Frame) → HasRead self.old frames
             → HasRead self.new (frames ++ return_frame number back.0 back.1 ∷ next_frame ∷ [])) }
-        ensures sound { IfOk result (λ back. is_sound (play_setup service.now) back.1 ≡ true) }
         ensures spelling { IfOk result (λ back. HasSpelling (return_frame number back.0 back.1)) }
-        ensures reads { OnOk result (self.new.reads ≡ self.old.reads) }
-        ensures writes { OnOk result (self.new.writes ≡ self.old.writes) }
+        ensures sound { IfOk result (λ back. (service : List ℕ) → is_sound (play_setup service) back.1 ≡ true) }
+        ensures took { self.new.took ≡ self.old.took }
+        ensures writes { self.new.writes ≡ self.old.writes }
+        ensures well { OnOk result (self.new.reads ≡ self.old.reads) }
         ensures unbuilt { result ≡ Err Halt.Unbuilt → (name : List ℕ) (frames : List Frame) → HasRead self.old frames → MissesReturn name number frames self.new }
     {
-        self.send(alloc, service, number, payload)?;
         let back = self.read_return(number)?;
         self.read_next()?;
         Ok(back)
     }
 
     /// Sends SHUTDOWN.
-    pub fn shut_down(&mut self, alloc: Global) -> Result<(), Halt>
+    pub fn shut_down(&mut self) -> Result<(), Halt>
         ensures took { OnOk result (Grew self.old.took self.new.took (spelled shutdown_frame)) }
         ensures gave { self.new.gave ≡ self.old.gave }
         ensures rest { self.new.rest ≡ self.old.rest }
@@ -114,16 +106,14 @@ impl<L: Link> Pipe<L> {
         ensures well { OnOk result (self.new.writes ≡ self.old.writes) }
         ensures unbuilt { result ≡ Err Halt.Unbuilt → 0 < self.new.writes }
     {
-        self.write(
-            alloc,
-            &Frame {
-                tag: 0,
-                body: Body::Shutdown,
-            },
-        )
+        self.write(&Frame {
+            tag: 0,
+            body: Body::Shutdown,
+        })
     }
 
-    fn send(
+    /// Sends a request to the routine that has its service's name.
+    pub fn send(
         &mut self,
         alloc: Global,
         service: &Name,
@@ -143,7 +133,7 @@ impl<L: Link> Pipe<L> {
             tag: number,
             body: Body::Invoke(*service, *service, Mode::Reply, payload.copy(alloc)?),
         };
-        self.write(alloc, &frame)
+        self.write(&frame)
     }
 
     fn read_ready(&mut self, server: &Name) -> Result<(), Halt>

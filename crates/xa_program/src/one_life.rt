@@ -128,6 +128,6 @@ pub fn serve<L: Link>(
     pipe.greet(server)?;
     make_all(alloc, pipe, account, service, script)?;
     note_close(&mut account.history)?;
-    pipe.shut_down(alloc)?;
+    pipe.shut_down()?;
     Ok(())
 }

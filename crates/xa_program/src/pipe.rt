@@ -8,7 +8,7 @@ ghost use Rattle.xa_frame.specs.Stream.{IsPartial, IsMalformed};
 use crate::halt::Halt;
 use std::alloc::Global;
 use std::marker::Model;
-use xa_frame::{Frame, NextRefused, Reader, encode};
+use xa_frame::{Frame, NextRefused, Reader, append};
 use xa_link::{Link, put};
 
 // How many octets one read takes at most.
@@ -19,6 +19,7 @@ pub struct Pipe<L: Link> {
     link: L,
     reader: Reader,
     piece: [u8; PIECE],
+    due: Vec<u8>,
 }
 
 impl<L: Link> Model for Pipe<L> {
@@ -43,6 +44,7 @@ impl<L: Link> Pipe<L> {
             link,
             reader: Reader::new(alloc),
             piece: [0; PIECE],
+            due: Vec::new(alloc),
         }
     }
 
@@ -58,12 +60,13 @@ impl<L: Link> Pipe<L> {
             link,
             reader: _,
             piece: _,
+            due: _,
         } = self;
         link
     }
 
     /// Writes the frame.
-    pub fn write(&mut self, alloc: Global, frame: &Frame) -> Result<(), Halt>
+    pub fn write(&mut self, frame: &Frame) -> Result<(), Halt>
         requires { HasSpelling frame.now }
         ensures took { OnOk result (Grew self.old.took self.new.took (spelled frame.now)) }
         ensures gave { self.new.gave ≡ self.old.gave }
@@ -72,11 +75,12 @@ impl<L: Link> Pipe<L> {
         ensures well { OnOk result (self.new.writes ≡ self.old.writes) }
         ensures unbuilt { result ≡ Err Halt.Unbuilt → 0 < self.new.writes }
     {
-        let octets = encode(alloc, frame)?;
-        match put(&mut self.link, octets.slice()) {
-            Ok(()) => Ok(()),
-            Err(_) => Err(Halt::Unbuilt),
-        }
+        self.due.clear();
+        append(&mut self.due, frame)?;
+        let Ok(()) = put(&mut self.link, self.due.as_slice()) else {
+            return Err(Halt::Unbuilt);
+        };
+        Ok(())
     }
 
     /// Reads the next frame.
