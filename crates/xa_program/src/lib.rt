@@ -1,20 +1,14 @@
-//! The program around the machine: what it is asked, what its script says, how it runs, and what it prints; and beside
-//! it the program of a server.
+//! The program around the machine: what it is asked, what its script says, how it runs, and what it prints.
 #![tactic(auto)]
 
 mod calls;
-mod child;
-mod child_pipe;
-#[cfg(test)]
-mod child_tests;
 mod halt;
 mod life;
-mod local;
 mod one_life;
 mod outcome;
 mod performing;
 mod pipe;
-mod serving;
+mod server;
 mod setup;
 mod status;
 mod top;
@@ -22,10 +16,9 @@ mod top;
 mod top_tests;
 mod words;
 
-pub use child::{Child, ChildRefused, child_step};
-pub use child_pipe::child_work;
-pub use local::{LocalLink, LocalStarter, LocalYard};
 pub use outcome::{Life, Outcome};
+pub use server::child_work;
 pub use status::{Input, Status};
 pub use top::run;
 pub use words::{Command, read_words};
+pub use xa_child::{Child, ChildRefused, LocalLink, LocalStarter, LocalYard, child_step};
