@@ -9,8 +9,4 @@ pub mod Pipes
 pub mod Playing
 pub mod Over
 pub mod Played
-pub mod ChildFrames
-pub mod ServingSteps
-pub mod ChildTurned
-pub mod LocalSteps
 pub mod Built

@@ -270,4 +270,4 @@ serving_ends {L} took gave left reads writes link before after faults faults_aft
     subst (λ s. ServingEnds took gave left reads writes before after faults faults_after starts starts_after service clients s history lives) (sym printed) tt
 serving_ends {L} took gave left reads writes link before after faults faults_after starts starts_after service clients history lines pipe lives (Err HaltUnbuilt) status is shows over reads_none writes_none broken printed =
     subst (λ s. ServingEnds took gave left reads writes before after faults faults_after starts starts_after service clients s history lives) (sym printed)
-    (inl (record { server = record { 0 = 1 }; generation = record { 0 = 1 }; link = link }, is, not_plain took gave left reads writes link (calls_in clients) pipe shows (broken refl)))
+    (inl (record { server = record { 0 = 1 }; generation = record { 0 = 1 }; link = link }, is, refl, not_plain took gave left reads writes link (calls_in clients) pipe shows (broken refl)))

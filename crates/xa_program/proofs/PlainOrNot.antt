@@ -9,7 +9,7 @@ use Rattle.xa_frame.specs.Stream.{Begins}
 use Rattle.xa_frame.proofs.FrontLemmas.{no_other, is_partial, is_whole}
 use Rattle.xa_program.specs.Pipes.{next_frame, ready_frame, greeting}
 use Rattle.xa_program.specs.Plain.{IsPlainReturn, IsTalk, Greeted, Further, Awaited, IsAwaited, Awaits, First, Second, Between, Behind, Lacks, BreaksOff, IsPlain, IsNotPlain}
-use Rattle.xa_program.proofs.ChildFrames.{two_spellings, ready_spelling, next_spelling, spelling-greeting}
+use Rattle.xa_child.proofs.Frames.{two_spellings, ready_spelling, next_spelling, spelling-greeting}
 
 -- ---- frames with spellings
 

@@ -1,15 +1,10 @@
-pub mod Child
-pub mod ChildTurns
-pub mod ChildWork
 pub mod Headline
-pub mod Local
-pub mod LocalHolds
 pub mod Misses
 pub mod Pipe
 pub mod Pipes
 pub mod Plain
 pub mod PlaySetup
 pub mod Progress
-pub mod Serving
+pub mod Server
 pub mod Spoken
 pub mod Words

@@ -69,7 +69,7 @@ abbrev pub ArePlain : {L : Type 0} → (L → Option (List ℕ)) → (L → ℕ)
 ArePlain gave reads writes service clients lives =
     All (λ life. IsPlain (name_in (numbered life.server.0 (play_setup service).servers)) (calls_in clients) (gave life.link) (reads life.link) (writes life.link)) lives
 
--- there is one life, and it isn't plain
+-- there is one life, of the one server, and it isn't plain
 abbrev pub OneIsNotPlain : {L : Type 0} → (L → Option (List ℕ)) → (L → Option (List ℕ)) → (L → ℕ) → (L → ℕ) → List ℕ → List Client → List (Life L) → Type 0
-OneIsNotPlain {L} gave left reads writes service clients lives = (life : Life L) × (lives ≡ life ∷ [])
+OneIsNotPlain {L} gave left reads writes service clients lives = (life : Life L) × (lives ≡ life ∷ []) × (life.server.0 ≡ 1)
     × IsNotPlain (name_in (numbered life.server.0 (play_setup service).servers)) (calls_in clients) (gave life.link) (left life.link) (reads life.link) (writes life.link)

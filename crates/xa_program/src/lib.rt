@@ -1,21 +1,15 @@
-//! The program around the machine: what it is asked, what its script says, how it runs, and what it prints; and beside
-//! it the program of a server.
+//! The program around the machine: what it is asked, what its script says, how it runs, and what it prints.
 #![tactic(auto)]
 
 mod calls;
-mod child;
-mod child_pipe;
-#[cfg(test)]
-mod child_tests;
 mod halt;
 mod laws;
 mod life;
-mod local;
 mod one_life;
 mod outcome;
 mod performing;
 mod pipe;
-mod serving;
+mod server;
 mod setup;
 mod status;
 mod top;
@@ -23,11 +17,10 @@ mod top;
 mod top_tests;
 mod words;
 
-pub use child::{Child, ChildRefused, child_step};
-pub use child_pipe::child_work;
 pub use laws::plain_or_not;
-pub use local::{LocalLink, LocalStarter, LocalYard};
 pub use outcome::{Life, Outcome};
+pub use server::child_work;
 pub use status::{Input, Status};
 pub use top::run;
 pub use words::{Command, read_words};
+pub use xa_child::{Child, ChildRefused, LocalLink, LocalStarter, LocalYard, child_step};

@@ -2,14 +2,14 @@
 ghost use Rattle.std.specs.Prelude.{◌≡◌, ◌≤◌, ◌↔◌, [], ◌∷◌, ℕ, List, map, string_bytes, None, Some, All, IfOk, IfErr, length, vec_len};
 ghost use Rattle.xa_types.specs.Name.{IsName};
 ghost use Rattle.xa_program.specs.declared.words.Command.TheVariants.{Play, Server};
-ghost use Rattle.xa_program.specs.ChildWork.{Worked, Counts};
 ghost use Rattle.xa_program.specs.Headline.{Streams, PlayEnds, IsTheScript, EndsEarly};
 ghost use Rattle.xa_program.specs.Progress.{IsBuiltScript, ScriptRefusedAs};
+ghost use Rattle.xa_program.specs.Server.{ServerEnds};
 ghost use Rattle.xa_program.specs.Words.{command_in};
 
-use crate::child_pipe::child_work;
 use crate::outcome::Outcome;
 use crate::performing::{Served, perform};
+use crate::server::child_work;
 use crate::setup::play_setup;
 use crate::status::{Input, Status};
 use crate::words::{Command, read_words};
@@ -54,8 +54,7 @@ pub fn run<R, S: Shelf, I: Source, O: Sink, Y: Yard, G: Gate>(
 
     // What the program of a server comes to.
     ensures server { (name : List ℕ) → command_in (map string_bytes words.now) ≡ Some (Server name)
-        → Worked name (I.left input.old) (I.left input.new) (I.gave input.old) (I.gave input.new) (O.took out.old) (O.took out.new) result.status
-        × Counts result.status (I.read_faults input.old) (I.read_faults input.new) (O.write_faults out.old) (O.write_faults out.new) }
+        → ServerEnds name (I.left input.old) (I.left input.new) (I.gave input.old) (I.gave input.new) (O.took out.old) (O.took out.new) (I.read_faults input.old) (I.read_faults input.new) (O.write_faults out.old) (O.write_faults out.new) result.status }
 
     // Before a server starts nothing is handed back.
     ensures early { EndsEarly result.status result.history.items result.lives.items result.starters.items }
@@ -87,8 +86,7 @@ fn obey<I: Source, O: Sink, Y: Yard>(
         })
         service result.status result.history.items result.lives.items result.starters.items }
     ensures server { (name : List ℕ) → command ≡ Server name
-        → Worked name (I.left input.old) (I.left input.new) (I.gave input.old) (I.gave input.new) (O.took out.old) (O.took out.new) result.status
-        × Counts result.status (I.read_faults input.old) (I.read_faults input.new) (O.write_faults out.old) (O.write_faults out.new) }
+        → ServerEnds name (I.left input.old) (I.left input.new) (I.gave input.old) (I.gave input.new) (O.took out.old) (O.took out.new) (I.read_faults input.old) (I.read_faults input.new) (O.write_faults out.old) (O.write_faults out.new) result.status }
     ensures early { EndsEarly result.status result.history.items result.lives.items result.starters.items }
 {
     match command {

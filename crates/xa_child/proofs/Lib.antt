@@ -1,0 +1,4 @@
+pub mod Frames
+pub mod ServingSteps
+pub mod Turned
+pub mod LocalSteps

@@ -1,0 +1,6 @@
+pub mod Child
+pub mod Local
+pub mod LocalHolds
+pub mod Serving
+pub mod Turns
+pub mod Work

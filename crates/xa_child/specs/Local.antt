@@ -1,0 +1,17 @@
+-- What the link of a program in memory tells.
+use Rattle.std.specs.Prelude.{ℕ, ◌≤◌, List, length}
+use Rattle.xa_child.specs.LocalHolds.{Holds}
+use Rattle.xa_child.specs.declared.local.LocalLink.TheInside.{Inside}
+
+-- its server's name, the octets that went to it, those that came from it and those that are still to come, and how often a write failed
+pub record LocalTold : Type 0 where
+  pub name : List ℕ
+  pub took : List ℕ
+  pub gave : List ℕ
+  pub left : List ℕ
+  pub faults : ℕ
+
+-- what is true of the fields
+pub record IsLocal (l : Inside) : Type 0 where
+  pub within : l.at ≤ length l.given.items
+  pub holds : Holds l.name l.takes l.serving l.taken.items l.given.items

@@ -1,0 +1,258 @@
+// Servers' programs in memory.
+ghost use Rattle.std.specs.Prelude.{◌≡◌, ◌≤◌, ◌<◌, ◌-◌, ◌+◌, ◌^◌, ◌++◌, [], ℕ, List, take, drop, length, true, false, Some, None, OnOk, OnErr, IfOk, All};
+ghost use Rattle.xa_child.specs.Child.{begun, greeting};
+ghost use Rattle.xa_frame.specs.Spelling.{all_spelled, HasSpelling};
+ghost use Rattle.xa_frame.specs.Stream.{IsPartial};
+ghost use Rattle.xa_link.specs.Told.{Rose};
+ghost use Rattle.xa_child.specs.LocalHolds.{Holds, Says};
+
+use crate::child::Child;
+use crate::serving::{Halt, Serving, spell};
+use std::alloc::Global;
+use std::marker::Model;
+use xa_frame::{Frame, Reader};
+use xa_link::{Failed, Link, Sink, Source, StartRefused, Starter, Yard};
+use xa_types::{Generation, Name, NoMemory, Setup};
+
+/// How many octets a write takes at most.
+const PIECE: usize = 8192;
+
+/// The two pipes of a server's program in memory. It answers what is written to it within the write, and tells all. A
+/// write fails where memory runs out, or with what the program doesn't admit; no later write goes to the program then,
+/// as none does once it has ended.
+#[derive(Debug, Drop)]
+pub struct LocalLink {
+    name: Name,
+    serving: Serving,
+    takes: bool,
+    taken: Vec<u8>,
+    given: Vec<u8>,
+    at: usize,
+    faults: u64,
+}
+
+impl Model for LocalLink {
+    ghost use Rattle.std.specs.Prelude.{take, drop};
+    ghost use Rattle.xa_child.specs.Local.{LocalTold, IsLocal};
+
+    ghost Value = { LocalTold };
+
+    ghost view = { λ l. record { name = l.name; took = l.taken.items; gave = take l.at l.given.items; left = drop l.at l.given.items; faults = l.faults } };
+
+    ghost invariant = { IsLocal };
+}
+
+// The octets that a program says first.
+fn greet(alloc: Global, name: &Name, frames: &[Frame]) -> Result<Vec<u8>, NoMemory>
+    requires { frames.now ≡ greeting name.now }
+    ensures { IfOk result (λ given. given.items ≡ all_spelled (greeting name.now)) }
+{
+    // A name's octets are a name.
+    let _ = name.octets();
+    let mut given = Vec::new(alloc);
+    spell(alloc, frames, &mut given)?;
+    Ok(given)
+}
+
+// Copies as much as there is behind `at` and fits.
+fn give(octets: &[u8], at: usize, into: &mut [u8]) -> usize
+    requires { at ≤ length octets.now }
+    ensures room { result ≤ length into.new }
+    ensures there { result ≤ length (drop at octets.now) }
+    ensures copied { take result into.new ≡ take result (drop at octets.now) }
+    ensures end { result ≡ 0 → 0 < length into.new → drop at octets.now ≡ [] }
+{
+    let rest = &octets[at..];
+    let n = rest.len().min(into.len());
+    into[..n].copy_from_slice(&rest[..n]);
+    n
+}
+
+// What is written to a program that takes more: its answers, and whether it takes more then. Where it is refused,
+// nothing was taken or given.
+fn answer(
+    serving: &mut Serving,
+    taken: &mut Vec<u8>,
+    given: &mut Vec<u8>,
+    octets: &[u8],
+) -> Result<bool, Failed>
+    requires partial { IsPartial serving.old.reader.rest }
+    requires most { length octets.now ≤ 8192 }
+    ensures holds { IfOk result (λ more. (name : List ℕ) → Holds name true serving.old taken.old.items given.old.items → Holds name more serving.new taken.new.items given.new.items) }
+    ensures took { OnOk result (taken.new.items ≡ taken.old.items ++ octets.now) }
+    ensures left { OnErr result (taken.new.items ≡ taken.old.items) }
+    ensures longer { (due : List ℕ) × (given.new.items ≡ given.old.items ++ due) }
+    ensures same { OnErr result (given.new.items ≡ given.old.items) }
+{
+    serving.reader.feed(octets).map_err(|_| Failed)?;
+    let (halt, due) = serving.take_all().map_err(|_| Failed)?;
+    let more = match halt {
+        Halt::Waits => true,
+        Halt::Ended => false,
+        Halt::Bad(_) => return Err(Failed),
+    };
+    let before = given.len();
+    given.extend_from_slice(due.as_slice()).map_err(|_| Failed)?;
+    if taken.extend_from_slice(octets).is_err() {
+        given.truncate(before);
+        return Err(Failed);
+    }
+    Ok(more)
+}
+
+fn raise(count: &mut u64)
+    ensures later { count.old ≤ count.new }
+    ensures rose { Rose count.old count.new }
+{
+    *count = count.saturating_add(1);
+}
+
+impl LocalLink {
+    /// The program of that server as it begins.
+    fn start(alloc: Global, name: &Name) -> Result<LocalLink, NoMemory>
+        ensures took { IfOk result (λ link. link.took ≡ []) }
+        ensures gave { IfOk result (λ link. link.gave ≡ []) }
+        ensures faults { IfOk result (λ link. link.faults ≡ 0) }
+        ensures name { IfOk result (λ link. link.name ≡ name.now) }
+    {
+        let (child, frames) = Child::start(alloc, name)?;
+        let given = greet(alloc, name, frames.as_slice())?;
+        let serving = Serving {
+            alloc,
+            child,
+            reader: Reader::new(alloc),
+        };
+        Ok(LocalLink {
+            name: *name,
+            serving,
+            takes: true,
+            taken: Vec::new(alloc),
+            given,
+            at: 0,
+            faults: 0,
+        })
+    }
+
+    /// What came from the program and what is still to come is what the program of that server says to the octets
+    /// that went to it.
+    pub fn says(&self)
+        ensures { Says self.now.name self.now.took (self.now.gave ++ self.now.left) }
+    {
+        let _ = &self.takes;
+    }
+
+    fn copy(&mut self, into: &mut [u8]) -> usize
+        ensures bound { result ≤ length into.new }
+        ensures told { take result into.new ≡ take result self.old.left }
+        ensures left { self.new.left ≡ drop result self.old.left }
+        ensures gave { self.new.gave ≡ self.old.gave ++ take result into.new }
+        ensures moved { result ≤ length self.old.left }
+        ensures end { result ≡ 0 → 0 < length into.new → self.old.left ≡ [] }
+        ensures took { self.new.took ≡ self.old.took }
+        ensures faults { self.new.faults ≡ self.old.faults }
+    {
+        let n = give(self.given.as_slice(), self.at, into);
+        self.at += n;
+        n
+    }
+
+    fn send(&mut self, octets: &[u8]) -> Result<(), Failed>
+        requires { length octets.now ≤ 8192 }
+        ensures took { OnOk result (self.new.took ≡ self.old.took ++ octets.now) }
+        ensures same { OnErr result (self.new.took ≡ self.old.took) }
+        ensures gave { self.new.gave ≡ self.old.gave }
+        ensures quiet { OnOk result (self.new.faults ≡ self.old.faults) }
+        ensures rose { OnErr result (Rose self.old.faults self.new.faults) }
+        ensures later { self.old.faults ≤ self.new.faults }
+    {
+        if self.takes {
+            let sent = answer(&mut self.serving, &mut self.taken, &mut self.given, octets);
+            self.takes = sent == Ok(true);
+            if sent.is_ok() {
+                return Ok(());
+            }
+        }
+        raise(&mut self.faults);
+        Err(Failed)
+    }
+}
+
+impl Source for LocalLink {
+    ghost use Rattle.std.specs.Prelude.{Some};
+
+    ghost left = { λ l. Some l.left };
+
+    ghost gave = { λ l. Some l.gave };
+
+    ghost read_faults = { λ _. 0 };
+
+    ghost beside_reads = { λ l. (Some l.took, l.faults) };
+
+    fn read(&mut self, into: &mut [u8]) -> Result<usize, Failed> {
+        Ok(self.copy(into))
+    }
+}
+
+impl Sink for LocalLink {
+    ghost use Rattle.std.specs.Prelude.{Some};
+
+    ghost took = { λ l. Some l.took };
+
+    ghost write_faults = { λ l. l.faults };
+
+    ghost beside_writes = { λ l. (Some l.gave, 0) };
+
+    fn write(&mut self, from: &[u8]) -> Result<usize, Failed> {
+        let n = from.len().min(PIECE);
+        self.send(&from[..n])?;
+        Ok(n)
+    }
+}
+
+impl Link for LocalLink {
+    ghost use Rattle.std.specs.Prelude.{refl};
+
+    ghost reads_alone = { λ _. refl };
+
+    ghost writes_alone = { λ _. refl };
+}
+
+/// Starts a server's program in memory.
+#[derive(Debug, Drop)]
+pub struct LocalStarter {
+    alloc: Global,
+}
+
+impl Starter<LocalLink> for LocalStarter {
+    ghost start_faults = { λ _. 0 };
+
+    fn start(&mut self, server: &Name, _generation: Generation) -> Result<LocalLink, StartRefused> {
+        LocalLink::start(self.alloc, server).map_err(|_| StartRefused::NoMemory)
+    }
+}
+
+/// Servers' programs in memory, for any setup.
+#[derive(Debug, Drop)]
+pub struct LocalYard {
+    alloc: Global,
+}
+
+impl LocalYard {
+    pub fn new(alloc: Global) -> LocalYard {
+        LocalYard { alloc }
+    }
+}
+
+impl Yard for LocalYard {
+    type Line = LocalLink;
+
+    type Start = LocalStarter;
+
+    fn starters(&mut self, setup: &Setup) -> Result<Vec<LocalStarter>, NoMemory> {
+        let mut all = Vec::new(self.alloc);
+        for _server in setup.servers.slice() {
+            all.push(LocalStarter { alloc: self.alloc })?;
+        }
+        Ok(all)
+    }
+}

@@ -1,0 +1,98 @@
+// A server's program with its input, from which it takes the frames that are whole.
+ghost use Rattle.std.specs.Prelude.{◌≡◌, ◌<◌, ◌^◌, ◌++◌, IfOk, OnOk, true, false};
+ghost use Rattle.std.specs.List.{All};
+ghost use Rattle.xa_frame.specs.Spelling.{all_spelled, HasSpelling};
+ghost use Rattle.xa_child.specs.Serving.{StepsTo, TakesUpTo, Answers};
+
+use crate::child::{Child, ChildRefused, child_step};
+use std::alloc::Global;
+use xa_frame::{Frame, NextRefused, Reader, encode};
+use xa_types::NoMemory;
+
+/// A program, and what it has read and not taken.
+#[derive(Debug, Drop)]
+pub struct Serving {
+    pub alloc: Global,
+    pub child: Child,
+    pub reader: Reader,
+}
+
+/// Why no further frame is taken.
+#[derive(Clone, Copy, Debug, PartialEq, Eq)]
+pub enum Halt {
+    /// More octets are to come.
+    Waits,
+    /// The program has ended.
+    Ended,
+    /// What stands at this place is no frame, or none that the program admits.
+    Bad(u64),
+}
+
+/// Adds the octets of these frames.
+pub fn spell(alloc: Global, frames: &[Frame], due: &mut Vec<u8>) -> Result<(), NoMemory>
+    requires { All HasSpelling frames.now }
+    ensures { OnOk result (due.new.items ≡ due.old.items ++ all_spelled frames.now) }
+{
+    for frame in frames {
+        let octets = encode(alloc, frame)?;
+        due.extend_from_slice(octets.slice())?;
+    }
+    Ok(())
+}
+
+impl Serving {
+    /// Takes the frames that are whole, and gives what is said to them.
+    pub fn take_all(&mut self) -> Result<(Halt, Vec<u8>), NoMemory>
+        ensures { IfOk result (λ taken. TakesUpTo self.old self.new taken.1.items taken.0) }
+    {
+        let mut due = Vec::new(self.alloc);
+        loop {
+            match self.take_one(&mut due)? {
+                Some(halt) => return Ok((halt, due)),
+                None => (),
+            }
+        }
+    }
+
+    // The next frame, or why there is none.
+    fn take_one(&mut self, due: &mut Vec<u8>) -> Result<Option<Halt>, NoMemory>
+        ensures step { IfOk result (λ turn. StepsTo self.old self.new due.old.items due.new.items turn) }
+        ensures place { self.old.reader.place < 2 ^ 64 }
+    {
+        let place = self.reader.place();
+        if self.child.has_ended() {
+            return Ok(Some(Halt::Ended));
+        }
+        match self.reader.next() {
+            Ok(None) => Ok(Some(Halt::Waits)),
+            Ok(Some(frame)) => {
+                let turn = self.answer(place, &frame, due);
+                drop(frame);
+                turn
+            }
+            Err(NextRefused::BadFrame(place)) => Ok(Some(Halt::Bad(place))),
+            Err(NextRefused::NoMemory) => Err(NoMemory),
+        }
+    }
+
+    // Steps the program by a frame that stood at that place.
+    fn answer(
+        &mut self,
+        place: u64,
+        frame: &Frame,
+        due: &mut Vec<u8>,
+    ) -> Result<Option<Halt>, NoMemory>
+        requires { HasSpelling frame.now }
+        ensures said { IfOk result (λ turn. Answers self.old.child self.new.child due.old.items due.new.items place frame.now turn) }
+        ensures same { self.new.reader ≡ self.old.reader }
+    {
+        match child_step(self.alloc, &mut self.child, frame) {
+            Ok(frames) => {
+                spell(self.alloc, frames.as_slice(), due)?;
+                Ok(None)
+            }
+            Err(ChildRefused::OutOfTurn) => Ok(Some(Halt::Bad(place))),
+            Err(ChildRefused::NoMemory) => Err(NoMemory),
+        }
+    }
+}
