@@ -50,7 +50,7 @@ fn greet(alloc: Global, name: &Name, frames: &[Frame]) -> Result<Vec<u8>, NoMemo
     // A name's octets are a name.
     let _ = name.octets();
     let mut given = Vec::new(alloc);
-    spell(alloc, frames, &mut given)?;
+    spell(frames, &mut given)?;
     Ok(given)
 }
 

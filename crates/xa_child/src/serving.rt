@@ -6,8 +6,11 @@ ghost use Rattle.xa_child.specs.Serving.{StepsTo, TakesUpTo, Answers};
 
 use crate::child::{Child, ChildRefused, child_step};
 use std::alloc::Global;
-use xa_frame::{Frame, NextRefused, Reader, encode};
+use xa_frame::{Frame, NextRefused, Reader, append};
 use xa_types::NoMemory;
+
+// How many octets the answers to one piece seldom pass.
+const MOST_ANSWERS: usize = 512;
 
 /// A program, and what it has read and not taken.
 #[derive(Debug, Drop)]
@@ -29,13 +32,12 @@ pub enum Halt {
 }
 
 /// Adds the octets of these frames.
-pub fn spell(alloc: Global, frames: &[Frame], due: &mut Vec<u8>) -> Result<(), NoMemory>
+pub fn spell(frames: &[Frame], due: &mut Vec<u8>) -> Result<(), NoMemory>
     requires { All HasSpelling frames.now }
     ensures { OnOk result (due.new.items ≡ due.old.items ++ all_spelled frames.now) }
 {
     for frame in frames {
-        let octets = encode(alloc, frame)?;
-        due.extend_from_slice(octets.slice())?;
+        append(due, frame)?;
     }
     Ok(())
 }
@@ -45,7 +47,7 @@ impl Serving {
     pub fn take_all(&mut self) -> Result<(Halt, Vec<u8>), NoMemory>
         ensures { IfOk result (λ taken. TakesUpTo self.old self.new taken.1.items taken.0) }
     {
-        let mut due = Vec::new(self.alloc);
+        let mut due = Vec::with_capacity(self.alloc, MOST_ANSWERS)?;
         loop {
             match self.take_one(&mut due)? {
                 Some(halt) => return Ok((halt, due)),
@@ -88,7 +90,7 @@ impl Serving {
     {
         match child_step(self.alloc, &mut self.child, frame) {
             Ok(frames) => {
-                spell(self.alloc, frames.as_slice(), due)?;
+                spell(frames.as_slice(), due)?;
                 Ok(None)
             }
             Err(ChildRefused::OutOfTurn) => Ok(Some(Halt::Bad(place))),

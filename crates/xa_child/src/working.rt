@@ -91,7 +91,7 @@ fn say<O: Sink>(alloc: Global, frames: &[Frame], out: &mut O) -> Result<(), Work
     ensures causes { IfErr result Unanswered }
 {
     let mut due = Vec::new(alloc);
-    spell(alloc, frames, &mut due)?;
+    spell(frames, &mut due)?;
     put(out, due.as_slice()).map_err(|_| WorkRefused::WriteFault)
 }
 
