@@ -14,7 +14,7 @@ status_of (Err refusals.WriteFault) = statuses.WriteFault
 status_of (Err (refusals.BadFrame place)) = statuses.BadFrame place
 status_of (Err refusals.NoMemory) = statuses.NoMemory
 
--- the status stands for how the program's work ended; by that it read and wrote, and its input and output counted failures
+-- the status stands for how the work of the server's program ended, and that work read, wrote and counted this
 pub record ServerEnds (name : List ℕ) (left left_now gave gave_now took took_now : Option (List ℕ)) (reads reads_now writes writes_now : ℕ) (status : Status) : Type 0 where
   pub result : Result (Unit {0}) WorkRefused
   pub stands : status ≡ status_of result
