@@ -1,5 +1,5 @@
 -- Quoted texts: what reading them gives.
-use Rattle.std.proofs.Common.{◌≡◌, ℕ, suc, ◌==◌, not, Bool, true, false, cond, List, [], ◌∷◌, ◌++◌, ◌+◌, ◌≤◌, nat_lt, take, drop, arith, Option, Some, None, unwrap_or, refl, ap, sym, ◌∙◌, append_assoc, ◌||◌, ◌&&◌}
+use Rattle.std.proofs.Common.{◌≡◌, ℕ, suc, ◌==◌, not, Bool, true, false, cond, List, [], ◌∷◌, ◌++◌, ◌+◌, ◌≤◌, nat_lt, take, drop, arith, Some, None, unwrap_or, refl, ap, sym, ◌∙◌, append_assoc, ◌||◌, ◌&&◌}
 use Rattle.std.specs.List.{flat_map, list_all, position_or_len}
 use Rattle.std.proofs.lemmas.List.Folds.{list_all-append}
 use Rattle.std.proofs.Math.Bool.{and-true}

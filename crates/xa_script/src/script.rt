@@ -8,8 +8,8 @@ ghost use Rattle.xa_script.specs.ScriptLine.{line_of};
 ghost use Rattle.xa_script.specs.Draft.{kept, begun, added, with_line, read_all};
 
 use crate::script_line::{Line, read_line};
-use std::alloc::{AllocError, AllocFailed, Global};
 use memchr::memchr;
+use std::alloc::{AllocError, AllocFailed, Global};
 use std::marker::Model;
 use xa_types::{Name, NoMemory, Op, Sequence};
 

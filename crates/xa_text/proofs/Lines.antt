@@ -1,5 +1,5 @@
 -- What is put at the end, piece by piece.
-use Rattle.std.proofs.Common.{◌≡◌, ℕ, List, ◌++◌, sym, ap, ◌∙◌, append_assoc}
+use Rattle.std.proofs.Common.{◌≡◌, ℕ, List, ◌++◌, ap, ◌∙◌, append_assoc}
 use Rattle.xa_text.specs.Line.{Begins}
 
 pub begins_behind : (old more front now : List ℕ) → front ≡ old ++ more → Begins front now → Begins old now

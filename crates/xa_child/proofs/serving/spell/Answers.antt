@@ -1,4 +1,4 @@
-use Rattle.std.proofs.Common.{◌≡◌, ◌∙◌, ap, sym, append_assoc, ◌++◌, take}
+use Rattle.std.proofs.Common.{◌∙◌, ap, sym, append_assoc, ◌++◌, take}
 use Rattle.xa_frame.specs.Spelling.{spelled, all_spelled}
 use Rattle.xa_child.proofs.Frames.{spelled-more}
 use Rattle.xa_child.proofs.serving.spell.Goals as goal

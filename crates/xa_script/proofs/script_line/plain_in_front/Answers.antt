@@ -1,4 +1,4 @@
-use Rattle.std.proofs.Common.{◌≡◌, ℕ, not, length, take, drop, unwrap_or, ap, sym, ◌∙◌}
+use Rattle.std.proofs.Common.{not, length, take, unwrap_or, ap, ◌∙◌}
 use Rattle.std.specs.List.{position_or_len}
 use Rattle.std.proofs.lemmas.List.Sums.{prefix_len-le-length}
 use Rattle.xa_script.specs.ScriptLine.{is_marked, put, text_in_front}

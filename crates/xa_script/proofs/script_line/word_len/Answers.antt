@@ -1,4 +1,4 @@
-use Rattle.std.proofs.Common.{◌≡◌, ℕ, ◌≤◌, not, length, cond, nat_lt, Some, None, unwrap_or, true, false, sym, ap, ◌∙◌, refl, subst, arith}
+use Rattle.std.proofs.Common.{◌≤◌, not, length, unwrap_or, sym, ap, ◌∙◌, subst}
 use Rattle.std.proofs.lemmas.List.Sums.{prefix_len-le-length}
 use Rattle.xa_script.specs.ScriptLine.{is_space}
 use Rattle.xa_script.proofs.ScriptText.{unwrapped}

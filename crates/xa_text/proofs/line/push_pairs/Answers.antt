@@ -1,6 +1,4 @@
-use Rattle.std.proofs.Common.{rules, ◌≡◌, ◌++◌, ◌+◌, ◌-◌, ◌∷◌, [], OnOk, ℕ, length, take, arith, sym, refl, ap, ◌∙◌, replicate}
-use Rattle.std.specs.List.{flat_map}
-use Rattle.xa_text.specs.Line.{hex_pair}
+use Rattle.std.proofs.Common.{rules, ◌++◌, ◌-◌, arith, ap, ◌∙◌, replicate}
 use Rattle.xa_text.proofs.Pairs.{pairs, filled, front_kept, none_behind}
 use Rattle.xa_text.proofs.line.push_pairs.Goals as goal
 
