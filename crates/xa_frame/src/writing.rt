@@ -6,7 +6,8 @@ use crate::header::{HEADER, MARK};
 use std::alloc::Global;
 use xa_types::{Data, Mode, Name, NoMemory, Octets, Rval};
 
-fn kind_octet(body: &Body) -> u8
+/// The kind in the header of a frame with that body.
+pub fn kind_octet(body: &Body) -> u8
     ensures { result ≡ kind_octet body.now }
 {
     match body {

@@ -1,0 +1,64 @@
+-- The frames that the monitor and a server's program say, and what the monitor writes in a life, read off the events of the run.
+use Rattle.std.specs.Prelude.{ℕ, ℤ, ◌%◌, ◌^◌, ◌==◌, ◌&&◌, Bool, false, List, [], ◌∷◌, ◌++◌, Option, Some, if◌then◌else◌}
+use Rattle.xa_types.specs.declared.data.Data.{Data}
+use Rattle.xa_types.specs.declared.call.Mode.TheVariants.{Reply}
+use Rattle.xa_types.specs.declared.call.Rval.{Rval}
+use Rattle.xa_events.specs.declared.event.Event.{Event}
+use Rattle.xa_events.specs.declared.event.Event.TheVariants.{Accept, Take, Stop}
+use Rattle.xa_events.specs.declared.event.StopCause.{StopCause}
+use Rattle.xa_events.specs.declared.event.StopCause.TheVariants.{Shutdown}
+use Rattle.xa_events.specs.Words.{latest, count}
+use Rattle.xa_events.specs.Request.{is_accept_of}
+use Rattle.xa_frame.specs.declared.frame.Frame.{Frame}
+use Rattle.xa_frame.specs.declared.frame.Body.TheVariants.{Ready, Next, Return, Invoke, Shutdown as ShutdownBody}
+
+-- the event is of that life of that server
+abbrev pub is_of_life : ℕ → ℕ → ℕ → ℕ → Bool
+is_of_life server g s h = (s == server) && (h == g)
+
+abbrev pub is_take_in : ℕ → ℕ → Event → Bool
+is_take_in server g (Take t) = is_of_life server g t.server.0 t.generation.0
+is_take_in server g _ = false
+
+-- the number of the life's last invocation, modulo 2^32
+unfoldable pub invocation : ℕ → ℕ → List Event → ℕ
+invocation server g past = count (is_take_in server g) past % 2 ^ 32
+
+-- ---- the frames of a request
+
+abbrev pub next_frame : Frame
+next_frame = record { tag = 0; body = Next }
+
+abbrev pub ready_frame : List ℕ → Frame
+ready_frame name = record { tag = 0; body = Ready name }
+
+abbrev pub shutdown_frame : Frame
+shutdown_frame = record { tag = 0; body = ShutdownBody }
+
+-- the request to a routine that has its service's name
+abbrev pub invoke_frame : List ℕ → ℕ → Data → Frame
+invoke_frame service tag payload = record { tag = tag; body = Invoke service service Reply payload }
+
+abbrev pub return_frame : ℕ → Rval → ℤ → Data → Frame
+return_frame tag value code payload = record { tag = tag; body = Return value code payload }
+
+-- ---- what the monitor writes: an INVOKE for each take, and SHUTDOWN at a shutdown
+
+abbrev pub invoke_with : ℕ → Option Event → List Frame
+invoke_with tag (Some (Accept a)) = (record { tag = tag; body = Invoke a.service a.routine a.mode a.payload }) ∷ []
+invoke_with tag _ = []
+
+abbrev pub farewell : StopCause → List Frame
+farewell Shutdown = shutdown_frame ∷ []
+farewell _ = []
+
+-- what it writes at an event, with those before it
+abbrev pub written_at : ℕ → ℕ → Event → List Event → List Frame
+written_at server g (Take t) past =
+    if is_of_life server g t.server.0 t.generation.0 then invoke_with (invocation server g (Take t ∷ past)) (latest (is_accept_of t.request) past) else []
+written_at server g (Stop x) past = if is_of_life server g x.server.0 x.generation.0 then farewell x.cause else []
+written_at server g _ past = []
+
+abbrev pub frames_out : ℕ → ℕ → List Event → List Frame
+frames_out server g [] = []
+frames_out server g (e ∷ past) = frames_out server g past ++ written_at server g e past

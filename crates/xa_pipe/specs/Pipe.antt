@@ -1,0 +1,62 @@
+-- What the monitor's end of the pipes of a life has seen.
+use Rattle.std.specs.Prelude.{◌≡◌, ◌⊎◌, ℕ, ◌+◌, ◌-◌, ◌^◌, min, ◌<◌, List, ◌++◌, ◌∷◌, [], length, true, Option, Some, None, IfSome}
+use Rattle.xa_types.specs.declared.setup.Setup.{Setup}
+use Rattle.xa_link.specs.Told.{Empty, GrewByPrefix}
+use Rattle.xa_frame.specs.declared.frame.Frame.{Frame}
+use Rattle.xa_frame.specs.Stream.{IsPartial, IsMalformed}
+use Rattle.xa_frame.specs.Spelling.{spelled, all_spelled, HasSpelling}
+use Rattle.xa_events.specs.declared.event.Outcome.{Outcome}
+use Rattle.xa_events.specs.declared.event.StopCause.{StopCause}
+use Rattle.xa_events.specs.declared.event.StopCause.TheVariants.{EndOfInput, ReadFault, WriteFault, BadBytes, Starved}
+use Rattle.xa_pipe.specs.Life.{Turn, Says, Shows, IsCounted, may_end, tag_after, place_behind}
+
+-- what the link took, gave and still holds, where it tells them, how often its reads and writes failed, and of what it gave the octets that aren't read as a frame, and their place
+pub record Piped : Type 0 where
+  pub took : Option (List ℕ)
+  pub gave : Option (List ℕ)
+  pub left : Option (List ℕ)
+  pub reads : ℕ
+  pub writes : ℕ
+  pub rest : List ℕ
+  pub place : ℕ
+
+-- these frames were written
+abbrev pub Wrote : Piped → List Frame → Type 0
+Wrote pipe frames = IfSome pipe.took (λ octets. octets ≡ all_spelled frames)
+
+-- these frames were read
+pub record HasRead (pipe : Piped) (frames : List Frame) : Type 0 where
+  pub told : IfSome pipe.gave (λ octets. octets ≡ all_spelled frames ++ pipe.rest)
+  pub place : pipe.place ≡ place_behind frames
+
+-- what stood first in the octets before: nothing whole, or that frame, with the octets after it
+abbrev pub Finds : Piped → Piped → Option Frame → Type 0
+Finds old new None = (new.rest ≡ old.rest) × (new.place ≡ old.place) × (length old.rest < 66_012) × IsPartial old.rest
+Finds old new (Some f) = HasSpelling f × (old.rest ≡ spelled f ++ new.rest) × (new.place ≡ min (old.place + length (spelled f)) (2 ^ 64 - 1))
+
+-- why no frame was read behind these
+abbrev pub ReadsNone : Piped → List Frame → StopCause → Type 0
+ReadsNone pipe frames EndOfInput = IsPartial pipe.rest × Empty pipe.left
+ReadsNone pipe frames ReadFault = 0 < pipe.reads
+ReadsNone pipe frames (BadBytes place) = (place ≡ place_behind frames) × IsMalformed pipe.rest
+ReadsNone pipe frames Starved = Unit {0}
+ReadsNone pipe frames cause = ⊥
+
+-- why a frame wasn't written
+abbrev pub WritesNone : Piped → StopCause → Type 0
+WritesNone pipe WriteFault = 0 < pipe.writes
+WritesNone pipe Starved = Unit {0}
+WritesNone pipe cause = ⊥
+
+-- the life ended so behind these frames, where that was to come
+pub record Ceases (name : List ℕ) (tag : ℕ) (turn : Turn) (frames : List Frame) (pipe : Piped) (cause : StopCause) : Type 0 where
+  pub may : may_end cause turn ≡ true
+  pub counted : IsCounted cause pipe.reads pipe.writes
+  pub gave : IfSome pipe.gave (λ octets. (rest : List ℕ) × (octets ≡ all_spelled frames ++ rest) × Shows name tag turn cause frames rest pipe.left)
+
+-- the life ended so, after requests that ended so
+pub record CutOff (setup : Setup) (name : List ℕ) (outcomes : List Outcome) (pipe : Piped) (cause : StopCause) : Type 0 where
+  pub turn : Turn
+  pub frames : List Frame
+  pub says : Says setup name outcomes frames turn
+  pub ceases : Ceases name (tag_after (length outcomes)) turn frames pipe cause

@@ -1,0 +1,13 @@
+//! The monitor's end of the two pipes of one life of a server: what it writes, what it reads, and why a life ends.
+//!
+//! The server's program says READY with its name and NEXT, and to each INVOKE a RETURN and NEXT; after a RETURN with
+//! TPEXIT it says nothing more.
+#![tactic(auto)]
+
+mod hearing;
+mod pipe;
+#[cfg(test)]
+mod tests;
+
+pub use hearing::Return;
+pub use pipe::Pipe;

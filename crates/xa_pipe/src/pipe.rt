@@ -1,0 +1,197 @@
+ghost use Rattle.std.specs.Prelude.{◌≡◌, ◌++◌, ◌∷◌, ◌+◌, ◌<◌, ◌≤◌, [], ℕ, List, length, IfOk, IfErr, OnOk, OnErr};
+ghost use Rattle.xa_types.specs.Kind.{is_sound};
+ghost use Rattle.xa_link.specs.Told.{Grew, GrewByPrefix, Empty};
+ghost use Rattle.xa_frame.specs.declared.frame.Frame.{Frame};
+ghost use Rattle.xa_frame.specs.Spelling.{spelled, HasSpelling, IsData};
+ghost use Rattle.xa_frame.specs.Stream.{IsPartial, IsMalformed};
+ghost use Rattle.xa_pipe.specs.Frames.{invoke_frame, shutdown_frame};
+ghost use Rattle.xa_pipe.specs.Pipe.{Wrote, HasRead, Finds, ReadsNone, WritesNone};
+
+use std::alloc::Global;
+use std::marker::Model;
+use xa_events::StopCause;
+use xa_frame::{Body, Frame, NextRefused, Reader, append};
+use xa_link::{Link, put};
+use xa_types::{Data, Mode, Name, NoMemory};
+
+// How many octets one read takes at most.
+const PIECE: usize = 8192;
+
+/// The monitor's end of the pipes of one life.
+pub struct Pipe<L: Link> {
+    link: L,
+    reader: Reader,
+    piece: [u8; PIECE],
+    due: Vec<u8>,
+}
+
+impl<L: Link> Model for Pipe<L> {
+    ghost use Rattle.xa_pipe.specs.Pipe.{Piped};
+
+    ghost Value = { Piped };
+
+    ghost view = { λ p. record { took = L.took p.link; gave = L.gave p.link; left = L.left p.link; reads = L.read_faults p.link; writes = L.write_faults p.link;
+        rest = p.reader.rest; place = p.reader.place } };
+}
+
+impl<L: Link> Pipe<L> {
+    /// The pipes through which nothing went.
+    pub fn new(alloc: Global, link: L) -> Pipe<L>
+        requires took { Empty (L.took link) }
+        requires gave { Empty (L.gave link) }
+        ensures reads { result.reads ≡ L.read_faults link }
+        ensures writes { result.writes ≡ L.write_faults link }
+        ensures wrote { Wrote result [] }
+        ensures read { HasRead result [] }
+    {
+        Pipe {
+            link,
+            reader: Reader::new(alloc),
+            piece: [0; PIECE],
+            due: Vec::new(alloc),
+        }
+    }
+
+    /// The link, with what went through it.
+    pub fn into_link(self) -> L
+        ensures took { L.took result ≡ self.took }
+        ensures gave { L.gave result ≡ self.gave }
+        ensures left { L.left result ≡ self.left }
+        ensures reads { L.read_faults result ≡ self.reads }
+        ensures writes { L.write_faults result ≡ self.writes }
+    {
+        let Pipe {
+            link,
+            reader: _,
+            piece: _,
+            due: _,
+        } = self;
+        link
+    }
+
+    // Writes the frame: WriteFault where the link fails, and Starved where memory runs out.
+    fn write(&mut self, frame: &Frame) -> Result<(), StopCause>
+        requires { HasSpelling frame.now }
+        ensures took { OnOk result (Grew self.old.took self.new.took (spelled frame.now)) }
+        ensures part { OnErr result (GrewByPrefix self.old.took self.new.took (spelled frame.now)) }
+        ensures gave { self.new.gave ≡ self.old.gave }
+        ensures left { self.new.left ≡ self.old.left }
+        ensures rest { self.new.rest ≡ self.old.rest }
+        ensures place { self.new.place ≡ self.old.place }
+        ensures reads { self.new.reads ≡ self.old.reads }
+        ensures well { OnOk result (self.new.writes ≡ self.old.writes) }
+        ensures why { IfErr result (WritesNone self.new) }
+    {
+        self.due.clear();
+        append(&mut self.due, frame).map_err(|_| StopCause::Starved)?;
+        put(&mut self.link, self.due.as_slice()).map_err(|_| StopCause::WriteFault)
+    }
+
+    /// Sends a request to the routine that has its service's name.
+    pub fn send(
+        &mut self,
+        alloc: Global,
+        service: &Name,
+        number: u32,
+        payload: &Data,
+    ) -> Result<(), StopCause>
+        requires { IsData payload.now }
+        ensures took { OnOk result (Grew self.old.took self.new.took (spelled (invoke_frame service.now number payload.now))) }
+        ensures part { OnErr result (GrewByPrefix self.old.took self.new.took (spelled (invoke_frame service.now number payload.now))) }
+        ensures gave { self.new.gave ≡ self.old.gave }
+        ensures left { self.new.left ≡ self.old.left }
+        ensures rest { self.new.rest ≡ self.old.rest }
+        ensures place { self.new.place ≡ self.old.place }
+        ensures reads { self.new.reads ≡ self.old.reads }
+        ensures well { OnOk result (self.new.writes ≡ self.old.writes) }
+        ensures why { IfErr result (WritesNone self.new) }
+    {
+        let _named = service.octets();
+        let payload = payload.copy(alloc).map_err(|_| StopCause::Starved)?;
+        let frame = Frame {
+            tag: number,
+            body: Body::Invoke(*service, *service, Mode::Reply, payload),
+        };
+        self.write(&frame)
+    }
+
+    /// Sends SHUTDOWN.
+    pub fn shut_down(&mut self) -> Result<(), StopCause>
+        ensures took { OnOk result (Grew self.old.took self.new.took (spelled shutdown_frame)) }
+        ensures part { OnErr result (GrewByPrefix self.old.took self.new.took (spelled shutdown_frame)) }
+        ensures gave { self.new.gave ≡ self.old.gave }
+        ensures left { self.new.left ≡ self.old.left }
+        ensures rest { self.new.rest ≡ self.old.rest }
+        ensures place { self.new.place ≡ self.old.place }
+        ensures reads { self.new.reads ≡ self.old.reads }
+        ensures well { OnOk result (self.new.writes ≡ self.old.writes) }
+        ensures why { IfErr result (WritesNone self.new) }
+    {
+        self.write(&Frame {
+            tag: 0,
+            body: Body::Shutdown,
+        })
+    }
+
+    // Reads the next frame, or says why there is none.
+    pub(crate) fn read(&mut self) -> Result<Frame, StopCause>
+        ensures frame { IfOk result (λ f. (frames : List Frame) → HasRead self.old frames → HasRead self.new (frames ++ f ∷ [])) }
+        ensures spelling { IfOk result (λ f. HasSpelling f) }
+        ensures took { self.new.took ≡ self.old.took }
+        ensures writes { self.new.writes ≡ self.old.writes }
+        ensures well { OnOk result (self.new.reads ≡ self.old.reads) }
+        ensures kept { OnErr result ((frames : List Frame) → HasRead self.old frames → HasRead self.new frames) }
+        ensures why { IfErr result (λ cause. (frames : List Frame) → HasRead self.old frames → ReadsNone self.new frames cause) }
+    {
+        for _ in 0..u64::MAX {
+            if let Some(frame) = self.next()? {
+                return Ok(frame);
+            }
+            self.pull()?;
+        }
+        unreachable!()
+    }
+
+    // The frame that stands whole in what was read, if one does.
+    fn next(&mut self) -> Result<Option<Frame>, StopCause>
+        ensures took { self.new.took ≡ self.old.took }
+        ensures gave { self.new.gave ≡ self.old.gave }
+        ensures left { self.new.left ≡ self.old.left }
+        ensures reads { self.new.reads ≡ self.old.reads }
+        ensures writes { self.new.writes ≡ self.old.writes }
+        ensures found { IfOk result (Finds self.old self.new) }
+        ensures kept { OnErr result ((self.new.rest ≡ self.old.rest) × (self.new.place ≡ self.old.place)) }
+        ensures why { IfErr result (λ cause. (frames : List Frame) → HasRead self.old frames → ReadsNone self.new frames cause) }
+    {
+        match self.reader.next() {
+            Ok(found) => Ok(found),
+            Err(NextRefused::BadFrame(place)) => Err(StopCause::BadBytes(place)),
+            Err(NextRefused::NoMemory) => Err(StopCause::Starved),
+        }
+    }
+
+    // Reads a piece of the link.
+    fn pull(&mut self) -> Result<(), StopCause>
+        requires few { length self.old.rest < 66_012 }
+        requires partial { IsPartial self.old.rest }
+        ensures took { self.new.took ≡ self.old.took }
+        ensures writes { self.new.writes ≡ self.old.writes }
+        ensures grew { OnOk result ((frames : List Frame) → HasRead self.old frames → HasRead self.new frames) }
+        ensures more { OnOk result (length self.old.rest < length self.new.rest) }
+        ensures within { OnOk result (length self.new.rest ≤ length self.old.rest + 8192) }
+        ensures well { OnOk result (self.new.reads ≡ self.old.reads) }
+        ensures kept { OnErr result ((frames : List Frame) → HasRead self.old frames → HasRead self.new frames) }
+        ensures why { IfErr result (λ cause. (frames : List Frame) → HasRead self.old frames → ReadsNone self.new frames cause) }
+    {
+        let count = self
+            .link
+            .read(&mut self.piece)
+            .map_err(|_| StopCause::ReadFault)?;
+        if count == 0 {
+            return Err(StopCause::EndOfInput);
+        }
+        self.reader
+            .feed(&self.piece[..count])
+            .map_err(|_| StopCause::Starved)
+    }
+}
