@@ -1,7 +1,7 @@
 // The setup of `play`.
 ghost use Rattle.std.specs.Prelude.{◌≡◌, IfOk};
 ghost use Rattle.xa_types.specs.Name.{IsName};
-ghost use Rattle.xa_program.specs.PlaySetup.{play_setup};
+ghost use Rattle.xa_play.specs.PlaySetup.{play_setup};
 
 use std::alloc::Global;
 use xa_types::{Accepts, Name, NoMemory, QueueSetup, Sequence, ServerSetup, ServiceSetup, Setup};

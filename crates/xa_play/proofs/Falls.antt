@@ -1,0 +1,93 @@
+-- The end of the server's only life: it stops, it is gone, its row is withdrawn, and its queue is down.
+use Rattle.std.proofs.Common.{◌≡◌, ◌⊎◌, ℕ, ◌+◌, ◌<◌, ◌≤◌, Bool, true, false, cond, not, List, [], ◌∷◌, ◌++◌, length, Option, Some, None, inl, inr, refl, sym, ◌∙◌, ap, subst, arith, eq-eqb}
+use Rattle.xa_types.specs.Setup.{same_name}
+use Rattle.xa_types.specs.Rows.{Put, Remove, rows, row_of, all_kinds}
+use Rattle.xa_events.specs.declared.event.Event.{Event}
+use Rattle.xa_events.specs.declared.event.Event.TheVariants.{Gone, Withdraw, Down, Stop}
+use Rattle.xa_events.specs.declared.event.Outcome.{Outcome}
+use Rattle.xa_events.specs.declared.event.StopCause.{StopCause}
+use Rattle.xa_events.specs.declared.event.StopCause.TheVariants.{Shutdown, Exit, EndOfInput, ReadFault, WriteFault, BadBytes, OutOfTurn, Starved}
+use Rattle.xa_events.specs.declared.event.Doing.TheVariants.{Off, Idle, Dying}
+use Rattle.xa_events.specs.Board.{changes, published, rows_of_version}
+use Rattle.xa_events.specs.Queue.{is_down, is_closed, waiting}
+use Rattle.xa_events.specs.Server.{doing, starts, is_gone, let_go, last_outcome, may_start, is_shutdown}
+use Rattle.xa_events.specs.Caller.{opened}
+use Rattle.xa_events.specs.Cases.{Case, StopCase, GoneCase, WithdrawCase, DownCase, idle_stops, dying_stops}
+use Rattle.xa_events.specs.Run.{Run}
+use Rattle.xa_play.specs.PlaySetup.{play_setup}
+use Rattle.xa_play.specs.History.{stop, withdraw, gone, fallen}
+use Rattle.xa_play.specs.Between.{at}
+
+-- the server's life may end so
+pub record MayFall (service : List ℕ) (clients : ℕ) (cause : StopCause) (past : List Event) : Type 0 where
+  pub made : starts 1 past ≡ 0 ∷ []
+  pub board : changes past ≡ Put service 1 service ∷ []
+  pub stays : is_gone 1 past ≡ false
+  pub up : is_down 1 past ≡ false
+  pub open_server : opened (clients + 1) past ≡ []
+  pub alive : ((doing 1 past ≡ Idle (record { 0 = 1 })) × (idle_stops cause (last_outcome 1 past) ≡ true))
+      ⊎ ((doing 1 past ≡ Dying (record { 0 = 1 })) × (dying_stops cause (last_outcome 1 past) ≡ true))
+  pub kind : is_shutdown cause ≡ false
+
+pub same_name-self : (xs : List ℕ) → same_name xs xs ≡ true
+same_name-self [] = refl
+same_name-self (x ∷ xs) = rw (eq-eqb x x refl) (same_name-self xs)
+
+no_shutdown : (cause : StopCause) (P : Type 0) → is_shutdown cause ≡ false → cause ≡ Shutdown → P
+no_shutdown cause P other is = absurd (cc (sym other ∙ ap is_shutdown is))
+
+pub the_row : (service : List ℕ) (past : List Event) → changes past ≡ Put service 1 service ∷ []
+    → row_of service 1 (rows_of_version (play_setup service) past 1) ≡ Some (record { service = service; queue = record { 0 = 1 }; routine = service; priority = 50; conversational = false; accepts = all_kinds })
+unfolding rows_of_version
+the_row service past board = rw board (rw (same_name-self service) (rw (same_name-self service) refl))
+
+pub no_rows : (service : List ℕ) (past : List Event) → changes past ≡ Remove service 1 ∷ Put service 1 service ∷ [] → rows_of_version (play_setup service) past 2 ≡ []
+unfolding rows_of_version
+no_rows service past board = rw board (rw (same_name-self service) (rw (same_name-self service) refl))
+
+stop_case : (service : List ℕ) (clients : ℕ) (cause : StopCause) (past : List Event) → MayFall service clients cause past → Case (at service clients past) (Stop (stop cause))
+unfolding published
+stop_case service clients cause past may = record {
+  boot = omega (arith, ap length may.board);
+  kind = record {
+    worker = record { alive = may.alive; none = may.open_server };
+    before = record { shut = no_shutdown cause (is_closed 1 past ≡ true) may.kind; empty = no_shutdown cause (waiting (play_setup service) 1 past ≡ []) may.kind };
+  };
+}
+
+gone_case : (service : List ℕ) (clients : ℕ) (cause : StopCause) (past : List Event) → MayFall service clients cause past
+    → Case (at service clients (Stop (stop cause) ∷ past)) (Gone (record { 0 = 1 }))
+unfolding published changes doing is_gone let_go starts
+gone_case service clients cause past may = record {
+  boot = omega (arith, ap length may.board);
+  kind = record { worker = record { known = omega arith; off = refl; still = may.stays; kept = may.kind; spent = rw may.made refl } };
+}
+
+withdraw_case : (service : List ℕ) (clients : ℕ) (cause : StopCause) (past : List Event) → MayFall service clients cause past
+    → Case (at service clients (Gone (record { 0 = 1 }) ∷ Stop (stop cause) ∷ past)) (Withdraw (withdraw service))
+unfolding published changes is_gone rows_of_version
+withdraw_case service clients cause past may = record {
+  boot = omega (arith, ap length may.board);
+  kind = record {
+    home = record { stands = rw may.board (rw (same_name-self service) (rw (same_name-self service) tt)); version = rw may.board refl };
+    worker = record { domain = refl; op = refl };
+    before = record { gone = refl };
+  };
+}
+
+down_case : (service : List ℕ) (clients : ℕ) (cause : StopCause) (past : List Event) → MayFall service clients cause past
+    → Case (at service clients (Withdraw (withdraw service) ∷ Gone (record { 0 = 1 }) ∷ Stop (stop cause) ∷ past)) (Down (record { 0 = 1 }))
+unfolding published changes is_gone is_down rows_of_version
+down_case service clients cause past may = record {
+  boot = omega (arith, ap length may.board);
+  kind = record {
+    home = record { known = omega arith; still = may.up; gone = refl };
+    before = record { withdrawn = λ name. rw may.board (rw (same_name-self service) (rw (same_name-self service) refl)) };
+  };
+}
+
+-- its four events may come next
+pub falls_run : (service : List ℕ) (clients : ℕ) (cause : StopCause) (past : List Event) → MayFall service clients cause past
+    → Run (at service clients past) (Stop (stop cause) ∷ Gone (record { 0 = 1 }) ∷ Withdraw (withdraw service) ∷ Down (record { 0 = 1 }) ∷ []) (at service clients (gone service (Stop (stop cause) ∷ past)))
+falls_run service clients cause past may =
+    (stop_case service clients cause past may, (gone_case service clients cause past may, (withdraw_case service clients cause past may, (down_case service clients cause past may, refl))))

@@ -1,0 +1,6 @@
+pub mod After
+pub mod Closing
+pub mod Falls
+pub mod Machine
+pub mod Told
+pub mod ToldCalls

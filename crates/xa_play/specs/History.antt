@@ -1,0 +1,91 @@
+-- The events of a run of `play`, with their numbers filled in.
+-- No public contract of the program rests on this file.
+use Rattle.std.specs.Prelude.{ℕ, List, [], ◌∷◌, Option, Some, None}
+use Rattle.xa_types.specs.declared.data.Data.{Data}
+use Rattle.xa_types.specs.declared.fault.Fault.{Fault}
+use Rattle.xa_types.specs.declared.ids.RequestId.{RequestId}
+use Rattle.xa_types.specs.declared.call.Mode.TheVariants.{Reply}
+use Rattle.xa_types.specs.declared.reply.Answer.{Answer}
+use Rattle.xa_events.specs.declared.event.Event.{Event}
+use Rattle.xa_events.specs.declared.event.Event.TheVariants.{Advertise, Accept, Take, Gone, Withdraw, Down, Close, Start, StartFailed, End, Stop, Answer as Answers, Refuse}
+use Rattle.xa_events.specs.declared.event.Advertised.{Advertised}
+use Rattle.xa_events.specs.declared.event.Withdrawn.{Withdrawn}
+use Rattle.xa_events.specs.declared.event.Accepted.{Accepted}
+use Rattle.xa_events.specs.declared.event.Taken.{Taken}
+use Rattle.xa_events.specs.declared.event.Started.{Started}
+use Rattle.xa_events.specs.declared.event.Ended.{Ended}
+use Rattle.xa_events.specs.declared.event.Stopped.{Stopped}
+use Rattle.xa_events.specs.declared.event.Answered.{Answered}
+use Rattle.xa_events.specs.declared.event.Refused.{Refused}
+use Rattle.xa_events.specs.declared.event.Evidence.{Evidence}
+use Rattle.xa_events.specs.declared.event.Outcome.{Outcome}
+use Rattle.xa_events.specs.declared.event.StopCause.{StopCause}
+
+abbrev pub advertise : List ℕ → Advertised
+advertise service = record { by = record { 0 = 0 }; op = 0; service = service; queue = record { 0 = 1 }; routine = service; version = 1 }
+
+abbrev pub withdraw : List ℕ → Withdrawn
+withdraw service = record { by = record { 0 = 0 }; op = 0; service = service; queue = record { 0 = 1 }; version = 2 }
+
+abbrev pub start : Started
+start = record { server = record { 0 = 1 }; generation = record { 0 = 1 }; tick = 0 }
+
+abbrev pub stop : StopCause → Stopped
+stop cause = record { server = record { 0 = 1 }; generation = record { 0 = 1 }; cause = cause }
+
+-- the m-th request of the one client
+abbrev pub request : ℕ → RequestId
+request m = record { caller = record { 0 = 1 }; number = m }
+
+-- its n-th call sends its m-th request
+abbrev pub accept : List ℕ → ℕ → ℕ → Data → Accepted
+accept service n m payload = record {
+  by = record { 0 = 1 };
+  op = n;
+  request = request m;
+  version = 1;
+  service = service;
+  queue = record { 0 = 1 };
+  routine = service;
+  priority = 50;
+  mode = Reply;
+  payload = payload;
+}
+
+abbrev pub take_of : ℕ → Taken
+take_of m = record { request = request m; server = record { 0 = 1 }; generation = record { 0 = 1 }; k = m }
+
+abbrev pub end_with : ℕ → Outcome → Ended
+end_with m outcome = record { request = request m; server = record { 0 = 1 }; generation = record { 0 = 1 }; outcome = outcome }
+
+abbrev pub answer_of : ℕ → ℕ → Answer → Answered
+answer_of n m answer = record { by = record { 0 = 1 }; op = n; request = request m; answer = answer }
+
+abbrev pub refuse : ℕ → Fault → Evidence → Refused
+refuse n fault evidence = record { by = record { 0 = 1 }; op = n; fault = fault; evidence = evidence }
+
+-- the one server takes no more: its queue goes down
+abbrev pub gone : List ℕ → List Event → List Event
+gone service past = Down (record { 0 = 1 }) ∷ Withdraw (withdraw service) ∷ Gone (record { 0 = 1 }) ∷ past
+
+-- its life ended, where it did
+abbrev pub fallen : List ℕ → Option StopCause → List Event → List Event
+fallen service None past = past
+fallen service (Some cause) past = gone service (Stop (stop cause) ∷ past)
+
+-- the m-th request is accepted by the n-th call, taken and ended, and its caller is told; behind the end the life may end
+abbrev pub ended_call : List ℕ → ℕ → ℕ → Data → Outcome → Option StopCause → List Event → List Event
+ended_call service n m payload outcome cause past = fallen service cause (End (end_with m outcome) ∷ Take (take_of m) ∷ Accept (accept service n m payload) ∷ past)
+
+abbrev pub served : List ℕ → ℕ → ℕ → Data → Outcome → Option StopCause → Answer → List Event → List Event
+served service n m payload outcome cause answer past = Answers (answer_of n m answer) ∷ ended_call service n m payload outcome cause past
+
+-- the boot, and the server's start, or its failure
+abbrev pub begun : List ℕ → List Event
+begun service = Start start ∷ Advertise (advertise service) ∷ []
+
+abbrev pub not_begun : List ℕ → List Event
+not_begun service = gone service (StartFailed start ∷ Advertise (advertise service) ∷ [])
+
+abbrev pub closed : List Event → List Event
+closed past = Close (record { 0 = 1 }) ∷ past

@@ -1,0 +1,5 @@
+pub mod Between
+pub mod History
+pub mod PlaySetup
+pub mod Refusal
+pub mod Spoken

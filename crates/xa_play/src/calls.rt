@@ -1,0 +1,128 @@
+// What is noted of a call, and what its client is told.
+ghost use Rattle.std.specs.Prelude.{◌≡◌, ◌++◌, ◌∷◌, [], OnOk, IfOk};
+ghost use Rattle.xa_types.specs.declared.reply.Answer.{Answer};
+ghost use Rattle.xa_types.specs.declared.reply.Reply.TheVariants.{Answered as AnsweredReply, Fault as FaultReply};
+ghost use Rattle.xa_events.specs.declared.event.Event.TheVariants.{Accept, Take, Answer as AnswerEvent, Refuse};
+ghost use Rattle.xa_events.specs.Befell.{reply_of};
+ghost use Rattle.xa_text.specs.Line.{line_text};
+ghost use Rattle.xa_play.specs.History.{accept, take_of, answer_of, refuse};
+
+use crate::account::{Account, CLIENT, LIFE, QUEUE, SERVER};
+use crate::refusal::Refusal;
+use std::alloc::Global;
+use xa_events::{Accepted, Answered, Event, Outcome, Refused, Taken};
+use xa_text::push_line;
+use xa_types::{Answer, Data, Fault, Mode, Name, NoMemory, Reply, RequestId};
+
+fn request(number: u32) -> RequestId
+    ensures { result ≡ record { caller = record { 0 = 1 }; number = number } }
+{
+    RequestId {
+        caller: CLIENT,
+        number: u64::from(number),
+    }
+}
+
+/// Notes that the queue accepts the request of the client's call `op`, by the first version of the board, and that the
+/// server takes it; `number` counts the client's requests.
+pub fn note_taken(
+    alloc: Global,
+    history: &mut Vec<Event>,
+    service: &Name,
+    op: u32,
+    number: u32,
+    payload: &Data,
+) -> Result<(), NoMemory>
+    ensures { OnOk result (history.new.items ≡ history.old.items ++ Accept (accept service.now op number payload.now) ∷ Take (take_of number) ∷ []) }
+{
+    history.push(Event::Accept(Accepted {
+        by: CLIENT,
+        op,
+        request: request(number),
+        version: 1,
+        service: *service,
+        queue: QUEUE,
+        routine: *service,
+        priority: 50,
+        mode: Mode::Reply,
+        payload: payload.copy(alloc)?,
+    }))?;
+    history.push(Event::Take(Taken {
+        request: request(number),
+        server: SERVER,
+        generation: LIFE,
+        k: u64::from(number),
+    }))?;
+    Ok(())
+}
+
+/// What the client is told of a request that ended so.
+pub fn answer_to(alloc: Global, outcome: &Outcome) -> Result<Answer, NoMemory>
+    ensures { IfOk result (λ answer. answer ≡ reply_of outcome.now) }
+{
+    match outcome {
+        Outcome::Returned(code, payload) => Ok(Answer::Success(*code, payload.copy(alloc)?)),
+        Outcome::Failed(code, payload) => Ok(Answer::Failed(*code, payload.copy(alloc)?)),
+        Outcome::BadReturn | Outcome::Died => Ok(Answer::Error(Fault::SvcErr)),
+        Outcome::Starved => Ok(Answer::Error(Fault::NoMemory)),
+    }
+}
+
+// The answer that the reply of a tpcall has.
+fn answer_in(reply: Reply) -> Answer
+    requires { (answer : Answer) × (reply ≡ AnsweredReply 0 answer) }
+    ensures { reply ≡ AnsweredReply 0 result }
+{
+    match reply {
+        Reply::Answered(_, answer) => answer,
+        _ => unreachable!(),
+    }
+}
+
+fn answered(answer: Answer) -> Reply
+    ensures { result ≡ AnsweredReply 0 answer }
+{
+    Reply::Answered(0, answer)
+}
+
+/// Notes that the client was told that answer to its call `op`, and prints the line of the call.
+pub fn note_answered(
+    account: &mut Account,
+    name: &Name,
+    op: u32,
+    number: u32,
+    answer: Answer,
+) -> Result<(), NoMemory>
+    ensures history { OnOk result (account.new.history.items ≡ account.old.history.items ++ AnswerEvent (answer_of op number answer) ∷ []) }
+    ensures lines { OnOk result (account.new.lines.items ≡ account.old.lines.items ++ line_text name.now op (AnsweredReply 0 answer)) }
+{
+    let reply = answered(answer);
+    push_line(&mut account.lines, name, op, &reply)?;
+    account.history.push(Event::Answer(Answered {
+        by: CLIENT,
+        op,
+        request: request(number),
+        answer: answer_in(reply),
+    }))?;
+    Ok(())
+}
+
+/// Notes that the client's call `op` was refused, and prints its line.
+pub fn note_refused(
+    account: &mut Account,
+    name: &Name,
+    op: u32,
+    refusal: Refusal,
+) -> Result<(), NoMemory>
+    ensures history { OnOk result (account.new.history.items ≡ account.old.history.items ++ Refuse (refuse op refusal.fault refusal.evidence) ∷ []) }
+    ensures lines { OnOk result (account.new.lines.items ≡ account.old.lines.items ++ line_text name.now op (FaultReply refusal.fault)) }
+{
+    push_line(&mut account.lines, name, op, &Reply::Fault(refusal.fault))?;
+    account.history.push(Event::Refuse(Refused {
+        by: CLIENT,
+        op,
+        fault: refusal.fault,
+        evidence: refusal.evidence,
+    }))?;
+    Ok(())
+}
