@@ -22,7 +22,7 @@ use Rattle.xa_events.specs.Cases.{Case, is_sound_outcome, idle_stops, dying_stop
 use Rattle.xa_events.specs.State.{State, noted}
 use Rattle.xa_events.specs.Run.{Run}
 use Rattle.xa_play.specs.PlaySetup.{play_setup}
-use Rattle.xa_play.specs.History.{request, accept, take_of, end_with, answer_of, stop, withdraw, gone, fallen, ended_call, served}
+use Rattle.xa_play.specs.History.{request, accept, take_of, end_with, answer_of, stop, withdraw, gone, fallen, ended_call, served, falls, in_order}
 use Rattle.xa_play.specs.Between.{at, IsQuiet, IsOpen, IsUp, IsDown}
 use Rattle.xa_play.proofs.Falls.{MayFall, the_row, falls_run}
 
@@ -50,15 +50,6 @@ EndsSo outcome None = after_end outcome (record { 0 = 1 }) ≡ Idle (record { 0 
 EndsSo outcome (Some cause) = (is_shutdown cause ≡ false)
     × (((after_end outcome (record { 0 = 1 }) ≡ Idle (record { 0 = 1 })) × (idle_stops cause (Some outcome) ≡ true))
     ⊎ ((after_end outcome (record { 0 = 1 }) ≡ Dying (record { 0 = 1 })) × (dying_stops cause (Some outcome) ≡ true)))
-
--- the events of the end of the life, the oldest first
-abbrev pub falls : List ℕ → Option StopCause → List Event
-falls service None = []
-falls service (Some cause) = Stop (stop cause) ∷ Gone (record { 0 = 1 }) ∷ Withdraw (withdraw service) ∷ Down (record { 0 = 1 }) ∷ []
-
--- the events of the call, the oldest first
-abbrev pub in_order : List ℕ → ℕ → ℕ → Data → Outcome → Option StopCause → Answer → List Event
-in_order service n m payload outcome cause answer = Accept (accept service n m payload) ∷ Take (take_of m) ∷ End (end_with m outcome) ∷ (falls service cause ++ Answers (answer_of n m answer) ∷ [])
 
 pub run_append : (xs ys : List Event) (old mid new : State) → Run old xs mid → Run mid ys new → Run old (xs ++ ys) new
 run_append [] ys old mid new first rest = subst (λ (s : State). Run s ys new) first rest

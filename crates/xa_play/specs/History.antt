@@ -1,6 +1,6 @@
 -- The events of a run of `play`, with their numbers filled in.
 -- No public contract of the program rests on this file.
-use Rattle.std.specs.Prelude.{ℕ, List, [], ◌∷◌, Option, Some, None}
+use Rattle.std.specs.Prelude.{ℕ, List, [], ◌∷◌, ◌++◌, Option, Some, None}
 use Rattle.xa_types.specs.declared.data.Data.{Data}
 use Rattle.xa_types.specs.declared.fault.Fault.{Fault}
 use Rattle.xa_types.specs.declared.ids.RequestId.{RequestId}
@@ -89,3 +89,12 @@ not_begun service = gone service (StartFailed start ∷ Advertise (advertise ser
 
 abbrev pub closed : List Event → List Event
 closed past = Close (record { 0 = 1 }) ∷ past
+
+-- the events of the end of the life, the oldest first
+abbrev pub falls : List ℕ → Option StopCause → List Event
+falls service None = []
+falls service (Some cause) = Stop (stop cause) ∷ Gone (record { 0 = 1 }) ∷ Withdraw (withdraw service) ∷ Down (record { 0 = 1 }) ∷ []
+
+-- the events of the call, the oldest first
+abbrev pub in_order : List ℕ → ℕ → ℕ → Data → Outcome → Option StopCause → Answer → List Event
+in_order service n m payload outcome cause answer = Accept (accept service n m payload) ∷ Take (take_of m) ∷ End (end_with m outcome) ∷ (falls service cause ++ Answers (answer_of n m answer) ∷ [])

@@ -8,9 +8,9 @@ mod refusal;
 mod server;
 mod setup;
 
-pub use account::Account;
+pub use account::{Account, LIFE, SERVER};
 pub use calls::{answer_to, note_answered, note_refused, note_taken};
-pub use refusal::{Refusal, check};
+pub use refusal::{Refusal, check, is_plain};
 pub use server::{
     note_boot, note_closed, note_ended, note_fallen, note_left, note_not_started, note_shut_down,
     note_started,

@@ -15,8 +15,8 @@ pub struct Refusal {
     pub evidence: Evidence,
 }
 
-// Whether the data is sound where no shape is configured.
-fn is_plain(payload: &Data) -> bool
+/// Whether the data is sound where no shape is configured: X_OCTET of at most 65,536 octets, or none.
+pub fn is_plain(payload: &Data) -> bool
     ensures { (service : List ℕ) → result ≡ is_sound (play_setup service) payload.now }
 {
     match payload {

@@ -1,12 +1,2 @@
-pub mod Frames
-pub mod Plain
-pub mod PlainOrNot
-pub mod Play
-pub mod Told
-pub mod Served
-pub mod Ends
-pub mod Pipes
-pub mod Playing
-pub mod Over
-pub mod Played
 pub mod Built
+pub mod Played

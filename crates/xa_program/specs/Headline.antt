@@ -12,13 +12,13 @@ use Rattle.xa_events.specs.Calls.{MadeCalls}
 use Rattle.xa_script.specs.declared.script.Client.{Client}
 use Rattle.xa_program.specs.declared.outcome.Life.{Life}
 use Rattle.xa_program.specs.declared.status.Status.{Status}
-use Rattle.xa_program.specs.declared.status.Status.TheVariants.{Done, Usage, ScriptRead, TooLong, BadLine, WriteFault, NoMemory, Unbuilt}
+use Rattle.xa_program.specs.declared.status.Status.TheVariants.{Done, Usage, ScriptRead, TooLong, BadLine, WriteFault, NoMemory}
 use Rattle.xa_program.specs.declared.status.Input.TheVariants as inputs
-use Rattle.xa_program.specs.Pipes.{name_in, IsLife, lives_of, failed_starts}
-use Rattle.xa_program.specs.Plain.{ArePlain, OneIsNotPlain}
-use Rattle.xa_program.specs.PlaySetup.{play_setup}
+use Rattle.xa_pipe.specs.Life.{IsLife}
+use Rattle.xa_play.specs.PlaySetup.{play_setup}
+use Rattle.xa_play.specs.Spoken.{spoken}
+use Rattle.xa_program.specs.Lives.{name_in, lives_of, failed_starts}
 use Rattle.xa_script.specs.Script.{IsScript, IsFirstFault}
-use Rattle.xa_program.specs.Spoken.{spoken}
 
 -- each client, of which the first has that number, made exactly its calls
 abbrev pub EachMadeCalls : Setup → ℕ → List Client → List Event → Type 0
@@ -45,10 +45,24 @@ abbrev pub EachCounts : {S : Type 0} → (S → ℕ) → ℕ → List S → List
 EachCounts start_faults server [] past = ⊤
 EachCounts start_faults server (starter ∷ starters) past = (failed_starts server past ≤ start_faults starter) × EachCounts start_faults (server + 1) starters past
 
--- what went through the pipes is the history's: the lives are its starts, and each link's octets are those of its events
-pub record IsCarried {L S : Type 0} (took gave : L → Option (List ℕ)) (start_faults : S → ℕ) (setup : Setup) (past : List Event) (lives : List (Life L)) (starters : List S) : Type 0 where
+-- what a link tells, and how often its reads and writes failed
+pub record LinkTells (L : Type 0) : Type 0 where
+  pub took : L → Option (List ℕ)
+  pub gave : L → Option (List ℕ)
+  pub left : L → Option (List ℕ)
+  pub reads : L → ℕ
+  pub writes : L → ℕ
+
+-- the link of the life shows what the events say of it
+abbrev pub IsLifeOf : {L : Type 0} → LinkTells L → Setup → List Event → Life L → Type 0
+IsLifeOf tells setup past life = IsLife setup (name_in (numbered life.server.0 setup.servers)) life.server.0 life.generation.0 past
+    (tells.took life.link) (tells.gave life.link) (tells.left life.link) (tells.reads life.link) (tells.writes life.link)
+
+-- what went through the pipes is the history's: the lives are its starts, each link's octets are those of its events, and each starter
+-- counts the starts that failed
+pub record IsCarried {L S : Type 0} (tells : LinkTells L) (start_faults : S → ℕ) (setup : Setup) (past : List Event) (lives : List (Life L)) (starters : List S) : Type 0 where
   pub lives_are : map (λ life. (life.server.0, life.generation.0)) lives ≡ lives_of past
-  pub pipes : All (λ life. IsLife (name_in (numbered life.server.0 setup.servers)) life.server.0 life.generation.0 past (took life.link) (gave life.link)) lives
+  pub pipes : All (IsLifeOf tells setup past) lives
   pub starts : EachCounts start_faults 1 starters past
 
 -- how long a script may be, in octets
@@ -56,19 +70,19 @@ abbrev pub longest_script : ℕ
 longest_script = 1_048_576
 
 -- where the input tells its octets, they are a script with these clients
-abbrev pub IsTheScript : Option (List ℕ) → List ℕ → List Client → Type 0
-IsTheScript told service clients = IfSome told (λ octets. (length octets ≤ longest_script) × IsScript service octets (record { clients = clients }))
+abbrev pub IsTheScript : Option (List ℕ) → List Client → Type 0
+IsTheScript told clients = IfSome told (λ octets. (length octets ≤ longest_script) × IsScript octets (record { clients = clients }))
 
 -- where the input tells its octets, their first line at fault is that one
-abbrev pub HasFirstFault : Option (List ℕ) → List ℕ → ℕ → Type 0
-HasFirstFault told service line = IfSome told (λ octets. (length octets ≤ longest_script) × IsFirstFault service octets line)
+abbrev pub HasFirstFault : Option (List ℕ) → ℕ → Type 0
+HasFirstFault told line = IfSome told (λ octets. (length octets ≤ longest_script) × IsFirstFault octets line)
 
 -- the clients are the script's, and the history and the pipes are theirs
-pub record IsPlayed {L S : Type 0} (took gave : L → Option (List ℕ)) (start_faults : S → ℕ) (told : Option (List ℕ)) (service : List ℕ) (clients : List Client)
+pub record IsPlayed {L S : Type 0} (tells : LinkTells L) (start_faults : S → ℕ) (told : Option (List ℕ)) (service : List ℕ) (clients : List Client)
     (history : List Event) (lives : List (Life L)) (starters : List S) : Type 0 where
-  pub script : IsTheScript told service clients
+  pub script : IsTheScript told clients
   pub machine : IsHistory (play_setup service) clients history
-  pub carried : IsCarried took gave start_faults (play_setup service) (reverse history) lives starters
+  pub carried : IsCarried tells start_faults (play_setup service) (reverse history) lives starters
 
 -- what the input and the output show of a run
 pub record Streams : Type 0 where
@@ -83,29 +97,20 @@ pub record Streams : Type 0 where
 abbrev pub names_of : List Client → List (List ℕ)
 names_of clients = map (λ client. client.name) clients
 
--- one of the starters counts a failed start
-abbrev pub OneFailed : {S : Type 0} → (S → ℕ) → List S → Type 0
-OneFailed start_faults [] = ⊥
-OneFailed start_faults (starter ∷ starters) = (0 < start_faults starter) ⊎ OneFailed start_faults starters
-
--- how `play SERVICE` ends, and what that shows: `Unbuilt` comes exactly where the server wasn't started or its life isn't plain
-abbrev pub PlayEnds : {L S : Type 0} → (L → Option (List ℕ)) → (L → Option (List ℕ)) → (L → Option (List ℕ)) → (L → ℕ) → (L → ℕ) → (S → ℕ) → Streams → List ℕ → Status → List Event → List (Life L) → List S → Type 0
-PlayEnds took gave left reads writes start_faults streams service Done history lives starters =
-    (clients : List Client) × IsPlayed took gave start_faults streams.told service clients history lives starters
-    × ArePlain gave reads writes service clients lives
+-- how `play SERVICE` ends, and what that shows
+abbrev pub PlayEnds : {L S : Type 0} → LinkTells L → (S → ℕ) → Streams → List ℕ → Status → List Event → List (Life L) → List S → Type 0
+PlayEnds tells start_faults streams service Done history lives starters =
+    (clients : List Client) × IsPlayed tells start_faults streams.told service clients history lives starters
     × Grew streams.took_before streams.took_after (spoken (names_of clients) (reverse history))
-PlayEnds took gave left reads writes start_faults streams service WriteFault history lives starters =
-    (clients : List Client) × IsPlayed took gave start_faults streams.told service clients history lives starters
-    × ArePlain gave reads writes service clients lives
+PlayEnds tells start_faults streams service WriteFault history lives starters =
+    (clients : List Client) × IsPlayed tells start_faults streams.told service clients history lives starters
     × GrewByPrefix streams.took_before streams.took_after (spoken (names_of clients) (reverse history))
     × Rose streams.writes_before streams.writes_after
-PlayEnds took gave left reads writes start_faults streams service ScriptRead history lives starters = Rose streams.reads_before streams.reads_after
-PlayEnds took gave left reads writes start_faults streams service (TooLong inputs.Script) history lives starters = IfSome streams.told (λ octets. longest_script < length octets)
-PlayEnds took gave left reads writes start_faults streams service (BadLine line cause) history lives starters = (cause ≡ 9) × HasFirstFault streams.told service line
-PlayEnds took gave left reads writes start_faults streams service Unbuilt history lives starters =
-    (clients : List Client) × IsTheScript streams.told service clients × (OneIsNotPlain gave left reads writes service clients lives ⊎ ((lives ≡ []) × OneFailed start_faults starters))
-PlayEnds took gave left reads writes start_faults streams service NoMemory history lives starters = ⊤
-PlayEnds took gave left reads writes start_faults streams service status history lives starters = ⊥
+PlayEnds tells start_faults streams service ScriptRead history lives starters = Rose streams.reads_before streams.reads_after
+PlayEnds tells start_faults streams service (TooLong inputs.Script) history lives starters = IfSome streams.told (λ octets. longest_script < length octets)
+PlayEnds tells start_faults streams service (BadLine line cause) history lives starters = (cause ≡ 9) × HasFirstFault streams.told line
+PlayEnds tells start_faults streams service NoMemory history lives starters = ⊤
+PlayEnds tells start_faults streams service status history lives starters = ⊥
 
 -- no server was started where the words, the input or the script were refused
 abbrev pub EndsEarly : {L S : Type 0} → Status → List Event → List (Life L) → List S → Type 0

@@ -1,10 +1,5 @@
 pub mod Headline
-pub mod Misses
-pub mod Pipe
-pub mod Pipes
-pub mod Plain
-pub mod PlaySetup
+pub mod Lives
 pub mod Progress
 pub mod Server
-pub mod Spoken
 pub mod Words

@@ -1,223 +1,255 @@
--- What is known between two calls of `play`: events with their numbers filled in, and what is read off the events so far.
+-- What is known between two calls of `play`, and how its parts end.
 -- Contracts inside this crate rest on this file, and no public one.
-use Rattle.std.specs.Prelude.{◌≡◌, ℕ, ◌+◌, ◌<◌, ◌≤◌, ◌^◌, ⊤, All, true, false, List, [], ◌∷◌, length, map, reverse, Option, Some, None, IfSome, ◌⊎◌}
+use Rattle.std.specs.Prelude.{◌≡◌, ◌⊎◌, ℕ, ◌+◌, ◌<◌, ◌≤◌, ◌^◌, ⊤, All, Bool, true, false, List, [], ◌∷◌, ◌++◌, length, map, reverse, Option, Some, None, IfSome, Result, Ok, Err}
 use Rattle.xa_types.specs.declared.data.Data.{Data}
-use Rattle.xa_types.specs.declared.ids.RequestId.{RequestId}
 use Rattle.xa_types.specs.declared.call.Op.{Op}
 use Rattle.xa_types.specs.declared.call.Op.TheVariants.{Call}
 use Rattle.xa_types.specs.declared.call.Ask.{Ask}
-use Rattle.xa_types.specs.declared.call.Mode.TheVariants.{Reply}
-use Rattle.xa_types.specs.declared.reply.Answer.{Answer}
-use Rattle.xa_types.specs.Kind.{is_sound}
-use Rattle.xa_types.specs.Rows.{Put}
-use Rattle.xa_events.specs.declared.event.Event.{Event}
-use Rattle.xa_events.specs.declared.event.Event.TheVariants.{Answer as Answers, Close, Stop}
-use Rattle.xa_events.specs.declared.event.Accepted.{Accepted}
-use Rattle.xa_events.specs.declared.event.Advertised.{Advertised}
-use Rattle.xa_events.specs.declared.event.Started.{Started}
-use Rattle.xa_events.specs.declared.event.Stopped.{Stopped}
-use Rattle.xa_events.specs.declared.event.StopCause.TheVariants.{Shutdown}
-use Rattle.xa_events.specs.declared.event.Taken.{Taken}
-use Rattle.xa_events.specs.declared.event.Ended.{Ended}
-use Rattle.xa_events.specs.declared.event.Answered.{Answered}
-use Rattle.xa_events.specs.declared.event.Outcome.{Outcome}
-use Rattle.xa_events.specs.declared.event.Doing.TheVariants.{Idle}
-use Rattle.xa_events.specs.Words.{latest, count}
-use Rattle.xa_events.specs.State.{State, opening}
-use Rattle.xa_events.specs.Board.{changes}
-use Rattle.xa_events.specs.Queue.{waiting, takes, is_down, is_closed}
-use Rattle.xa_events.specs.Server.{doing}
-use Rattle.xa_events.specs.Caller.{last_op, accepted, opened, floor, has_left, all_left}
-use Rattle.xa_events.specs.Request.{ended, is_accept_of, is_end_of}
-use Rattle.xa_events.specs.Calls.{is_op, events_of_op, EachBecame, is_invalid_call}
-use Rattle.xa_events.specs.Order.{TakesInOrder}
-use Rattle.xa_events.specs.Run.{Run}
-use Rattle.xa_script.specs.declared.script.Client.{Client}
-use Rattle.xa_program.specs.Headline.{IsHistory, EachMadeCalls, HasFirstFault, longest_script, names_of}
-use Rattle.xa_program.specs.declared.outcome.Life.{Life}
-use Rattle.xa_program.specs.declared.halt.Halt.{Halt}
-use Rattle.xa_program.specs.declared.halt.Halt.TheVariants.{NoMemory as HaltNoMemory, Unbuilt as HaltUnbuilt}
-use Rattle.xa_program.specs.declared.status.Status.{Status}
-use Rattle.xa_program.specs.declared.status.Status.TheVariants.{Done, ScriptRead, TooLong, BadLine, WriteFault, NoMemory, Unbuilt}
-use Rattle.xa_program.specs.declared.status.Input.TheVariants as inputs
+use Rattle.xa_types.specs.declared.call.Rval.{Rval}
+use Rattle.xa_types.specs.declared.call.Rval.TheVariants.{Exit as ExitValue}
 use Rattle.xa_link.specs.Told.{Rose, Grew, GrewByPrefix}
-use Rattle.xa_types.specs.Setup.{numbered}
-use Rattle.xa_program.specs.Pipe.{Piped, Wrote, HasRead}
-use Rattle.xa_program.specs.Pipes.{name_in, is_take_in, frames_out, frames_in, lives_of, failed_starts, IsLife}
-use Rattle.xa_program.specs.Plain.{IsTalk, calls_in, ArePlain, OneIsNotPlain}
-use Rattle.xa_program.specs.PlaySetup.{play_setup, server_name}
-use Rattle.xa_program.specs.Spoken.{lines_up_to, spoken}
+use Rattle.xa_types.specs.declared.fault.Fault.{Fault}
+use Rattle.xa_types.specs.declared.reply.Reply.TheVariants.{Answered as AnsweredReply, Fault as FaultReply}
+use Rattle.xa_events.specs.declared.event.Event.{Event}
+use Rattle.xa_events.specs.declared.event.Event.TheVariants.{Close, Stop, Refuse}
+use Rattle.xa_events.specs.declared.event.Evidence.{Evidence}
+use Rattle.xa_events.specs.Befell.{reply_of}
+use Rattle.xa_text.specs.Line.{line_text}
+use Rattle.xa_events.specs.declared.event.Outcome.{Outcome}
+use Rattle.xa_events.specs.declared.event.StopCause.{StopCause}
+use Rattle.xa_events.specs.declared.event.StopCause.TheVariants.{Shutdown, Exit, WriteFault as WriteFaultStop, Starved as StarvedStop}
+use Rattle.xa_events.specs.declared.event.Doing.TheVariants.{Idle}
+use Rattle.xa_events.specs.Words.{count}
+use Rattle.xa_events.specs.State.{opening}
+use Rattle.xa_events.specs.Run.{Run}
+use Rattle.xa_events.specs.Order.{TakesInOrder}
+use Rattle.xa_events.specs.Calls.{EachBecame}
+use Rattle.xa_events.specs.Caller.{last_op}
+use Rattle.xa_frame.specs.declared.frame.Frame.{Frame}
+use Rattle.xa_frame.specs.Spelling.{spelled}
+use Rattle.xa_script.specs.declared.script.Client.{Client}
+use Rattle.xa_pipe.specs.Frames.{is_take_in, frames_out, ready_frame, next_frame, shutdown_frame, invoke_frame, return_frame}
+use Rattle.xa_pipe.specs.Life.{Says, Turn, IsLife, outcomes_in, outcome_by, lost_by}
+use Rattle.xa_pipe.specs.Life.Turn.{Idle as IdleTurn, AwaitsNext, Serving}
+use Rattle.xa_pipe.specs.Pipe.{Piped, Wrote, HasRead, Ceases, CutOff, WritesNone}
+use Rattle.xa_pipe.specs.declared.hearing.Return.{Return}
+use Rattle.xa_play.specs.PlaySetup.{play_setup, server_name}
+use Rattle.xa_play.specs.Spoken.{lines_up_to, spoken}
+use Rattle.xa_play.specs.History.{refuse, stop, falls, in_order}
+use Rattle.xa_play.specs.Refusal.{IsRefused}
+use Rattle.xa_play.specs.Between.{at, IsQuiet, IsOpen, IsUp, IsDown, IsLeft, IsFresh, KnowsAnswers}
+use Rattle.xa_program.specs.Lives.{lives_of, failed_starts}
+use Rattle.xa_program.specs.Headline.{IsHistory, LinkTells, IsLifeOf, EachMadeCalls, HasFirstFault, longest_script, names_of}
+use Rattle.xa_program.specs.declared.outcome.Life.{Life}
+use Rattle.xa_program.specs.declared.status.Status.{Status}
+use Rattle.xa_program.specs.declared.status.Status.TheVariants.{Done, ScriptRead, TooLong, BadLine, WriteFault, NoMemory}
+use Rattle.xa_program.specs.declared.status.Input.TheVariants as inputs
 
--- the request of the n-th call of the one client
-abbrev pub request : ℕ → RequestId
-request n = record { caller = record { 0 = 1 }; number = n }
+-- ---- the calls and the machine
 
-abbrev pub accept : List ℕ → ℕ → Data → Accepted
-accept service n payload = record {
-  by = record { 0 = 1 };
-  op = n;
-  request = request n;
-  version = 1;
-  service = service;
-  queue = record { 0 = 1 };
-  routine = service;
-  priority = 50;
-  mode = Reply;
-  payload = payload;
-}
+-- n calls were made, of which m sent a request, and nothing is under way; past is the history, the newest event first
+pub record IsPlayingAt (service name : List ℕ) (clients n m : ℕ) (ops : List Op) (history past : List Event) (lines : List ℕ) : Type 0 where
+  pub run : Run (opening (play_setup service) clients) history (at service clients past)
+  pub quiet : IsQuiet service clients n m past
+  pub opens : IsOpen past
+  pub fresh : IsFresh n m past
+  pub knows : KnowsAnswers m past
+  pub order : TakesInOrder (play_setup service) past
+  pub each : EachBecame (play_setup service) 1 1 ops past
+  pub many : length ops ≡ n
+  pub said : lines ≡ lines_up_to name 1 past n
 
-abbrev pub take_of : ℕ → Taken
-take_of n = record { request = request n; server = record { 0 = 1 }; generation = record { 0 = 1 }; k = n }
+abbrev pub IsPlaying : List ℕ → List ℕ → ℕ → ℕ → ℕ → List Op → List Event → List ℕ → Type 0
+IsPlaying service name clients n m ops history lines = IsPlayingAt service name clients n m ops history (reverse history) lines
 
-abbrev pub end_with : ℕ → Outcome → Ended
-end_with n outcome = record { request = request n; server = record { 0 = 1 }; generation = record { 0 = 1 }; outcome = outcome }
-
-abbrev pub answer_of : ℕ → Answer → Answered
-answer_of n answer = record { by = record { 0 = 1 }; op = n; request = request n; answer = answer }
-
-abbrev pub at : List ℕ → ℕ → List Event → State
-at service clients past = record { setup = play_setup service; clients = clients; past = past }
-
--- between two calls: the server is idle, nothing waits and nothing is open, after n calls
-pub record IsQuiet (service : List ℕ) (clients n : ℕ) (past : List Event) : Type 0 where
-  pub board : changes past ≡ Put service 1 service ∷ []
-  pub server : doing 1 past ≡ Idle (record { 0 = 1 })
-  pub waits : waiting (play_setup service) 1 past ≡ []
-  pub taken : takes (play_setup service) 1 past ≡ n
-  pub up : is_down 1 past ≡ false
-  pub still : is_closed 1 past ≡ false
-  pub op : last_op 1 past ≡ n
-  pub sent : accepted 1 past ≡ n
-  pub open_client : opened 1 past ≡ []
-  pub open_server : opened (clients + 1) past ≡ []
-  pub seen : floor (play_setup service) 1 past ≡ 1
-  pub stays : has_left 1 past ≡ false
-  pub matched : (r : RequestId) → count (is_end_of r) past ≡ count (is_accept_of r) past
-
--- each answer to the first calls is of one of the first requests
-abbrev pub KnowsAnswers : ℕ → List Event → Type 0
-KnowsAnswers n past = (m : ℕ) (a : Answered) → latest (is_op 1 m) past ≡ Some (Answers a) → a.request.number ≤ n
-
--- nothing is there of the calls after the n-th
-pub record IsFresh (n : ℕ) (past : List Event) : Type 0 where
-  pub events : (m : ℕ) → n < m → events_of_op 1 m past ≡ []
-  pub over : (m : ℕ) → n < m → ended (request m) past ≡ None
+-- ---- the server
 
 -- how many requests the one life took
 abbrev pub invocations : List Event → ℕ
 invocations past = count (is_take_in 1 1) past
 
--- n calls were made and served, and nothing is under way; past is the history, the newest event first
-pub record IsPlayingAt (service name : List ℕ) (clients n : ℕ) (ops : List Op) (history past : List Event) (lines : List ℕ) (pipe : Piped) : Type 0 where
-  pub run : Run (opening (play_setup service) clients) history (at service clients past)
-  pub quiet : IsQuiet service clients n past
-  pub fresh : IsFresh n past
-  pub knows : KnowsAnswers n past
-  pub order : TakesInOrder (play_setup service) past
-  pub each : EachBecame (play_setup service) 1 1 ops past
-  pub many : length ops ≡ n
-  pub said : lines ≡ lines_up_to name 1 past n
+-- the server waits for a request, after m of them
+pub record IsServing (service : List ℕ) (m : ℕ) (past : List Event) (pipe : Piped) : Type 0 where
+  pub up : IsUp service (Idle (record { 0 = 1 })) past
+  pub frames : List Frame
+  pub says : Says (play_setup service) server_name (outcomes_in 1 1 past) frames IdleTurn
   pub wrote : Wrote pipe (frames_out 1 1 past)
-  pub read : HasRead pipe (frames_in server_name 1 1 past)
-  pub talk : IsTalk server_name n (frames_in server_name 1 1 past)
-  pub invoked : invocations past ≡ n
+  pub read : HasRead pipe frames
+  pub invoked : invocations past ≡ m
+  pub ended : length (outcomes_in 1 1 past) ≡ m
   pub lives : lives_of past ≡ (1, 1) ∷ []
   pub failed : failed_starts 1 past ≡ 0
 
-abbrev pub IsPlaying : List ℕ → List ℕ → ℕ → ℕ → List Op → List Event → List ℕ → Piped → Type 0
-IsPlaying service name clients n ops history lines pipe = IsPlayingAt service name clients n ops history (reverse history) lines pipe
+-- the server's life has ended, and its queue is down
+pub record HasFallen (service : List ℕ) (past : List Event) (pipe : Piped) : Type 0 where
+  pub down : IsDown service past
+  pub life : IsLife (play_setup service) server_name 1 1 past pipe.took pipe.gave pipe.left pipe.reads pipe.writes
+  pub lives : lives_of past ≡ (1, 1) ∷ []
+  pub failed : failed_starts 1 past ≡ 0
 
--- a call that may be served: of that service, with sound data and no flag that refuses it
-pub record IsBuilt (service : List ℕ) (ask : Ask) : Type 0 where
-  pub valid : is_invalid_call (play_setup service) ask ≡ false
-  pub named : ask.service ≡ service
-  pub plain : ask.expect ≡ None
-  pub sound : is_sound (play_setup service) ask.payload ≡ true
+-- the server couldn't be started, and its queue is down
+pub record NeverStarted (service : List ℕ) (past : List Event) : Type 0 where
+  pub down : IsDown service past
+  pub lives : lives_of past ≡ []
+  pub failed : failed_starts 1 past ≡ 1
 
--- each of these calls may be served
-abbrev pub IsBuiltOp : List ℕ → Op → Type 0
-IsBuiltOp service (Call ask) = IsBuilt service ask
-IsBuiltOp service op = ⊥
+-- whether the server is up
+abbrev pub IsLive : Bool → List ℕ → ℕ → List Event → Piped → Type 0
+IsLive true service m past pipe = IsServing service m past pipe
+IsLive false service m past pipe = HasFallen service past pipe
 
--- the events with which a run begins and ends
-abbrev pub advertise : List ℕ → Advertised
-advertise service = record { by = record { 0 = 0 }; op = 0; service = service; queue = record { 0 = 1 }; routine = service; version = 1 }
+-- ---- one call
 
-abbrev pub start : Started
-start = record { server = record { 0 = 1 }; generation = record { 0 = 1 }; tick = 0 }
+-- a call of the script: a tpcall without a kind of buffer
+abbrev pub IsBuiltOp : Op → Type 0
+IsBuiltOp (Call ask) = ask.expect ≡ None
+IsBuiltOp op = ⊥
 
-abbrev pub stop : Stopped
-stop = record { server = record { 0 = 1 }; generation = record { 0 = 1 }; cause = Shutdown }
+-- the whole request was sent where neither the pipe failed nor memory ran out
+abbrev pub Sent : StopCause → Type 0 → Type 0
+Sent WriteFaultStop P = ⊤
+Sent StarvedStop P = ⊤
+Sent cause P = P
 
--- the clients of a script whose calls may all be served: none, or one
-abbrev pub IsBuiltScript : List ℕ → List Client → Type 0
-IsBuiltScript service [] = ⊤
-IsBuiltScript service (client ∷ []) = All (IsBuiltOp service) client.ops × (length client.ops < 2 ^ 32)
-IsBuiltScript service clients = ⊥
+-- what the exchange with the server's program comes to: it was sent the request, and its RETURN was read, or its life ended
+abbrev pub Exchanged : List ℕ → ℕ → Data → Piped → Piped → Result Return StopCause → Type 0
+Exchanged service number payload before after (Ok back) =
+    Grew before.took after.took (spelled (invoke_frame service number payload))
+    × ((frames : List Frame) → HasRead before frames → HasRead after (frames ++ return_frame number back.value back.code back.payload ∷ []))
+Exchanged service number payload before after (Err cause) =
+    (GrewByPrefix before.took after.took (spelled (invoke_frame service number payload)))
+    × (Sent cause (Grew before.took after.took (spelled (invoke_frame service number payload))))
+    × ((name : List ℕ) (frames : List Frame) → HasRead before frames → Ceases name number Serving frames after cause)
 
-abbrev pub closed : List Event → List Event
-closed past = Stop stop ∷ Close (record { 0 = 1 }) ∷ past
+-- how the request ends by what was heard
+abbrev pub outcome_heard : List ℕ → Result Return StopCause → Outcome
+outcome_heard service (Ok back) = outcome_by (play_setup service) back.value back.code back.payload
+outcome_heard service (Err cause) = lost_by cause
 
--- all clients have left; the server is idle, and nothing waits
-pub record IsLeft (service : List ℕ) (clients : ℕ) (past : List Event) : Type 0 where
-  pub board : length (changes past) ≡ 1
-  pub server : doing 1 past ≡ Idle (record { 0 = 1 })
-  pub waits : waiting (play_setup service) 1 past ≡ []
-  pub still : is_closed 1 past ≡ false
-  pub open_server : opened (clients + 1) past ≡ []
-  pub matched : (r : RequestId) → count (is_end_of r) past ≡ count (is_accept_of r) past
-  pub left : all_left clients past ≡ true
+abbrev pub cause_by : Rval → Option StopCause
+cause_by ExitValue = Some Exit
+cause_by value = None
 
--- all clients have left, and nothing is under way; past is the history, the newest event first
-pub record IsLeavingAt (service : List ℕ) (clients : List Client) (history past : List Event) (lines : List ℕ) (pipe : Piped) : Type 0 where
+-- why the life ends with it, if it does
+abbrev pub cause_heard : Result Return StopCause → Option StopCause
+cause_heard (Ok back) = cause_by back.value
+cause_heard (Err cause) = Some cause
+
+-- the server's program became free, or its life ended
+abbrev pub Freed : Bool → List ℕ → List Event → List Event → Piped → Piped → Type 0
+Freed true service history now before after = (now ≡ history) × ((frames : List Frame) → HasRead before frames → HasRead after (frames ++ next_frame ∷ []))
+Freed false service history now before after = (cause : StopCause) × (now ≡ history ++ falls service (Some cause))
+    × ((name : List ℕ) (tag : ℕ) (frames : List Frame) → HasRead before frames → Ceases name tag AwaitsNext frames after cause)
+
+-- the call came to its answer; then the life ended with it, or the server's program became free, or its life ended behind it
+abbrev pub CarriedTo : Bool → List ℕ → ℕ → ℕ → Data → Outcome → Option StopCause → List Event → List Event → Piped → Piped → Type 0
+CarriedTo up service op number payload outcome (Some cause) history now mid after =
+    (up ≡ false) × (now ≡ history ++ in_order service op number payload outcome (Some cause) (reply_of outcome)) × (after ≡ mid)
+CarriedTo up service op number payload outcome None history now mid after =
+    (after.took ≡ mid.took) × Freed up service (history ++ in_order service op number payload outcome None (reply_of outcome)) now mid after
+
+pub record IsCarried (up : Bool) (service name : List ℕ) (op number : ℕ) (payload : Data) (history now : List Event) (lines printed : List ℕ) (before after : Piped) : Type 0 where
+  pub heard : Result Return StopCause
+  pub mid : Piped
+  pub exchanged : Exchanged service number payload before mid heard
+  pub printed_so : printed ≡ lines ++ line_text name op (AnsweredReply 0 (reply_of (outcome_heard service heard)))
+  pub carried : CarriedTo up service op number payload (outcome_heard service heard) (cause_heard heard) history now mid after
+
+-- the call was refused while that version of the board stood
+pub record IsTurnedDown (service name : List ℕ) (version op : ℕ) (ask : Ask) (history now : List Event) (lines printed : List ℕ) : Type 0 where
+  pub fault : Fault
+  pub evidence : Evidence
+  pub refused : IsRefused service version ask fault evidence
+  pub noted : now ≡ history ++ Refuse (refuse op fault evidence) ∷ []
+  pub printed_so : printed ≡ lines ++ line_text name op (FaultReply fault)
+
+-- ---- the end
+
+-- the clients of a script: none, or one
+abbrev pub IsBuiltScript : List Client → Type 0
+IsBuiltScript [] = ⊤
+IsBuiltScript (client ∷ []) = All IsBuiltOp client.ops × (length client.ops < 2 ^ 32)
+IsBuiltScript clients = ⊥
+
+-- the script has that client alone
+pub record IsOnly (client : Client) (clients : List Client) : Type 0 where
+  pub alone : clients ≡ client ∷ []
+  pub built : All IsBuiltOp client.ops
+  pub few : length client.ops < 2 ^ 32
+
+-- the clients have made their calls, and what they were told is in the lines
+abbrev pub HasMade : List ℕ → List Client → List Event → List ℕ → Type 0
+HasMade service [] past lines = lines ≡ []
+HasMade service (client ∷ []) past lines = (m : ℕ) × KnowsAnswers m past × EachBecame (play_setup service) 1 1 client.ops past
+    × (last_op 1 past ≡ length client.ops) × (lines ≡ lines_up_to client.name 1 past (length client.ops))
+HasMade service clients past lines = ⊥
+
+-- all clients have left; past is the history, the newest event first
+pub record IsLeavingAt (service : List ℕ) (clients : List Client) (history past : List Event) (lines : List ℕ) : Type 0 where
   pub run : Run (opening (play_setup service) (length clients)) history (at service (length clients) past)
   pub left : IsLeft service (length clients) past
   pub order : TakesInOrder (play_setup service) past
-  pub calls : EachMadeCalls (play_setup service) 1 clients (closed past)
-  pub said : lines ≡ spoken (names_of clients) (closed past)
-  pub wrote : Wrote pipe (frames_out 1 1 past)
-  pub read : HasRead pipe (frames_in server_name 1 1 past)
-  pub talk : IsTalk server_name (calls_in clients) (frames_in server_name 1 1 past)
+  pub made : HasMade service clients past lines
+
+abbrev pub IsLeaving : List ℕ → List Client → List Event → List ℕ → Type 0
+IsLeaving service clients history lines = IsLeavingAt service clients history (reverse history) lines
+
+-- the run has come to its end, and all but the printing is done
+pub record IsOver (service : List ℕ) (clients : List Client) (history : List Event) (lines : List ℕ) : Type 0 where
+  pub machine : IsHistory (play_setup service) clients history
+  pub said : lines ≡ spoken (names_of clients) (reverse history)
+
+-- the one life, and its link
+pub record HasLived (service : List ℕ) (past : List Event) (pipe : Piped) : Type 0 where
+  pub life : IsLife (play_setup service) server_name 1 1 past pipe.took pipe.gave pipe.left pipe.reads pipe.writes
   pub lives : lives_of past ≡ (1, 1) ∷ []
   pub failed : failed_starts 1 past ≡ 0
 
-abbrev pub IsLeaving : List ℕ → List Client → List Event → List ℕ → Piped → Type 0
-IsLeaving service clients history lines pipe = IsLeavingAt service clients history (reverse history) lines pipe
+-- no start failed, or one that its starter counted
+abbrev pub StartsCount : List Event → ℕ → ℕ → Type 0
+StartsCount past starts starts_after = (failed_starts 1 past ≡ 0) ⊎ ((failed_starts 1 past ≡ 1) × Rose starts starts_after)
 
--- the script has that client alone, whose calls may all be served
-pub record IsOnly (service : List ℕ) (client : Client) (clients : List Client) : Type 0 where
-  pub alone : clients ≡ client ∷ []
-  pub built : All (IsBuiltOp service) client.ops
-  pub few : length client.ops < 2 ^ 32
+-- no life began, and one start failed
+pub record HasNotLived (past : List Event) : Type 0 where
+  pub lives : lives_of past ≡ []
+  pub failed : failed_starts 1 past ≡ 1
 
--- the run has come to its end, and all but the printing is done
-pub record IsOver (service : List ℕ) (clients : List Client) (history : List Event) (lines : List ℕ) (pipe : Piped) : Type 0 where
-  pub machine : IsHistory (play_setup service) clients history
-  pub said : lines ≡ spoken (names_of clients) (reverse history)
-  pub life : IsLife server_name 1 1 (reverse history) pipe.took pipe.gave
-  pub talk : IsTalk server_name (calls_in clients) (frames_in server_name 1 1 (reverse history))
-  pub lives : lives_of (reverse history) ≡ (1, 1) ∷ []
-  pub failed : failed_starts 1 (reverse history) ≡ 0
+-- nothing was read
+pub record ReadNothing (before after : Piped) : Type 0 where
+  pub gave : after.gave ≡ before.gave
+  pub left : after.left ≡ before.left
+  pub rest : after.rest ≡ before.rest
+  pub place : after.place ≡ before.place
+  pub reads : after.reads ≡ before.reads
 
--- the history, its lives and the octets of their links
-pub record IsServed {L : Type 0} (took gave : L → Option (List ℕ)) (service : List ℕ) (clients : List Client) (history : List Event) (lives : List (Life L)) : Type 0 where
+-- the server's program greeted, or its life ended
+abbrev pub Greets : Bool → List ℕ → List Event → List Event → Piped → Piped → Type 0
+Greets true service history now before after = (now ≡ history) × (HasRead before [] → HasRead after (ready_frame server_name ∷ next_frame ∷ []))
+Greets false service history now before after = (cause : StopCause) × (now ≡ history ++ falls service (Some cause))
+    × (HasRead before [] → CutOff (play_setup service) server_name [] after cause)
+
+-- the queue was closed; then the server was shut down, or its life ended as SHUTDOWN was written, or it had ended before
+abbrev pub IsDone : Bool → List ℕ → List Event → List Event → Piped → Piped → Type 0
+IsDone false service history now before after = (now ≡ history ++ Close (record { 0 = 1 }) ∷ []) × (after ≡ before)
+IsDone true service history now before after = ReadNothing before after
+    × (((now ≡ history ++ Close (record { 0 = 1 }) ∷ Stop (stop Shutdown) ∷ []) × Grew before.took after.took (spelled shutdown_frame))
+    ⊎ ((cause : StopCause) × (now ≡ history ++ Close (record { 0 = 1 }) ∷ falls service (Some cause)) × WritesNone after cause × GrewByPrefix before.took after.took (spelled shutdown_frame)))
+
+-- the history, its lives and their links, and the starts that failed
+pub record IsServed {L : Type 0} (tells : LinkTells L) (starts starts_after : ℕ) (service : List ℕ) (clients : List Client) (history : List Event) (lives : List (Life L)) : Type 0 where
   pub machine : IsHistory (play_setup service) clients history
   pub lives_are : map (λ life. (life.server.0, life.generation.0)) lives ≡ lives_of (reverse history)
-  pub pipes : All (λ life. IsLife (name_in (numbered life.server.0 (play_setup service).servers)) life.server.0 life.generation.0 (reverse history) (took life.link) (gave life.link)) lives
-  pub failed : failed_starts 1 (reverse history) ≡ 0
+  pub pipes : All (IsLifeOf tells (play_setup service) (reverse history)) lives
+  pub failed : StartsCount (reverse history) starts starts_after
 
 -- how serving a script ends, and what that shows; the output and the starter are seen before and after
-abbrev pub ServingEnds : {L : Type 0} → (L → Option (List ℕ)) → (L → Option (List ℕ)) → (L → Option (List ℕ)) → (L → ℕ) → (L → ℕ) → Option (List ℕ) → Option (List ℕ) → ℕ → ℕ → ℕ → ℕ
-    → List ℕ → List Client → Status → List Event → List (Life L) → Type 0
-ServingEnds took gave left reads writes before after faults faults_after starts starts_after service clients Done history lives =
-    IsServed took gave service clients history lives × ArePlain gave reads writes service clients lives × Grew before after (spoken (names_of clients) (reverse history))
-ServingEnds took gave left reads writes before after faults faults_after starts starts_after service clients WriteFault history lives =
-    IsServed took gave service clients history lives × ArePlain gave reads writes service clients lives
-    × GrewByPrefix before after (spoken (names_of clients) (reverse history)) × Rose faults faults_after
-ServingEnds took gave left reads writes before after faults faults_after starts starts_after service clients NoMemory history lives = ⊤
-ServingEnds took gave left reads writes before after faults faults_after starts starts_after service clients Unbuilt history lives =
-    OneIsNotPlain gave left reads writes service clients lives ⊎ ((lives ≡ []) × Rose starts starts_after)
-ServingEnds took gave left reads writes before after faults faults_after starts starts_after service clients status history lives = ⊥
+abbrev pub ServingEnds : {L : Type 0} → LinkTells L → Option (List ℕ) → Option (List ℕ) → ℕ → ℕ → ℕ → ℕ → List ℕ → List Client → Status → List Event → List (Life L) → Type 0
+ServingEnds tells before after faults faults_after starts starts_after service clients Done history lives =
+    IsServed tells starts starts_after service clients history lives × Grew before after (spoken (names_of clients) (reverse history))
+ServingEnds tells before after faults faults_after starts starts_after service clients WriteFault history lives =
+    IsServed tells starts starts_after service clients history lives × GrewByPrefix before after (spoken (names_of clients) (reverse history)) × Rose faults faults_after
+ServingEnds tells before after faults faults_after starts starts_after service clients NoMemory history lives = ⊤
+ServingEnds tells before after faults faults_after starts starts_after service clients status history lives = ⊥
 
 -- the lines were written whole, or in part and the output failed
 abbrev pub Printed : Option (List ℕ) → Option (List ℕ) → ℕ → ℕ → List ℕ → Status → Type 0
@@ -225,14 +257,10 @@ Printed before after writes writes_after lines Done = Grew before after lines
 Printed before after writes writes_after lines WriteFault = GrewByPrefix before after lines × Rose writes writes_after
 Printed before after writes writes_after lines status = ⊥
 
-abbrev pub status_of : Halt → Status
-status_of HaltNoMemory = NoMemory
-status_of HaltUnbuilt = Unbuilt
-
 -- why there is no script
-abbrev pub ScriptRefusedAs : Option (List ℕ) → ℕ → ℕ → List ℕ → Status → Type 0
-ScriptRefusedAs told reads reads_after service ScriptRead = Rose reads reads_after
-ScriptRefusedAs told reads reads_after service (TooLong inputs.Script) = IfSome told (λ octets. longest_script < length octets)
-ScriptRefusedAs told reads reads_after service (BadLine line cause) = (cause ≡ 9) × HasFirstFault told service line
-ScriptRefusedAs told reads reads_after service NoMemory = ⊤
-ScriptRefusedAs told reads reads_after service status = ⊥
+abbrev pub ScriptRefusedAs : Option (List ℕ) → ℕ → ℕ → Status → Type 0
+ScriptRefusedAs told reads reads_after ScriptRead = Rose reads reads_after
+ScriptRefusedAs told reads reads_after (TooLong inputs.Script) = IfSome told (λ octets. longest_script < length octets)
+ScriptRefusedAs told reads reads_after (BadLine line cause) = (cause ≡ 9) × HasFirstFault told line
+ScriptRefusedAs told reads reads_after NoMemory = ⊤
+ScriptRefusedAs told reads reads_after status = ⊥

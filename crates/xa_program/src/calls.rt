@@ -1,189 +1,210 @@
-// The loop of `play`: one client, one server, and each call carried to its end before the next begins.
-ghost use Rattle.std.specs.Prelude.{◌≡◌, ◌++◌, ◌∷◌, ◌+◌, ◌^◌, ◌<◌, [], ℕ, List, length, All, OnOk};
+// The calls of the one client, each carried to its answer before the next begins.
+ghost use Rattle.std.specs.Prelude.{◌≡◌, ◌++◌, ◌∷◌, ◌+◌, ◌^◌, ◌<◌, ◌≤◌, [], ℕ, List, length, reverse, All, true, IfOk, OnOk};
 ghost use Rattle.xa_types.specs.declared.call.Op.{Op};
 ghost use Rattle.xa_types.specs.declared.call.Op.TheVariants.{Call as CallOp};
-ghost use Rattle.xa_types.specs.declared.reply.Answer.{Answer};
-ghost use Rattle.xa_types.specs.declared.reply.Answer.TheVariants.{Success};
-ghost use Rattle.xa_types.specs.declared.reply.Reply.TheVariants.{Answered as AnsweredReply};
-ghost use Rattle.xa_events.specs.declared.event.Event.TheVariants.{Accept, Take, End, Answer as AnswerEvent};
-ghost use Rattle.xa_events.specs.declared.event.Outcome.TheVariants.{Returned};
+ghost use Rattle.xa_types.specs.Kind.{is_sound};
+ghost use Rattle.xa_types.specs.declared.reply.Reply.TheVariants.{Answered as AnsweredReply, Fault as FaultReply};
+ghost use Rattle.xa_types.specs.declared.fault.Fault.{Fault};
+ghost use Rattle.xa_events.specs.declared.event.Event.TheVariants.{Accept, Take, End, Answer as AnswerEvent, Refuse};
+ghost use Rattle.xa_events.specs.declared.event.Evidence.{Evidence};
+ghost use Rattle.xa_events.specs.Befell.{reply_of};
 ghost use Rattle.xa_text.specs.Line.{line_text};
-ghost use Rattle.xa_program.specs.Misses.{Breaks};
-ghost use Rattle.xa_program.specs.Progress.{accept, take_of, end_with, answer_of, IsPlaying, IsBuilt, IsBuiltOp};
+ghost use Rattle.xa_pipe.specs.Life.{outcome_by};
+ghost use Rattle.xa_frame.specs.Spelling.{IsData};
+ghost use Rattle.xa_play.specs.History.{accept, take_of, end_with, answer_of, refuse, falls};
+ghost use Rattle.xa_play.specs.PlaySetup.{play_setup};
+ghost use Rattle.xa_play.specs.Refusal.{IsRefused};
+ghost use Rattle.xa_program.specs.Progress.{IsPlaying, IsServing, HasFallen, NeverStarted, IsLive, IsBuiltOp, Exchanged, outcome_heard, cause_heard, Freed, IsCarried, IsTurnedDown};
 
-use crate::halt::Halt;
-use crate::pipe::Pipe;
 use std::alloc::Global;
-use xa_events::{Accepted, Answered, Ended, Event, Outcome, Taken};
+use xa_events::{Event, Outcome, StopCause};
 use xa_link::Link;
-use xa_text::push_line;
-use xa_types::{
-    Answer, Ask, CallerId, Data, Generation, Mode, Name, NoMemory, Op, QueueId, Reply, RequestId,
-    ServerId,
+use xa_pipe::{Pipe, Return};
+use xa_play::{
+    Account, answer_to, check, is_plain, note_answered, note_ended, note_fallen, note_refused,
+    note_taken,
 };
+use xa_types::{Ask, Data, Name, NoMemory, Op, Rval};
 
-pub const CLIENT: CallerId = CallerId(1);
-
-pub const SERVER: ServerId = ServerId(1);
-
-pub const QUEUE: QueueId = QueueId(1);
-
-pub const LIFE: Generation = Generation(1);
-
-// Notes that the queue accepts the request of a call, and that the server takes it.
-fn note_taken(
+// Sends the request and hears what its service returns, or why the life of the server ended.
+fn exchange<L: Link>(
     alloc: Global,
+    pipe: &mut Pipe<L>,
     history: &mut Vec<Event>,
     service: &Name,
+    op: u32,
     number: u32,
     payload: &Data,
-) -> Result<(), NoMemory>
-    ensures { OnOk result (history.new.items ≡ history.old.items ++ Accept (accept service.now number payload.now) ∷ Take (take_of number) ∷ []) }
+) -> Result<Result<Return, StopCause>, NoMemory>
+    requires { is_sound (play_setup service.now) payload.now ≡ true }
+    ensures taken { OnOk result (history.new.items ≡ history.old.items ++ Accept (accept service.now op number payload.now) ∷ Take (take_of number) ∷ []) }
+    ensures heard { IfOk result (Exchanged service.now number payload.now pipe.old pipe.new) }
 {
-    history.push(Event::Accept(Accepted {
-        by: CLIENT,
-        op: number,
-        request: RequestId {
-            caller: CLIENT,
-            number: u64::from(number),
-        },
-        version: 1,
-        service: *service,
-        queue: QUEUE,
-        routine: *service,
-        priority: 50,
-        mode: Mode::Reply,
-        payload: payload.copy(alloc)?,
-    }))?;
-    history.push(Event::Take(Taken {
-        request: RequestId {
-            caller: CLIENT,
-            number: u64::from(number),
-        },
-        server: SERVER,
-        generation: LIFE,
-        k: u64::from(number),
-    }))?;
-    Ok(())
-}
-
-// Notes that the request ended as its service returned and that its caller was told, and prints the call's line.
-fn note_answered(
-    alloc: Global,
-    history: &mut Vec<Event>,
-    lines: &mut Vec<u8>,
-    name: &Name,
-    number: u32,
-    code: i32,
-    payload: Data,
-) -> Result<(), NoMemory>
-    ensures history { OnOk result (history.new.items ≡ history.old.items ++ End (end_with number (Returned code payload)) ∷ AnswerEvent (answer_of number (Success code payload)) ∷ []) }
-    ensures lines { OnOk result (lines.new.items ≡ lines.old.items ++ line_text name.now number (AnsweredReply 0 (Success code payload))) }
-{
-    note_end(
-        history,
-        number,
-        Outcome::Returned(code, payload.copy(alloc)?),
-    )?;
-    let reply = success(code, payload);
-    push_line(lines, name, number, &reply)?;
-    note_answer(history, number, answer_in(reply))?;
-    Ok(())
-}
-
-fn success(code: i32, payload: Data) -> Reply
-    ensures { result ≡ AnsweredReply 0 (Success code payload) }
-{
-    Reply::Answered(0, Answer::Success(code, payload))
-}
-
-// The answer that the reply of a tpcall has.
-fn answer_in(reply: Reply) -> Answer
-    requires { (answer : Answer) × (reply ≡ AnsweredReply 0 answer) }
-    ensures { reply ≡ AnsweredReply 0 result }
-{
-    match reply {
-        Reply::Answered(_, answer) => answer,
-        _ => unreachable!(),
+    let sent = pipe.send(alloc, service, number, payload);
+    // The server's program works while this is noted.
+    note_taken(alloc, history, service, op, number, payload)?;
+    match sent {
+        Ok(()) => Ok(pipe.hear(number)),
+        Err(cause) => Ok(Err(cause)),
     }
 }
 
-fn note_end(history: &mut Vec<Event>, number: u32, outcome: Outcome) -> Result<(), NoMemory>
-    ensures { OnOk result (history.new.items ≡ history.old.items ++ End (end_with number outcome) ∷ []) }
+fn outcome_of(value: Rval, code: i32, payload: Data) -> Outcome
+    ensures { (service : List ℕ) → result ≡ outcome_by (play_setup service) value code payload }
 {
-    history.push(Event::End(Ended {
-        request: RequestId {
-            caller: CLIENT,
-            number: u64::from(number),
-        },
-        server: SERVER,
-        generation: LIFE,
-        outcome,
-    }))?;
-    Ok(())
+    if !is_plain(&payload) {
+        return Outcome::BadReturn;
+    }
+    match value {
+        Rval::Success => Outcome::Returned(code, payload),
+        Rval::Fail | Rval::Exit => Outcome::Failed(code, payload),
+    }
 }
 
-fn note_answer(history: &mut Vec<Event>, number: u32, answer: Answer) -> Result<(), NoMemory>
-    ensures { OnOk result (history.new.items ≡ history.old.items ++ AnswerEvent (answer_of number answer) ∷ []) }
+// How the request ends by what was heard.
+fn outcome_heard(heard: Result<Return, StopCause>) -> Outcome
+    ensures { (service : List ℕ) → result ≡ outcome_heard service heard }
 {
-    history.push(Event::Answer(Answered {
-        by: CLIENT,
-        op: number,
-        request: RequestId {
-            caller: CLIENT,
-            number: u64::from(number),
-        },
-        answer,
-    }))?;
-    Ok(())
+    match heard {
+        Ok(back) => outcome_of(back.value, back.code, back.payload),
+        Err(StopCause::Starved) => Outcome::Starved,
+        Err(_) => Outcome::Died,
+    }
 }
 
-/// What a run has come to: its events, and the lines that are due to the sink.
-#[derive(Drop)]
-pub struct Account {
-    pub history: Vec<Event>,
-    pub lines: Vec<u8>,
+// Why the life of the server ends with the request, if it does.
+fn cause_heard(heard: &Result<Return, StopCause>) -> Option<StopCause>
+    ensures { result ≡ cause_heard heard.now }
+{
+    match heard {
+        Ok(Return {
+            value: Rval::Exit, ..
+        }) => Some(StopCause::Exit),
+        Ok(_) => None,
+        Err(cause) => Some(*cause),
+    }
 }
 
-/// Makes one call: its request is accepted, taken, sent to the server's program, ended as that returns, and answered.
-pub fn call<L: Link>(
+// Notes how the request ended, that the life of the server ended with it, where it did, and what the client is told.
+fn note_call(
+    alloc: Global,
+    account: &mut Account,
+    service: &Name,
+    name: &Name,
+    op: u32,
+    number: u32,
+    outcome: Outcome,
+    cause: Option<StopCause>,
+) -> Result<(), NoMemory>
+    ensures history { OnOk result (account.new.history.items ≡ account.old.history.items ++ End (end_with number outcome) ∷ (falls service.now cause ++ AnswerEvent (answer_of op number (reply_of outcome)) ∷ [])) }
+    ensures lines { OnOk result (account.new.lines.items ≡ account.old.lines.items ++ line_text name.now op (AnsweredReply 0 (reply_of outcome))) }
+{
+    let answer = answer_to(alloc, &outcome)?;
+    note_ended(&mut account.history, number, outcome)?;
+    if let Some(cause) = cause {
+        note_fallen(&mut account.history, service, cause)?;
+    }
+    note_answered(account, name, op, number, answer)
+}
+
+// Waits until the server's program is free, and answers whether it is; else its life ended.
+fn await_next<L: Link>(
+    pipe: &mut Pipe<L>,
+    history: &mut Vec<Event>,
+    service: &Name,
+) -> Result<bool, NoMemory>
+    ensures took { pipe.new.took ≡ pipe.old.took }
+    ensures freed { IfOk result (λ up. Freed up service.now history.old.items history.new.items pipe.old pipe.new) }
+{
+    match pipe.read_next() {
+        Ok(()) => Ok(true),
+        Err(cause) => {
+            note_fallen(history, service, cause)?;
+            Ok(false)
+        }
+    }
+}
+
+// Makes one call while the server is up, and answers whether it is up still.
+fn call<L: Link>(
+    alloc: Global,
+    pipe: &mut Pipe<L>,
+    account: &mut Account,
+    sent: &mut u32,
+    service: &Name,
+    name: &Name,
+    op: u32,
+    ask: &Ask,
+) -> Result<bool, NoMemory>
+    requires built { IsBuiltOp (CallOp ask.now) }
+    requires few { sent.old < op }
+    ensures goes { IfOk result (λ up. (n : ℕ) (ops : List Op) → op ≡ n + 1
+        → IsPlaying service.now name.now 1 n sent.old ops account.old.history.items account.old.lines.items
+        → IsServing service.now sent.old (reverse account.old.history.items) pipe.old
+        → IsPlaying service.now name.now 1 (n + 1) sent.new (ops ++ CallOp ask.now ∷ []) account.new.history.items account.new.lines.items
+        × IsLive up service.now sent.new (reverse account.new.history.items) pipe.new) }
+    ensures few { IfOk result (λ up. sent.new ≤ op) }
+{
+    if let Some(refusal) = check(ask, service, 1) {
+        note_refused(account, name, op, refusal)?;
+        return Ok(true);
+    }
+    *sent += 1;
+    serve_call(alloc, pipe, account, service, name, op, *sent, &ask.payload)
+}
+
+// Carries a call that isn't refused to its answer.
+fn serve_call<L: Link>(
     alloc: Global,
     pipe: &mut Pipe<L>,
     account: &mut Account,
     service: &Name,
     name: &Name,
+    op: u32,
     number: u32,
-    ask: &Ask,
-) -> Result<(), Halt>
-    requires { IsBuilt service.now ask.now }
-    ensures goes { OnOk result ((n : ℕ) (ops : List Op) → number ≡ n + 1
-        → IsPlaying service.now name.now 1 n ops account.old.history.items account.old.lines.items pipe.old
-        → IsPlaying service.now name.now 1 (n + 1) (ops ++ CallOp ask.now ∷ []) account.new.history.items account.new.lines.items pipe.new) }
-    ensures reads { OnOk result (pipe.new.reads ≡ pipe.old.reads) }
-    ensures writes { OnOk result (pipe.new.writes ≡ pipe.old.writes) }
-    ensures unbuilt { result ≡ Err Halt.Unbuilt → (n calls : ℕ) (ops : List Op) → number ≡ n + 1 → n < calls
-        → IsPlaying service.now name.now 1 n ops account.old.history.items account.old.lines.items pipe.old → Breaks calls pipe.new }
+    payload: &Data,
+) -> Result<bool, NoMemory>
+    requires { is_sound (play_setup service.now) payload.now ≡ true }
+    ensures { IfOk result (λ up. IsCarried up service.now name.now op number payload.now account.old.history.items account.new.history.items
+        account.old.lines.items account.new.lines.items pipe.old pipe.new) }
 {
-    pipe.send(alloc, service, number, &ask.payload)?;
-    // The server's program works while this is noted.
-    note_taken(alloc, &mut account.history, service, number, &ask.payload)?;
-    let (code, payload) = pipe.hear(number)?;
-    note_answered(
+    let heard = exchange(
         alloc,
+        pipe,
         &mut account.history,
-        &mut account.lines,
-        name,
+        service,
+        op,
         number,
-        code,
         payload,
     )?;
-    Ok(())
+    let cause = cause_heard(&heard);
+    let outcome = outcome_heard(heard);
+    note_call(alloc, account, service, name, op, number, outcome, cause)?;
+    if cause.is_some() {
+        return Ok(false);
+    }
+    await_next(pipe, &mut account.history, service)
 }
 
-fn ask_of<'a>(op: &'a Op, _service: &Name) -> &'a Ask
-    requires { IsBuiltOp _service.now op.now }
+// Makes one call once the queue is down.
+fn refuse_call(
+    account: &mut Account,
+    service: &Name,
+    name: &Name,
+    op: u32,
+    ask: &Ask,
+) -> Result<(), NoMemory>
+    ensures { OnOk result (IsTurnedDown service.now name.now 2 op ask.now account.old.history.items account.new.history.items account.old.lines.items account.new.lines.items) }
+{
+    match check(ask, service, 2) {
+        Some(refusal) => note_refused(account, name, op, refusal),
+        None => unreachable!(),
+    }
+}
+
+fn ask_of(op: &Op) -> &Ask
+    requires { IsBuiltOp op.now }
     ensures ask { op.now ≡ CallOp result.now }
-    ensures built { IsBuilt _service.now result.now }
 {
     match op {
         Op::Call(ask) => ask,
@@ -191,29 +212,56 @@ fn ask_of<'a>(op: &'a Op, _service: &Name) -> &'a Ask
     }
 }
 
-/// Makes these calls, one after another.
+/// Makes these calls, one after another, while the server is up and after, and answers whether it is up at the end.
 pub fn make_calls<L: Link>(
     alloc: Global,
     pipe: &mut Pipe<L>,
     account: &mut Account,
     service: &Name,
     name: &Name,
+    up: bool,
     ops: &[Op],
-) -> Result<(), Halt>
-    requires built { All (IsBuiltOp service.now) ops.now }
+) -> Result<bool, NoMemory>
+    requires built { All IsBuiltOp ops.now }
     requires few { length ops.now < 2 ^ 32 }
-    ensures goes { OnOk result (IsPlaying service.now name.now 1 0 [] account.old.history.items account.old.lines.items pipe.old
-        → IsPlaying service.now name.now 1 (length ops.now) ops.now account.new.history.items account.new.lines.items pipe.new) }
-    ensures reads { OnOk result (pipe.new.reads ≡ pipe.old.reads) }
-    ensures writes { OnOk result (pipe.new.writes ≡ pipe.old.writes) }
-    ensures unbuilt { result ≡ Err Halt.Unbuilt → IsPlaying service.now name.now 1 0 [] account.old.history.items account.old.lines.items pipe.old
-        → Breaks (length ops.now) pipe.new }
+    ensures { IfOk result (λ now. IsPlaying service.now name.now 1 0 0 [] account.old.history.items account.old.lines.items
+        → IsLive up service.now 0 (reverse account.old.history.items) pipe.old
+        → (m : ℕ) × IsPlaying service.now name.now 1 (length ops.now) m ops.now account.new.history.items account.new.lines.items
+        × IsLive now service.now m (reverse account.new.history.items) pipe.new) }
+{
+    let mut up = up;
+    let mut number = 0u32;
+    let mut sent = 0u32;
+    for op in ops {
+        number += 1;
+        let ask = ask_of(op);
+        if up {
+            up = call(alloc, pipe, account, &mut sent, service, name, number, ask)?;
+        } else {
+            refuse_call(account, service, name, number, ask)?;
+        }
+    }
+    Ok(up)
+}
+
+/// Makes these calls of a service whose server was never started.
+pub fn refuse_calls(
+    account: &mut Account,
+    service: &Name,
+    name: &Name,
+    ops: &[Op],
+) -> Result<(), NoMemory>
+    requires built { All IsBuiltOp ops.now }
+    requires few { length ops.now < 2 ^ 32 }
+    ensures { OnOk result (IsPlaying service.now name.now 1 0 0 [] account.old.history.items account.old.lines.items
+        → NeverStarted service.now (reverse account.old.history.items)
+        → IsPlaying service.now name.now 1 (length ops.now) 0 ops.now account.new.history.items account.new.lines.items
+        × NeverStarted service.now (reverse account.new.history.items)) }
 {
     let mut number = 0u32;
     for op in ops {
         number += 1;
-        let ask = ask_of(op, service);
-        call(alloc, pipe, account, service, name, number, ask)?;
+        refuse_call(account, service, name, number, ask_of(op))?;
     }
     Ok(())
 }

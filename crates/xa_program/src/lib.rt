@@ -2,22 +2,16 @@
 #![tactic(auto)]
 
 mod calls;
-mod halt;
-mod laws;
-mod life;
 mod one_life;
 mod outcome;
 mod performing;
-mod pipe;
 mod server;
-mod setup;
 mod status;
 mod top;
 #[cfg(test)]
 mod top_tests;
 mod words;
 
-pub use laws::plain_or_not;
 pub use outcome::{Life, Outcome};
 pub use server::child_work;
 pub use status::{Input, Status};

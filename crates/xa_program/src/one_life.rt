@@ -1,110 +1,103 @@
-// The one life of the server of `play`, from its start to its shutdown.
-ghost use Rattle.std.specs.Prelude.{◌≡◌, ◌++◌, ◌∷◌, [], ℕ, List, OnOk, MatchOption};
-ghost use Rattle.xa_events.specs.declared.event.Event.TheVariants.{Advertise, Start, Leave, Close, Stop};
-ghost use Rattle.xa_program.specs.Pipe.{Wrote, HasRead};
-ghost use Rattle.xa_program.specs.Plain.{calls_in};
-ghost use Rattle.xa_program.specs.Misses.{Breaks};
-ghost use Rattle.xa_program.specs.Progress.{advertise, start, stop, IsPlaying, IsLeaving, IsOver, IsBuiltScript, IsOnly};
-ghost use Rattle.xa_program.specs.PlaySetup.{server_name};
+// The one life of the server of `play`, from its start to its end.
+ghost use Rattle.std.specs.Prelude.{◌≡◌, ◌++◌, ◌∷◌, [], ℕ, List, reverse, IfOk, OnOk, MatchOption, true};
+ghost use Rattle.xa_events.specs.declared.event.Event.{Event};
+ghost use Rattle.xa_events.specs.declared.event.Event.TheVariants.{Advertise, Start};
+ghost use Rattle.xa_pipe.specs.Pipe.{Wrote, HasRead};
+ghost use Rattle.xa_play.specs.History.{advertise, start};
+ghost use Rattle.xa_play.specs.PlaySetup.{server_name};
+ghost use Rattle.xa_program.specs.Progress.{IsPlaying, IsLive, IsLeaving, IsServing, NeverStarted, IsOver, HasLived, HasNotLived, IsBuiltScript, IsOnly, Greets, IsDone};
 
-use crate::calls::{Account, CLIENT, LIFE, QUEUE, SERVER, make_calls};
-use crate::halt::Halt;
-use crate::pipe::Pipe;
+use crate::calls::{make_calls, refuse_calls};
 use std::alloc::Global;
-use xa_events::{Advertised, Event, Started, StopCause, Stopped};
+use xa_events::Event;
 use xa_link::Link;
+use xa_pipe::Pipe;
+use xa_play::{
+    Account, note_closed, note_fallen, note_left, note_not_started, note_shut_down, note_started,
+};
 use xa_script::{Client, Script};
-use xa_types::{CallerId, Name, NoMemory};
+use xa_types::{Name, NoMemory};
 
-/// Notes that the boot advertises the service.
-pub fn note_boot(history: &mut Vec<Event>, service: &Name) -> Result<(), NoMemory>
-    ensures { OnOk result (history.new.items ≡ history.old.items ++ Advertise (advertise service.now) ∷ []) }
+// The server's program greets, or its life ends. Answers whether the server is up.
+fn greet<L: Link>(
+    pipe: &mut Pipe<L>,
+    history: &mut Vec<Event>,
+    service: &Name,
+    server: &Name,
+) -> Result<bool, NoMemory>
+    requires server { server.now ≡ server_name }
+    ensures took { pipe.new.took ≡ pipe.old.took }
+    ensures greets { IfOk result (λ up. Greets up service.now history.old.items history.new.items pipe.old pipe.new) }
 {
-    history.push(Event::Advertise(Advertised {
-        by: CallerId(0),
-        op: 0,
-        service: *service,
-        queue: QUEUE,
-        routine: *service,
-        version: 1,
-    }))?;
-    Ok(())
+    match pipe.greet(server) {
+        Ok(()) => Ok(true),
+        Err(cause) => {
+            note_fallen(history, service, cause)?;
+            Ok(false)
+        }
+    }
 }
 
-fn note_start(history: &mut Vec<Event>) -> Result<(), NoMemory>
-    ensures { OnOk result (history.new.items ≡ history.old.items ++ Start start ∷ []) }
+// The client of the script, if it has one.
+fn only_client(script: &Script) -> Option<&Client>
+    requires { IsBuiltScript script.now.clients }
+    ensures { MatchOption result (script.now.clients ≡ []) (λ client. IsOnly client.now script.now.clients) }
 {
-    history.push(Event::Start(Started {
-        server: SERVER,
-        generation: LIFE,
-        tick: 0,
-    }))?;
-    Ok(())
+    script.clients.slice().first()
 }
 
-fn note_leave(history: &mut Vec<Event>) -> Result<(), NoMemory>
-    ensures { OnOk result (history.new.items ≡ history.old.items ++ Leave (record { 0 = 1 }) ∷ []) }
-{
-    history.push(Event::Leave(CLIENT))?;
-    Ok(())
-}
-
-fn note_close(history: &mut Vec<Event>) -> Result<(), NoMemory>
-    ensures { OnOk result (history.new.items ≡ history.old.items ++ Close (record { 0 = 1 }) ∷ Stop stop ∷ []) }
-{
-    history.push(Event::Close(QUEUE))?;
-    history.push(Event::Stop(Stopped {
-        server: SERVER,
-        generation: LIFE,
-        cause: StopCause::Shutdown,
-    }))?;
-    Ok(())
-}
-
-// The client makes its calls and leaves, if there is one.
+// The client makes its calls and leaves, if there is one. Answers whether the server is up.
 fn make_all<L: Link>(
     alloc: Global,
     pipe: &mut Pipe<L>,
     account: &mut Account,
     service: &Name,
     script: &Script,
-) -> Result<(), Halt>
-    requires { IsBuiltScript service.now script.now.clients }
-    ensures goes { OnOk result (((name : List ℕ) (clients : ℕ) → IsPlaying service.now name clients 0 [] account.old.history.items account.old.lines.items pipe.old)
-        → IsLeaving service.now script.now.clients account.new.history.items account.new.lines.items pipe.new) }
-    ensures reads { OnOk result (pipe.new.reads ≡ pipe.old.reads) }
-    ensures writes { OnOk result (pipe.new.writes ≡ pipe.old.writes) }
-    ensures unbuilt { result ≡ Err Halt.Unbuilt
-        → ((name : List ℕ) (clients : ℕ) → IsPlaying service.now name clients 0 [] account.old.history.items account.old.lines.items pipe.old)
-        → Breaks (calls_in script.now.clients) pipe.new }
+    up: bool,
+) -> Result<bool, NoMemory>
+    requires { IsBuiltScript script.now.clients }
+    ensures { IfOk result (λ now. ((name : List ℕ) (clients : ℕ) → IsPlaying service.now name clients 0 0 [] account.old.history.items account.old.lines.items)
+        → IsLive up service.now 0 (reverse account.old.history.items) pipe.old
+        → IsLeaving service.now script.now.clients account.new.history.items account.new.lines.items
+        × ((m : ℕ) × IsLive now service.now m (reverse account.new.history.items) pipe.new)) }
 {
-    match only_client(script, service) {
-        None => Ok(()),
-        Some(client) => {
-            make_calls(
-                alloc,
-                pipe,
-                account,
-                service,
-                &client.name,
-                client.ops.slice(),
-            )?;
-            note_leave(&mut account.history)?;
-            Ok(())
-        }
+    let Some(client) = only_client(script) else {
+        return Ok(up);
+    };
+    let up = make_calls(
+        alloc,
+        pipe,
+        account,
+        service,
+        &client.name,
+        up,
+        client.ops.slice(),
+    )?;
+    note_left(&mut account.history)?;
+    Ok(up)
+}
+
+// The queue is closed, and the server is shut down if it is up.
+fn close<L: Link>(
+    pipe: &mut Pipe<L>,
+    history: &mut Vec<Event>,
+    service: &Name,
+    up: bool,
+) -> Result<(), NoMemory>
+    ensures { OnOk result (IsDone up service.now history.old.items history.new.items pipe.old pipe.new) }
+{
+    note_closed(history)?;
+    if !up {
+        return Ok(());
+    }
+    match pipe.shut_down() {
+        Ok(()) => note_shut_down(history),
+        Err(cause) => note_fallen(history, service, cause),
     }
 }
 
-// The client of the script, if it has one.
-fn only_client<'a>(script: &'a Script, _service: &Name) -> Option<&'a Client>
-    requires { IsBuiltScript _service.now script.now.clients }
-    ensures { MatchOption result (script.now.clients ≡ []) (λ client. IsOnly _service.now client.now script.now.clients) }
-{
-    script.clients.slice().first()
-}
-
 /// Serves the script by a server that was just started: its program greets, the client makes its calls and leaves, the
-/// queue is closed, and the program is shut down.
+/// queue is closed, and the program is shut down. Where its life ends before, the queue is down from then on.
 pub fn serve<L: Link>(
     alloc: Global,
     pipe: &mut Pipe<L>,
@@ -112,22 +105,34 @@ pub fn serve<L: Link>(
     service: &Name,
     server: &Name,
     script: &Script,
-) -> Result<(), Halt>
-    requires built { IsBuiltScript service.now script.now.clients }
+) -> Result<(), NoMemory>
+    requires built { IsBuiltScript script.now.clients }
     requires server { server.now ≡ server_name }
     requires booted { account.old.history.items ≡ Advertise (advertise service.now) ∷ [] }
     requires silent { account.old.lines.items ≡ [] }
     requires wrote { Wrote pipe.old [] }
     requires read { HasRead pipe.old [] }
-    ensures over { OnOk result (IsOver service.now script.now.clients account.new.history.items account.new.lines.items pipe.new) }
-    ensures reads { OnOk result (pipe.new.reads ≡ pipe.old.reads) }
-    ensures writes { OnOk result (pipe.new.writes ≡ pipe.old.writes) }
-    ensures unbuilt { result ≡ Err Halt.Unbuilt → Breaks (calls_in script.now.clients) pipe.new }
+    ensures over { OnOk result (IsOver service.now script.now.clients account.new.history.items account.new.lines.items) }
+    ensures lived { OnOk result (HasLived service.now (reverse account.new.history.items) pipe.new) }
 {
-    note_start(&mut account.history)?;
-    pipe.greet(server)?;
-    make_all(alloc, pipe, account, service, script)?;
-    note_close(&mut account.history)?;
-    pipe.shut_down()?;
-    Ok(())
+    note_started(&mut account.history)?;
+    let up = greet(pipe, &mut account.history, service, server)?;
+    let up = make_all(alloc, pipe, account, service, script, up)?;
+    close(pipe, &mut account.history, service, up)
+}
+
+/// Serves the script where the server couldn't be started: the queue is down, and each call is refused.
+pub fn serve_none(account: &mut Account, service: &Name, script: &Script) -> Result<(), NoMemory>
+    requires built { IsBuiltScript script.now.clients }
+    requires booted { account.old.history.items ≡ Advertise (advertise service.now) ∷ [] }
+    requires silent { account.old.lines.items ≡ [] }
+    ensures over { OnOk result (IsOver service.now script.now.clients account.new.history.items account.new.lines.items) }
+    ensures none { OnOk result (HasNotLived (reverse account.new.history.items)) }
+{
+    note_not_started(&mut account.history, service)?;
+    if let Some(client) = only_client(script) {
+        refuse_calls(account, service, &client.name, client.ops.slice())?;
+        note_left(&mut account.history)?;
+    }
+    note_closed(&mut account.history)
 }

@@ -1,19 +1,19 @@
 // A script is served, and its transcript is written.
 ghost use Rattle.std.specs.Prelude.{◌≡◌, ◌∷◌, ◌++◌, ◌<◌, ℕ, [], vec_len, vec_capacity, IfOk, MatchResult};
-ghost use Rattle.xa_link.specs.Told.{Empty};
+ghost use Rattle.xa_link.specs.Told.{Empty, Rose};
 ghost use Rattle.xa_events.specs.declared.event.Event.TheVariants.{Advertise};
-ghost use Rattle.xa_program.specs.Progress.{advertise, status_of, IsBuiltScript, Printed, ServingEnds};
+ghost use Rattle.xa_play.specs.History.{advertise};
+ghost use Rattle.xa_program.specs.declared.status.Status.TheVariants.{NoMemory as NoMemoryStatus};
+ghost use Rattle.xa_program.specs.Progress.{IsBuiltScript, Printed, ServingEnds};
 
-use crate::calls::{Account, LIFE, SERVER};
-use crate::halt::Halt;
-use crate::one_life::{note_boot, serve};
+use crate::one_life::{serve, serve_none};
 use crate::outcome::Life;
-use crate::pipe::Pipe;
-use crate::setup::name_of;
 use crate::status::Status;
 use std::alloc::Global;
 use xa_events::Event;
 use xa_link::{Link, Sink, StartRefused, Starter, put};
+use xa_pipe::Pipe;
+use xa_play::{Account, LIFE, SERVER, name_of, note_boot};
 use xa_script::Script;
 use xa_types::{Data, Name, NoMemory, Op};
 
@@ -22,17 +22,6 @@ pub struct Served<L> {
     pub status: Status,
     pub history: Vec<Event>,
     pub lives: Vec<Life<L>>,
-}
-
-impl From<Halt> for Status {
-    ghost from_gives = { λ halt status. status ≡ status_of halt };
-
-    fn from(halt: Halt) -> Status {
-        match halt {
-            Halt::NoMemory => Status::NoMemory,
-            Halt::Unbuilt => Status::Unbuilt,
-        }
-    }
 }
 
 // About how many octets the line of a call takes.
@@ -52,7 +41,7 @@ fn account_for(alloc: Global, script: &Script) -> Result<Account, NoMemory>
     ensures history { IfOk result (λ account. account.history.items ≡ []) }
     ensures lines { IfOk result (λ account. account.lines.items ≡ []) }
 {
-    let mut events = 8usize;
+    let mut events = 10usize;
     let mut octets = 0usize;
     for client in script.clients.slice() {
         for op in client.ops.slice() {
@@ -74,8 +63,8 @@ pub fn perform<O: Sink, L: Link, S: Starter<L>>(
     out: &mut O,
     starter: &mut S,
 ) -> Served<L>
-    requires { IsBuiltScript service.now script.now.clients }
-    ensures { ServingEnds L.took L.gave L.left L.read_faults L.write_faults (O.took out.old) (O.took out.new) (O.write_faults out.old) (O.write_faults out.new)
+    requires { IsBuiltScript script.now.clients }
+    ensures { ServingEnds (record { took = L.took; gave = L.gave; left = L.left; reads = L.read_faults; writes = L.write_faults }) (O.took out.old) (O.took out.new) (O.write_faults out.old) (O.write_faults out.new)
         (S.start_faults starter.old) (S.start_faults starter.new)
         service.now script.now.clients result.status result.history.items result.lives.items }
 {
@@ -90,7 +79,7 @@ pub fn perform<O: Sink, L: Link, S: Starter<L>>(
     }
     match starter.start(&name_of(b"S"), LIFE) {
         Ok(link) => live(alloc, service, script, out, account, lives, link),
-        Err(StartRefused::Failed) => not_started(account, lives, Status::Unbuilt),
+        Err(StartRefused::Failed) => never_live(service, script, out, account, lives),
         Err(StartRefused::NoMemory) => not_started(account, lives, Status::NoMemory),
     }
 }
@@ -126,16 +115,14 @@ fn live<O: Sink, L: Link>(
     mut lives: Vec<Life<L>>,
     link: L,
 ) -> Served<L>
-    requires built { IsBuiltScript service.now script.now.clients }
+    requires built { IsBuiltScript script.now.clients }
     requires booted { account.history.items ≡ Advertise (advertise service.now) ∷ [] }
     requires silent { account.lines.items ≡ [] }
     requires none { lives.items ≡ [] }
     requires room { vec_len lives < vec_capacity lives }
     requires took { Empty (L.took link) }
     requires gave { Empty (L.gave link) }
-    requires reads { L.read_faults link ≡ 0 }
-    requires writes { L.write_faults link ≡ 0 }
-    ensures { (starts starts_after : ℕ) → ServingEnds L.took L.gave L.left L.read_faults L.write_faults
+    ensures { (starts starts_after : ℕ) → ServingEnds (record { took = L.took; gave = L.gave; left = L.left; reads = L.read_faults; writes = L.write_faults })
         (O.took out.old) (O.took out.new) (O.write_faults out.old) (O.write_faults out.new) starts starts_after
         service.now script.now.clients result.status result.history.items result.lives.items }
 {
@@ -149,6 +136,31 @@ fn live<O: Sink, L: Link>(
         script,
     );
     keep_life(&mut lives, pipe.into_link());
+    let status = conclude(served, out, account.lines.as_slice());
+    Served {
+        status,
+        history: account.history,
+        lives,
+    }
+}
+
+// The transcript where the server couldn't be started.
+fn never_live<O: Sink, L: Link>(
+    service: &Name,
+    script: &Script,
+    out: &mut O,
+    mut account: Account,
+    lives: Vec<Life<L>>,
+) -> Served<L>
+    requires built { IsBuiltScript script.now.clients }
+    requires booted { account.history.items ≡ Advertise (advertise service.now) ∷ [] }
+    requires silent { account.lines.items ≡ [] }
+    requires none { lives.items ≡ [] }
+    ensures { (starts starts_after : ℕ) → Rose starts starts_after → ServingEnds (record { took = L.took; gave = L.gave; left = L.left; reads = L.read_faults; writes = L.write_faults })
+        (O.took out.old) (O.took out.new) (O.write_faults out.old) (O.write_faults out.new) starts starts_after
+        service.now script.now.clients result.status result.history.items result.lives.items }
+{
+    let served = serve_none(&mut account, service, script);
     let status = conclude(served, out, account.lines.as_slice());
     Served {
         status,
@@ -173,13 +185,13 @@ fn keep_life<L>(lives: &mut Vec<Life<L>>, link: L)
 }
 
 // Where the script was served its lines are written.
-fn conclude<O: Sink>(served: Result<(), Halt>, out: &mut O, lines: &[u8]) -> Status
+fn conclude<O: Sink>(served: Result<(), NoMemory>, out: &mut O, lines: &[u8]) -> Status
     ensures { MatchResult served (λ _. Printed (O.took out.old) (O.took out.new) (O.write_faults out.old) (O.write_faults out.new) lines.now result)
-        (λ halt. result ≡ status_of halt) }
+        (λ _. result ≡ NoMemoryStatus) }
 {
     match served {
         Ok(()) => write_lines(out, lines),
-        Err(halt) => Status::from(halt),
+        Err(NoMemory) => Status::NoMemory,
     }
 }
 

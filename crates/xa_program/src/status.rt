@@ -29,8 +29,6 @@ pub enum Status {
     BadFrame(u64),
     /// Memory ran out.
     NoMemory,
-    /// A life of the server wasn't plain, which isn't built yet.
-    Unbuilt,
 }
 
 impl From<NoMemory> for Status {

@@ -10,11 +10,11 @@ ghost use Rattle.xa_program.specs.Words.{command_in};
 use crate::outcome::Outcome;
 use crate::performing::{Served, perform};
 use crate::server::child_work;
-use crate::setup::play_setup;
 use crate::status::{Input, Status};
 use crate::words::{Command, read_words};
 use std::alloc::Global;
 use xa_link::{Gate, Shelf, ShelfRefused, Sink, Source, Yard, read_all};
+use xa_play::play_setup;
 use xa_script::{Script, ScriptRefused, read_script};
 use xa_types::{Name, NoMemory};
 
@@ -40,7 +40,7 @@ pub fn run<R, S: Shelf, I: Source, O: Sink, Y: Yard, G: Gate>(
 
     // What `play` comes to.
     ensures play { (service : List ℕ) → command_in (map string_bytes words.now) ≡ Some (Play service)
-        → PlayEnds Y.Line.took Y.Line.gave Y.Line.left Y.Line.read_faults Y.Line.write_faults Y.Start.start_faults
+        → PlayEnds (record { took = Y.Line.took; gave = Y.Line.gave; left = Y.Line.left; reads = Y.Line.read_faults; writes = Y.Line.write_faults }) Y.Start.start_faults
         (record {
           told = I.left input.old;
           reads_before = I.read_faults input.old;
@@ -74,7 +74,7 @@ fn obey<I: Source, O: Sink, Y: Yard>(
 ) -> Outcome<Y>
     ensures known { result.status ≡ Status.Usage → ⊥ }
     ensures play { (service : List ℕ) → command ≡ Play service
-        → PlayEnds Y.Line.took Y.Line.gave Y.Line.left Y.Line.read_faults Y.Line.write_faults Y.Start.start_faults
+        → PlayEnds (record { took = Y.Line.took; gave = Y.Line.gave; left = Y.Line.left; reads = Y.Line.read_faults; writes = Y.Line.write_faults }) Y.Start.start_faults
         (record {
           told = I.left input.old;
           reads_before = I.read_faults input.old;
@@ -110,10 +110,10 @@ fn nothing<Y: Yard>(alloc: Global, status: Status) -> Outcome<Y>
 }
 
 // The script that the input holds, to its end.
-fn script_of<I: Source>(alloc: Global, service: &Name, input: &mut I) -> Result<Script, Status>
-    ensures script { IfOk result (λ script. IsTheScript (I.left input.old) service.now script.clients) }
-    ensures built { IfOk result (λ script. IsBuiltScript service.now script.clients) }
-    ensures refused { IfErr result (ScriptRefusedAs (I.left input.old) (I.read_faults input.old) (I.read_faults input.new) service.now) }
+fn script_of<I: Source>(alloc: Global, input: &mut I) -> Result<Script, Status>
+    ensures script { IfOk result (λ script. IsTheScript (I.left input.old) script.clients) }
+    ensures built { IfOk result (λ script. IsBuiltScript script.clients) }
+    ensures refused { IfErr result (ScriptRefusedAs (I.left input.old) (I.read_faults input.old) (I.read_faults input.new)) }
 {
     let octets = match read_all(alloc, input, LONGEST_SCRIPT) {
         Ok(octets) => octets,
@@ -121,8 +121,7 @@ fn script_of<I: Source>(alloc: Global, service: &Name, input: &mut I) -> Result<
         Err(ShelfRefused::TooLong) => return Err(Status::TooLong(Input::Script)),
         Err(ShelfRefused::NoMemory) => return Err(Status::NoMemory),
     };
-    let _named = service.octets();
-    match read_script(alloc, octets.as_slice(), service) {
+    match read_script(alloc, octets.as_slice()) {
         Ok(script) => Ok(script),
         Err(ScriptRefused::BadLine { line, cause }) => Err(Status::BadLine { line, cause }),
         Err(ScriptRefused::NoMemory) => Err(Status::NoMemory),
@@ -136,7 +135,7 @@ fn play<I: Source, O: Sink, Y: Yard>(
     out: &mut O,
     yard: &mut Y,
 ) -> Outcome<Y>
-    ensures play { PlayEnds Y.Line.took Y.Line.gave Y.Line.left Y.Line.read_faults Y.Line.write_faults Y.Start.start_faults
+    ensures play { PlayEnds (record { took = Y.Line.took; gave = Y.Line.gave; left = Y.Line.left; reads = Y.Line.read_faults; writes = Y.Line.write_faults }) Y.Start.start_faults
         (record {
           told = I.left input.old;
           reads_before = I.read_faults input.old;
@@ -149,7 +148,7 @@ fn play<I: Source, O: Sink, Y: Yard>(
         service.now result.status result.history.items result.lives.items result.starters.items }
     ensures early { EndsEarly result.status result.history.items result.lives.items result.starters.items }
 {
-    let script = match script_of(alloc, service, input) {
+    let script = match script_of(alloc, input) {
         Ok(script) => script,
         Err(status) => return nothing(alloc, status),
     };

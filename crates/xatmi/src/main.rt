@@ -53,7 +53,6 @@ fn number(status: Status) -> u8 {
         Status::NoMemory => 6,
         Status::TooLong(_) => 7,
         Status::BadFrame(_) => 10,
-        Status::Unbuilt => 13,
     }
 }
 
@@ -71,7 +70,6 @@ fn report<R: Eprint>(rt: &R, status: Status) -> io::Result<()> {
         Status::TooLong(Input::Configuration) => eprintln!(rt; "too long: configuration"),
         Status::TooLong(Input::Script) => eprintln!(rt; "too long: script"),
         Status::BadFrame(place) => eprintln!(rt; "bad frame at {place}"),
-        Status::Unbuilt => eprintln!(rt; "unbuilt"),
     }
 }
 
