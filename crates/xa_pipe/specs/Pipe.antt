@@ -1,14 +1,14 @@
 -- What the monitor's end of the pipes of a life has seen.
-use Rattle.std.specs.Prelude.{◌≡◌, ◌⊎◌, ℕ, ◌+◌, ◌-◌, ◌^◌, min, ◌<◌, List, ◌++◌, ◌∷◌, [], length, true, Option, Some, None, IfSome}
+use Rattle.std.specs.Prelude.{◌≡◌, ℕ, ◌+◌, ◌-◌, ◌^◌, min, ◌<◌, List, ◌++◌, length, true, Option, Some, None, IfSome}
 use Rattle.xa_types.specs.declared.setup.Setup.{Setup}
-use Rattle.xa_link.specs.Told.{Empty, GrewByPrefix}
+use Rattle.xa_link.specs.Told.{Empty}
 use Rattle.xa_frame.specs.declared.frame.Frame.{Frame}
 use Rattle.xa_frame.specs.Stream.{IsPartial, IsMalformed}
 use Rattle.xa_frame.specs.Spelling.{spelled, all_spelled, HasSpelling}
 use Rattle.xa_events.specs.declared.event.Outcome.{Outcome}
 use Rattle.xa_events.specs.declared.event.StopCause.{StopCause}
 use Rattle.xa_events.specs.declared.event.StopCause.TheVariants.{EndOfInput, ReadFault, WriteFault, BadBytes, Starved}
-use Rattle.xa_pipe.specs.Life.{Turn, Says, Shows, IsCounted, may_end, tag_after, place_behind}
+use Rattle.xa_pipe.specs.Life.{Turn, Says, Shows, IsCounted, IsFront, may_end, tag_after, place_behind}
 
 -- what the link took, gave and still holds, where it tells them, how often its reads and writes failed, and of what it gave the octets that aren't read as a frame, and their place
 pub record Piped : Type 0 where
@@ -41,6 +41,11 @@ ReadsNone pipe frames ReadFault = 0 < pipe.reads
 ReadsNone pipe frames (BadBytes place) = (place ≡ place_behind frames) × IsMalformed pipe.rest
 ReadsNone pipe frames Starved = Unit {0}
 ReadsNone pipe frames cause = ⊥
+
+-- what stays where no more was read: these frames, or where memory ran out that the link gave them, since octets behind them may be lost
+abbrev pub Keeps : Piped → List Frame → StopCause → Type 0
+Keeps pipe frames Starved = IfSome pipe.gave (λ octets. IsFront (all_spelled frames) octets)
+Keeps pipe frames cause = HasRead pipe frames
 
 -- why a frame wasn't written
 abbrev pub WritesNone : Piped → StopCause → Type 0

@@ -5,7 +5,7 @@ ghost use Rattle.xa_frame.specs.declared.frame.Frame.{Frame};
 ghost use Rattle.xa_frame.specs.Spelling.{spelled, HasSpelling, IsData};
 ghost use Rattle.xa_frame.specs.Stream.{IsPartial, IsMalformed};
 ghost use Rattle.xa_pipe.specs.Frames.{invoke_frame, shutdown_frame};
-ghost use Rattle.xa_pipe.specs.Pipe.{Wrote, HasRead, Finds, ReadsNone, WritesNone};
+ghost use Rattle.xa_pipe.specs.Pipe.{Wrote, HasRead, Finds, Keeps, ReadsNone, WritesNone};
 
 use std::alloc::Global;
 use std::marker::Model;
@@ -30,8 +30,15 @@ impl<L: Link> Model for Pipe<L> {
 
     ghost Value = { Piped };
 
-    ghost view = { λ p. record { took = L.took p.link; gave = L.gave p.link; left = L.left p.link; reads = L.read_faults p.link; writes = L.write_faults p.link;
-        rest = p.reader.rest; place = p.reader.place } };
+    ghost view = { λ p. record {
+      took = L.took p.link;
+      gave = L.gave p.link;
+      left = L.left p.link;
+      reads = L.read_faults p.link;
+      writes = L.write_faults p.link;
+      rest = p.reader.rest;
+      place = p.reader.place;
+    } };
 }
 
 impl<L: Link> Pipe<L> {
@@ -75,7 +82,6 @@ impl<L: Link> Pipe<L> {
         ensures took { OnOk result (Grew self.old.took self.new.took (spelled frame.now)) }
         ensures part { OnErr result (GrewByPrefix self.old.took self.new.took (spelled frame.now)) }
         ensures gave { self.new.gave ≡ self.old.gave }
-        ensures left { self.new.left ≡ self.old.left }
         ensures rest { self.new.rest ≡ self.old.rest }
         ensures place { self.new.place ≡ self.old.place }
         ensures reads { self.new.reads ≡ self.old.reads }
@@ -83,8 +89,13 @@ impl<L: Link> Pipe<L> {
         ensures why { IfErr result (WritesNone self.new) }
     {
         self.due.clear();
-        append(&mut self.due, frame).map_err(|_| StopCause::Starved)?;
-        put(&mut self.link, self.due.as_slice()).map_err(|_| StopCause::WriteFault)
+        let Ok(()) = append(&mut self.due, frame) else {
+            return Err(StopCause::Starved);
+        };
+        let Ok(()) = put(&mut self.link, self.due.as_slice()) else {
+            return Err(StopCause::WriteFault);
+        };
+        Ok(())
     }
 
     /// Sends a request to the routine that has its service's name.
@@ -99,7 +110,6 @@ impl<L: Link> Pipe<L> {
         ensures took { OnOk result (Grew self.old.took self.new.took (spelled (invoke_frame service.now number payload.now))) }
         ensures part { OnErr result (GrewByPrefix self.old.took self.new.took (spelled (invoke_frame service.now number payload.now))) }
         ensures gave { self.new.gave ≡ self.old.gave }
-        ensures left { self.new.left ≡ self.old.left }
         ensures rest { self.new.rest ≡ self.old.rest }
         ensures place { self.new.place ≡ self.old.place }
         ensures reads { self.new.reads ≡ self.old.reads }
@@ -107,7 +117,9 @@ impl<L: Link> Pipe<L> {
         ensures why { IfErr result (WritesNone self.new) }
     {
         let _named = service.octets();
-        let payload = payload.copy(alloc).map_err(|_| StopCause::Starved)?;
+        let Ok(payload) = payload.copy(alloc) else {
+            return Err(StopCause::Starved);
+        };
         let frame = Frame {
             tag: number,
             body: Body::Invoke(*service, *service, Mode::Reply, payload),
@@ -120,7 +132,6 @@ impl<L: Link> Pipe<L> {
         ensures took { OnOk result (Grew self.old.took self.new.took (spelled shutdown_frame)) }
         ensures part { OnErr result (GrewByPrefix self.old.took self.new.took (spelled shutdown_frame)) }
         ensures gave { self.new.gave ≡ self.old.gave }
-        ensures left { self.new.left ≡ self.old.left }
         ensures rest { self.new.rest ≡ self.old.rest }
         ensures place { self.new.place ≡ self.old.place }
         ensures reads { self.new.reads ≡ self.old.reads }
@@ -140,7 +151,7 @@ impl<L: Link> Pipe<L> {
         ensures took { self.new.took ≡ self.old.took }
         ensures writes { self.new.writes ≡ self.old.writes }
         ensures well { OnOk result (self.new.reads ≡ self.old.reads) }
-        ensures kept { OnErr result ((frames : List Frame) → HasRead self.old frames → HasRead self.new frames) }
+        ensures kept { IfErr result (λ cause. (frames : List Frame) → HasRead self.old frames → Keeps self.new frames cause) }
         ensures why { IfErr result (λ cause. (frames : List Frame) → HasRead self.old frames → ReadsNone self.new frames cause) }
     {
         for _ in 0..u64::MAX {
@@ -180,7 +191,7 @@ impl<L: Link> Pipe<L> {
         ensures more { OnOk result (length self.old.rest < length self.new.rest) }
         ensures within { OnOk result (length self.new.rest ≤ length self.old.rest + 8192) }
         ensures well { OnOk result (self.new.reads ≡ self.old.reads) }
-        ensures kept { OnErr result ((frames : List Frame) → HasRead self.old frames → HasRead self.new frames) }
+        ensures kept { IfErr result (λ cause. (frames : List Frame) → HasRead self.old frames → Keeps self.new frames cause) }
         ensures why { IfErr result (λ cause. (frames : List Frame) → HasRead self.old frames → ReadsNone self.new frames cause) }
     {
         let count = self

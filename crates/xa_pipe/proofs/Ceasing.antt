@@ -1,0 +1,73 @@
+-- Why a life ceases behind frames that were read.
+use Rattle.std.proofs.Common.{◌≡◌, ℕ, true, List, [], ◌∷◌, ◌++◌, sym, ◌∙◌, ap, subst, refl, append_assoc}
+use Rattle.std.specs.Prelude.{IfErr, IsErrAnd, Result, Ok, Err}
+use Rattle.xa_frame.specs.declared.frame.Frame.{Frame}
+use Rattle.xa_frame.specs.Spelling.{spelled, all_spelled, HasSpelling, kind_octet}
+use Rattle.xa_events.specs.declared.event.StopCause.{StopCause}
+use Rattle.xa_events.specs.declared.event.StopCause.TheVariants.{Shutdown, Exit, EndOfInput, ReadFault, WriteFault, BadBytes, OutOfTurn, Starved}
+use Rattle.xa_pipe.specs.Life.{Turn, MaySay, Shows, is_reading, may_end}
+use Rattle.xa_pipe.specs.Life.Turn.{AwaitsReady, AwaitsNext, Idle, Serving, Exited}
+use Rattle.xa_pipe.specs.Pipe.{Piped, HasRead, Keeps, ReadsNone, Ceases}
+use Rattle.xa_pipe.proofs.Frames.{all_spelled-push, told_more}
+
+-- ---- errors
+
+-- an error that is that one
+pub err_is : {T : Type 0} (result : Result T StopCause) (so : StopCause → Type 0) (cause : StopCause) → IsErrAnd result (λ why. why ≡ cause) → so cause → IfErr result so
+err_is (Ok done) so cause is h = tt
+err_is (Err why) so cause is h = subst so (sym is) h
+
+-- what is known of an error, of which more follows
+pub err_more : {T : Type 0} (result : Result T StopCause) (is so : StopCause → Type 0) → ((cause : StopCause) → is cause → so cause) → IfErr result is → IfErr result so
+err_more (Ok done) is so follows h = tt
+err_more (Err cause) is so follows h = follows cause h
+
+-- ---- what ceases
+
+-- what stays of the frames where nothing more was given
+pub keeps_read : (pipe : Piped) (frames : List Frame) (cause : StopCause) → HasRead pipe frames → Keeps pipe frames cause
+keeps_read pipe frames Starved read = told_more pipe.gave _ _ (λ octets e. (pipe.rest, e)) read.told
+keeps_read pipe frames Shutdown read = read
+keeps_read pipe frames Exit read = read
+keeps_read pipe frames EndOfInput read = read
+keeps_read pipe frames ReadFault read = read
+keeps_read pipe frames WriteFault read = read
+keeps_read pipe frames (BadBytes place) read = read
+keeps_read pipe frames (OutOfTurn kind tag) read = read
+
+starved_reading : (turn : Turn) → is_reading turn ≡ true → may_end Starved turn ≡ true
+starved_reading AwaitsReady reads = refl
+starved_reading AwaitsNext reads = refl
+starved_reading Idle reads = refl
+starved_reading Serving reads = refl
+starved_reading Exited reads = reads
+
+module _ (name : List ℕ) (tag : ℕ) (turn : Turn) (frames : List Frame) (pipe : Piped) where
+  -- no frame stands there
+  pub ceases_none : (cause : StopCause) → is_reading turn ≡ true → Keeps pipe frames cause → ReadsNone pipe frames cause → Ceases name tag turn frames pipe cause
+  ceases_none EndOfInput reads read why = record { may = reads; counted = tt; gave = told_more pipe.gave _ _ (λ octets e. (pipe.rest, e, (why.0, why.1))) read.told }
+  ceases_none ReadFault reads read why = record { may = reads; counted = why; gave = told_more pipe.gave _ _ (λ octets e. (pipe.rest, e, tt)) read.told }
+  ceases_none (BadBytes place) reads read why = record { may = reads; counted = tt; gave = told_more pipe.gave _ _ (λ octets e. (pipe.rest, e, (why.0, why.1))) read.told }
+  ceases_none Starved reads read why = record { may = starved_reading turn reads; counted = tt; gave = told_more pipe.gave _ _ (λ octets front. (front.0, front.1, tt)) read }
+  ceases_none Shutdown reads read why = absurd why
+  ceases_none Exit reads read why = absurd why
+  ceases_none WriteFault reads read why = absurd why
+  ceases_none (OutOfTurn kind number) reads read why = absurd why
+
+  other_gave : (octets : List ℕ) (f : Frame) → HasSpelling f → (MaySay name tag turn f → ⊥) → octets ≡ all_spelled (frames ++ f ∷ []) ++ pipe.rest
+      → (rest : List ℕ) × (octets ≡ all_spelled frames ++ rest) × Shows name tag turn (OutOfTurn (kind_octet f.body) f.tag) frames rest pipe.left
+  other_gave octets f spelling other read = (
+    spelled f ++ pipe.rest,
+    (read ∙ ap (λ front. front ++ pipe.rest) (all_spelled-push frames f)) ∙ append_assoc (all_spelled frames) (spelled f) pipe.rest,
+    (f, pipe.rest, record { spelling = spelling; whole = refl }, refl, refl, other),
+  )
+
+  -- another frame stands there
+  pub ceases_other : (cause : StopCause) (f : Frame) → cause ≡ OutOfTurn (kind_octet f.body) f.tag → is_reading turn ≡ true → HasSpelling f → (MaySay name tag turn f → ⊥) → HasRead pipe (frames ++ f ∷ [])
+      → Ceases name tag turn frames pipe cause
+  ceases_other cause f is reads spelling other read =
+      subst (λ (why : StopCause). Ceases name tag turn frames pipe why) (sym is) (record {
+        may = reads;
+        counted = tt;
+        gave = told_more pipe.gave _ _ (λ octets. other_gave octets f spelling other) read.told;
+      })
