@@ -1,5 +1,5 @@
 -- What a line says is what its reading gives.
-use Rattle.std.proofs.Common.{◌≡◌, ℕ, zero, suc, ◌≤◌, ◌==◌, ◌||◌, ◌&&◌, nat_le, nat_lt, not, Bool, true, false, cond, ◌⊎◌, inl, inr, List, [], ◌∷◌, ◌++◌, length, Option, Some, None, option_map, codes, refl, ap, sym, ◌∙◌, subst, append_assoc, arith}
+use Rattle.std.proofs.Common.{◌≡◌, ℕ, zero, suc, ◌==◌, ◌||◌, ◌&&◌, nat_le, nat_lt, not, Bool, true, false, cond, ◌⊎◌, inl, inr, List, [], ◌∷◌, ◌++◌, length, Option, Some, None, option_map, codes, refl, ap, sym, ◌∙◌, subst, append_assoc, arith}
 use Rattle.std.proofs.lemmas.Bool.{eqb-true, eqb-false, ne_eqb, leb-true, le-leb, le-ltb, ltb-false}
 use Rattle.std.proofs.lemmas.Slice.Eq.{bytes_eq-Decides}
 use Rattle.std.specs.List.{list_all, flat_map}
@@ -199,7 +199,7 @@ word_graphic (x ∷ word) printed unspaced =
     let whole = and_true (is_plain x) (list_all is_plain word) unspaced in
     ap (λ b. b && list_all is_graphic word) (plain_graphic x shown.0 whole.0) ∙ word_graphic word shown.1 whole.1
 
--- a word that is no service for its length
+-- no word, or one that is too long for a service
 abbrev is_missized : List ℕ → Bool
 is_missized word = length word == 0 || nat_lt 255 (length word)
 
