@@ -1,6 +1,6 @@
 -- What a line says is what its reading gives.
-use Rattle.std.proofs.Common.{◌≡◌, ℕ, zero, suc, ◌≤◌, ◌==◌, ◌&&◌, nat_le, not, Bool, true, false, cond, ◌⊎◌, inl, inr, List, [], ◌∷◌, ◌++◌, length, Option, Some, None, option_map, codes, refl, ap, sym, ◌∙◌, subst, append_assoc, arith}
-use Rattle.std.proofs.lemmas.Bool.{eqb-true, ne_eqb, leb-true, le-leb}
+use Rattle.std.proofs.Common.{◌≡◌, ℕ, zero, suc, ◌==◌, ◌||◌, ◌&&◌, nat_le, nat_lt, not, Bool, true, false, cond, ◌⊎◌, inl, inr, List, [], ◌∷◌, ◌++◌, length, Option, Some, None, option_map, codes, refl, ap, sym, ◌∙◌, subst, append_assoc, arith}
+use Rattle.std.proofs.lemmas.Bool.{eqb-true, eqb-false, ne_eqb, leb-true, le-leb, le-ltb, ltb-false}
 use Rattle.std.proofs.lemmas.Slice.Eq.{bytes_eq-Decides}
 use Rattle.std.specs.List.{list_all, flat_map}
 use Rattle.std.specs.Str.{bytes_eq}
@@ -10,16 +10,16 @@ use Rattle.xa_types.specs.declared.data.Data.{Data}
 use Rattle.xa_types.specs.declared.data.Data.TheVariants.{Absent, Octet, Struct}
 use Rattle.xa_script.specs.declared.script_line.Line.{Line}
 use Rattle.xa_script.specs.declared.script_line.Line.TheVariants.{Skipped, Client, Call}
-use Rattle.xa_script.specs.Script.{spaces, IsEnd, HasWords, is_printed, escaped, quoted, IsSkipped, IsClientLine, IsWritten, data_words, call_with, IsCallLine}
+use Rattle.xa_script.specs.Script.{spaces, IsEnd, HasWords, is_printed, escaped, quoted, IsSkipped, IsClientLine, IsWritten, data_words, call_with, IsServiceWord, IsCallLine}
 use Rattle.xa_script.specs.ScriptLine.{skip_spaces, is_blank, is_skipped, next_word, text_in_front, ended, quoted_from, quoted_in, payload_in, call_in, client_in, line_of}
-use Rattle.xa_script.proofs.ScriptText.{some_is, written, text_again, text_takes, printed_text}
-use Rattle.xa_script.proofs.ScriptWords.{and_true, skips, skipped, is_plain, IsWord, next_word_takes, words_take, words_again, blank_takes, blank_again, skipped_takes, skipped_again, not_skipped, printed_words, printed_parts, printed-append}
+use Rattle.xa_script.proofs.ScriptText.{some_is, or_false, written, text_again, text_takes, printed_text}
+use Rattle.xa_script.proofs.ScriptWords.{and_true, skips, skipped, plain, is_plain, IsWord, next_word_plain, next_word_takes, words_take, words_again, blank_takes, blank_again, skipped_takes, skipped_again, not_skipped, printed_words, printed_parts, printed-append}
 
 -- what the line says
-abbrev pub Says : List ℕ → List ℕ → Line → Type 0
-Says service line Skipped = IsSkipped line
-Says service line (Client name) = IsClientLine name line
-Says service line (Call op) = IsCallLine service op line
+abbrev pub Says : List ℕ → Line → Type 0
+Says line Skipped = IsSkipped line
+Says line (Client name) = IsClientLine name line
+Says line (Call op) = IsCallLine op line
 
 pub chosen : {A : Type 0} (b : Bool) (x y z : A) → cond b x y ≡ z → ((b ≡ true) × (x ≡ z)) ⊎ ((b ≡ false) × (y ≡ z))
 chosen true x y z h = inl (refl, h)
@@ -35,13 +35,12 @@ some_of_none x h = cc
 -- the quoted text
 
 ended_takes : (text rest : List ℕ) (payload : Data) → ended text rest ≡ Some payload
-    → (more : List ℕ) × (rest ≡ 34 ∷ more) × HasWords [] more × (length text ≤ 65536) × (payload ≡ Octet text)
+    → (more : List ℕ) × (rest ≡ 34 ∷ more) × HasWords [] more × (payload ≡ Octet text)
 ended_takes text [] payload h = absurd cc
-ended_takes text (x ∷ more) payload h = elim (chosen (x == 34 && (is_blank more && nat_le (length text) 65536)) (Some (Octet text)) None (Some payload) h) [
+ended_takes text (x ∷ more) payload h = elim (chosen (x == 34 && is_blank more) (Some (Octet text)) None (Some payload) h) [
   | inl p ↦
-      let quote = and_true (x == 34) (is_blank more && nat_le (length text) 65536) p.0 in
-      let rest = and_true (is_blank more) (nat_le (length text) 65536) quote.1 in
-      (more, ap (λ y. y ∷ more) (eqb-true x 34 quote.0), blank_takes more rest.0, leb-true (length text) 65536 rest.1, sym (some_is (Octet text) payload p.1))
+      let both = and_true (x == 34) (is_blank more) p.0 in
+      (more, ap (λ y. y ∷ more) (eqb-true x 34 both.0), blank_takes more both.1, sym (some_is (Octet text) payload p.1))
   | inr p ↦ absurd (some_of_none payload p.1)
 ]
 
@@ -49,14 +48,14 @@ quote_is : (text rest : List ℕ) → quoted text ++ rest ≡ 34 ∷ (flat_map e
 quote_is text rest = ap (λ ys. 34 ∷ ys) (append_assoc (flat_map escaped text) (34 ∷ []) rest)
 
 from_takes : (xs : List ℕ) (payload : Data) → quoted_from xs ≡ Some payload
-    → (text : List ℕ) × (rest : List ℕ) × (xs ≡ quoted text ++ rest) × HasWords [] rest × (length text ≤ 65536) × (payload ≡ Octet text)
+    → (text : List ℕ) × (rest : List ℕ) × (xs ≡ quoted text ++ rest) × HasWords [] rest × (payload ≡ Octet text)
 from_takes [] payload h = absurd cc
 from_takes (x ∷ front) payload h = elim (chosen (x == 34) (ended (text_in_front front).0 (text_in_front front).1) None (Some payload) h) [
   | inl p ↦
       let text = (text_in_front front).0 in
       let end = ended_takes text (text_in_front front).1 payload p.1 in
       let is = ap (λ y. y ∷ front) (eqb-true x 34 p.0) ∙ ap (λ ys. 34 ∷ ys) (text_takes front ∙ ap (λ ys. flat_map escaped text ++ ys) end.1) in
-      (text, end.0, is ∙ sym (quote_is text end.0), end.2, end.3, end.4)
+      (text, end.0, is ∙ sym (quote_is text end.0), end.2, end.3)
   | inr p ↦ absurd (some_of_none payload p.1)
 ]
 
@@ -68,24 +67,23 @@ end_of_blank : (rest : List ℕ) → HasWords [] rest → IsEnd rest
 end_of_blank rest h = subst IsEnd (sym h.1) (end_of_spaces h.0)
 
 pub quoted_takes : (xs : List ℕ) (payload : Data) → quoted_in xs ≡ Some payload
-    → (text : List ℕ) × (payload ≡ Octet text) × (length text ≤ 65536) × HasWords (quoted text ∷ []) xs
+    → (text : List ℕ) × (payload ≡ Octet text) × HasWords (quoted text ∷ []) xs
 unfolding quoted_in
 quoted_takes xs payload h =
     let spaced = skipped xs in
     let from = from_takes (skip_spaces xs) payload h in
     let is = spaced.1 ∙ ap (λ ys. spaces spaced.0 ++ ys) from.2 ∙ sym (append_assoc (spaces spaced.0) (quoted from.0) from.1) in
-    (from.0, from.5, from.4, (spaced.0, from.1, is, end_of_blank from.1 from.3, from.3))
+    (from.0, from.4, (spaced.0, from.1, is, end_of_blank from.1 from.3, from.3))
 
-ended_again : (text rest : List ℕ) → is_blank rest ≡ true → length text ≤ 65536 → ended text (34 ∷ rest) ≡ Some (Octet text)
-ended_again text rest blank short =
-    ap (λ b. cond (b && nat_le (length text) 65536) (Some (Octet text)) None) blank ∙ ap (λ b. cond b (Some (Octet text)) None) (le-leb (length text) 65536 short)
+ended_again : (text rest : List ℕ) → is_blank rest ≡ true → ended text (34 ∷ rest) ≡ Some (Octet text)
+ended_again text rest blank = ap (λ b. cond b (Some (Octet text)) None) blank
 
-pub quoted_again : (xs text : List ℕ) → HasWords (quoted text ∷ []) xs → length text ≤ 65536 → quoted_in xs ≡ Some (Octet text)
+pub quoted_again : (xs text : List ℕ) → HasWords (quoted text ∷ []) xs → quoted_in xs ≡ Some (Octet text)
 unfolding quoted_in
-quoted_again xs text h short =
+quoted_again xs text h =
     let rest = h.1 in
     let front = ap skip_spaces (h.2 ∙ append_assoc (spaces h.0) (quoted text) rest) ∙ skips h.0 (quoted text ++ rest) in
-    ap quoted_from (front ∙ quote_is text rest) ∙ ap (λ t. ended t.0 t.1) (text_again text rest) ∙ ended_again text rest (blank_again rest h.4) short
+    ap quoted_from (front ∙ quote_is text rest) ∙ ap (λ t. ended t.0 t.1) (text_again text rest) ∙ ended_again text rest (blank_again rest h.4)
 
 -- printed words
 
@@ -117,10 +115,10 @@ text_takes_data : (xs : List ℕ) (payload : Data) → list_all is_printed xs �
 text_takes_data xs payload printed word h =
     let found = quoted_takes (next_word xs).1 payload h in
     let text = found.0 in
-    let has = subst (λ w. HasWords (w ∷ quoted text ∷ []) xs) word (words_take xs (quoted text ∷ []) found.3) in
+    let has = subst (λ w. HasWords (w ∷ quoted text ∷ []) xs) word (words_take xs (quoted text ∷ []) found.2) in
     let each = words_printed (codes "text" ∷ quoted text ∷ []) xs has printed in
     let shown = (and_true (list_all is_printed (quoted text)) true each).0 in
-    subst (λ p. IsWritten p × HasWords (data_words p) xs) (sym found.1) ((found.2, printed_quoted text shown), has)
+    subst (λ p. IsWritten p × HasWords (data_words p) xs) (sym found.1) (printed_quoted text shown, has)
 
 none_takes_data : (xs : List ℕ) (payload : Data) → cond (bytes_eq (next_word xs).0 (codes "none") && is_blank (next_word xs).1) (Some Absent) None ≡ Some payload
     → IsWritten payload × HasWords (data_words payload) xs
@@ -148,7 +146,7 @@ payload_again xs Absent written has =
     ap payload_of found.1 ∙ ap (λ b. cond b (Some Absent) None) (blank_again found.0 found.2)
 payload_again xs (Octet text) written has =
     let found = words_again xs (codes "text") (quoted text ∷ []) has (record { some = omega arith; plain = refl }) in
-    ap payload_of found.1 ∙ quoted_again found.0 text found.2 written.0
+    ap payload_of found.1 ∙ quoted_again found.0 text found.2
 payload_again xs (Struct subtype octets) written has = absurd written
 
 -- names
@@ -187,28 +185,69 @@ name_printed name h = all_so is_graphic is_printed graphic_printed name (name_gr
 
 -- a call
 
-pub call_takes : (service xs : List ℕ) (op : Op) → list_all is_printed xs ≡ true → call_in service xs ≡ Some op
-    → (payload : Data) × IsWritten payload × (op ≡ call_with service payload) × HasWords (service ∷ data_words payload) xs
+plain_graphic : (x : ℕ) → is_printed x ≡ true → is_plain x ≡ true → is_graphic x ≡ true
+plain_graphic x printed unspaced =
+    let both = and_true (nat_le 32 x) (nat_le x 126) printed in
+    let low = leb-true 32 x both.0 in
+    let other = eqb-false x 32 (plain x unspaced) in
+    ap (λ b. b && nat_le x 126) (le-leb 33 x (omega (arith, low, other))) ∙ both.1
+
+word_graphic : (word : List ℕ) → list_all is_printed word ≡ true → list_all is_plain word ≡ true → list_all is_graphic word ≡ true
+word_graphic [] printed unspaced = refl
+word_graphic (x ∷ word) printed unspaced =
+    let shown = and_true (is_printed x) (list_all is_printed word) printed in
+    let whole = and_true (is_plain x) (list_all is_plain word) unspaced in
+    ap (λ b. b && list_all is_graphic word) (plain_graphic x shown.0 whole.0) ∙ word_graphic word shown.1 whole.1
+
+-- no word, or one that is too long for a service
+abbrev is_missized : List ℕ → Bool
+is_missized word = length word == 0 || nat_lt 255 (length word)
+
+service_word : (xs : List ℕ) → list_all is_printed xs ≡ true → is_missized (next_word xs).0 ≡ false → IsServiceWord (next_word xs).0
+service_word xs printed sized =
+    let word = (next_word xs).0 in
+    let taken = next_word_takes xs in
+    let parts = printed_parts (spaces taken.0 ++ word) (next_word xs).1 (ap (list_all is_printed) (sym taken.1) ∙ printed) in
+    let both = or_false (length word == 0) (nat_lt 255 (length word)) sized in
+    let some = eqb-false (length word) 0 both.0 in
+    let short = ltb-false 255 (length word) both.1 in
+    record {
+      some = omega (arith, some);
+      short = omega (arith, short);
+      graphic = word_graphic word (printed_parts (spaces taken.0) word parts.0).1 (next_word_plain xs);
+    }
+
+service_sized : (word : List ℕ) → IsServiceWord word → is_missized word ≡ false
+service_sized word h =
+    let some = h.some in
+    let short = h.short in
+    ap (λ b. b || nat_lt 255 (length word)) (ne_eqb (length word) 0 (λ e. absurd (omega (arith, some, e)))) ∙ le-ltb 255 (length word) short
+
+service_is_word : (word : List ℕ) → IsServiceWord word → IsWord word
+service_is_word word h = record { some = h.some; plain = all_so is_graphic is_plain graphic_plain word h.graphic }
+
+pub call_takes : (xs : List ℕ) (op : Op) → list_all is_printed xs ≡ true → call_in xs ≡ Some op
+    → (service : List ℕ) × (payload : Data) × IsServiceWord service × IsWritten payload × (op ≡ call_with service payload) × HasWords (service ∷ data_words payload) xs
 unfolding call_in
-call_takes service xs op printed h = elim (chosen (bytes_eq (next_word xs).0 service) (option_map (call_with service) (payload_in (next_word xs).1)) None (Some op) h) [
-  | inl p ↦
+call_takes xs op printed h = elim (chosen (is_missized (next_word xs).0) None (option_map (call_with (next_word xs).0) (payload_in (next_word xs).1)) (Some op) h) [
+  | inl p ↦ absurd (some_of_none op p.1)
+  | inr p ↦
+      let service = (next_word xs).0 in
       let made = mapped (call_with service) (payload_in (next_word xs).1) op p.1 in
       let found = payload_takes (next_word xs).1 made.0 (rest_printed xs printed) made.1 in
-      let word = (bytes_eq-Decides (next_word xs).0 service).0 p.0 in
-      (made.0, found.0, sym made.2, subst (λ w. HasWords (w ∷ data_words made.0) xs) word (words_take xs (data_words made.0) found.1))
-  | inr p ↦ absurd (some_of_none op p.1)
+      (service, made.0, service_word xs printed p.0, found.0, sym made.2, words_take xs (data_words made.0) found.1)
 ]
 
-abbrev call_of : List ℕ → List ℕ × List ℕ → Option Op
-call_of service word = cond (bytes_eq word.0 service) (option_map (call_with service) (payload_in word.1)) None
+abbrev call_of : List ℕ × List ℕ → Option Op
+call_of word = cond (is_missized word.0) None (option_map (call_with word.0) (payload_in word.1))
 
-pub call_again : (service xs : List ℕ) (payload : Data) → IsName service → IsWritten payload → HasWords (service ∷ data_words payload) xs
-    → call_in service xs ≡ Some (call_with service payload)
+pub call_again : (service xs : List ℕ) (payload : Data) → IsServiceWord service → IsWritten payload → HasWords (service ∷ data_words payload) xs
+    → call_in xs ≡ Some (call_with service payload)
 unfolding call_in
-call_again service xs payload named written has =
-    let found = words_again xs service (data_words payload) has (name_is_word service named) in
-    ap (call_of service) found.1
-    ∙ ap (λ b. cond b (option_map (call_with service) (payload_in found.0)) None) ((bytes_eq-Decides service service).1 refl)
+call_again service xs payload is written has =
+    let found = words_again xs service (data_words payload) has (service_is_word service is) in
+    ap call_of found.1
+    ∙ ap (λ b. cond b None (option_map (call_with service) (payload_in found.0))) (service_sized service is)
     ∙ ap (option_map (call_with service)) (payload_again found.0 payload written found.2)
 
 -- a client
@@ -233,34 +272,34 @@ client_again xs name named has =
 
 -- a line
 
-abbrev said_by : List ℕ → List ℕ × List ℕ → Option Line
-said_by service word =
+abbrev said_by : List ℕ × List ℕ → Option Line
+said_by word =
     cond (bytes_eq word.0 (codes "client")) (option_map (λ name. Client name) (client_in word.1))
-    (cond (bytes_eq word.0 (codes "call")) (option_map (λ op. Call op) (call_in service word.1)) None)
+    (cond (bytes_eq word.0 (codes "call")) (option_map (λ op. Call op) (call_in word.1)) None)
 
-word_takes : (service line : List ℕ) (said : Line) → list_all is_printed line ≡ true → said_by service (next_word line) ≡ Some said → Says service line said
-word_takes service line said printed h = elim (chosen (bytes_eq (next_word line).0 (codes "client")) (option_map (λ name. Client name) (client_in (next_word line).1))
-    (cond (bytes_eq (next_word line).0 (codes "call")) (option_map (λ op. Call op) (call_in service (next_word line).1)) None) (Some said) h) [
+word_takes : (line : List ℕ) (said : Line) → list_all is_printed line ≡ true → said_by (next_word line) ≡ Some said → Says line said
+word_takes line said printed h = elim (chosen (bytes_eq (next_word line).0 (codes "client")) (option_map (λ name. Client name) (client_in (next_word line).1))
+    (cond (bytes_eq (next_word line).0 (codes "call")) (option_map (λ op. Call op) (call_in (next_word line).1)) None) (Some said) h) [
       | inl p ↦
           let made = mapped (λ name. Client name) (client_in (next_word line).1) said p.1 in
           let found = client_takes (next_word line).1 made.0 made.1 in
           let word = (bytes_eq-Decides (next_word line).0 (codes "client")).0 p.0 in
-          subst (Says service line) made.2 (found.0, subst (λ w. HasWords (w ∷ made.0 ∷ []) line) word (words_take line (made.0 ∷ []) found.1))
-      | inr q ↦ elim (chosen (bytes_eq (next_word line).0 (codes "call")) (option_map (λ op. Call op) (call_in service (next_word line).1)) None (Some said) q.1) [
+          subst (Says line) made.2 (found.0, subst (λ w. HasWords (w ∷ made.0 ∷ []) line) word (words_take line (made.0 ∷ []) found.1))
+      | inr q ↦ elim (chosen (bytes_eq (next_word line).0 (codes "call")) (option_map (λ op. Call op) (call_in (next_word line).1)) None (Some said) q.1) [
         | inl p ↦
-            let made = mapped (λ op. Call op) (call_in service (next_word line).1) said p.1 in
-            let found = call_takes service (next_word line).1 made.0 (rest_printed line printed) made.1 in
+            let made = mapped (λ op. Call op) (call_in (next_word line).1) said p.1 in
+            let found = call_takes (next_word line).1 made.0 (rest_printed line printed) made.1 in
             let word = (bytes_eq-Decides (next_word line).0 (codes "call")).0 p.0 in
-            subst (Says service line) made.2
-            (found.0, found.1, found.2, subst (λ w. HasWords (w ∷ service ∷ data_words found.0) line) word (words_take line (service ∷ data_words found.0) found.3))
+            subst (Says line) made.2
+            (found.0, found.1, found.2, found.3, found.4, subst (λ w. HasWords (w ∷ found.0 ∷ data_words found.1) line) word (words_take line (found.0 ∷ data_words found.1) found.5))
         | inr p ↦ absurd (some_of_none said p.1)
       ]
     ]
 
-printed_takes : (service line : List ℕ) (said : Line) → list_all is_printed line ≡ true → cond (is_skipped line) (Some Skipped) (said_by service (next_word line)) ≡ Some said → Says service line said
-printed_takes service line said printed h = elim (chosen (is_skipped line) (Some Skipped) (said_by service (next_word line)) (Some said) h) [
-  | inl p ↦ subst (Says service line) (some_is Skipped said p.1) (printed, skipped_takes line p.0)
-  | inr p ↦ word_takes service line said printed p.1
+printed_takes : (line : List ℕ) (said : Line) → list_all is_printed line ≡ true → cond (is_skipped line) (Some Skipped) (said_by (next_word line)) ≡ Some said → Says line said
+printed_takes line said printed h = elim (chosen (is_skipped line) (Some Skipped) (said_by (next_word line)) (Some said) h) [
+  | inl p ↦ subst (Says line) (some_is Skipped said p.1) (printed, skipped_takes line p.0)
+  | inr p ↦ word_takes line said printed p.1
 ]
 
 not_false : (b : Bool) → not b ≡ false → b ≡ true
@@ -268,48 +307,49 @@ not_false true h = refl
 not_false false h = absurd cc
 
 -- what is read is what the line says
-pub line_takes : (service line : List ℕ) (said : Line) → line_of service line ≡ Some said → Says service line said
+pub line_takes : (line : List ℕ) (said : Line) → line_of line ≡ Some said → Says line said
 unfolding line_of
-line_takes service line said h =
-    elim (chosen (not (list_all is_printed line)) None (cond (is_skipped line) (Some Skipped) (said_by service (next_word line))) (Some said) h) [
+line_takes line said h =
+    elim (chosen (not (list_all is_printed line)) None (cond (is_skipped line) (Some Skipped) (said_by (next_word line))) (Some said) h) [
       | inl p ↦ absurd (some_of_none said p.1)
-      | inr p ↦ printed_takes service line said (not_false (list_all is_printed line) p.0) p.1
+      | inr p ↦ printed_takes line said (not_false (list_all is_printed line) p.0) p.1
     ]
 
-unskipped : (service line : List ℕ) (said : Line) → list_all is_printed line ≡ true → is_skipped line ≡ false → said_by service (next_word line) ≡ Some said → line_of service line ≡ Some said
+unskipped : (line : List ℕ) (said : Line) → list_all is_printed line ≡ true → is_skipped line ≡ false → said_by (next_word line) ≡ Some said → line_of line ≡ Some said
 unfolding line_of
-unskipped service line said printed skipped h =
-    ap (λ b. cond (not b) None (cond (is_skipped line) (Some Skipped) (said_by service (next_word line)))) printed
-    ∙ ap (λ b. cond b (Some Skipped) (said_by service (next_word line))) skipped ∙ h
+unskipped line said printed skipped h =
+    ap (λ b. cond (not b) None (cond (is_skipped line) (Some Skipped) (said_by (next_word line)))) printed
+    ∙ ap (λ b. cond b (Some Skipped) (said_by (next_word line))) skipped ∙ h
 
-skipped_line : (service line : List ℕ) → list_all is_printed line ≡ true → is_skipped line ≡ true → line_of service line ≡ Some Skipped
+skipped_line : (line : List ℕ) → list_all is_printed line ≡ true → is_skipped line ≡ true → line_of line ≡ Some Skipped
 unfolding line_of
-skipped_line service line printed skipped =
-    ap (λ b. cond (not b) None (cond (is_skipped line) (Some Skipped) (said_by service (next_word line)))) printed
-    ∙ ap (λ b. cond b (Some Skipped) (said_by service (next_word line))) skipped
+skipped_line line printed skipped =
+    ap (λ b. cond (not b) None (cond (is_skipped line) (Some Skipped) (said_by (next_word line)))) printed
+    ∙ ap (λ b. cond b (Some Skipped) (said_by (next_word line))) skipped
 
 data_printed : (payload : Data) → IsWritten payload → list_all (λ word. list_all is_printed word) (data_words payload) ≡ true
 data_printed Absent written = refl
-data_printed (Octet text) written = ap (λ b. b && true) (quoted_printed text written.1)
+data_printed (Octet text) written = ap (λ b. b && true) (quoted_printed text written)
 data_printed (Struct subtype octets) written = absurd written
 
 -- what the line says is what is read
-pub line_again : (service line : List ℕ) (said : Line) → IsName service → Says service line said → line_of service line ≡ Some said
-line_again service line Skipped named says = skipped_line service line says.0 (skipped_again line says.1)
-line_again service line (Client name) named says =
+pub line_again : (line : List ℕ) (said : Line) → Says line said → line_of line ≡ Some said
+line_again line Skipped says = skipped_line line says.0 (skipped_again line says.1)
+line_again line (Client name) says =
     let words = codes "client" ∷ name ∷ [] in
     let found = words_again line (codes "client") (name ∷ []) says.1 (record { some = omega arith; plain = refl }) in
     let printed = printed_words words line says.1 (ap (λ b. b && true) (name_printed name says.0)) in
     let unmarked = ap is_skipped says.1.2 ∙ not_skipped says.1.0 99 (codes "lient") says.1.1 refl refl in
-    unskipped service line (Client name) printed unmarked
-    (ap (said_by service) found.1 ∙ ap (option_map (λ other. Client other)) (client_again found.0 name says.0 found.2))
-line_again service line (Call op) named says =
-    let payload = says.0 in
+    unskipped line (Client name) printed unmarked
+    (ap said_by found.1 ∙ ap (option_map (λ other. Client other)) (client_again found.0 name says.0 found.2))
+line_again line (Call op) says =
+    let service = says.0 in
+    let payload = says.1 in
     let words = service ∷ data_words payload in
-    let found = words_again line (codes "call") words says.3 (record { some = omega arith; plain = refl }) in
-    let each = ap (λ b. b && list_all (λ word. list_all is_printed word) (data_words payload)) (name_printed service named) ∙ data_printed payload says.1 in
-    let printed = printed_words (codes "call" ∷ words) line says.3 each in
-    let unmarked = ap is_skipped says.3.2 ∙ not_skipped says.3.0 99 (codes "all") says.3.1 refl refl in
-    unskipped service line (Call op) printed unmarked
-    (ap (said_by service) found.1 ∙ ap (option_map (λ other. Call other)) (call_again service found.0 payload named says.1 found.2)
-    ∙ ap (λ other. Some (Call other)) (sym says.2))
+    let found = words_again line (codes "call") words says.5 (record { some = omega arith; plain = refl }) in
+    let each = ap (λ b. b && list_all (λ word. list_all is_printed word) (data_words payload)) (all_so is_graphic is_printed graphic_printed service says.2.graphic) ∙ data_printed payload says.3 in
+    let printed = printed_words (codes "call" ∷ words) line says.5 each in
+    let unmarked = ap is_skipped says.5.2 ∙ not_skipped says.5.0 99 (codes "all") says.5.1 refl refl in
+    unskipped line (Call op) printed unmarked
+    (ap said_by found.1 ∙ ap (option_map (λ other. Call other)) (call_again service found.0 payload says.2 says.3 found.2)
+    ∙ ap (λ other. Some (Call other)) (sym says.4))

@@ -4,7 +4,6 @@ use Rattle.std.proofs.Math.Seq.{take-add}
 use Rattle.std.proofs.lemmas.Bool.{cases_lt}
 use Rattle.std.proofs.lemmas.List.{drop-drop, take-append-drop}
 use Rattle.std.specs.Str.Lines.{lines}
-use Rattle.xa_types.specs.Name.{IsName}
 use Rattle.xa_types.specs.declared.call.Op.{Op}
 use Rattle.xa_script.specs.declared.script.Client.{Client}
 use Rattle.xa_script.specs.declared.script.Script.{Script}
@@ -16,162 +15,162 @@ use Rattle.xa_script.proofs.ScriptText.{some_is}
 use Rattle.xa_script.proofs.ScriptGrammar.{line_takes, line_again, some_of_none}
 
 -- the first n lines are read, and these are left
-pub record IsReadTo (service : List ℕ) (all : List (List ℕ)) (n : ℕ) (clients : List Client) (rest : List (List ℕ)) : Type 0 where
-  pub so_far : read_all service [] (take n all) ≡ Some clients
+pub record IsReadTo (all : List (List ℕ)) (n : ℕ) (clients : List Client) (rest : List (List ℕ)) : Type 0 where
+  pub so_far : read_all [] (take n all) ≡ Some clients
   pub left : drop n all ≡ rest
 
 -- more lines are read from where the earlier ones end
-read_more : (service : List ℕ) (xs ys : List (List ℕ)) (clients : List Client)
-    → read_all service clients (xs ++ ys) ≡ option_and_then (λ more. read_all service more ys) (read_all service clients xs)
+read_more : (xs ys : List (List ℕ)) (clients : List Client)
+    → read_all clients (xs ++ ys) ≡ option_and_then (λ more. read_all more ys) (read_all clients xs)
 unfolding read_all
-read_more service [] ys clients = refl
-read_more service (x ∷ xs) ys clients =
-    elim (with_line clients (line_of service x)) as (λ o. option_and_then (λ more. read_all service more (xs ++ ys)) o
-    ≡ option_and_then (λ more. read_all service more ys) (option_and_then (λ more. read_all service more xs) o)) [
+read_more [] ys clients = refl
+read_more (x ∷ xs) ys clients =
+    elim (with_line clients (line_of x)) as (λ o. option_and_then (λ more. read_all more (xs ++ ys)) o
+    ≡ option_and_then (λ more. read_all more ys) (option_and_then (λ more. read_all more xs) o)) [
       | None ↦ refl
-      | Some more ↦ read_more service xs ys more
+      | Some more ↦ read_more xs ys more
     ]
 
-one_line : (service line : List ℕ) (clients : List Client) → read_all service clients (line ∷ []) ≡ with_line clients (line_of service line)
+one_line : (line : List ℕ) (clients : List Client) → read_all clients (line ∷ []) ≡ with_line clients (line_of line)
 unfolding read_all
-one_line service line clients = elim (with_line clients (line_of service line)) as (λ o. option_and_then (λ more. read_all service more []) o ≡ o) [ None ↦ refl | Some more ↦ refl ]
+one_line line clients = elim (with_line clients (line_of line)) as (λ o. option_and_then (λ more. read_all more []) o ≡ o) [ None ↦ refl | Some more ↦ refl ]
 
 take_next : (n : ℕ) (all rest : List (List ℕ)) (line : List ℕ) → drop n all ≡ line ∷ rest → take (n + 1) all ≡ take n all ++ line ∷ []
 take_next n all rest line left = take-add n 1 all ∙ ap (λ xs. take n all ++ take 1 xs) left
 
 -- the lines up to the next one
-next_read : (service : List ℕ) (all rest : List (List ℕ)) (n : ℕ) (clients : List Client) (line : List ℕ) → IsReadTo service all n clients (line ∷ rest)
-    → read_all service [] (take (n + 1) all) ≡ with_line clients (line_of service line)
-next_read service all rest n clients line h =
-    ap (read_all service []) (take_next n all rest line h.left) ∙ read_more service (take n all) (line ∷ []) []
-    ∙ ap (option_and_then (λ more. read_all service more (line ∷ []))) h.so_far ∙ one_line service line clients
+next_read : (all rest : List (List ℕ)) (n : ℕ) (clients : List Client) (line : List ℕ) → IsReadTo all n clients (line ∷ rest)
+    → read_all [] (take (n + 1) all) ≡ with_line clients (line_of line)
+next_read all rest n clients line h =
+    ap (read_all []) (take_next n all rest line h.left) ∙ read_more (take n all) (line ∷ []) []
+    ∙ ap (option_and_then (λ more. read_all more (line ∷ []))) h.so_far ∙ one_line line clients
 
-pub reads_on : (service : List ℕ) (all rest : List (List ℕ)) (n : ℕ) (clients more : List Client) (line : List ℕ) → IsReadTo service all n clients (line ∷ rest)
-    → with_line clients (line_of service line) ≡ Some more → IsReadTo service all (n + 1) more rest
-reads_on service all rest n clients more line h next = record {
-  so_far = next_read service all rest n clients line h ∙ next;
+pub reads_on : (all rest : List (List ℕ)) (n : ℕ) (clients more : List Client) (line : List ℕ) → IsReadTo all n clients (line ∷ rest)
+    → with_line clients (line_of line) ≡ Some more → IsReadTo all (n + 1) more rest
+reads_on all rest n clients more line h next = record {
+  so_far = next_read all rest n clients line h ∙ next;
   left = sym (drop-drop 1 n all) ∙ ap (drop 1) h.left;
 }
 
 -- the calls of a client, behind those that are read already
 
-calls_read : (service : List ℕ) (lines : List (List ℕ)) (name : List ℕ) (earlier ops : List Op) → IsName service → ReadsCalls service lines ops
-    → read_all service (client_with name earlier ∷ []) lines ≡ Some (client_with name (earlier ++ ops) ∷ [])
+calls_read : (lines : List (List ℕ)) (name : List ℕ) (earlier ops : List Op) → ReadsCalls lines ops
+    → read_all (client_with name earlier ∷ []) lines ≡ Some (client_with name (earlier ++ ops) ∷ [])
 unfolding read_all
-calls_read service [] name earlier ops named h = ap (λ all. Some (client_with name all ∷ [])) (sym (append-nil earlier) ∙ ap (λ more. earlier ++ more) (sym h))
-calls_read service (line ∷ lines) name earlier ops named (inl h) =
-    ap (λ o. option_and_then (λ more. read_all service more lines) (with_line (client_with name earlier ∷ []) o)) (line_again service line Skipped named h.0)
-    ∙ calls_read service lines name earlier ops named h.1
-calls_read service (line ∷ lines) name earlier ops named (inr h) =
-    ap (λ o. option_and_then (λ more. read_all service more lines) (with_line (client_with name earlier ∷ []) o)) (line_again service line (CallLine h.0) named h.3)
-    ∙ calls_read service lines name (earlier ++ h.0 ∷ []) h.1 named h.4
+calls_read [] name earlier ops h = ap (λ all. Some (client_with name all ∷ [])) (sym (append-nil earlier) ∙ ap (λ more. earlier ++ more) (sym h))
+calls_read (line ∷ lines) name earlier ops (inl h) =
+    ap (λ o. option_and_then (λ more. read_all more lines) (with_line (client_with name earlier ∷ []) o)) (line_again line Skipped h.0)
+    ∙ calls_read lines name earlier ops h.1
+calls_read (line ∷ lines) name earlier ops (inr h) =
+    ap (λ o. option_and_then (λ more. read_all more lines) (with_line (client_with name earlier ∷ []) o)) (line_again line (CallLine h.0) h.3)
+    ∙ calls_read lines name (earlier ++ h.0 ∷ []) h.1 h.4
     ∙ ap (λ all. Some (client_with name all ∷ [])) (append_assoc earlier (h.0 ∷ []) h.1 ∙ ap (λ more. earlier ++ more) (sym h.2))
 
 -- lines that read as clients are read so
-pub reads_read : (service : List ℕ) (lines : List (List ℕ)) (clients : List Client) → IsName service → Reads service lines clients → read_all service [] lines ≡ Some clients
+pub reads_read : (lines : List (List ℕ)) (clients : List Client) → Reads lines clients → read_all [] lines ≡ Some clients
 unfolding read_all
-reads_read service [] clients named h = ap (λ all. Some all) (sym h)
-reads_read service (line ∷ lines) clients named (inl h) =
-    ap (λ o. option_and_then (λ more. read_all service more lines) (with_line [] o)) (line_again service line Skipped named h.0)
-    ∙ reads_read service lines clients named h.1
-reads_read service (line ∷ lines) clients named (inr h) =
-    ap (λ o. option_and_then (λ more. read_all service more lines) (with_line [] o)) (line_again service line (ClientLine h.0) named h.3)
-    ∙ calls_read service lines h.0 [] h.1 named h.4 ∙ ap (λ all. Some all) (sym h.2)
+reads_read [] clients h = ap (λ all. Some all) (sym h)
+reads_read (line ∷ lines) clients (inl h) =
+    ap (λ o. option_and_then (λ more. read_all more lines) (with_line [] o)) (line_again line Skipped h.0)
+    ∙ reads_read lines clients h.1
+reads_read (line ∷ lines) clients (inr h) =
+    ap (λ o. option_and_then (λ more. read_all more lines) (with_line [] o)) (line_again line (ClientLine h.0) h.3)
+    ∙ calls_read lines h.0 [] h.1 h.4 ∙ ap (λ all. Some all) (sym h.2)
 
-read_calls : (service : List ℕ) (lines : List (List ℕ)) (name : List ℕ) (earlier : List Op) (clients : List Client)
-    → read_all service (client_with name earlier ∷ []) lines ≡ Some clients
-    → (ops : List Op) × ReadsCalls service lines ops × (clients ≡ client_with name (earlier ++ ops) ∷ [])
+read_calls : (lines : List (List ℕ)) (name : List ℕ) (earlier : List Op) (clients : List Client)
+    → read_all (client_with name earlier ∷ []) lines ≡ Some clients
+    → (ops : List Op) × ReadsCalls lines ops × (clients ≡ client_with name (earlier ++ ops) ∷ [])
 unfolding read_all
-read_calls service [] name earlier clients h =
+read_calls [] name earlier clients h =
     ([], refl, sym (some_is (client_with name earlier ∷ []) clients h) ∙ ap (λ all. client_with name all ∷ []) (sym (append-nil earlier)))
-read_calls service (line ∷ lines) name earlier clients h =
-    elim (line_of service line) as (λ o. line_of service line ≡ o
-    → option_and_then (λ more. read_all service more lines) (with_line (client_with name earlier ∷ []) o) ≡ Some clients
-    → (ops : List Op) × ReadsCalls service (line ∷ lines) ops × (clients ≡ client_with name (earlier ++ ops) ∷ [])) [
+read_calls (line ∷ lines) name earlier clients h =
+    elim (line_of line) as (λ o. line_of line ≡ o
+    → option_and_then (λ more. read_all more lines) (with_line (client_with name earlier ∷ []) o) ≡ Some clients
+    → (ops : List Op) × ReadsCalls (line ∷ lines) ops × (clients ≡ client_with name (earlier ++ ops) ∷ [])) [
       | None ↦ λ e k. absurd (some_of_none clients k)
-      | Some Skipped ↦ λ e k. let more = read_calls service lines name earlier clients k in (more.0, inl (line_takes service line Skipped e, more.1), more.2)
+      | Some Skipped ↦ λ e k. let more = read_calls lines name earlier clients k in (more.0, inl (line_takes line Skipped e, more.1), more.2)
       | Some (ClientLine other) ↦ λ e k. absurd (some_of_none clients k)
       | Some (CallLine op) ↦ λ e k.
-          let more = read_calls service lines name (earlier ++ op ∷ []) clients k in
-          (op ∷ more.0, inr (op, more.0, refl, line_takes service line (CallLine op) e, more.1), more.2 ∙ ap (λ all. client_with name all ∷ []) (append_assoc earlier (op ∷ []) more.0))
+          let more = read_calls lines name (earlier ++ op ∷ []) clients k in
+          (op ∷ more.0, inr (op, more.0, refl, line_takes line (CallLine op) e, more.1), more.2 ∙ ap (λ all. client_with name all ∷ []) (append_assoc earlier (op ∷ []) more.0))
     ] refl h
 
 -- lines are read as what they read as
-pub read_reads : (service : List ℕ) (lines : List (List ℕ)) (clients : List Client) → read_all service [] lines ≡ Some clients → Reads service lines clients
+pub read_reads : (lines : List (List ℕ)) (clients : List Client) → read_all [] lines ≡ Some clients → Reads lines clients
 unfolding read_all
-read_reads service [] clients h = sym (some_is [] clients h)
-read_reads service (line ∷ lines) clients h =
-    elim (line_of service line) as (λ o. line_of service line ≡ o
-    → option_and_then (λ more. read_all service more lines) (with_line [] o) ≡ Some clients → Reads service (line ∷ lines) clients) [
+read_reads [] clients h = sym (some_is [] clients h)
+read_reads (line ∷ lines) clients h =
+    elim (line_of line) as (λ o. line_of line ≡ o
+    → option_and_then (λ more. read_all more lines) (with_line [] o) ≡ Some clients → Reads (line ∷ lines) clients) [
       | None ↦ λ e k. absurd (some_of_none clients k)
-      | Some Skipped ↦ λ e k. inl (line_takes service line Skipped e, read_reads service lines clients k)
+      | Some Skipped ↦ λ e k. inl (line_takes line Skipped e, read_reads lines clients k)
       | Some (ClientLine name) ↦ λ e k.
-          let calls = read_calls service lines name [] clients k in
-          inr (name, calls.0, calls.2, line_takes service line (ClientLine name) e, calls.1)
+          let calls = read_calls lines name [] clients k in
+          inr (name, calls.0, calls.2, line_takes line (ClientLine name) e, calls.1)
       | Some (CallLine op) ↦ λ e k. absurd (some_of_none clients k)
     ] refl h
 
 -- a line that doesn't go on is the first fault
-pub first_fault : (service octets : List ℕ) (rest : List (List ℕ)) (n : ℕ) (clients : List Client) (line : List ℕ) → IsName service
-    → IsReadTo service (lines octets) n clients (line ∷ rest) → with_line clients (line_of service line) ≡ None → IsFirstFault service octets (n + 1)
-first_fault service octets rest n clients line named h stops =
+pub first_fault : (octets : List ℕ) (rest : List (List ℕ)) (n : ℕ) (clients : List Client) (line : List ℕ)
+    → IsReadTo (lines octets) n clients (line ∷ rest) → with_line clients (line_of line) ≡ None → IsFirstFault octets (n + 1)
+first_fault octets rest n clients line h stops =
     let before : n ≡ n + 1 - 1 = omega arith in
     let sized = sym (length-drop n (lines octets)) ∙ ap length h.left in
     record {
       counted = omega arith;
       within = omega (arith, sized);
-      before = subst (λ m. (found : List Client) × Reads service (take m (lines octets)) found) before (clients, read_reads service (take n (lines octets)) clients h.so_far);
-      faulty = λ found reads. some_of_none found (sym stops ∙ sym (next_read service (lines octets) rest n clients line h) ∙ reads_read service (take (n + 1) (lines octets)) found named reads);
+      before = subst (λ m. (found : List Client) × Reads (take m (lines octets)) found) before (clients, read_reads (take n (lines octets)) clients h.so_far);
+      faulty = λ found reads. some_of_none found (sym stops ∙ sym (next_read (lines octets) rest n clients line h) ∙ reads_read (take (n + 1) (lines octets)) found reads);
     }
 
 -- laws
 
-pub one_reading : (service : List ℕ) (all : List (List ℕ)) (a b : List Client) → IsName service → Reads service all a → Reads service all b → a ≡ b
-one_reading service all a b named left right = some_is a b (sym (reads_read service all a named left) ∙ reads_read service all b named right)
+pub one_reading : (all : List (List ℕ)) (a b : List Client) → Reads all a → Reads all b → a ≡ b
+one_reading all a b left right = some_is a b (sym (reads_read all a left) ∙ reads_read all b right)
 
-some_front : (service : List ℕ) (xs ys : List (List ℕ)) (clients : List Client) → option_and_then (λ more. read_all service more ys) (read_all service [] xs) ≡ Some clients
-    → (front : List Client) × (read_all service [] xs ≡ Some front)
-some_front service xs ys clients h = elim (read_all service [] xs) as (λ o. option_and_then (λ more. read_all service more ys) o ≡ Some clients → (front : List Client) × (o ≡ Some front)) [
+some_front : (xs ys : List (List ℕ)) (clients : List Client) → option_and_then (λ more. read_all more ys) (read_all [] xs) ≡ Some clients
+    → (front : List Client) × (read_all [] xs ≡ Some front)
+some_front xs ys clients h = elim (read_all [] xs) as (λ o. option_and_then (λ more. read_all more ys) o ≡ Some clients → (front : List Client) × (o ≡ Some front)) [
   | None ↦ λ k. absurd (some_of_none clients k)
   | Some front ↦ λ k. (front, refl)
 ] h
 
 -- the lines in front of lines that read as clients read as clients
-pub fronts_read : (service : List ℕ) (xs ys : List (List ℕ)) (clients : List Client) → IsName service → Reads service (xs ++ ys) clients → (front : List Client) × Reads service xs front
-fronts_read service xs ys clients named h =
-    let front = some_front service xs ys clients (sym (read_more service xs ys []) ∙ reads_read service (xs ++ ys) clients named h) in
-    (front.0, read_reads service xs front.0 front.1)
+pub fronts_read : (xs ys : List (List ℕ)) (clients : List Client) → Reads (xs ++ ys) clients → (front : List Client) × Reads xs front
+fronts_read xs ys clients h =
+    let front = some_front xs ys clients (sym (read_more xs ys []) ∙ reads_read (xs ++ ys) clients h) in
+    (front.0, read_reads xs front.0 front.1)
 
-pub no_fault : (service octets : List ℕ) (line : ℕ) (script : Script) → IsName service → IsScript service octets script → IsFirstFault service octets line → ⊥
-no_fault service octets line script named h fault =
-    let front = fronts_read service (take line (lines octets)) (drop line (lines octets)) script.clients named
-    (subst (λ all. Reads service all script.clients) (sym (take-append-drop line (lines octets))) h) in
+pub no_fault : (octets : List ℕ) (line : ℕ) (script : Script) → IsScript octets script → IsFirstFault octets line → ⊥
+no_fault octets line script h fault =
+    let front = fronts_read (take line (lines octets)) (drop line (lines octets)) script.clients
+    (subst (λ all. Reads all script.clients) (sym (take-append-drop line (lines octets))) h) in
     fault.faulty front.0 front.1
 
-later_fault : (service octets : List ℕ) (l m : ℕ) → IsName service → IsFirstFault service octets l → IsFirstFault service octets m → l < m → ⊥
-later_fault service octets l m named first second less =
+later_fault : (octets : List ℕ) (l m : ℕ) → IsFirstFault octets l → IsFirstFault octets m → l < m → ⊥
+later_fault octets l m first second less =
     let k = m - 1 - l in
     let far : m - 1 ≡ l + k = let low = less in omega (arith, low) in
     let parts = ap (λ n. take n (lines octets)) far ∙ take-add l k (lines octets) in
-    let front = fronts_read service (take l (lines octets)) (take k (drop l (lines octets))) second.before.0 named
-    (subst (λ all. Reads service all second.before.0) parts second.before.1) in
+    let front = fronts_read (take l (lines octets)) (take k (drop l (lines octets))) second.before.0
+    (subst (λ all. Reads all second.before.0) parts second.before.1) in
     first.faulty front.0 front.1
 
-pub one_fault : (service octets : List ℕ) (l m : ℕ) → IsName service → IsFirstFault service octets l → IsFirstFault service octets m → l ≡ m
-one_fault service octets l m named first second = elim (cases_lt l m) [
-  | inl less ↦ absurd (later_fault service octets l m named first second less)
+pub one_fault : (octets : List ℕ) (l m : ℕ) → IsFirstFault octets l → IsFirstFault octets m → l ≡ m
+one_fault octets l m first second = elim (cases_lt l m) [
+  | inl less ↦ absurd (later_fault octets l m first second less)
   | inr most ↦ elim (cases_lt m l) [
-    | inl less ↦ absurd (later_fault service octets m l named second first less)
+    | inl less ↦ absurd (later_fault octets m l second first less)
     | inr other ↦ omega (arith, most, other)
   ]
 ]
 
 -- at the beginning nothing is read, and at the end everything
 
-pub nothing_read : (service : List ℕ) (all : List (List ℕ)) → IsReadTo service all 0 [] all
+pub nothing_read : (all : List (List ℕ)) → IsReadTo all 0 [] all
 unfolding read_all
-nothing_read service all = record { so_far = refl; left = refl }
+nothing_read all = record { so_far = refl; left = refl }
 
-pub all_read : (service : List ℕ) (all : List (List ℕ)) (n : ℕ) (clients : List Client) → IsReadTo service all n clients [] → read_all service [] all ≡ Some clients
-all_read service all n clients h =
-    ap (read_all service []) (sym (take-append-drop n all) ∙ ap (λ rest. take n all ++ rest) h.left ∙ append-nil (take n all)) ∙ h.so_far
+pub all_read : (all : List (List ℕ)) (n : ℕ) (clients : List Client) → IsReadTo all n clients [] → read_all [] all ≡ Some clients
+all_read all n clients h =
+    ap (read_all []) (sym (take-append-drop n all) ∙ ap (λ rest. take n all ++ rest) h.left ∙ append-nil (take n all)) ∙ h.so_far

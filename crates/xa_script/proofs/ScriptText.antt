@@ -109,7 +109,7 @@ written x = flat_map escaped x.0 ++ x.1
 written_put : (x : ℕ) (more : List ℕ × List ℕ) → written (put (x ∷ []) more) ≡ escaped x ++ written more
 written_put x more = append_assoc (escaped x) (flat_map escaped more.0) more.1
 
-or_false : (a b : Bool) → (a || b) ≡ false → (a ≡ false) × (b ≡ false)
+pub or_false : (a b : Bool) → (a || b) ≡ false → (a ≡ false) × (b ≡ false)
 or_false true b h = absurd cc
 or_false false b h = (refl, h)
 

@@ -71,6 +71,20 @@ ends (x ∷ xs) = elim (x == 32) as (λ b. (x == 32) ≡ b → IsEnd (drop (cond
   | false ↦ λ e. let one : suc (position_or_len is_space xs) ≡ 1 + position_or_len is_space xs = omega arith in subst (λ n. IsEnd (drop n (x ∷ xs))) one (ends xs)
 ] refl
 
+front_plain : (xs : List ℕ) → list_all is_plain (before_first is_space xs) ≡ true
+front_plain [] = refl
+front_plain (x ∷ xs) = elim (x == 32) as (λ b. (x == 32) ≡ b → list_all is_plain (take (cond (not b) (1 + position_or_len is_space xs) 0) (x ∷ xs)) ≡ true) [
+  | true ↦ λ e. refl
+  | false ↦ λ e.
+      let one : suc (position_or_len is_space xs) ≡ 1 + position_or_len is_space xs = omega arith in
+      subst (λ n. list_all is_plain (take n (x ∷ xs)) ≡ true) one (ap (λ b. not b && list_all is_plain (before_first is_space xs)) e ∙ front_plain xs)
+] refl
+
+-- what is taken for a word has no space
+pub next_word_plain : (xs : List ℕ) → list_all is_plain (next_word xs).0 ≡ true
+unfolding next_word
+next_word_plain xs = front_plain (skip_spaces xs)
+
 pub next_word_takes : (xs : List ℕ) → (n : ℕ) × (xs ≡ spaces n ++ (next_word xs).0 ++ (next_word xs).1) × IsEnd (next_word xs).1
 unfolding next_word
 next_word_takes xs =

@@ -38,6 +38,6 @@ with_line clients (Some Skipped) = Some clients
 with_line clients (Some (ClientLine name)) = begun clients name
 with_line clients (Some (CallLine op)) = added clients op
 
-unfoldable pub read_all : List ℕ → List Client → List (List ℕ) → Option (List Client)
-read_all service clients [] = Some clients
-read_all service clients (line ∷ lines) = option_and_then (λ more. read_all service more lines) (with_line clients (line_of service line))
+unfoldable pub read_all : List Client → List (List ℕ) → Option (List Client)
+read_all clients [] = Some clients
+read_all clients (line ∷ lines) = option_and_then (λ more. read_all more lines) (with_line clients (line_of line))

@@ -2,7 +2,7 @@
 use Rattle.std.specs.Prelude.{ℕ, ◌-◌, ◌≤◌, ◌==◌, ◌≡◌, ◌⊎◌, ◌&&◌, nat_le, Bool, false, IsTrue, if◌then◌else◌, List, [], ◌∷◌, ◌++◌, length, take, replicate, codes, None, ⊤}
 use Rattle.std.specs.List.{list_all, flat_map}
 use Rattle.std.specs.Str.Lines.{lines}
-use Rattle.xa_types.specs.Name.{IsName}
+use Rattle.xa_types.specs.Name.{IsName, is_graphic}
 use Rattle.xa_types.specs.declared.call.CallFlags.{CallFlags}
 use Rattle.xa_types.specs.declared.call.Direction.TheVariants.{Neither}
 use Rattle.xa_types.specs.declared.call.Op.{Op}
@@ -48,10 +48,10 @@ IsSkipped line = IsPrinted line × (HasWords [] line ⊎ ((rest : List ℕ) × (
 abbrev pub IsClientLine : List ℕ → List ℕ → Type 0
 IsClientLine name line = IsName name × HasWords (codes "client" ∷ name ∷ []) line
 
--- the data that a script can write: none, or at most 65,536 printed octets
+-- the data that a script can write: none, or printed octets
 abbrev pub IsWritten : Data → Type 0
 IsWritten Absent = ⊤
-IsWritten (Octet octets) = (length octets ≤ 65536) × IsPrinted octets
+IsWritten (Octet octets) = IsPrinted octets
 IsWritten (Struct subtype octets) = ⊥
 
 -- `none`, or `text "..."`
@@ -67,49 +67,56 @@ no_flags = record { no_block = false; no_time = false; no_reply = false; no_tran
 abbrev pub call_with : List ℕ → Data → Op
 call_with service payload = Call (record { service = service; payload = payload; flags = no_flags; expect = None; direction = Neither })
 
+-- a word that may stand for a service, whether it is a name or not
+pub record IsServiceWord (word : List ℕ) : Type 0 where
+  pub some : 1 ≤ length word
+  pub short : length word ≤ 255
+  pub graphic : IsTrue (list_all is_graphic word)
+
 -- `call SERVICE DATA`
-abbrev pub IsCallLine : List ℕ → Op → List ℕ → Type 0
-IsCallLine service op line = (payload : Data) × IsWritten payload × (op ≡ call_with service payload) × HasWords (codes "call" ∷ service ∷ data_words payload) line
+abbrev pub IsCallLine : Op → List ℕ → Type 0
+IsCallLine op line = (service : List ℕ) × (payload : Data) × IsServiceWord service × IsWritten payload
+    × (op ≡ call_with service payload) × HasWords (codes "call" ∷ service ∷ data_words payload) line
 
 -- the lines that aren't skipped are calls, one for one these
-abbrev pub ReadsCalls : List ℕ → List (List ℕ) → List Op → Type 0
-ReadsCalls service [] ops = ops ≡ []
-ReadsCalls service (line ∷ lines) ops = (IsSkipped line × ReadsCalls service lines ops)
-    ⊎ ((op : Op) × (more : List Op) × (ops ≡ op ∷ more) × IsCallLine service op line × ReadsCalls service lines more)
+abbrev pub ReadsCalls : List (List ℕ) → List Op → Type 0
+ReadsCalls [] ops = ops ≡ []
+ReadsCalls (line ∷ lines) ops = (IsSkipped line × ReadsCalls lines ops)
+    ⊎ ((op : Op) × (more : List Op) × (ops ≡ op ∷ more) × IsCallLine op line × ReadsCalls lines more)
 
 abbrev pub client_with : List ℕ → List Op → Client
 client_with name ops = record { name = name; ops = ops }
 
 -- the lines that aren't skipped are none, or a client's line and then its calls
-abbrev pub Reads : List ℕ → List (List ℕ) → List Client → Type 0
-Reads service [] clients = clients ≡ []
-Reads service (line ∷ lines) clients = (IsSkipped line × Reads service lines clients)
-    ⊎ ((name : List ℕ) × (ops : List Op) × (clients ≡ client_with name ops ∷ []) × IsClientLine name line × ReadsCalls service lines ops)
+abbrev pub Reads : List (List ℕ) → List Client → Type 0
+Reads [] clients = clients ≡ []
+Reads (line ∷ lines) clients = (IsSkipped line × Reads lines clients)
+    ⊎ ((name : List ℕ) × (ops : List Op) × (clients ≡ client_with name ops ∷ []) × IsClientLine name line × ReadsCalls lines ops)
 
 -- the octets are a script, with these clients
-abbrev pub IsScript : List ℕ → List ℕ → Script → Type 0
-IsScript service octets script = Reads service (lines octets) script.clients
+abbrev pub IsScript : List ℕ → Script → Type 0
+IsScript octets script = Reads (lines octets) script.clients
 
 -- the lines before that one, counted from 1, are read, and with it they are not
-pub record IsFirstFault (service octets : List ℕ) (line : ℕ) : Type 0 where
+pub record IsFirstFault (octets : List ℕ) (line : ℕ) : Type 0 where
   pub counted : 1 ≤ line
   pub within : line ≤ length (lines octets)
-  pub before : (clients : List Client) × Reads service (take (line - 1) (lines octets)) clients
-  pub faulty : (clients : List Client) → Reads service (take line (lines octets)) clients → ⊥
+  pub before : (clients : List Client) × Reads (take (line - 1) (lines octets)) clients
+  pub faulty : (clients : List Client) → Reads (take line (lines octets)) clients → ⊥
 
 -- a refusal other than for want of memory has cause 9, and names the first line that breaks the form
-abbrev pub Tells : List ℕ → List ℕ → ScriptRefused → Type 0
-Tells service octets (BadLine line cause) = (cause ≡ 9) × IsFirstFault service octets line
-Tells service octets NoMemory = ⊤
+abbrev pub Tells : List ℕ → ScriptRefused → Type 0
+Tells octets (BadLine line cause) = (cause ≡ 9) × IsFirstFault octets line
+Tells octets NoMemory = ⊤
 
 -- the octets are one script at most
 abbrev pub OneScript : Type 0
-OneScript = (service octets : List ℕ) (a b : Script) → IsName service → IsScript service octets a → IsScript service octets b → a ≡ b
+OneScript = (octets : List ℕ) (a b : Script) → IsScript octets a → IsScript octets b → a ≡ b
 
 -- octets with a faulty line are no script
 abbrev pub NoFaultyScript : Type 0
-NoFaultyScript = (service octets : List ℕ) (line : ℕ) (script : Script) → IsName service → IsFirstFault service octets line → IsScript service octets script → ⊥
+NoFaultyScript = (octets : List ℕ) (line : ℕ) (script : Script) → IsFirstFault octets line → IsScript octets script → ⊥
 
 -- one line at most is the first fault
 abbrev pub OneFirstFault : Type 0
-OneFirstFault = (service octets : List ℕ) (line other : ℕ) → IsName service → IsFirstFault service octets line → IsFirstFault service octets other → line ≡ other
+OneFirstFault = (octets : List ℕ) (line other : ℕ) → IsFirstFault octets line → IsFirstFault octets other → line ≡ other

@@ -1,5 +1,5 @@
 -- How a line of a script is read: what the functions of the code compute. Each equals the relation of Script.antt.
-use Rattle.std.specs.Prelude.{ℕ, ◌==◌, ◌||◌, ◌&&◌, not, nat_le, Bool, true, if◌then◌else◌, List, [], ◌∷◌, ◌++◌, length, drop, codes, Option, Some, None, option_map}
+use Rattle.std.specs.Prelude.{ℕ, ◌==◌, ◌||◌, ◌&&◌, not, nat_lt, Bool, true, if◌then◌else◌, List, [], ◌∷◌, ◌++◌, length, drop, codes, Option, Some, None, option_map}
 use Rattle.std.specs.List.{list_all, before_first, position_or_len}
 use Rattle.std.specs.Str.{bytes_eq}
 use Rattle.xa_types.specs.Name.{is_name}
@@ -51,7 +51,7 @@ text_in_front (x ∷ y ∷ rest) = if x == 34 then ([], x ∷ y ∷ rest)
 
 abbrev pub ended : List ℕ → List ℕ → Option Data
 ended text [] = None
-ended text (octet ∷ rest) = if octet == 34 && (is_blank rest && nat_le (length text) 65536) then Some (Octet text) else None
+ended text (octet ∷ rest) = if octet == 34 && is_blank rest then Some (Octet text) else None
 
 abbrev pub quoted_from : List ℕ → Option Data
 quoted_from [] = None
@@ -64,18 +64,18 @@ unfoldable pub payload_in : List ℕ → Option Data
 payload_in octets = let word = next_word octets in
     if bytes_eq word.0 (codes "text") then quoted_in word.1 else (if bytes_eq word.0 (codes "none") && is_blank word.1 then Some Absent else None)
 
-unfoldable pub call_in : List ℕ → List ℕ → Option Op
-call_in service octets = let word = next_word octets in
-    if bytes_eq word.0 service then option_map (call_with service) (payload_in word.1) else None
+unfoldable pub call_in : List ℕ → Option Op
+call_in octets = let word = next_word octets in
+    if length word.0 == 0 || nat_lt 255 (length word.0) then None else option_map (call_with word.0) (payload_in word.1)
 
 unfoldable pub client_in : List ℕ → Option (List ℕ)
 client_in octets = let word = next_word octets in
     if is_blank word.1 && is_name word.0 then Some word.0 else None
 
-unfoldable pub line_of : List ℕ → List ℕ → Option Line
-line_of service line =
+unfoldable pub line_of : List ℕ → Option Line
+line_of line =
     if not (list_all is_printed line) then None
     else (if is_skipped line then Some Skipped
     else (if bytes_eq (next_word line).0 (codes "client") then option_map (λ name. Client name) (client_in (next_word line).1)
-    else (if bytes_eq (next_word line).0 (codes "call") then option_map (λ op. Call op) (call_in service (next_word line).1)
+    else (if bytes_eq (next_word line).0 (codes "call") then option_map (λ op. Call op) (call_in (next_word line).1)
     else None)))

@@ -1,7 +1,6 @@
 ghost use Rattle.std.specs.Prelude.{◌≡◌, ◌∷◌, [], ◌<◌, ◌^◌, length, IfOk, IfErr, IfSome, MatchOption, Some};
 ghost use Rattle.std.specs.List.{position};
 ghost use Rattle.std.specs.Str.Lines.{lines, strip_carriage_return};
-ghost use Rattle.xa_types.specs.Name.{IsName};
 ghost use Rattle.xa_script.specs.Draft.{is_line_end};
 ghost use Rattle.xa_script.specs.Script.{IsScript, Tells, OneScript, NoFaultyScript, OneFirstFault};
 ghost use Rattle.xa_script.specs.ScriptLine.{line_of};
@@ -104,10 +103,10 @@ impl Draft {
     }
 
     // Whether the line goes on with the script.
-    fn take_line(&mut self, alloc: Global, line: &[u8], service: &[u8]) -> Result<bool, NoMemory>
-        ensures { IfOk result (λ taken. kept taken self.new ≡ with_line self.old (line_of service.now line.now)) }
+    fn take_line(&mut self, alloc: Global, line: &[u8]) -> Result<bool, NoMemory>
+        ensures { IfOk result (λ taken. kept taken self.new ≡ with_line self.old (line_of line.now)) }
     {
-        match read_line(alloc, line, service)? {
+        match read_line(alloc, line)? {
             None => Ok(false),
             Some(said) => self.take(said),
         }
@@ -157,18 +156,17 @@ fn next_line(octets: &[u8]) -> Option<(&[u8], &[u8])>
     }
 }
 
-fn read_lines(alloc: Global, octets: &[u8], service: &[u8]) -> Result<Draft, ScriptRefused>
-    requires short { length octets.now < 2 ^ 32 }
-    requires named { IsName service.now }
-    ensures found { IfOk result (λ draft. read_all service.now [] (lines octets.now) ≡ Some draft) }
-    ensures refused { IfErr result (Tells service.now octets.now) }
+fn read_lines(alloc: Global, octets: &[u8]) -> Result<Draft, ScriptRefused>
+    requires { length octets.now < 2 ^ 32 }
+    ensures found { IfOk result (λ draft. read_all [] (lines octets.now) ≡ Some draft) }
+    ensures refused { IfErr result (Tells octets.now) }
 {
     let mut draft = Draft::new(alloc);
     let mut rest = octets;
     let mut line = 0;
     while let Some((text, behind)) = next_line(rest) {
         line += 1;
-        if !draft.take_line(alloc, text, service)? {
+        if !draft.take_line(alloc, text)? {
             return Err(ScriptRefused::BadLine { line, cause: 9 });
         }
         rest = behind;
@@ -176,15 +174,15 @@ fn read_lines(alloc: Global, octets: &[u8], service: &[u8]) -> Result<Draft, Scr
     Ok(draft)
 }
 
-/// Reads a script whose calls go to that service. Each call becomes a tpcall without flags.
+/// Reads a script. Each call becomes a tpcall without flags; whether its service is there is the matter of the call.
 ///
 /// A refusal is for want of memory, or names with cause 9 the first line that breaks the form.
-pub fn read_script(alloc: Global, octets: &[u8], service: &Name) -> Result<Script, ScriptRefused>
+pub fn read_script(alloc: Global, octets: &[u8]) -> Result<Script, ScriptRefused>
     requires { length octets.now < 2 ^ 32 }
-    ensures found { IfOk result (λ script. IsScript service.now octets.now script) }
-    ensures refused { IfErr result (Tells service.now octets.now) }
+    ensures found { IfOk result (λ script. IsScript octets.now script) }
+    ensures refused { IfErr result (Tells octets.now) }
 {
-    let draft = read_lines(alloc, octets, service.octets())?;
+    let draft = read_lines(alloc, octets)?;
     Ok(draft.finish(alloc)?)
 }
 
@@ -199,8 +197,9 @@ pub fn one_reading()
 #[cfg(test)]
 mod tests {
     use super::{Script, ScriptRefused, read_script};
+    use std::alloc::Global;
     use std::test::Fail;
-    use xa_types::{Ask, Data, Name, Op};
+    use xa_types::{Ask, Data, NoMemory, Op};
 
     fn calls(script: &Script) -> &[Op] {
         match script.clients.slice() {
@@ -224,10 +223,30 @@ mod tests {
         }
     }
 
+    fn last_service(script: &Script) -> &[u8] {
+        match calls(script) {
+            [.., Op::Call(ask)] => ask.service.slice(),
+            _ => b"",
+        }
+    }
+
+    // A script of one call, whose service and text have so many octets.
+    fn call_of(alloc: Global, service: usize, text: usize) -> Result<Vec<u8>, NoMemory> {
+        let mut octets = Vec::from_slice(alloc, b"client a\ncall ")?;
+        for _ in 0..service {
+            octets.push(b'S')?;
+        }
+        octets.extend_from_slice(b" text \"")?;
+        for _ in 0..text {
+            octets.push(b'x')?;
+        }
+        octets.extend_from_slice(b"\"\n")?;
+        Ok(octets)
+    }
+
     #[test]
     fn built_lines_are_read(rt: HostRuntime) -> Result<(), Fail> {
-        let service = Name::read(b"TEST1")?;
-        let cases: [(&[u8], usize, &[u8]); 7] = [
+        let cases: [(&[u8], usize, &[u8]); 8] = [
             (b"", 0, b""),
             (b"\r\n\n", 0, b""),
             (b"client a", 0, b""),
@@ -243,10 +262,11 @@ mod tests {
                 b"a\"b\\c # d",
             ),
             (b"client a\ncall TEST1 text \"\"", 1, b""),
+            (b"client a\ncall TEST1 none\ncall .2 text \"x\"", 2, b"x"),
         ];
         for (octets, count, text) in cases {
             assert!(rt; octets.len() < 1000);
-            let script = read_script(rt.alloc(), octets, &service)?;
+            let script = read_script(rt.alloc(), octets)?;
             assert_eq!(rt; calls(&script).len(), count);
             assert_eq!(rt; last_text(&script), text);
         }
@@ -254,14 +274,27 @@ mod tests {
     }
 
     #[test]
+    fn a_service_has_255_octets_at_most(rt: HostRuntime) -> Result<(), Fail> {
+        let octets = call_of(rt.alloc(), 255, 65537)?;
+        assert!(rt; octets.len() < 100000);
+        let script = read_script(rt.alloc(), &octets)?;
+        assert_eq!(rt; last_service(&script).len(), 255);
+        assert_eq!(rt; last_text(&script).len(), 65537);
+        let octets = call_of(rt.alloc(), 256, 0)?;
+        assert!(rt; octets.len() < 1000);
+        let read = read_script(rt.alloc(), &octets);
+        assert!(rt; matches!(&read, Err(ScriptRefused::BadLine { line: 2, cause: 9 })));
+        Ok(())
+    }
+
+    #[test]
     fn the_first_faulty_line_is_told(rt: HostRuntime) -> Result<(), Fail> {
-        let service = Name::read(b"TEST1")?;
         let cases: [(&[u8], u32); 18] = [
             (b"client a\ntick 1\n", 2),
             (b"\n# c\n\nclient a\n\ncall TEST1 none\ncall TEST1\nx", 7),
             (b"call TEST1 none\n", 1),
             (b"client a\nclient b\n", 2),
-            (b"client a\ncall TEST2 none\n", 2),
+            (b"client a\ncall none\n", 2),
             (b"client a\ncall TEST1 text \"hello\n", 2),
             (b"client a\ncall TEST1 text \"hello\"x\n", 2),
             (b"client a\ncall TEST1 text \"hello\" x\n", 2),
@@ -278,7 +311,7 @@ mod tests {
         ];
         for (octets, line) in cases {
             assert!(rt; octets.len() < 1000);
-            let read = read_script(rt.alloc(), octets, &service);
+            let read = read_script(rt.alloc(), octets);
             assert!(rt;
                 matches!(&read, Err(ScriptRefused::BadLine { line: l, cause: 9 }) if *l == line),
                 "at line {line}"

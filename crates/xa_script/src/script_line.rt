@@ -118,9 +118,7 @@ fn quoted_in(alloc: Global, octets: &[u8]) -> Result<Option<Data>, NoMemory>
     };
     let (text, behind) = text_in_front(alloc, front)?;
     match behind {
-        [b'"', rest @ ..] if is_blank(rest) && text.len() <= 65536 => {
-            Ok(Some(Data::Octet(Octets::from_vec(text))))
-        }
+        [b'"', rest @ ..] if is_blank(rest) => Ok(Some(Data::Octet(Octets::from_vec(text)))),
         _ => Ok(None),
     }
 }
@@ -140,11 +138,11 @@ fn payload_in(alloc: Global, octets: &[u8]) -> Result<Option<Data>, NoMemory>
 }
 
 #[tactic(auto, unfolding(crate::specs::ScriptLine::call_in))]
-fn call_in(alloc: Global, octets: &[u8], service: &[u8]) -> Result<Option<Op>, NoMemory>
-    ensures { IfOk result (λ found. found ≡ call_in service.now octets.now) }
+fn call_in(alloc: Global, octets: &[u8]) -> Result<Option<Op>, NoMemory>
+    ensures { IfOk result (λ found. found ≡ call_in octets.now) }
 {
     let (word, rest) = next_word(octets);
-    if word != service {
+    if word.is_empty() || word.len() > 255 {
         return Ok(None);
     }
     let Some(payload) = payload_in(alloc, rest)? else {
@@ -170,10 +168,10 @@ fn client_in(octets: &[u8]) -> Option<Name>
     Name::read(word).ok()
 }
 
-/// What a line says under `play` with that service; nothing where it is no line of a script.
+/// What a line says; nothing where it is no line of a script.
 #[tactic(auto, unfolding(crate::specs::ScriptLine::line_of))]
-pub fn read_line(alloc: Global, line: &[u8], service: &[u8]) -> Result<Option<Line>, NoMemory>
-    ensures { IfOk result (λ read. read ≡ line_of service.now line.now) }
+pub fn read_line(alloc: Global, line: &[u8]) -> Result<Option<Line>, NoMemory>
+    ensures { IfOk result (λ read. read ≡ line_of line.now) }
 {
     if !all_printed(line) {
         return Ok(None);
@@ -186,7 +184,7 @@ pub fn read_line(alloc: Global, line: &[u8], service: &[u8]) -> Result<Option<Li
         return Ok(client_in(rest).map(Line::Client));
     }
     if word == b"call".as_slice() {
-        return Ok(call_in(alloc, rest, service)?.map(Line::Call));
+        return Ok(call_in(alloc, rest)?.map(Line::Call));
     }
     Ok(None)
 }

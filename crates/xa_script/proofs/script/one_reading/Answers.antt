@@ -9,10 +9,10 @@ abbrev script_of : List Client → Script
 script_of clients = record { clients = clients }
 
 pub returns-clause-script : goal.returns-clause-script
-returns-clause-script c = λ service octets a b named left right. ap script_of (one_reading service (lines octets) a.clients b.clients named left right)
+returns-clause-script c = λ octets a b left right. ap script_of (one_reading (lines octets) a.clients b.clients left right)
 
 pub returns-clause-fault : goal.returns-clause-fault
-returns-clause-fault c = λ service octets line script named fault read. no_fault service octets line script named read fault
+returns-clause-fault c = λ octets line script fault read. no_fault octets line script read fault
 
 pub returns-clause-line : goal.returns-clause-line
-returns-clause-line c = λ service octets line other named first second. one_fault service octets line other named first second
+returns-clause-line c = λ octets line other first second. one_fault octets line other first second

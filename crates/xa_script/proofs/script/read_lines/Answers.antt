@@ -7,32 +7,30 @@ use Rattle.xa_script.proofs.script.read_lines.Goals as goal
 pub loop-text-init : goal.loop-text-init
 loop-text-init c =
     let all = lines c.args.octets.now in
-    (subst (λ draft. IsReadTo c.args.service.now all 0 draft all) (sym c.new-draft.ensures) (nothing_read c.args.service.now all), omega arith)
+    (subst (λ draft. IsReadTo all 0 draft all) (sym c.new-draft.ensures) (nothing_read all), omega arith)
 
 pub returns-then-not-branch-clause-refused : goal.returns-then-not-branch-clause-refused
 returns-then-not-branch-clause-refused c =
-    let service = c.args.service.now in
     let n = c.loop-text.line in
     let draft = c.loop-text.draft in
-    let reached = subst (IsReadTo service (lines c.args.octets.now) n draft) c.in-Some.ensures.line c.loop-text.invariant.0 in
+    let reached = subst (IsReadTo (lines c.args.octets.now) n draft) c.in-Some.ensures.line c.loop-text.invariant.0 in
     let stops = sym c.in_ok-take_line.ensures ∙ ap (λ b. kept b c.take_line.new.self) c.if-not-branch.true in
-    (refl, first_fault service c.args.octets.now (lines c.in-Some.behind.now) n draft c.in-Some.text.now c.requires.named reached stops)
+    (refl, first_fault c.args.octets.now (lines c.in-Some.behind.now) n draft c.in-Some.text.now reached stops)
 
 pub loop-text-preserved : goal.loop-text-preserved
 loop-text-preserved c =
-    let service = c.args.service.now in
     let n = c.loop-text.line in
     let draft = c.loop-text.draft in
-    let reached = subst (IsReadTo service (lines c.args.octets.now) n draft) c.in-Some.ensures.line c.loop-text.invariant.0 in
+    let reached = subst (IsReadTo (lines c.args.octets.now) n draft) c.in-Some.ensures.line c.loop-text.invariant.0 in
     let goes_on = sym c.in_ok-take_line.ensures ∙ ap (λ b. kept b c.take_line.new.self) c.if-not-branch.false in
     let room = c.loop-text.invariant.1 in
     let shorter = c.in-Some.ensures.shorter in (
-      reads_on service (lines c.args.octets.now) (lines c.in-Some.behind.now) n draft c.take_line.new.self c.in-Some.text.now reached goes_on,
+      reads_on (lines c.args.octets.now) (lines c.in-Some.behind.now) n draft c.take_line.new.self c.in-Some.text.now reached goes_on,
       omega (arith, room, shorter),
     )
 
 pub returns-clause-found : goal.returns-clause-found
 returns-clause-found c =
     let all = lines c.args.octets.now in
-    all_read c.args.service.now all c.loop-text.line c.loop-text.draft
-    (subst (IsReadTo c.args.service.now all c.loop-text.line c.loop-text.draft) c.in_default.ensures.line c.loop-text.invariant.0)
+    all_read all c.loop-text.line c.loop-text.draft
+    (subst (IsReadTo all c.loop-text.line c.loop-text.draft) c.in_default.ensures.line c.loop-text.invariant.0)
