@@ -3,6 +3,7 @@ ghost use Rattle.xa_types.specs.Kind.{is_sound};
 ghost use Rattle.xa_link.specs.Told.{Grew, GrewByPrefix, Empty};
 ghost use Rattle.xa_frame.specs.declared.frame.Frame.{Frame};
 ghost use Rattle.xa_frame.specs.Spelling.{spelled, HasSpelling, IsData};
+ghost use Rattle.xa_events.specs.declared.event.StopCause.TheVariants.{Starved};
 ghost use Rattle.xa_frame.specs.Stream.{IsPartial, IsMalformed};
 ghost use Rattle.xa_pipe.specs.Frames.{invoke_frame, shutdown_frame};
 ghost use Rattle.xa_pipe.specs.Pipe.{Wrote, HasRead, Finds, Keeps, ReadsNone, WritesNone};
@@ -81,6 +82,7 @@ impl<L: Link> Pipe<L> {
         requires { HasSpelling frame.now }
         ensures took { OnOk result (Grew self.old.took self.new.took (spelled frame.now)) }
         ensures part { OnErr result (GrewByPrefix self.old.took self.new.took (spelled frame.now)) }
+        ensures starved { result ≡ Err Starved → self.new.took ≡ self.old.took }
         ensures gave { self.new.gave ≡ self.old.gave }
         ensures rest { self.new.rest ≡ self.old.rest }
         ensures place { self.new.place ≡ self.old.place }
@@ -109,6 +111,7 @@ impl<L: Link> Pipe<L> {
         requires { IsData payload.now }
         ensures took { OnOk result (Grew self.old.took self.new.took (spelled (invoke_frame service.now number payload.now))) }
         ensures part { OnErr result (GrewByPrefix self.old.took self.new.took (spelled (invoke_frame service.now number payload.now))) }
+        ensures starved { result ≡ Err Starved → self.new.took ≡ self.old.took }
         ensures gave { self.new.gave ≡ self.old.gave }
         ensures rest { self.new.rest ≡ self.old.rest }
         ensures place { self.new.place ≡ self.old.place }
@@ -131,6 +134,7 @@ impl<L: Link> Pipe<L> {
     pub fn shut_down(&mut self) -> Result<(), StopCause>
         ensures took { OnOk result (Grew self.old.took self.new.took (spelled shutdown_frame)) }
         ensures part { OnErr result (GrewByPrefix self.old.took self.new.took (spelled shutdown_frame)) }
+        ensures starved { result ≡ Err Starved → self.new.took ≡ self.old.took }
         ensures gave { self.new.gave ≡ self.old.gave }
         ensures rest { self.new.rest ≡ self.old.rest }
         ensures place { self.new.place ≡ self.old.place }

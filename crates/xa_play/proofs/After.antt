@@ -68,6 +68,7 @@ module _ (service : List ℕ) (n m : ℕ) (payload : Data) (outcome : Outcome) (
     matched = ended_as;
   }
 
+module _ (service : List ℕ) (n m : ℕ) (payload : Data) (outcome : Outcome) (answer : Answer) (past : List Event) where
   pub open_served : (cause : Option StopCause) → IsOpen past → IsOpen (served service (n + 1) (m + 1) payload outcome cause answer past)
   unfolding has_left is_closed
   open_served None opens = record { stays = opens.stays; still = opens.still }
@@ -185,6 +186,7 @@ module _ (service : List ℕ) (clients n m : ℕ) (cause : StopCause) (past : Li
     matched = quiet.matched;
   }
 
+module _ (service : List ℕ) (cause : StopCause) (past : List Event) where
   pub open_fallen : IsOpen past → IsOpen (gone service (Stop (stop cause) ∷ past))
   unfolding has_left is_closed
   open_fallen opens = record { stays = opens.stays; still = opens.still }

@@ -1,2 +1,5 @@
 pub mod Built
+pub mod Exchanging
+pub mod Pipes
 pub mod Played
+pub mod Turns

@@ -31,7 +31,7 @@ use Rattle.xa_script.specs.declared.script.Client.{Client}
 use Rattle.xa_pipe.specs.Frames.{is_take_in, frames_out, ready_frame, next_frame, shutdown_frame, invoke_frame, return_frame}
 use Rattle.xa_pipe.specs.Life.{Says, Turn, IsLife, outcomes_in, outcome_by, lost_by}
 use Rattle.xa_pipe.specs.Life.Turn.{Idle as IdleTurn, AwaitsNext, Serving}
-use Rattle.xa_pipe.specs.Pipe.{Piped, Wrote, HasRead, Ceases, CutOff, WritesNone}
+use Rattle.xa_pipe.specs.Pipe.{Piped, Wrote, HasRead, Ceases, CutOff}
 use Rattle.xa_pipe.specs.declared.hearing.Return.{Return}
 use Rattle.xa_play.specs.PlaySetup.{play_setup, server_name}
 use Rattle.xa_play.specs.Spoken.{lines_up_to, spoken}
@@ -105,11 +105,11 @@ abbrev pub IsBuiltOp : Op → Type 0
 IsBuiltOp (Call ask) = ask.expect ≡ None
 IsBuiltOp op = ⊥
 
--- the whole request was sent where neither the pipe failed nor memory ran out
-abbrev pub Sent : StopCause → Type 0 → Type 0
-Sent WriteFaultStop P = ⊤
-Sent StarvedStop P = ⊤
-Sent cause P = P
+-- what the link took of the request: all of it, but where the pipe failed or memory ran out
+abbrev pub Sends : StopCause → Option (List ℕ) → Option (List ℕ) → List ℕ → Type 0
+Sends WriteFaultStop before after octets = GrewByPrefix before after octets
+Sends StarvedStop before after octets = (after ≡ before) ⊎ Grew before after octets
+Sends cause before after octets = Grew before after octets
 
 -- what the exchange with the server's program comes to: it was sent the request, and its RETURN was read, or its life ended
 abbrev pub Exchanged : List ℕ → ℕ → Data → Piped → Piped → Result Return StopCause → Type 0
@@ -117,8 +117,7 @@ Exchanged service number payload before after (Ok back) =
     Grew before.took after.took (spelled (invoke_frame service number payload))
     × ((frames : List Frame) → HasRead before frames → HasRead after (frames ++ return_frame number back.value back.code back.payload ∷ []))
 Exchanged service number payload before after (Err cause) =
-    (GrewByPrefix before.took after.took (spelled (invoke_frame service number payload)))
-    × (Sent cause (Grew before.took after.took (spelled (invoke_frame service number payload))))
+    Sends cause before.took after.took (spelled (invoke_frame service number payload))
     × ((name : List ℕ) (frames : List Frame) → HasRead before frames → Ceases name number Serving frames after cause)
 
 -- how the request ends by what was heard
@@ -217,7 +216,6 @@ pub record HasNotLived (past : List Event) : Type 0 where
 -- nothing was read
 pub record ReadNothing (before after : Piped) : Type 0 where
   pub gave : after.gave ≡ before.gave
-  pub left : after.left ≡ before.left
   pub rest : after.rest ≡ before.rest
   pub place : after.place ≡ before.place
   pub reads : after.reads ≡ before.reads
@@ -228,12 +226,18 @@ Greets true service history now before after = (now ≡ history) × (HasRead bef
 Greets false service history now before after = (cause : StopCause) × (now ≡ history ++ falls service (Some cause))
     × (HasRead before [] → CutOff (play_setup service) server_name [] after cause)
 
+-- why SHUTDOWN wasn't written, and what the link took of it
+abbrev pub SendFails : StopCause → Piped → Piped → List ℕ → Type 0
+SendFails WriteFaultStop before after octets = (0 < after.writes) × GrewByPrefix before.took after.took octets
+SendFails StarvedStop before after octets = after.took ≡ before.took
+SendFails cause before after octets = ⊥
+
 -- the queue was closed; then the server was shut down, or its life ended as SHUTDOWN was written, or it had ended before
 abbrev pub IsDone : Bool → List ℕ → List Event → List Event → Piped → Piped → Type 0
 IsDone false service history now before after = (now ≡ history ++ Close (record { 0 = 1 }) ∷ []) × (after ≡ before)
 IsDone true service history now before after = ReadNothing before after
     × (((now ≡ history ++ Close (record { 0 = 1 }) ∷ Stop (stop Shutdown) ∷ []) × Grew before.took after.took (spelled shutdown_frame))
-    ⊎ ((cause : StopCause) × (now ≡ history ++ Close (record { 0 = 1 }) ∷ falls service (Some cause)) × WritesNone after cause × GrewByPrefix before.took after.took (spelled shutdown_frame)))
+    ⊎ ((cause : StopCause) × (now ≡ history ++ Close (record { 0 = 1 }) ∷ falls service (Some cause)) × SendFails cause before after (spelled shutdown_frame)))
 
 -- the history, its lives and their links, and the starts that failed
 pub record IsServed {L : Type 0} (tells : LinkTells L) (starts starts_after : ℕ) (service : List ℕ) (clients : List Client) (history : List Event) (lives : List (Life L)) : Type 0 where
