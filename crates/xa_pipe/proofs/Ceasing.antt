@@ -24,17 +24,6 @@ err_more (Err cause) is so follows h = follows cause h
 
 -- ---- what ceases
 
--- what stays of the frames where nothing more was given
-pub keeps_read : (pipe : Piped) (frames : List Frame) (cause : StopCause) → HasRead pipe frames → Keeps pipe frames cause
-keeps_read pipe frames Starved read = told_more pipe.gave _ _ (λ octets e. (pipe.rest, e)) read.told
-keeps_read pipe frames Shutdown read = read
-keeps_read pipe frames Exit read = read
-keeps_read pipe frames EndOfInput read = read
-keeps_read pipe frames ReadFault read = read
-keeps_read pipe frames WriteFault read = read
-keeps_read pipe frames (BadBytes place) read = read
-keeps_read pipe frames (OutOfTurn kind tag) read = read
-
 starved_reading : (turn : Turn) → is_reading turn ≡ true → may_end Starved turn ≡ true
 starved_reading AwaitsReady reads = refl
 starved_reading AwaitsNext reads = refl
@@ -45,9 +34,9 @@ starved_reading Exited reads = reads
 module _ (name : List ℕ) (tag : ℕ) (turn : Turn) (frames : List Frame) (pipe : Piped) where
   -- no frame stands there
   pub ceases_none : (cause : StopCause) → is_reading turn ≡ true → Keeps pipe frames cause → ReadsNone pipe frames cause → Ceases name tag turn frames pipe cause
-  ceases_none EndOfInput reads read why = record { may = reads; counted = tt; gave = told_more pipe.gave _ _ (λ octets e. (pipe.rest, e, (why.0, why.1))) read.told }
+  ceases_none EndOfInput reads read why = record { may = reads; counted = tt; gave = told_more pipe.gave _ _ (λ octets e. (pipe.rest, e, why)) read.told }
   ceases_none ReadFault reads read why = record { may = reads; counted = why; gave = told_more pipe.gave _ _ (λ octets e. (pipe.rest, e, tt)) read.told }
-  ceases_none (BadBytes place) reads read why = record { may = reads; counted = tt; gave = told_more pipe.gave _ _ (λ octets e. (pipe.rest, e, (why.0, why.1))) read.told }
+  ceases_none (BadBytes place) reads read why = record { may = reads; counted = tt; gave = told_more pipe.gave _ _ (λ octets e. (pipe.rest, e, why)) read.told }
   ceases_none Starved reads read why = record { may = starved_reading turn reads; counted = tt; gave = told_more pipe.gave _ _ (λ octets front. (front.0, front.1, tt)) read }
   ceases_none Shutdown reads read why = absurd why
   ceases_none Exit reads read why = absurd why

@@ -1,5 +1,4 @@
 ghost use Rattle.std.specs.Prelude.{◌≡◌, ◌++◌, ◌∷◌, ◌+◌, ◌<◌, ◌≤◌, [], ℕ, List, length, IfOk, IfErr, OnOk, OnErr};
-ghost use Rattle.xa_types.specs.Kind.{is_sound};
 ghost use Rattle.xa_link.specs.Told.{Grew, GrewByPrefix, Empty};
 ghost use Rattle.xa_frame.specs.declared.frame.Frame.{Frame};
 ghost use Rattle.xa_frame.specs.Spelling.{spelled, HasSpelling, IsData};
@@ -13,7 +12,7 @@ use std::marker::Model;
 use xa_events::StopCause;
 use xa_frame::{Body, Frame, NextRefused, Reader, append};
 use xa_link::{Link, put};
-use xa_types::{Data, Mode, Name, NoMemory};
+use xa_types::{Data, Mode, Name};
 
 // How many octets one read takes at most.
 const PIECE: usize = 8192;
