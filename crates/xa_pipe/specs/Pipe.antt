@@ -1,5 +1,5 @@
 -- What the monitor's end of the pipes of a life has seen.
-use Rattle.std.specs.Prelude.{◌≡◌, ℕ, ◌+◌, ◌-◌, ◌^◌, min, ◌<◌, List, ◌++◌, length, true, Option, Some, None, IfSome}
+use Rattle.std.specs.Prelude.{◌≡◌, ◌⊎◌, ℕ, ◌+◌, ◌-◌, ◌^◌, min, ◌<◌, List, ◌++◌, length, true, Option, Some, None, IfSome}
 use Rattle.xa_types.specs.declared.setup.Setup.{Setup}
 use Rattle.xa_link.specs.Told.{Empty}
 use Rattle.xa_frame.specs.declared.frame.Frame.{Frame}
@@ -8,6 +8,7 @@ use Rattle.xa_frame.specs.Spelling.{spelled, all_spelled, HasSpelling}
 use Rattle.xa_events.specs.declared.event.Outcome.{Outcome}
 use Rattle.xa_events.specs.declared.event.StopCause.{StopCause}
 use Rattle.xa_events.specs.declared.event.StopCause.TheVariants.{EndOfInput, ReadFault, WriteFault, BadBytes, Starved}
+use Rattle.xa_pipe.specs.Life.Turn.{AwaitsReady, AwaitsNext}
 use Rattle.xa_pipe.specs.Life.{Turn, Says, Shows, IsCounted, IsFront, may_end, tag_after, place_behind}
 
 -- what the link took, gave and still holds, where it tells them, how often its reads and writes failed, and of what it gave the octets that aren't read as a frame, and their place
@@ -59,9 +60,10 @@ pub record Ceases (name : List ℕ) (tag : ℕ) (turn : Turn) (frames : List Fra
   pub counted : IsCounted cause pipe.reads pipe.writes
   pub gave : IfSome pipe.gave (λ octets. (rest : List ℕ) × (octets ≡ all_spelled frames ++ rest) × Shows name tag turn cause frames rest pipe.left)
 
--- the life ended so, after requests that ended so
+-- the life ended so as the program was to greet, after requests that ended so
 pub record CutOff (setup : Setup) (name : List ℕ) (outcomes : List Outcome) (pipe : Piped) (cause : StopCause) : Type 0 where
   pub turn : Turn
   pub frames : List Frame
+  pub greets : (turn ≡ AwaitsReady) ⊎ (turn ≡ AwaitsNext)
   pub says : Says setup name outcomes frames turn
   pub ceases : Ceases name (tag_after (length outcomes)) turn frames pipe cause

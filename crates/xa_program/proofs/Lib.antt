@@ -1,5 +1,9 @@
 pub mod Built
+pub mod Carrying
 pub mod Exchanging
+pub mod Over
 pub mod Pipes
 pub mod Played
+pub mod Playing
+pub mod Served
 pub mod Turns

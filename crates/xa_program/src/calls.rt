@@ -212,6 +212,34 @@ fn ask_of(op: &Op) -> &Ask
     }
 }
 
+// Makes one call, and answers whether the server is up behind it.
+fn next_call<L: Link>(
+    alloc: Global,
+    pipe: &mut Pipe<L>,
+    account: &mut Account,
+    sent: &mut u32,
+    service: &Name,
+    name: &Name,
+    op: u32,
+    up: bool,
+    ask: &Ask,
+) -> Result<bool, NoMemory>
+    requires built { IsBuiltOp (CallOp ask.now) }
+    requires few { sent.old < op }
+    ensures goes { IfOk result (λ now. (n : ℕ) (ops : List Op) → op ≡ n + 1
+        → IsPlaying service.now name.now 1 n sent.old ops account.old.history.items account.old.lines.items
+        → IsLive up service.now sent.old (reverse account.old.history.items) pipe.old
+        → IsPlaying service.now name.now 1 (n + 1) sent.new (ops ++ CallOp ask.now ∷ []) account.new.history.items account.new.lines.items
+        × IsLive now service.now sent.new (reverse account.new.history.items) pipe.new) }
+    ensures few { IfOk result (λ now. sent.new ≤ op) }
+{
+    if up {
+        return call(alloc, pipe, account, sent, service, name, op, ask);
+    }
+    refuse_call(account, service, name, op, ask)?;
+    Ok(false)
+}
+
 /// Makes these calls, one after another, while the server is up and after, and answers whether it is up at the end.
 pub fn make_calls<L: Link>(
     alloc: Global,
@@ -235,11 +263,9 @@ pub fn make_calls<L: Link>(
     for op in ops {
         number += 1;
         let ask = ask_of(op);
-        if up {
-            up = call(alloc, pipe, account, &mut sent, service, name, number, ask)?;
-        } else {
-            refuse_call(account, service, name, number, ask)?;
-        }
+        up = next_call(
+            alloc, pipe, account, &mut sent, service, name, number, up, ask,
+        )?;
     }
     Ok(up)
 }

@@ -1,5 +1,3 @@
-use Rattle.xa_program.proofs.Turns.{fallen_lost}
-use Rattle.xa_program.proofs.Pipes.{took_no_shutdown, life_kept, outcomes_served, lives_fallen}
 use Rattle.xa_program.proofs.Exchanging.{heard_so}
 use Rattle.xa_program.proofs.calls.exchange.Goals as goal
 

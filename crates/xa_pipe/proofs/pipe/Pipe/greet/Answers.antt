@@ -1,4 +1,4 @@
-use Rattle.std.proofs.Common.{[], ◌∷◌}
+use Rattle.std.proofs.Common.{[], ◌∷◌, inl, inr, refl}
 use Rattle.xa_pipe.specs.Frames.{ready_frame}
 use Rattle.xa_pipe.specs.Life.{tag_after}
 use Rattle.xa_pipe.specs.Life.Says.{Silent, Named}
@@ -9,7 +9,7 @@ use Rattle.xa_pipe.proofs.pipe.Pipe.greet.Goals as goal
 pub returns-in_err-read_ready-clause-why : goal.returns-in_err-read_ready-clause-why
 returns-in_err-read_ready-clause-why g c =
     err_is c.from_residual.result _ c.in_err-read_ready.field-0.0 c.from_residual.ensures.1
-    (λ setup read. record { turn = AwaitsReady; frames = []; says = Silent; ceases = c.in_err-read_ready.ensures.why (tag_after 0) [] read })
+    (λ setup read. record { turn = AwaitsReady; frames = []; greets = inl refl; says = Silent; ceases = c.in_err-read_ready.ensures.why (tag_after 0) [] read })
 
 pub returns-clause-why : goal.returns-clause-why
 returns-clause-why g c =
@@ -17,6 +17,7 @@ returns-clause-why g c =
     (λ cause why setup read. record {
       turn = AwaitsNext;
       frames = ready_frame c.args.server.now ∷ [];
+      greets = inr refl;
       says = Named;
       ceases = why c.args.server.now (tag_after 0) (ready_frame c.args.server.now ∷ []) (c.in_ok-read_ready.ensures.read [] read);
     })
