@@ -40,7 +40,7 @@ use Rattle.xa_play.proofs.Told.{Keeps, keeps_on, each_kept, lines_kept}
 use Rattle.xa_play.proofs.ToldCalls.{keeps_leave, keeps_closed, keeps_shut, keeps_fallen}
 use Rattle.xa_program.specs.Headline.{IsHistoryAt, EachMadeCalls, names_of}
 use Rattle.xa_program.specs.Lives.{lives_of, failed_starts}
-use Rattle.xa_program.specs.Progress.{IsPlayingAt, IsPlaying, IsServing, HasFallen, NeverStarted, IsLive, HasMade, IsLeavingAt, IsLeaving, IsOver, HasLived, HasNotLived, ReadNothing, SendFails, IsDone}
+use Rattle.xa_program.specs.Progress.{IsPlayingAt, IsPlaying, IsServing, HasFallen, NeverStarted, IsLive, HasMade, IsLeavingAt, IsLeaving, IsOver, HasLived, HasNotLived, ReadNothing, SendFails, IsDone, Greets}
 use Rattle.xa_program.proofs.Pipes.{out_fallen, outcomes_fallen, lives_fallen, life_kept, wrote_more, took_all, took_no_shutdown}
 use Rattle.xa_program.proofs.Turns.{awaited_ends}
 use Rattle.xa_program.proofs.Playing.{playing_fallen, reverse_falls}
@@ -389,4 +389,59 @@ done_without service clients history now lines left never noted =
     subst (λ (es : List Event). IsOver service clients es lines × HasNotLived (reverse es)) (sym noted) (
       over_closed service clients history lines left never.down,
       subst (λ (es : List Event). HasNotLived es) (sym (reverse-append history (Close (record { 0 = 1 }) ∷ []))) (record { lives = append-nil _ ∙ never.lives; failed = never.failed }),
+    )
+
+-- ---- put together
+
+-- the one client of the script, whose calls were made, has left
+pub leaving_all : (service : List ℕ) (client : Client) (clients : List Client) (m : ℕ) (ops : List Op) (history now : List Event) (lines : List ℕ) → clients ≡ client ∷ [] → ops ≡ client.ops
+    → IsPlaying service client.name 1 (length ops) m ops history lines → 0 < length (changes (reverse history)) → now ≡ history ++ Leave (record { 0 = 1 }) ∷ [] → IsLeaving service clients now lines
+leaving_all service client clients m ops history now lines alone same playing some noted =
+    let whole = subst (λ (xs : List Op). IsPlaying service client.name 1 (length xs) m xs history lines) same playing in
+    subst (λ (es : List Event). IsLeaving service clients es lines) (sym noted)
+    (subst (λ (all : List Client). IsLeaving service all (history ++ Leave (record { 0 = 1 }) ∷ []) lines) (sym alone) (leaving_one service client.name (length client.ops) m client.ops history lines whole some))
+
+pub live_gone : (up : Bool) (service : List ℕ) (m : ℕ) (history now : List Event) (pipe : Piped) → IsLive up service m (reverse history) pipe → now ≡ history ++ Leave (record { 0 = 1 }) ∷ [] → IsLive up service m (reverse now) pipe
+live_gone up service m history now pipe live noted =
+    subst (λ (es : List Event). IsLive up service m es pipe) (sym (ap reverse noted ∙ reverse_one history (Leave (record { 0 = 1 })))) (live_left up service m (reverse history) pipe live)
+
+pub never_gone : (service : List ℕ) (history now : List Event) → NeverStarted service (reverse history) → now ≡ history ++ Leave (record { 0 = 1 }) ∷ [] → NeverStarted service (reverse now)
+never_gone service history now never noted = subst (λ (es : List Event). NeverStarted service es) (sym (ap reverse noted ∙ reverse_one history (Leave (record { 0 = 1 })))) (never_left service (reverse history) never)
+
+pub board_never : (service : List ℕ) (past : List Event) → NeverStarted service past → 0 < length (changes past)
+board_never service past never = omega (arith, ap length never.down.board)
+
+-- behind the greeting
+pub greeted : (up : Bool) (service : List ℕ) (history now : List Event) (lines : List ℕ) (before after : Piped) → history ≡ Advertise (advertise service) ∷ Start start ∷ [] → lines ≡ [] → Wrote before [] → HasRead before [] → after.took ≡ before.took
+    → Greets up service history now before after → ((name : List ℕ) (clients : ℕ) → IsPlaying service name clients 0 0 [] now lines) × IsLive up service 0 (reverse now) after
+greeted true service history now lines before after is silent wrote read took (same, greets) =
+    let events : now ≡ Advertise (advertise service) ∷ Start start ∷ [] = same ∙ is in
+    (
+      λ name clients. subst (λ (es : List Event). IsPlaying service name clients 0 0 [] es lines) (sym events) (subst (λ (text : List ℕ). IsPlaying service name clients 0 0 [] (Advertise (advertise service) ∷ Start start ∷ []) text) (sym silent) (playing_begun service name clients)),
+      subst (λ (es : List Event). IsServing service 0 (reverse es) after) (sym events)
+      (serving_begun service after (subst (λ (t : Option (List ℕ)). IfSome t (λ octets. octets ≡ [])) (sym took) wrote) (greets read)),
+    )
+greeted false service history now lines before after is silent wrote read took (cause, noted, cut) =
+    let first = Advertise (advertise service) ∷ Start start ∷ [] in
+    let events : now ≡ first ++ falls service (Some cause) = noted ∙ ap (λ (es : List Event). es ++ falls service (Some cause)) is in
+    let ended = cut read in
+    let other = greeted_ends service after cause ended in
+    (
+      λ name clients. subst (λ (es : List Event). IsPlaying service name clients 0 0 [] es lines) (sym events)
+      (subst (λ (text : List ℕ). IsPlaying service name clients 0 0 [] (first ++ falls service (Some cause)) text) (sym silent)
+      (playing_fallen service name clients 0 0 [] first (begun service) [] cause (playing_begun service name clients) (up_begun service) other.0 other.1)),
+      subst (λ (es : List Event). HasFallen service (reverse es) after) (sym events)
+      (fallen_begun service after cause (subst (λ (t : Option (List ℕ)). IfSome t (λ octets. octets ≡ [])) (sym took) wrote) ended),
+    )
+
+-- behind a start that failed
+pub not_started : (service : List ℕ) (history now : List Event) (lines : List ℕ) → history ≡ Advertise (advertise service) ∷ [] → lines ≡ []
+    → now ≡ history ++ StartFailed start ∷ Gone (record { 0 = 1 }) ∷ Withdraw (withdraw service) ∷ Down (record { 0 = 1 }) ∷ []
+    → ((name : List ℕ) (clients : ℕ) → IsPlaying service name clients 0 0 [] now lines) × NeverStarted service (reverse now)
+not_started service history now lines is silent noted =
+    let first = Advertise (advertise service) ∷ StartFailed start ∷ Gone (record { 0 = 1 }) ∷ Withdraw (withdraw service) ∷ Down (record { 0 = 1 }) ∷ [] in
+    let events : now ≡ first = noted ∙ ap (λ (es : List Event). es ++ StartFailed start ∷ Gone (record { 0 = 1 }) ∷ Withdraw (withdraw service) ∷ Down (record { 0 = 1 }) ∷ []) is in
+    (
+      λ name clients. subst (λ (es : List Event). IsPlaying service name clients 0 0 [] es lines) (sym events) (subst (λ (text : List ℕ). IsPlaying service name clients 0 0 [] first text) (sym silent) (playing_not_begun service name clients)),
+      subst (λ (es : List Event). NeverStarted service (reverse es)) (sym events) (never_begun service),
     )
