@@ -1,6 +1,7 @@
 use crate::{LocalYard, Outcome, Status, run};
+use std::alloc::Global;
 use std::test::Fail;
-use xa_link::{MemoryShelf, MemorySink, MemorySource, OpenGate};
+use xa_link::{MemoryLink, MemoryShelf, MemorySink, MemorySource, MemoryYard, OpenGate, Yard};
 use xa_types::Octets;
 
 // A command over streams in memory: its status, what it wrote, how many events there were, and what the server got.
@@ -12,13 +13,18 @@ struct Ran {
     lives: usize,
 }
 
-fn run_on(
+fn run_in<Y: Yard>(
     rt: &HostRuntime,
+    yard: &mut Y,
     words: &[&str],
     script: &[u8],
     read_fails: &[u64],
     idle: &[u64],
-) -> Result<Ran, Fail> {
+) -> Result<Ran, Fail>
+where
+    Y::Line: Drop,
+    Y::Start: Drop,
+{
     let alloc = rt.alloc();
     let mut texts = Vec::new(alloc);
     for word in words {
@@ -31,7 +37,6 @@ fn run_on(
         7,
     );
     let mut out = MemorySink::new(alloc, Vec::new(alloc), Vec::from_slice(alloc, idle)?, 5);
-    let mut yard = LocalYard::new(alloc);
     let Outcome {
         status,
         history,
@@ -44,7 +49,7 @@ fn run_on(
         &mut shelf,
         &mut input,
         &mut out,
-        &mut yard,
+        yard,
         &OpenGate,
     );
     let wrote = Vec::from_slice(alloc, out.taken())?;
@@ -55,6 +60,17 @@ fn run_on(
         events: history.len(),
         lives: count,
     })
+}
+
+fn run_on(
+    rt: &HostRuntime,
+    words: &[&str],
+    script: &[u8],
+    read_fails: &[u64],
+    idle: &[u64],
+) -> Result<Ran, Fail> {
+    let mut yard = LocalYard::new(rt.alloc());
+    run_in(rt, &mut yard, words, script, read_fails, idle)
 }
 
 #[test]
@@ -110,17 +126,196 @@ fn what_is_refused_is_named(rt: HostRuntime) -> Result<(), Fail> {
             [1].as_slice(),
             Status::WriteFault,
         ),
-        (
-            ["play", "FAIL"].as_slice(),
-            b"client a\ncall FAIL none\n".as_slice(),
-            none,
-            none,
-            Status::Unbuilt,
-        ),
     ];
     for (words, script, fails, idle, status) in cases {
         let ran = run_on(&rt, words, script, fails, idle)?;
         assert_eq!(rt; ran.status, status);
+    }
+    Ok(())
+}
+
+// What a server's program says: READY, NEXT, and RETURNs to the first invocation, of which the last is cut short.
+const READY: &[u8] = b"XA\x01\x01\0\0\0\x02\0\0\0\0\x01S";
+
+const NEXT: &[u8] = b"XA\x01\x02\0\0\0\0\0\0\0\0";
+
+const SUCCESS: &[u8] = b"XA\x01\x04\0\0\0\x06\0\0\0\x01\0\0\0\0\0\0";
+
+const FAIL: &[u8] = b"XA\x01\x04\0\0\0\x06\0\0\0\x01\x01\0\0\0\x63\0";
+
+const EXIT: &[u8] = b"XA\x01\x04\0\0\0\x06\0\0\0\x01\x02\0\0\0\x01\0";
+
+const TYPED: &[u8] = b"XA\x01\x04\0\0\0\x11\0\0\0\x01\0\0\0\0\0\x02\x05entry\0\0\0\x01x";
+
+const SHORT: &[u8] = b"XA\x01\x04\0\0\0\x0f\0\0\0\x01\0\0\0\0\x07\x01\0\0\0\x05";
+
+// The same as SUCCESS, to the second invocation.
+const SECOND: &[u8] = b"XA\x01\x04\0\0\0\x06\0\0\0\x02\0\0\0\0\0\0";
+
+const ONE: &[u8] = b"client a\ncall ECHO none\n";
+
+const TWO: &[u8] = b"client a\ncall ECHO none\ncall ECHO none\n";
+
+const DIED: &[u8] = b"a 1 TPESVCERR\na 2 TPENOENT\n";
+
+const DOWN: &[u8] = b"a 1 TPENOENT\na 2 TPENOENT\n";
+
+// The script, what the program says or `None` where it can't be started, the reads and writes of the link that fail and
+// the writes that take nothing, and the transcript.
+type Row = (
+    &'static [u8],
+    Option<&'static [&'static [u8]]>,
+    [&'static [u64]; 3],
+    &'static [u8],
+);
+
+const SOUND: [&[u64]; 3] = [&[], &[], &[]];
+
+const ROWS: [Row; 20] = [
+    (b"client a\n", Some(&[READY, NEXT]), SOUND, b""),
+    (
+        TWO,
+        Some(&[READY, NEXT, SUCCESS, NEXT, SECOND, NEXT]),
+        SOUND,
+        b"a 1 OK 0 none\na 2 OK 0 none\n",
+    ),
+    // A request that is refused, or that fails, and the server goes on.
+    (
+        b"client a\ncall .X none\ncall OTHER none\ncall ECHO none\n",
+        Some(&[READY, NEXT, SUCCESS, NEXT]),
+        SOUND,
+        b"a 1 TPEINVAL\na 2 TPENOENT\na 3 OK 0 none\n",
+    ),
+    (
+        TWO,
+        Some(&[READY, NEXT, FAIL, NEXT, SECOND, NEXT]),
+        SOUND,
+        b"a 1 TPESVCFAIL 99 none\na 2 OK 0 none\n",
+    ),
+    (
+        TWO,
+        Some(&[READY, NEXT, TYPED, NEXT, SECOND, NEXT]),
+        SOUND,
+        b"a 1 TPESVCERR\na 2 OK 0 none\n",
+    ),
+    // A life that ends with its answer, or behind it.
+    (
+        TWO,
+        Some(&[READY, NEXT, EXIT]),
+        SOUND,
+        b"a 1 TPESVCFAIL 1 none\na 2 TPENOENT\n",
+    ),
+    (
+        TWO,
+        Some(&[READY, NEXT, SUCCESS]),
+        SOUND,
+        b"a 1 OK 0 none\na 2 TPENOENT\n",
+    ),
+    (
+        TWO,
+        Some(&[READY, NEXT, SUCCESS, SECOND]),
+        SOUND,
+        b"a 1 OK 0 none\na 2 TPENOENT\n",
+    ),
+    // A request that dies with its server.
+    (ONE, Some(&[READY, NEXT, SHORT]), SOUND, b"a 1 TPESVCERR\n"),
+    (TWO, Some(&[READY, NEXT, SHORT]), SOUND, DIED),
+    (TWO, Some(&[READY, NEXT, SECOND]), SOUND, DIED),
+    (TWO, Some(&[READY, NEXT]), SOUND, DIED),
+    (
+        TWO,
+        Some(&[READY, NEXT, SUCCESS, NEXT]),
+        [&[3], &[], &[]],
+        DIED,
+    ),
+    (
+        TWO,
+        Some(&[READY, NEXT, SUCCESS, NEXT]),
+        [&[], &[1], &[]],
+        DIED,
+    ),
+    (
+        TWO,
+        Some(&[READY, NEXT, SUCCESS, NEXT]),
+        [&[], &[], &[2]],
+        DIED,
+    ),
+    // A server that never takes a request.
+    (TWO, None, SOUND, DOWN),
+    (
+        b"client a\ncall .X none\ncall ECHO none\n",
+        None,
+        SOUND,
+        b"a 1 TPEINVAL\na 2 TPENOENT\n",
+    ),
+    (TWO, Some(&[]), SOUND, DOWN),
+    (TWO, Some(&[READY]), SOUND, DOWN),
+    (
+        TWO,
+        Some(&[b"XA\x01\x01\0\0\0\x02\0\0\0\0\x01T", NEXT]),
+        SOUND,
+        DOWN,
+    ),
+];
+
+// A yard of one server with that life, whose reads give 13 octets at most, and writes take 5.
+fn yard_of(alloc: Global, life: Option<&[&[u8]]>, faults: [&[u64]; 3]) -> Result<MemoryYard, Fail> {
+    let link = match life {
+        Some(said) => {
+            let mut octets = Vec::new(alloc);
+            for frame in said {
+                octets.extend_from_slice(frame)?;
+            }
+            let [reads, writes, idle] = faults;
+            let source = MemorySource::new(
+                Octets::from_vec(octets),
+                Vec::from_slice(alloc, reads)?,
+                13,
+            );
+            let sink = MemorySink::new(
+                alloc,
+                Vec::from_slice(alloc, writes)?,
+                Vec::from_slice(alloc, idle)?,
+                5,
+            );
+            Some(MemoryLink::new(source, sink))
+        }
+        None => None,
+    };
+    let lives = Vec::from_array(alloc, [link])?;
+    Ok(MemoryYard::new(alloc, Vec::from_array(alloc, [lives])?))
+}
+
+#[test]
+fn each_life_is_served(rt: HostRuntime) -> Result<(), Fail> {
+    for (script, life, faults, wrote) in ROWS {
+        let mut yard = yard_of(rt.alloc(), life, faults)?;
+        let ran = run_in(&rt, &mut yard, &["play", "ECHO"], script, &[], &[])?;
+        assert_eq!(rt; ran.status, Status::Done);
+        assert_eq!(rt; ran.wrote.as_slice(), wrote);
+        assert_eq!(rt; ran.lives, usize::from(life.is_some()));
+    }
+    Ok(())
+}
+
+#[test]
+fn local_servers_fail_and_die(rt: HostRuntime) -> Result<(), Fail> {
+    let cases = [
+        (
+            "FAIL",
+            b"client a\ncall FAIL none\n".as_slice(),
+            b"a 1 TPESVCFAIL 99 none\n".as_slice(),
+        ),
+        (
+            "DIE",
+            b"client a\ncall DIE none\ncall DIE none\n".as_slice(),
+            DIED,
+        ),
+    ];
+    for (service, script, wrote) in cases {
+        let ran = run_on(&rt, &["play", service], script, &[], &[])?;
+        assert_eq!(rt; ran.status, Status::Done);
+        assert_eq!(rt; ran.wrote.as_slice(), wrote);
     }
     Ok(())
 }
