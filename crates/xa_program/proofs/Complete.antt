@@ -4,7 +4,7 @@ use Rattle.std.specs.Prelude.{IfSome}
 use Rattle.xa_link.specs.Told.{Rose}
 use Rattle.xa_events.specs.declared.event.Event.{Event}
 use Rattle.xa_script.specs.declared.script.Script.{Script}
-use Rattle.xa_script.specs.Script.{IsScript, IsFirstFault}
+use Rattle.xa_script.specs.Script.{IsScript}
 use Rattle.xa_script.proofs.ScriptRead.{no_fault}
 use Rattle.xa_program.specs.declared.outcome.Life.{Life}
 use Rattle.xa_program.specs.declared.status.Status.{Status}

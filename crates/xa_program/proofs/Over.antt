@@ -1,9 +1,9 @@
 -- From the boot to the first call, and from the last call to the end.
-use Rattle.std.proofs.Common.{◌≡◌, ◌⊎◌, ℕ, ◌+◌, ◌<◌, ◌≤◌, Bool, true, false, List, [], ◌∷◌, ◌++◌, length, reverse, Option, Some, None, inl, inr, refl, sym, ◌∙◌, ap, subst, append-nil, arith}
+use Rattle.std.proofs.Common.{◌≡◌, ◌⊎◌, ℕ, ◌<◌, Bool, true, false, List, [], ◌∷◌, ◌++◌, length, reverse, Option, Some, inl, inr, refl, sym, ◌∙◌, ap, subst, append-nil, arith}
 use Rattle.std.specs.Prelude.{IfSome}
 use Rattle.std.proofs.lemmas.List.{reverse-append}
 use Rattle.xa_types.specs.declared.call.Op.{Op}
-use Rattle.xa_types.specs.Rows.{Change, Put, Remove}
+use Rattle.xa_types.specs.Rows.{Change}
 use Rattle.xa_events.specs.declared.event.Event.{Event}
 use Rattle.xa_events.specs.declared.event.Event.TheVariants.{Advertise, Start, StartFailed, Gone, Withdraw, Down, Leave, Close, Stop}
 use Rattle.xa_events.specs.declared.event.Outcome.{Outcome}
@@ -25,25 +25,25 @@ use Rattle.xa_frame.specs.declared.frame.Frame.{Frame}
 use Rattle.xa_frame.specs.Spelling.{spelled}
 use Rattle.xa_script.specs.declared.script.Client.{Client}
 use Rattle.xa_pipe.specs.Frames.{frames_out, ready_frame, next_frame, shutdown_frame}
-use Rattle.xa_pipe.specs.Life.{Says, Silent, Named, Free, Turn, IsLife, TookBy, outcomes_in, all_outcomes, may_end, IsCounted, Shows, tag_after}
-use Rattle.xa_pipe.specs.Life.Turn.{AwaitsReady, AwaitsNext, Idle as IdleTurn, Serving, Exited}
+use Rattle.xa_pipe.specs.Life.{Says, Named, Free, Turn, TookBy, outcomes_in, all_outcomes, may_end, IsCounted, Shows, tag_after}
+use Rattle.xa_pipe.specs.Life.Turn.{AwaitsReady, AwaitsNext, Idle as IdleTurn, Exited}
 use Rattle.xa_pipe.specs.Pipe.{Piped, Wrote, HasRead, CutOff}
 use Rattle.xa_pipe.proofs.Frames.{read_same, told_more}
 use Rattle.xa_play.specs.PlaySetup.{play_setup, server_name}
 use Rattle.xa_play.specs.Spoken.{spoken, lines_up_to}
 use Rattle.xa_play.specs.History.{advertise, withdraw, start, stop, gone, falls, begun, not_begun, closed}
-use Rattle.xa_play.specs.Between.{at, IsQuiet, IsOpen, IsUp, IsDown, IsLeft, IsFresh, KnowsAnswers}
+use Rattle.xa_play.specs.Between.{at, IsUp, IsDown, IsFresh, KnowsAnswers}
 use Rattle.xa_play.proofs.Machine.{run_append}
 use Rattle.xa_play.proofs.After.{down_fallen}
 use Rattle.xa_play.proofs.Closing.{run_begun, quiet_begun, open_begun, up_begun, run_not_begun, quiet_not_begun, open_not_begun, down_not_begun, left_none, left_one, up_left, down_left, leave_case, run_shut, run_dropped, run_closed, final_shut, final_dropped, final_down}
 use Rattle.xa_play.proofs.Told.{Keeps, keeps_on, each_kept, lines_kept}
 use Rattle.xa_play.proofs.ToldCalls.{keeps_leave, keeps_closed, keeps_shut, keeps_fallen}
 use Rattle.xa_program.specs.Headline.{IsHistoryAt, EachMadeCalls, names_of}
-use Rattle.xa_program.specs.Lives.{lives_of, failed_starts}
-use Rattle.xa_program.specs.Progress.{IsPlayingAt, IsPlaying, IsServing, HasFallen, NeverStarted, IsLive, HasMade, IsLeavingAt, IsLeaving, IsOver, HasLived, HasNotLived, ReadNothing, SendFails, IsDone, Greets}
+use Rattle.xa_program.specs.Lives.{lives_of}
+use Rattle.xa_program.specs.Progress.{IsPlaying, IsServing, HasFallen, NeverStarted, IsLive, HasMade, IsLeavingAt, IsLeaving, IsOver, HasLived, HasNotLived, ReadNothing, SendFails, IsDone, Greets}
 use Rattle.xa_program.proofs.Pipes.{out_fallen, outcomes_fallen, lives_fallen, life_kept, wrote_more, took_all, took_no_shutdown}
 use Rattle.xa_program.proofs.Turns.{awaited_ends}
-use Rattle.xa_program.proofs.Playing.{playing_fallen, reverse_falls}
+use Rattle.xa_program.proofs.Playing.{playing_fallen}
 
 -- ---- the beginning
 
@@ -366,20 +366,20 @@ done false service clients m history now lines before after left live (noted, sa
     subst (λ (es : List Event). IsOver service clients es lines × HasLived service (reverse es) after) (sym noted) (
       over_closed service clients history lines left live.down,
       subst (λ (es : List Event). HasLived service es after) (sym (reverse-append history (Close (record { 0 = 1 }) ∷ [])))
-      (subst (λ (p : Piped). HasLived service (closed (reverse history)) p) (sym same) (closed_none service (reverse history) before live)),
+          (subst (λ (p : Piped). HasLived service (closed (reverse history)) p) (sym same) (closed_none service (reverse history) before live)),
     )
 done true service clients m history now lines before after left live (same, inl (noted, grew)) =
     subst (λ (es : List Event). IsOver service clients es lines × HasLived service (reverse es) after) (sym noted) (
       over_shut service clients history lines left live.up,
       subst (λ (es : List Event). HasLived service es after) (sym (reverse-append history (Close (record { 0 = 1 }) ∷ Stop (stop Shutdown) ∷ [])))
-      (shut_lived service m (reverse history) before after live same (wrote_more before.took after.took (frames_out 1 1 (reverse history)) shutdown_frame live.wrote grew)),
+          (shut_lived service m (reverse history) before after live same (wrote_more before.took after.took (frames_out 1 1 (reverse history)) shutdown_frame live.wrote grew)),
     )
 done true service clients m history now lines before after left live (same, inr (cause, noted, fails)) =
     let other = send_fails cause before after (spelled shutdown_frame) fails in
     subst (λ (es : List Event). IsOver service clients es lines × HasLived service (reverse es) after) (sym noted) (
       over_dropped service clients history lines left cause live.up other.0 other.1,
       subst (λ (es : List Event). HasLived service es after) (sym (reverse-append history (Close (record { 0 = 1 }) ∷ falls service (Some cause))))
-      (dropped_lived service m (reverse history) before after cause live same fails),
+          (dropped_lived service m (reverse history) before after cause live same fails),
     )
 
 -- the run is over where no server was started
@@ -415,23 +415,21 @@ board_never service past never = omega (arith, ap length never.down.board)
 pub greeted : (up : Bool) (service : List ℕ) (history now : List Event) (lines : List ℕ) (before after : Piped) → history ≡ Advertise (advertise service) ∷ Start start ∷ [] → lines ≡ [] → Wrote before [] → HasRead before [] → after.took ≡ before.took
     → Greets up service history now before after → ((name : List ℕ) (clients : ℕ) → IsPlaying service name clients 0 0 [] now lines) × IsLive up service 0 (reverse now) after
 greeted true service history now lines before after is silent wrote read took (same, greets) =
-    let events : now ≡ Advertise (advertise service) ∷ Start start ∷ [] = same ∙ is in
-    (
+    let events : now ≡ Advertise (advertise service) ∷ Start start ∷ [] = same ∙ is in (
       λ name clients. subst (λ (es : List Event). IsPlaying service name clients 0 0 [] es lines) (sym events) (subst (λ (text : List ℕ). IsPlaying service name clients 0 0 [] (Advertise (advertise service) ∷ Start start ∷ []) text) (sym silent) (playing_begun service name clients)),
       subst (λ (es : List Event). IsServing service 0 (reverse es) after) (sym events)
-      (serving_begun service after (subst (λ (t : Option (List ℕ)). IfSome t (λ octets. octets ≡ [])) (sym took) wrote) (greets read)),
+          (serving_begun service after (subst (λ (t : Option (List ℕ)). IfSome t (λ octets. octets ≡ [])) (sym took) wrote) (greets read)),
     )
 greeted false service history now lines before after is silent wrote read took (cause, noted, cut) =
     let first = Advertise (advertise service) ∷ Start start ∷ [] in
     let events : now ≡ first ++ falls service (Some cause) = noted ∙ ap (λ (es : List Event). es ++ falls service (Some cause)) is in
     let ended = cut read in
-    let other = greeted_ends service after cause ended in
-    (
+    let other = greeted_ends service after cause ended in (
       λ name clients. subst (λ (es : List Event). IsPlaying service name clients 0 0 [] es lines) (sym events)
-      (subst (λ (text : List ℕ). IsPlaying service name clients 0 0 [] (first ++ falls service (Some cause)) text) (sym silent)
-      (playing_fallen service name clients 0 0 [] first (begun service) [] cause (playing_begun service name clients) (up_begun service) other.0 other.1)),
+          (subst (λ (text : List ℕ). IsPlaying service name clients 0 0 [] (first ++ falls service (Some cause)) text) (sym silent)
+          (playing_fallen service name clients 0 0 [] first (begun service) [] cause (playing_begun service name clients) (up_begun service) other.0 other.1)),
       subst (λ (es : List Event). HasFallen service (reverse es) after) (sym events)
-      (fallen_begun service after cause (subst (λ (t : Option (List ℕ)). IfSome t (λ octets. octets ≡ [])) (sym took) wrote) ended),
+          (fallen_begun service after cause (subst (λ (t : Option (List ℕ)). IfSome t (λ octets. octets ≡ [])) (sym took) wrote) ended),
     )
 
 -- behind a start that failed
@@ -440,8 +438,7 @@ pub not_started : (service : List ℕ) (history now : List Event) (lines : List 
     → ((name : List ℕ) (clients : ℕ) → IsPlaying service name clients 0 0 [] now lines) × NeverStarted service (reverse now)
 not_started service history now lines is silent noted =
     let first = Advertise (advertise service) ∷ StartFailed start ∷ Gone (record { 0 = 1 }) ∷ Withdraw (withdraw service) ∷ Down (record { 0 = 1 }) ∷ [] in
-    let events : now ≡ first = noted ∙ ap (λ (es : List Event). es ++ StartFailed start ∷ Gone (record { 0 = 1 }) ∷ Withdraw (withdraw service) ∷ Down (record { 0 = 1 }) ∷ []) is in
-    (
+    let events : now ≡ first = noted ∙ ap (λ (es : List Event). es ++ StartFailed start ∷ Gone (record { 0 = 1 }) ∷ Withdraw (withdraw service) ∷ Down (record { 0 = 1 }) ∷ []) is in (
       λ name clients. subst (λ (es : List Event). IsPlaying service name clients 0 0 [] es lines) (sym events) (subst (λ (text : List ℕ). IsPlaying service name clients 0 0 [] first text) (sym silent) (playing_not_begun service name clients)),
       subst (λ (es : List Event). NeverStarted service (reverse es)) (sym events) (never_begun service),
     )

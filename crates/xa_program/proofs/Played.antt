@@ -1,7 +1,6 @@
 -- How a run of `play` ends, by how its script was served.
-use Rattle.std.proofs.Common.{◌≡◌, ◌⊎◌, ℕ, ◌≤◌, List, [], ◌∷◌, ◌++◌, length, map, reverse, Option, Some, None, Ok, Err, inl, inr, refl, sym, ◌∙◌, ap, subst, arith, slice_set, slice_index_or}
+use Rattle.std.proofs.Common.{◌≡◌, ◌⊎◌, ℕ, ◌≤◌, List, [], ◌∷◌, length, reverse, Option, Ok, Err, inl, inr, sym, subst, arith, slice_set, slice_index_or}
 use Rattle.std.specs.Prelude.{Result, OnOk, MatchResult}
-use Rattle.xa_types.specs.Setup.{numbered}
 use Rattle.xa_link.specs.Told.{Rose, Grew, GrewByPrefix}
 use Rattle.xa_events.specs.declared.event.Event.{Event}
 use Rattle.xa_script.specs.declared.script.Client.{Client}
@@ -14,7 +13,7 @@ use Rattle.xa_program.specs.declared.status.Status.{Status}
 use Rattle.xa_program.specs.declared.status.Status.TheVariants.{Done, WriteFault, NoMemory}
 use Rattle.xa_types.specs.declared.memory.NoMemory.{NoMemory as NoMemoryError}
 use Rattle.xa_program.specs.Headline.{Streams, LinkTells, IsLifeOf, IsTheScript, IsPlayed, EachCounts, PlayEnds, names_of}
-use Rattle.xa_program.specs.Lives.{lives_of, failed_starts}
+use Rattle.xa_program.specs.Lives.{failed_starts}
 use Rattle.xa_program.specs.Progress.{IsOver, HasLived, HasNotLived, StartsCount, IsServed, ServingEnds, Printed}
 
 -- ---- one life
@@ -72,7 +71,7 @@ no_memory tells before after faults faults_after starts starts_after service cli
 
 -- how a life and its transcript end
 pub life_ends : {L : Type 0} (tells : LinkTells L) (link : L) (pipe : Piped) (before after : Option (List ℕ)) (faults faults_after starts starts_after : ℕ) (service : List ℕ) (clients : List Client) (history : List Event) (lines : List ℕ) (lives : List (Life L))
-      (served : Result (Unit {0}) NoMemoryError) (status : Status)
+    (served : Result (Unit {0}) NoMemoryError) (status : Status)
     → lives ≡ the_life link ∷ [] → ShowsPipe tells link pipe → OnOk served (IsOver service clients history lines × HasLived service (reverse history) pipe)
     → MatchResult served (λ _. Printed before after faults faults_after lines status) (λ _. status ≡ NoMemory)
     → ServingEnds tells before after faults faults_after starts starts_after service clients status history lives
@@ -83,7 +82,7 @@ life_ends tells link pipe before after faults faults_after starts starts_after s
 
 -- how the transcript ends where no life began
 pub none_ends : {L : Type 0} (tells : LinkTells L) (before after : Option (List ℕ)) (faults faults_after starts starts_after : ℕ) (service : List ℕ) (clients : List Client) (history : List Event) (lines : List ℕ) (lives : List (Life L))
-      (served : Result (Unit {0}) NoMemoryError) (status : Status)
+    (served : Result (Unit {0}) NoMemoryError) (status : Status)
     → lives ≡ [] → Rose starts starts_after → OnOk served (IsOver service clients history lines × HasNotLived (reverse history))
     → MatchResult served (λ _. Printed before after faults faults_after lines status) (λ _. status ≡ NoMemory)
     → ServingEnds tells before after faults faults_after starts starts_after service clients status history lives

@@ -1,5 +1,5 @@
 -- What the steps of a call come to, put together.
-use Rattle.std.proofs.Common.{◌≡◌, ℕ, Bool, true, false, List, [], ◌∷◌, ◌++◌, Option, Some, None, Ok, Err, refl, sym, ◌∙◌, ap, subst, append_assoc}
+use Rattle.std.proofs.Common.{◌≡◌, ℕ, Bool, true, false, List, [], ◌∷◌, ◌++◌, Option, Some, None, Ok, Err, refl, ◌∙◌, ap, subst, append_assoc}
 use Rattle.std.specs.Prelude.{Result, IfOk, OnOk, is_some}
 use Rattle.xa_types.specs.declared.data.Data.{Data}
 use Rattle.xa_events.specs.declared.event.Event.{Event}

@@ -15,9 +15,8 @@ pub returns : goal.returns
 returns g c begun live =
     let service = c.args.service.now in
     let client = c.in-Some.client.now in
-    let made = c.in_ok-up.ensures (begun client.name 1) live in
-    (
+    let made = c.in_ok-up.ensures (begun client.name 1) live in (
       leaving_all service client c.args.script.now.clients made.0 c.slice.result.now c.make_calls.new.account.history.items c.note_left.new.history.items c.make_calls.new.account.lines.items c.in-Some.ensures.alone c.slice.ensures made.1
-      (board_live c.in_ok-up.up service made.0 _ c.make_calls.new.pipe made.2) c.in_ok-note_left.ensures,
+          (board_live c.in_ok-up.up service made.0 _ c.make_calls.new.pipe made.2) c.in_ok-note_left.ensures,
       (made.0, live_gone c.in_ok-up.up service made.0 c.make_calls.new.account.history.items c.note_left.new.history.items c.make_calls.new.pipe made.2 c.in_ok-note_left.ensures),
     )
