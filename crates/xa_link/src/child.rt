@@ -103,7 +103,10 @@ impl<R: Processes + Files + AllocGlobal> ChildStarter<R> {
     {
         let command = command(self.rt.alloc(), program, name);
         let mut command = command.map_err(|_| StartRefused::NoMemory)?;
-        spawn(&self.rt, &mut command).map_err(|_| StartRefused::Failed)
+        spawn(&self.rt, &mut command).map_err(|error| match error.kind() {
+            io::ErrorKind::OutOfMemory => StartRefused::NoMemory,
+            _ => StartRefused::Failed,
+        })
     }
 }
 

@@ -1,2 +1,4 @@
 pub mod Frames
 pub mod Ceasing
+pub mod Saying
+pub mod Whole

@@ -1,3 +1,4 @@
 pub mod Frames
 pub mod Life
 pub mod Pipe
+pub mod Whole

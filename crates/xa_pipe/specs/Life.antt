@@ -7,7 +7,7 @@ use Rattle.xa_types.specs.declared.call.Rval.TheVariants.{Success, Exit as ExitV
 use Rattle.xa_types.specs.Kind.{is_sound}
 use Rattle.xa_link.specs.Told.{Empty}
 use Rattle.xa_frame.specs.declared.frame.Frame.{Frame}
-use Rattle.xa_frame.specs.Spelling.{all_spelled, kind_octet}
+use Rattle.xa_frame.specs.Spelling.{all_spelled, kind_octet, HasSpelling}
 use Rattle.xa_frame.specs.Stream.{IsPartial, IsMalformed, Begins}
 use Rattle.xa_events.specs.declared.event.Event.{Event}
 use Rattle.xa_events.specs.declared.event.Event.TheVariants.{End, Stop}
@@ -44,14 +44,15 @@ turn_behind value = AwaitsNext
 abbrev pub tag_after : ℕ → ℕ
 tag_after n = (n + 1) % 2 ^ 32
 
--- The program has said these frames, by which requests ended so, and this comes next: READY and NEXT, and to each INVOKE its
--- RETURN and NEXT.
+-- The program has said these frames, each of which has a spelling, by which requests ended so, and this comes next: READY and
+-- NEXT, and to each INVOKE its RETURN and NEXT.
 pub data Says (setup : Setup) (name : List ℕ) : List Outcome → List Frame → Turn → Type 0 where
   Silent : Says setup name [] [] AwaitsReady
-  Named : Says setup name [] (ready_frame name ∷ []) AwaitsNext
+  Named : HasSpelling (ready_frame name) → Says setup name [] (ready_frame name ∷ []) AwaitsNext
   Free : {outcomes : List Outcome} {frames : List Frame} → Says setup name outcomes frames AwaitsNext → Says setup name outcomes (frames ++ next_frame ∷ []) Idle
   Invoked : {outcomes : List Outcome} {frames : List Frame} → Says setup name outcomes frames Idle → Says setup name outcomes frames Serving
   Answers : {outcomes : List Outcome} {frames : List Frame} (value : Rval) (code : ℤ) (payload : Data) → Says setup name outcomes frames Serving
+      → HasSpelling (return_frame (tag_after (length outcomes)) value code payload)
       → Says setup name (outcomes ++ outcome_by setup value code payload ∷ []) (frames ++ return_frame (tag_after (length outcomes)) value code payload ∷ []) (turn_behind value)
 
 -- ---- how the life ends

@@ -70,6 +70,7 @@ fn return_in(frame: Frame, number: u32) -> Result<Return, StopCause>
 impl<L: Link> Pipe<L> {
     fn read_ready(&mut self, server: &Name) -> Result<(), StopCause>
         ensures read { OnOk result ((frames : List Frame) → HasRead self.old frames → HasRead self.new (frames ++ ready_frame server.now ∷ [])) }
+        ensures spelling { OnOk result (HasSpelling (ready_frame server.now)) }
         ensures took { self.new.took ≡ self.old.took }
         ensures writes { self.new.writes ≡ self.old.writes }
         ensures well { OnOk result (self.new.reads ≡ self.old.reads) }

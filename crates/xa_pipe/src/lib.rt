@@ -5,9 +5,11 @@
 #![tactic(auto)]
 
 mod hearing;
+mod laws;
 mod pipe;
 #[cfg(test)]
 mod tests;
 
 pub use hearing::Return;
+pub use laws::ends_as_said;
 pub use pipe::Pipe;

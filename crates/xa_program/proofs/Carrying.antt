@@ -20,7 +20,7 @@ use Rattle.xa_events.specs.declared.event.StopCause.TheVariants.{Exit}
 use Rattle.xa_events.specs.declared.event.Doing.TheVariants.{Idle}
 use Rattle.xa_events.specs.Befell.{reply_of}
 use Rattle.xa_frame.specs.declared.frame.Frame.{Frame}
-use Rattle.xa_frame.specs.Spelling.{spelled}
+use Rattle.xa_frame.specs.Spelling.{spelled, HasSpelling}
 use Rattle.xa_text.specs.Line.{line_text}
 use Rattle.xa_pipe.specs.Frames.{frames_out, invoke_frame, return_frame}
 use Rattle.xa_pipe.specs.Life.{Says, outcomes_in, outcome_by, lost_by, turn_behind}
@@ -75,30 +75,30 @@ module _ (service name : List ℕ) (n m : ℕ) (ops : List Op) (ask : Ask) (hist
 
   -- it ended with a RETURN that has TPEXIT
   exited : (up : Bool) (now : List Event) (code : ℤ) (back : Data) → Grew before.took mid.took (spelled (invoke_frame service (m + 1) ask.payload))
-      → ((frames : List Frame) → HasRead before frames → HasRead mid (frames ++ return_frame (m + 1) ExitValue code back ∷ [])) → printed ≡ lines ++ line_text name (n + 1) (AnsweredReply 0 (reply_of (outcome_by (play_setup service) ExitValue code back)))
+      → ((frames : List Frame) → HasRead before frames → HasRead mid (frames ++ return_frame (m + 1) ExitValue code back ∷ [])) → HasSpelling (return_frame (m + 1) ExitValue code back) → printed ≡ lines ++ line_text name (n + 1) (AnsweredReply 0 (reply_of (outcome_by (play_setup service) ExitValue code back)))
       → CarriedTo up service (n + 1) (m + 1) ask.payload (outcome_by (play_setup service) ExitValue code back) (Some Exit) history now mid after → Known up service name (n + 1) (m + 1) (ops ++ Call ask ∷ []) now printed after
-  exited up now code back grew reads told (down, noted, same) =
+  exited up now code back grew reads spelling told (down, noted, same) =
       let o = outcome_by (play_setup service) ExitValue code back in
       subst (λ (b : Bool). Known b service name (n + 1) (m + 1) (ops ++ Call ask ∷ []) now printed after) (sym down)
       (known_at false service name (n + 1) (m + 1) (ops ++ Call ask ∷ []) (history ++ in_order service (n + 1) (m + 1) ask.payload o (Some Exit) (reply_of o))
       (served service (n + 1) (m + 1) ask.payload o (Some Exit) (reply_of o) past) now (lines ++ line_text name (n + 1) (AnsweredReply 0 (reply_of o))) printed after
       (playing_served service name n m ops ask history past lines o (Some Exit) old serving.up admitted plain (sound_return service past ExitValue code back) (ends_exit service code back))
       (subst (λ (p : Piped). HasFallen service (served service (n + 1) (m + 1) ask.payload o (Some Exit) (reply_of o) past) p) (sym same)
-      (fallen_exit service n m ask.payload past before mid serving small code back (reply_of o) grew reads))
+      (fallen_exit service n m ask.payload past before mid serving small code back spelling (reply_of o) grew reads))
       (reverse_served service (n + 1) (m + 1) ask.payload o (Some Exit) history) noted told)
 
   -- the server's program went on, or its life ended behind the RETURN
   returned : (up : Bool) (now : List Event) (value : Rval) (code : ℤ) (back : Data) → turn_behind value ≡ AwaitsNext → Grew before.took mid.took (spelled (invoke_frame service (m + 1) ask.payload))
-      → ((frames : List Frame) → HasRead before frames → HasRead mid (frames ++ return_frame (m + 1) value code back ∷ [])) → printed ≡ lines ++ line_text name (n + 1) (AnsweredReply 0 (reply_of (outcome_by (play_setup service) value code back)))
+      → ((frames : List Frame) → HasRead before frames → HasRead mid (frames ++ return_frame (m + 1) value code back ∷ [])) → HasSpelling (return_frame (m + 1) value code back) → printed ≡ lines ++ line_text name (n + 1) (AnsweredReply 0 (reply_of (outcome_by (play_setup service) value code back)))
       → CarriedTo up service (n + 1) (m + 1) ask.payload (outcome_by (play_setup service) value code back) None history now mid after → Known up service name (n + 1) (m + 1) (ops ++ Call ask ∷ []) now printed after
-  returned true now value code back turn grew reads told (same, (noted, freed)) =
+  returned true now value code back turn grew reads spelling told (same, (noted, freed)) =
       let o = outcome_by (play_setup service) value code back in
       known_at true service name (n + 1) (m + 1) (ops ++ Call ask ∷ []) (history ++ in_order service (n + 1) (m + 1) ask.payload o None (reply_of o))
       (served service (n + 1) (m + 1) ask.payload o None (reply_of o) past) now (lines ++ line_text name (n + 1) (AnsweredReply 0 (reply_of o))) printed after
       (playing_served service name n m ops ask history past lines o None old serving.up admitted plain (sound_return service past value code back) (idle_return service value code back))
-      (serving_on service n m ask.payload past before mid serving small value code back (reply_of o) grew reads after turn same freed)
+      (serving_on service n m ask.payload past before mid serving small value code back spelling (reply_of o) grew reads after turn same freed)
       (reverse_served service (n + 1) (m + 1) ask.payload o None history) noted told
-  returned false now value code back turn grew reads told (same, (cause, noted, ceased)) =
+  returned false now value code back turn grew reads spelling told (same, (cause, noted, ceased)) =
       let o = outcome_by (play_setup service) value code back in
       let between = served service (n + 1) (m + 1) ask.payload o None (reply_of o) past in
       let ends = ceased server_name 0 (serving.frames ++ return_frame (m + 1) value code back ∷ []) (reads serving.frames serving.read) in
@@ -109,20 +109,20 @@ module _ (service name : List ℕ) (n m : ℕ) (ops : List Op) (ask : Ask) (hist
       (playing_fallen service name 1 (n + 1) (m + 1) (ops ++ Call ask ∷ []) so_far between (lines ++ line_text name (n + 1) (AnsweredReply 0 (reply_of o))) cause
       (playing_served service name n m ops ask history past lines o None old serving.up admitted plain (sound_return service past value code back) (idle_return service value code back))
       (up_served service n m ask.payload o (reply_of o) past (idle_return service value code back) serving.up) other.0 other.1)
-      (fallen_behind service n m ask.payload past before mid serving small value code back (reply_of o) grew reads after cause turn same ceased)
+      (fallen_behind service n m ask.payload past before mid serving small value code back spelling (reply_of o) grew reads after cause turn same ceased)
       (reverse_falls so_far service cause ∙ ap (λ (es : List Event). gone service (Stop (stop cause) ∷ es)) (reverse_served service (n + 1) (m + 1) ask.payload o None history)) noted told
 
   by_value : (up : Bool) (now : List Event) (value : Rval) (code : ℤ) (back : Data) → Grew before.took mid.took (spelled (invoke_frame service (m + 1) ask.payload))
-      → ((frames : List Frame) → HasRead before frames → HasRead mid (frames ++ return_frame (m + 1) value code back ∷ [])) → printed ≡ lines ++ line_text name (n + 1) (AnsweredReply 0 (reply_of (outcome_by (play_setup service) value code back)))
+      → ((frames : List Frame) → HasRead before frames → HasRead mid (frames ++ return_frame (m + 1) value code back ∷ [])) → HasSpelling (return_frame (m + 1) value code back) → printed ≡ lines ++ line_text name (n + 1) (AnsweredReply 0 (reply_of (outcome_by (play_setup service) value code back)))
       → CarriedTo up service (n + 1) (m + 1) ask.payload (outcome_by (play_setup service) value code back) (cause_by value) history now mid after → Known up service name (n + 1) (m + 1) (ops ++ Call ask ∷ []) now printed after
-  by_value up now Success code back grew reads told carried = returned up now Success code back refl grew reads told carried
-  by_value up now Fail code back grew reads told carried = returned up now Fail code back refl grew reads told carried
-  by_value up now ExitValue code back grew reads told carried = exited up now code back grew reads told carried
+  by_value up now Success code back grew reads spelling told carried = returned up now Success code back refl grew reads spelling told carried
+  by_value up now Fail code back grew reads spelling told carried = returned up now Fail code back refl grew reads spelling told carried
+  by_value up now ExitValue code back grew reads spelling told carried = exited up now code back grew reads spelling told carried
 
   pub carried_on : (up : Bool) (now : List Event) (heard : Result Return StopCause) → Exchanged service (m + 1) ask.payload before mid heard
       → printed ≡ lines ++ line_text name (n + 1) (AnsweredReply 0 (reply_of (outcome_heard service heard)))
       → CarriedTo up service (n + 1) (m + 1) ask.payload (outcome_heard service heard) (cause_heard heard) history now mid after → Known up service name (n + 1) (m + 1) (ops ++ Call ask ∷ []) now printed after
-  carried_on up now (Ok back) exchanged told carried = by_value up now back.value back.code back.payload exchanged.0 exchanged.1 told carried
+  carried_on up now (Ok back) exchanged told carried = by_value up now back.value back.code back.payload exchanged.0 exchanged.1 exchanged.2 told carried
   carried_on up now (Err cause) exchanged told carried = lost up now cause exchanged told carried
 
 pub carried_at : (up : Bool) (service name : List ℕ) (n m op : ℕ) (ops : List Op) (ask : Ask) (history now : List Event) (lines printed : List ℕ) (before after : Piped) → op ≡ n + 1 → m + 1 < 2 ^ 32

@@ -6,7 +6,7 @@ use Rattle.xa_link.specs.Told.{Grew, GrewByPrefix}
 use Rattle.xa_events.specs.declared.event.StopCause.{StopCause}
 use Rattle.xa_events.specs.declared.event.StopCause.TheVariants.{Shutdown, Exit, EndOfInput, ReadFault, WriteFault, BadBytes, OutOfTurn, Starved}
 use Rattle.xa_frame.specs.declared.frame.Frame.{Frame}
-use Rattle.xa_frame.specs.Spelling.{spelled}
+use Rattle.xa_frame.specs.Spelling.{spelled, HasSpelling}
 use Rattle.xa_pipe.specs.Frames.{invoke_frame, return_frame}
 use Rattle.xa_pipe.specs.Life.Turn.{Serving}
 use Rattle.xa_pipe.specs.Pipe.{Piped, HasRead, Ceases}
@@ -31,9 +31,10 @@ sent_whole (OutOfTurn kind tag) before after octets grew = grew
 pub heard_so : (service : List ℕ) (number : ℕ) (payload : Data) (before mid after : Piped) (heard : Result Return StopCause)
     → Grew before.took mid.took (spelled (invoke_frame service number payload)) → mid.gave ≡ before.gave → mid.rest ≡ before.rest → mid.place ≡ before.place → after.took ≡ mid.took
     → IfOk heard (λ back. (frames : List Frame) → HasRead mid frames → HasRead after (frames ++ return_frame number back.value back.code back.payload ∷ []))
+    → IfOk heard (λ back. HasSpelling (return_frame number back.value back.code back.payload))
     → IfErr heard (λ cause. (name : List ℕ) (frames : List Frame) → HasRead mid frames → Ceases name number Serving frames after cause)
     → Exchanged service number payload before after heard
-heard_so service number payload before mid after (Ok back) took gave rest place same read why =
-    (same ∙ took, λ frames old. read frames (read_same before mid frames gave rest place old))
-heard_so service number payload before mid after (Err cause) took gave rest place same read why =
+heard_so service number payload before mid after (Ok back) took gave rest place same read spelling why =
+    (same ∙ took, (λ frames old. read frames (read_same before mid frames gave rest place old)), spelling)
+heard_so service number payload before mid after (Err cause) took gave rest place same read spelling why =
     (sent_whole cause before.took after.took (spelled (invoke_frame service number payload)) (same ∙ took), λ name frames old. why name frames (read_same before mid frames gave rest place old))

@@ -22,7 +22,7 @@ use Rattle.xa_events.proofs.Stages.{agree_none, ends_along}
 use Rattle.xa_events.proofs.AnswersOnce.{unanswered_none, answers_along}
 use Rattle.xa_events.proofs.Versions.{none_read, versions_along}
 use Rattle.xa_frame.specs.declared.frame.Frame.{Frame}
-use Rattle.xa_frame.specs.Spelling.{spelled}
+use Rattle.xa_frame.specs.Spelling.{spelled, HasSpelling}
 use Rattle.xa_script.specs.declared.script.Client.{Client}
 use Rattle.xa_pipe.specs.Frames.{frames_out, ready_frame, next_frame, shutdown_frame}
 use Rattle.xa_pipe.specs.Life.{Says, Named, Free, Turn, TookBy, outcomes_in, all_outcomes, may_end, IsCounted, Shows, tag_after}
@@ -68,11 +68,14 @@ playing_begun service name clients = record {
   said = refl;
 }
 
+ready_spelled : HasSpelling (ready_frame server_name)
+ready_spelled = record { tag = omega arith; body = refl }
+
 pub serving_begun : (service : List ℕ) (pipe : Piped) → Wrote pipe [] → HasRead pipe (ready_frame server_name ∷ next_frame ∷ []) → IsServing service 0 (begun service) pipe
 serving_begun service pipe wrote read = record {
   up = up_begun service;
   frames = ready_frame server_name ∷ next_frame ∷ [];
-  says = Free Named;
+  says = Free (Named ready_spelled);
   wrote = wrote;
   read = read;
   invoked = refl;

@@ -18,7 +18,7 @@ use Rattle.xa_events.specs.declared.event.Doing.TheVariants.{Idle}
 use Rattle.xa_events.specs.Server.{after_end, is_shutdown}
 use Rattle.xa_events.specs.Cases.{is_sound_outcome, idle_stops}
 use Rattle.xa_frame.specs.declared.frame.Frame.{Frame}
-use Rattle.xa_frame.specs.Spelling.{spelled, all_spelled}
+use Rattle.xa_frame.specs.Spelling.{spelled, all_spelled, HasSpelling}
 use Rattle.xa_pipe.specs.Frames.{frames_out, next_frame, invoke_frame, return_frame}
 use Rattle.xa_pipe.specs.Life.{Says, Free, Invoked, Answers, Turn, outcomes_in, outcome_by, lost_by, tag_after, turn_behind, may_end, Shows, TookBy}
 use Rattle.xa_pipe.specs.Life.Turn.{AwaitsNext, Idle as IdleTurn, Serving, Exited}
@@ -108,7 +108,7 @@ module _ (service : List ℕ) (n m : ℕ) (payload : Data) (past : List Event) (
   tag_is : tag_after (length (outcomes_in 1 1 past)) ≡ m + 1
   tag_is = ap (λ k. (k + 1) % 2 ^ 32) old.ended ∙ mod-eq_of_lt small
 
-  module _ (value : Rval) (code : ℤ) (back : Data) where
+  module _ (value : Rval) (code : ℤ) (back : Data) (spelling : HasSpelling (return_frame (m + 1) value code back)) where
     abbrev outcome : Outcome
     outcome = outcome_by (play_setup service) value code back
 
@@ -118,7 +118,7 @@ module _ (service : List ℕ) (n m : ℕ) (payload : Data) (past : List Event) (
     -- the RETURN was said
     says_return : Says (play_setup service) server_name (outcomes_in 1 1 past ++ outcome ∷ []) answered (turn_behind value)
     says_return = subst (λ (tag : ℕ). Says (play_setup service) server_name (outcomes_in 1 1 past ++ outcome ∷ []) (old.frames ++ return_frame tag value code back ∷ []) (turn_behind value)) tag_is
-        (Answers value code back (Invoked old.says))
+        (Answers value code back (Invoked old.says) (subst (λ (tag : ℕ). HasSpelling (return_frame tag value code back)) (sym tag_is) spelling))
 
     module _ (answer : Answer) (grew : Grew before.took mid.took (spelled (invoke_frame service (m + 1) payload))) (reads : (frames : List Frame) → HasRead before frames → HasRead mid (frames ++ return_frame (m + 1) value code back ∷ [])) where
       abbrev now : List Event
@@ -169,10 +169,10 @@ module _ (service : List ℕ) (n m : ℕ) (payload : Data) (past : List Event) (
           }
 
   -- the life ends with a RETURN that has TPEXIT
-  pub fallen_exit : (code : ℤ) (back : Data) (answer : Answer) → Grew before.took mid.took (spelled (invoke_frame service (m + 1) payload))
+  pub fallen_exit : (code : ℤ) (back : Data) → HasSpelling (return_frame (m + 1) ExitValue code back) → (answer : Answer) → Grew before.took mid.took (spelled (invoke_frame service (m + 1) payload))
       → ((frames : List Frame) → HasRead before frames → HasRead mid (frames ++ return_frame (m + 1) ExitValue code back ∷ []))
       → HasFallen service (served service (n + 1) (m + 1) payload (outcome_by (play_setup service) ExitValue code back) (Some Exit) answer past) mid
-  fallen_exit code back answer grew reads =
+  fallen_exit code back spelling answer grew reads =
       let o = outcome_by (play_setup service) ExitValue code back in
       record {
         down = down_served service n m payload o answer past Exit old.up;
@@ -183,7 +183,7 @@ module _ (service : List ℕ) (n m : ℕ) (payload : Data) (past : List Event) (
           frames = old.frames ++ return_frame (m + 1) ExitValue code back ∷ [];
           stopped = refl;
           ended = outcomes_served service n m payload o answer past (Some Exit);
-          says = says_return ExitValue code back;
+          says = says_return ExitValue code back spelling;
           may = refl;
           counted = tt;
           took_frames = took_all mid.took Exit (frames_out 1 1 (served service (n + 1) (m + 1) payload o (Some Exit) answer past))

@@ -26,7 +26,7 @@ use Rattle.xa_events.specs.Order.{TakesInOrder}
 use Rattle.xa_events.specs.Calls.{EachBecame}
 use Rattle.xa_events.specs.Caller.{last_op}
 use Rattle.xa_frame.specs.declared.frame.Frame.{Frame}
-use Rattle.xa_frame.specs.Spelling.{spelled}
+use Rattle.xa_frame.specs.Spelling.{spelled, HasSpelling}
 use Rattle.xa_script.specs.declared.script.Client.{Client}
 use Rattle.xa_pipe.specs.Frames.{is_take_in, frames_out, ready_frame, next_frame, shutdown_frame, invoke_frame, return_frame}
 use Rattle.xa_pipe.specs.Life.{Says, IsLife, outcomes_in, outcome_by, lost_by}
@@ -111,11 +111,12 @@ Sends WriteFaultStop before after octets = GrewByPrefix before after octets
 Sends StarvedStop before after octets = (after ≡ before) ⊎ Grew before after octets
 Sends cause before after octets = Grew before after octets
 
--- what the exchange with the server's program comes to: it was sent the request, and its RETURN was read, or its life ended
+-- what the exchange with the server's program comes to: it was sent the request, and its RETURN was read, which has a spelling, or its life ended
 abbrev pub Exchanged : List ℕ → ℕ → Data → Piped → Piped → Result Return StopCause → Type 0
 Exchanged service number payload before after (Ok back) =
     Grew before.took after.took (spelled (invoke_frame service number payload))
     × ((frames : List Frame) → HasRead before frames → HasRead after (frames ++ return_frame number back.value back.code back.payload ∷ []))
+    × HasSpelling (return_frame number back.value back.code back.payload)
 Exchanged service number payload before after (Err cause) =
     Sends cause before.took after.took (spelled (invoke_frame service number payload))
     × ((name : List ℕ) (frames : List Frame) → HasRead before frames → Ceases name number Serving frames after cause)

@@ -18,7 +18,7 @@ returns-clause-why g c =
       turn = AwaitsNext;
       frames = ready_frame c.args.server.now ∷ [];
       greets = inr refl;
-      says = Named;
+      says = Named c.in_ok-read_ready.ensures.spelling;
       ceases = why c.args.server.now (tag_after 0) (ready_frame c.args.server.now ∷ []) (c.in_ok-read_ready.ensures.read [] read);
     })
     c.read_next.ensures.why
