@@ -1,29 +1,29 @@
 -- What is read off the events behind a call of `play`, behind a refusal, and behind the end of the server's life.
-use Rattle.std.proofs.Common.{◌≡◌, ◌⊎◌, ℕ, ◌+◌, ◌<◌, ◌≤◌, max, Bool, true, false, cond, List, [], ◌∷◌, ◌++◌, length, Option, Some, None, inl, inr, refl, sym, ◌∙◌, ap, subst, arith}
+use Rattle.std.proofs.Common.{◌≡◌, ℕ, ◌+◌, ◌<◌, ◌≤◌, true, false, cond, List, [], ◌∷◌, ◌++◌, length, Option, Some, None, inl, refl, sym, ◌∙◌, ap, arith}
 use Rattle.xa_types.specs.declared.data.Data.{Data}
 use Rattle.xa_types.specs.declared.fault.Fault.{Fault}
 use Rattle.xa_types.specs.declared.fault.Fault.TheVariants.{Inval, NoEnt}
 use Rattle.xa_types.specs.declared.ids.RequestId.{RequestId}
 use Rattle.xa_types.specs.declared.reply.Answer.{Answer}
-use Rattle.xa_types.specs.Rows.{Change, Put, Remove}
+use Rattle.xa_types.specs.Rows.{Change, Remove}
 use Rattle.xa_events.specs.declared.event.Event.{Event}
-use Rattle.xa_events.specs.declared.event.Event.TheVariants.{Accept, Take, End, Stop, Answer as Answers, Refuse}
+use Rattle.xa_events.specs.declared.event.Event.TheVariants.{Accept, Take, Stop, Refuse}
 use Rattle.xa_events.specs.declared.event.Evidence.{Evidence}
 use Rattle.xa_events.specs.declared.event.Evidence.TheVariants.{Argument, Version}
 use Rattle.xa_events.specs.declared.event.Outcome.{Outcome}
 use Rattle.xa_events.specs.declared.event.StopCause.{StopCause}
 use Rattle.xa_events.specs.declared.event.StopCause.TheVariants.{Shutdown, Exit, EndOfInput, ReadFault, WriteFault, BadBytes, OutOfTurn, Starved}
 use Rattle.xa_events.specs.declared.event.Doing.{Doing}
-use Rattle.xa_events.specs.declared.event.Doing.TheVariants.{Off, Idle}
+use Rattle.xa_events.specs.declared.event.Doing.TheVariants.{Idle}
 use Rattle.xa_events.specs.Words.{count, without, same_request}
 use Rattle.xa_events.specs.Board.{changes, published}
 use Rattle.xa_events.specs.Queue.{waiting, takes, is_down, is_closed}
-use Rattle.xa_events.specs.Server.{doing, starts, is_gone, last_outcome, after_end, is_shutdown}
+use Rattle.xa_events.specs.Server.{doing, starts, is_gone, last_outcome, is_shutdown}
 use Rattle.xa_events.specs.Caller.{last_op, accepted, opened, floor, has_left}
 use Rattle.xa_events.specs.Request.{is_accept_of, is_end_of}
 use Rattle.xa_events.specs.Cases.{Case, idle_stops}
 use Rattle.xa_play.specs.PlaySetup.{play_setup}
-use Rattle.xa_play.specs.History.{request, accept, take_of, end_with, answer_of, refuse, stop, gone, fallen, ended_call, served}
+use Rattle.xa_play.specs.History.{request, accept, take_of, refuse, stop, gone, served}
 use Rattle.xa_play.specs.Between.{at, IsQuiet, IsOpen, IsUp, IsDown}
 use Rattle.xa_play.proofs.Falls.{MayFall}
 use Rattle.xa_play.proofs.Machine.{EndsSo, same_request-self}

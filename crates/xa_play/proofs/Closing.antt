@@ -1,6 +1,5 @@
 -- How a run of `play` begins, and how it ends.
-use Rattle.std.proofs.Common.{◌≡◌, ℕ, zero, suc, ◌+◌, ◌<◌, ◌&&◌, true, false, List, [], ◌∷◌, length, inl, refl, sym, ◌∙◌, ap, subst, arith}
-use Rattle.xa_types.specs.Rows.{Change, Put, Remove}
+use Rattle.std.proofs.Common.{◌≡◌, ℕ, zero, suc, ◌<◌, ◌&&◌, true, false, List, [], ◌∷◌, length, inl, refl, ◌∙◌, ap, subst, arith}
 use Rattle.xa_events.specs.declared.event.Event.{Event}
 use Rattle.xa_events.specs.declared.event.Event.TheVariants.{Advertise, Gone, Withdraw, Down, Close, Start, StartFailed, Stop, Leave}
 use Rattle.xa_events.specs.declared.event.StopCause.{StopCause}

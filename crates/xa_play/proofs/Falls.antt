@@ -1,21 +1,20 @@
 -- The end of the server's only life: it stops, it is gone, its row is withdrawn, and its queue is down.
-use Rattle.std.proofs.Common.{◌≡◌, ◌⊎◌, ℕ, ◌+◌, ◌<◌, ◌≤◌, Bool, true, false, cond, not, List, [], ◌∷◌, ◌++◌, length, Option, Some, None, inl, inr, refl, sym, ◌∙◌, ap, subst, arith, eq-eqb}
+use Rattle.std.proofs.Common.{◌≡◌, ◌⊎◌, ℕ, ◌+◌, true, false, List, [], ◌∷◌, length, Some, refl, sym, ◌∙◌, ap, arith, eq-eqb}
 use Rattle.xa_types.specs.Setup.{same_name}
-use Rattle.xa_types.specs.Rows.{Put, Remove, rows, row_of, all_kinds}
+use Rattle.xa_types.specs.Rows.{Put, Remove, row_of, all_kinds}
 use Rattle.xa_events.specs.declared.event.Event.{Event}
 use Rattle.xa_events.specs.declared.event.Event.TheVariants.{Gone, Withdraw, Down, Stop}
-use Rattle.xa_events.specs.declared.event.Outcome.{Outcome}
 use Rattle.xa_events.specs.declared.event.StopCause.{StopCause}
-use Rattle.xa_events.specs.declared.event.StopCause.TheVariants.{Shutdown, Exit, EndOfInput, ReadFault, WriteFault, BadBytes, OutOfTurn, Starved}
-use Rattle.xa_events.specs.declared.event.Doing.TheVariants.{Off, Idle, Dying}
+use Rattle.xa_events.specs.declared.event.StopCause.TheVariants.{Shutdown}
+use Rattle.xa_events.specs.declared.event.Doing.TheVariants.{Idle, Dying}
 use Rattle.xa_events.specs.Board.{changes, published, rows_of_version}
 use Rattle.xa_events.specs.Queue.{is_down, is_closed, waiting}
-use Rattle.xa_events.specs.Server.{doing, starts, is_gone, let_go, last_outcome, may_start, is_shutdown}
+use Rattle.xa_events.specs.Server.{doing, starts, is_gone, let_go, last_outcome, is_shutdown}
 use Rattle.xa_events.specs.Caller.{opened}
-use Rattle.xa_events.specs.Cases.{Case, StopCase, GoneCase, WithdrawCase, DownCase, idle_stops, dying_stops}
+use Rattle.xa_events.specs.Cases.{Case, idle_stops, dying_stops}
 use Rattle.xa_events.specs.Run.{Run}
 use Rattle.xa_play.specs.PlaySetup.{play_setup}
-use Rattle.xa_play.specs.History.{stop, withdraw, gone, fallen}
+use Rattle.xa_play.specs.History.{stop, withdraw, gone}
 use Rattle.xa_play.specs.Between.{at}
 
 -- the server's life may end so

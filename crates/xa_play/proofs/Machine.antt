@@ -1,5 +1,5 @@
 -- What the machine does at a call of `play`, and what is read off the events then.
-use Rattle.std.proofs.Common.{◌≡◌, ◌⊎◌, ℕ, ◌+◌, ◌<◌, ◌≤◌, Bool, true, false, cond, List, [], ◌∷◌, ◌++◌, length, Option, Some, None, inl, inr, refl, sym, ◌∙◌, ap, subst, arith, eq-eqb, lit<}
+use Rattle.std.proofs.Common.{◌≡◌, ◌⊎◌, ℕ, ◌+◌, ◌<◌, true, false, List, [], ◌∷◌, ◌++◌, length, Option, Some, None, inl, inr, refl, sym, ap, subst, arith, eq-eqb, lit<}
 use Rattle.xa_types.specs.declared.data.Data.{Data}
 use Rattle.xa_types.specs.declared.data.Data.TheVariants.{Absent, Octet, Struct}
 use Rattle.xa_types.specs.declared.ids.RequestId.{RequestId}
@@ -7,23 +7,23 @@ use Rattle.xa_types.specs.declared.reply.Answer.{Answer}
 use Rattle.xa_types.specs.Kind.{is_sound, is_accepted, kind_of}
 use Rattle.xa_types.specs.Rows.{all_kinds}
 use Rattle.xa_events.specs.declared.event.Event.{Event}
-use Rattle.xa_events.specs.declared.event.Event.TheVariants.{Accept, Take, Gone, Withdraw, Down, End, Stop, Answer as Answers}
+use Rattle.xa_events.specs.declared.event.Event.TheVariants.{Accept, Take, End, Answer as Answers}
 use Rattle.xa_events.specs.declared.event.Outcome.{Outcome}
 use Rattle.xa_events.specs.declared.event.StopCause.{StopCause}
-use Rattle.xa_events.specs.declared.event.Doing.TheVariants.{Off, Idle, Dying}
+use Rattle.xa_events.specs.declared.event.Doing.TheVariants.{Idle, Dying}
 use Rattle.xa_events.specs.Befell.{reply_of}
-use Rattle.xa_events.specs.Words.{count, has, without, same_request}
-use Rattle.xa_events.specs.Board.{changes, published, rows_of_version}
-use Rattle.xa_events.specs.Queue.{waiting, takes, is_down, is_closed}
+use Rattle.xa_events.specs.Words.{has, without, same_request}
+use Rattle.xa_events.specs.Board.{changes, published}
+use Rattle.xa_events.specs.Queue.{waiting, takes, is_down}
 use Rattle.xa_events.specs.Server.{doing, starts, is_gone, last_outcome, after_end, is_shutdown}
-use Rattle.xa_events.specs.Caller.{last_op, accepted, opened, floor, has_left, just_accepted}
-use Rattle.xa_events.specs.Request.{ended, is_accept_of, is_end_of}
+use Rattle.xa_events.specs.Caller.{last_op, opened, has_left, just_accepted}
+use Rattle.xa_events.specs.Request.{ended}
 use Rattle.xa_events.specs.Cases.{Case, is_sound_outcome, idle_stops, dying_stops}
 use Rattle.xa_events.specs.State.{State, noted}
 use Rattle.xa_events.specs.Run.{Run}
 use Rattle.xa_play.specs.PlaySetup.{play_setup}
-use Rattle.xa_play.specs.History.{request, accept, take_of, end_with, answer_of, stop, withdraw, gone, fallen, ended_call, served, falls, in_order}
-use Rattle.xa_play.specs.Between.{at, IsQuiet, IsOpen, IsUp, IsDown}
+use Rattle.xa_play.specs.History.{request, accept, take_of, end_with, answer_of, ended_call, served, falls, in_order}
+use Rattle.xa_play.specs.Between.{at, IsQuiet, IsOpen, IsUp}
 use Rattle.xa_play.proofs.Falls.{MayFall, the_row, falls_run}
 
 pub same_request-self : (m : ℕ) → same_request (request m) (request m) ≡ true

@@ -1,5 +1,5 @@
 -- What is told of the calls of `play`: behind a call that was served, behind one that was refused, and behind the end of the server's life.
-use Rattle.std.proofs.Common.{◌≡◌, ◌⊎◌, ℕ, ◌+◌, ◌-◌, ◌<◌, ◌≤◌, ◌==◌, ◌&&◌, Bool, true, false, List, [], ◌∷◌, ◌++◌, length, drop, Option, Some, None, inl, inr, refl, sym, ◌∙◌, ap, subst, arith, eq-eqb, if◌then◌else◌, ◌%◌, add-one, eqb-true, le-leb}
+use Rattle.std.proofs.Common.{◌≡◌, ℕ, ◌+◌, ◌-◌, ◌<◌, ◌≤◌, ◌==◌, ◌&&◌, true, false, List, [], ◌∷◌, ◌++◌, length, Option, Some, None, inl, inr, refl, sym, ◌∙◌, ap, subst, arith, eq-eqb, if◌then◌else◌, ◌%◌, add-one, eqb-true, le-leb}
 use Rattle.std.proofs.lemmas.Bool.{ne_eqb, cases_Bool, and_parts, cases_lt}
 use Rattle.std.specs.Option.{IsSomeAnd}
 use Rattle.std.specs.List.{filter}
@@ -12,12 +12,11 @@ use Rattle.xa_types.specs.declared.call.Op.{Op}
 use Rattle.xa_types.specs.declared.call.Op.TheVariants.{Call}
 use Rattle.xa_types.specs.declared.call.Ask.{Ask}
 use Rattle.xa_types.specs.declared.reply.Answer.{Answer}
-use Rattle.xa_types.specs.declared.reply.Reply.{Reply}
 use Rattle.xa_types.specs.declared.reply.Reply.TheVariants.{Answered as AnsweredReply, Fault as FaultReply}
 use Rattle.xa_types.specs.Setup.{same_name}
 use Rattle.xa_types.specs.Rows.{Change, Put, Remove, rows, rows_at, same_truth}
 use Rattle.xa_events.specs.declared.event.Event.{Event}
-use Rattle.xa_events.specs.declared.event.Event.TheVariants.{Accept, Take, End, Stop, Leave, Answer as Answers, Refuse}
+use Rattle.xa_events.specs.declared.event.Event.TheVariants.{Accept, Stop, Leave, Answer as Answers, Refuse}
 use Rattle.xa_events.specs.declared.event.Answered.{Answered}
 use Rattle.xa_events.specs.declared.event.Evidence.{Evidence}
 use Rattle.xa_events.specs.declared.event.Outcome.{Outcome}
@@ -34,7 +33,7 @@ use Rattle.xa_events.specs.Order.{TakesInOrder, next_of, first_of_highest}
 use Rattle.xa_text.specs.Line.{line_text}
 use Rattle.xa_play.specs.PlaySetup.{play_setup}
 use Rattle.xa_play.specs.Spoken.{lines_up_to}
-use Rattle.xa_play.specs.History.{request, accept, take_of, end_with, answer_of, refuse, stop, gone, ended_call, served, closed}
+use Rattle.xa_play.specs.History.{request, accept, answer_of, refuse, stop, gone, served, closed}
 use Rattle.xa_play.specs.Between.{IsFresh, KnowsAnswers}
 use Rattle.xa_play.proofs.Falls.{same_name-self}
 use Rattle.xa_play.proofs.Machine.{same_request-self}

@@ -1,18 +1,18 @@
 -- What is read off the events of `play` between two calls.
 -- No public contract of the program rests on this file.
-use Rattle.std.specs.Prelude.{◌≡◌, ℕ, ◌+◌, ◌<◌, ◌≤◌, true, false, List, [], ◌∷◌, length, Some, None}
+use Rattle.std.specs.Prelude.{◌≡◌, ℕ, ◌+◌, ◌<◌, ◌≤◌, true, false, List, [], ◌∷◌, Some, None}
 use Rattle.xa_types.specs.declared.ids.RequestId.{RequestId}
-use Rattle.xa_types.specs.Rows.{Change, Put, Remove}
+use Rattle.xa_types.specs.Rows.{Put, Remove}
 use Rattle.xa_events.specs.declared.event.Event.{Event}
 use Rattle.xa_events.specs.declared.event.Event.TheVariants.{Answer as Answers}
 use Rattle.xa_events.specs.declared.event.Answered.{Answered}
 use Rattle.xa_events.specs.declared.event.Doing.{Doing}
-use Rattle.xa_events.specs.declared.event.Doing.TheVariants.{Off, Idle}
+use Rattle.xa_events.specs.declared.event.Doing.TheVariants.{Off}
 use Rattle.xa_events.specs.Words.{latest, count}
 use Rattle.xa_events.specs.State.{State}
 use Rattle.xa_events.specs.Board.{changes}
 use Rattle.xa_events.specs.Queue.{waiting, takes, is_down, is_closed}
-use Rattle.xa_events.specs.Server.{doing, starts, is_gone, let_go}
+use Rattle.xa_events.specs.Server.{doing, starts, is_gone}
 use Rattle.xa_events.specs.Caller.{last_op, accepted, opened, floor, has_left, all_left}
 use Rattle.xa_events.specs.Request.{ended, is_accept_of, is_end_of}
 use Rattle.xa_events.specs.Calls.{is_op, events_of_op}

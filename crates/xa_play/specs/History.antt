@@ -7,7 +7,7 @@ use Rattle.xa_types.specs.declared.ids.RequestId.{RequestId}
 use Rattle.xa_types.specs.declared.call.Mode.TheVariants.{Reply}
 use Rattle.xa_types.specs.declared.reply.Answer.{Answer}
 use Rattle.xa_events.specs.declared.event.Event.{Event}
-use Rattle.xa_events.specs.declared.event.Event.TheVariants.{Advertise, Accept, Take, Gone, Withdraw, Down, Close, Start, StartFailed, End, Stop, Answer as Answers, Refuse}
+use Rattle.xa_events.specs.declared.event.Event.TheVariants.{Advertise, Accept, Take, Gone, Withdraw, Down, Close, Start, StartFailed, End, Stop, Answer as Answers}
 use Rattle.xa_events.specs.declared.event.Advertised.{Advertised}
 use Rattle.xa_events.specs.declared.event.Withdrawn.{Withdrawn}
 use Rattle.xa_events.specs.declared.event.Accepted.{Accepted}

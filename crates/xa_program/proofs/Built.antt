@@ -1,18 +1,13 @@
--- The calls of a script that is built may be served, and are few.
-use Rattle.std.proofs.Common.{◌≡◌, ℕ, zero, suc, ◌+◌, ◌-◌, ◌<◌, ◌≤◌, ◌^◌, true, List, [], ◌∷◌, length, drop, Option, Some, None, inl, inr, refl, sym, subst, arith, length-drop, le-leb}
+-- The calls of a script are tpcalls, and are few.
+use Rattle.std.proofs.Common.{◌≡◌, ℕ, zero, suc, ◌+◌, ◌-◌, ◌<◌, ◌≤◌, ◌^◌, List, [], ◌∷◌, length, drop, Option, Some, None, inl, inr, refl, sym, subst, arith, length-drop}
 use Rattle.std.specs.Prelude.{All}
 use Rattle.std.specs.List.{position}
 use Rattle.std.specs.Str.Lines.{lines}
 use Rattle.std.proofs.lemmas.List.Elements.{All-cons}
-use Rattle.xa_types.specs.Name.{IsName}
-use Rattle.xa_types.specs.declared.data.Data.{Data}
-use Rattle.xa_types.specs.declared.data.Data.TheVariants.{Absent, Octet, Struct}
 use Rattle.xa_types.specs.declared.call.Op.{Op}
-use Rattle.xa_types.specs.Kind.{is_sound}
 use Rattle.xa_script.specs.declared.script.Client.{Client}
-use Rattle.xa_program.specs.PlaySetup.{play_setup}
 use Rattle.xa_program.specs.Progress.{IsBuiltOp, IsBuiltScript}
-use Rattle.xa_script.specs.Script.{Reads, ReadsCalls, IsWritten, call_with}
+use Rattle.xa_script.specs.Script.{Reads, ReadsCalls}
 use Rattle.xa_script.specs.Draft.{is_line_end}
 use Rattle.xa_script.proofs.ScriptCut.{lines_at, lines_last}
 
@@ -35,38 +30,25 @@ lines_within (suc n) (x ∷ rest) small = lines_from (x ∷ rest) (omega arith) 
 pub few_lines : (octets : List ℕ) → length (lines octets) ≤ length octets
 few_lines octets = lines_within (length octets) octets (omega arith)
 
-written_sound : (service : List ℕ) (payload : Data) → IsWritten payload → is_sound (play_setup service) payload ≡ true
-written_sound service Absent written = refl
-written_sound service (Octet octets) written = le-leb (length octets) 65536 written.0
-written_sound service (Struct subtype octets) written = absurd written
-
-built_call : (service : List ℕ) (payload : Data) → IsName service → IsWritten payload → IsBuiltOp service (call_with service payload)
-built_call service payload named written = record {
-  valid = rw (named, written_sound service payload written) refl;
-  named = refl;
-  plain = refl;
-  sound = written_sound service payload written;
-}
-
--- each call may be served, and there are no more than lines
-calls_built : (service : List ℕ) (all : List (List ℕ)) (ops : List Op) → IsName service → ReadsCalls service all ops → All (IsBuiltOp service) ops × (length ops ≤ length all)
-calls_built service [] ops named reads = subst (λ (os : List Op). All (IsBuiltOp service) os × (length os ≤ 0)) (sym reads) ((λ k d low. absurd (omega arith)), omega arith)
-calls_built service (line ∷ rest) ops named (inl skipped) =
-    let more = calls_built service rest ops named skipped.1 in
+-- each call is a tpcall without a kind of buffer, and there are no more than lines
+calls_built : (all : List (List ℕ)) (ops : List Op) → ReadsCalls all ops → All IsBuiltOp ops × (length ops ≤ length all)
+calls_built [] ops reads = subst (λ (os : List Op). All IsBuiltOp os × (length os ≤ 0)) (sym reads) ((λ k d low. absurd (omega arith)), omega arith)
+calls_built (line ∷ rest) ops (inl skipped) =
+    let more = calls_built rest ops skipped.1 in
     (more.0, omega (arith, more.1))
-calls_built service (line ∷ rest) ops named (inr said) =
+calls_built (line ∷ rest) ops (inr said) =
     let op = said.0 in
     let tail = said.1 in
     let call = said.3 in
-    let more = calls_built service rest tail named said.4 in
-    let this : IsBuiltOp service op = subst (λ (o : Op). IsBuiltOp service o) (sym call.2) (built_call service call.0 named call.1) in
-    subst (λ (os : List Op). All (IsBuiltOp service) os × (length os ≤ length (line ∷ rest))) (sym said.2)
-    (All-cons (IsBuiltOp service) op tail this more.0, omega (arith, more.1))
+    let more = calls_built rest tail said.4 in
+    let this : IsBuiltOp op = subst (λ (o : Op). IsBuiltOp o) (sym call.4) refl in
+    subst (λ (os : List Op). All IsBuiltOp os × (length os ≤ length (line ∷ rest))) (sym said.2)
+    (All-cons IsBuiltOp op tail this more.0, omega (arith, more.1))
 
-pub script_built : (service : List ℕ) (all : List (List ℕ)) (clients : List Client) → IsName service → length all < 2 ^ 32 → Reads service all clients → IsBuiltScript service clients
-script_built service [] clients named few reads = subst (λ (cs : List Client). IsBuiltScript service cs) (sym reads) tt
-script_built service (line ∷ rest) clients named few (inl skipped) = script_built service rest clients named (omega arith) skipped.1
-script_built service (line ∷ rest) clients named few (inr said) =
-    let calls = calls_built service rest said.1 named said.4 in
+pub script_built : (all : List (List ℕ)) (clients : List Client) → length all < 2 ^ 32 → Reads all clients → IsBuiltScript clients
+script_built [] clients few reads = subst (λ (cs : List Client). IsBuiltScript cs) (sym reads) tt
+script_built (line ∷ rest) clients few (inl skipped) = script_built rest clients (omega arith) skipped.1
+script_built (line ∷ rest) clients few (inr said) =
+    let calls = calls_built rest said.1 said.4 in
     let small : length said.1 < 2 ^ 32 = omega (arith, calls.1) in
-    subst (λ (cs : List Client). IsBuiltScript service cs) (sym said.2) (calls.0, small)
+    subst (λ (cs : List Client). IsBuiltScript cs) (sym said.2) (calls.0, small)

@@ -1,5 +1,5 @@
 -- A call of `play` from its request to what is known behind it.
-use Rattle.std.proofs.Common.{◌≡◌, ℕ, ℤ, ◌+◌, ◌<◌, ◌≤◌, ◌^◌, Bool, true, false, List, [], ◌∷◌, ◌++◌, length, reverse, Option, Some, None, Ok, Err, inl, inr, refl, sym, ◌∙◌, ap, subst, arith, append_assoc, append-nil}
+use Rattle.std.proofs.Common.{◌≡◌, ℕ, ℤ, ◌+◌, ◌<◌, ◌^◌, Bool, true, false, List, [], ◌∷◌, ◌++◌, length, reverse, Option, Some, None, Ok, Err, refl, sym, ◌∙◌, ap, subst, append-nil}
 use Rattle.std.specs.Prelude.{Result}
 use Rattle.std.proofs.lemmas.List.{reverse-append}
 use Rattle.xa_types.specs.declared.data.Data.{Data}
@@ -22,18 +22,17 @@ use Rattle.xa_events.specs.Befell.{reply_of}
 use Rattle.xa_frame.specs.declared.frame.Frame.{Frame}
 use Rattle.xa_frame.specs.Spelling.{spelled}
 use Rattle.xa_text.specs.Line.{line_text}
-use Rattle.xa_pipe.specs.Frames.{frames_out, next_frame, invoke_frame, return_frame}
-use Rattle.xa_pipe.specs.Life.{Says, Turn, outcomes_in, outcome_by, lost_by, turn_behind}
-use Rattle.xa_pipe.specs.Life.Turn.{AwaitsNext, Idle as IdleTurn, Serving, Exited}
-use Rattle.xa_pipe.specs.Pipe.{Piped, Wrote, HasRead, Ceases}
+use Rattle.xa_pipe.specs.Frames.{frames_out, invoke_frame, return_frame}
+use Rattle.xa_pipe.specs.Life.{Says, outcomes_in, outcome_by, lost_by, turn_behind}
+use Rattle.xa_pipe.specs.Life.Turn.{AwaitsNext, Idle as IdleTurn}
+use Rattle.xa_pipe.specs.Pipe.{Piped, Wrote, HasRead}
 use Rattle.xa_pipe.specs.declared.hearing.Return.{Return}
 use Rattle.xa_play.specs.PlaySetup.{play_setup, server_name}
 use Rattle.xa_play.specs.History.{refuse, stop, gone, served, falls, in_order}
 use Rattle.xa_play.specs.Refusal.{IsAdmitted, IsRefused}
-use Rattle.xa_play.proofs.Machine.{EndsSo}
 use Rattle.xa_play.proofs.After.{IsShown, up_served, up_refused, down_refused}
-use Rattle.xa_program.specs.Lives.{lives_of, failed_starts}
-use Rattle.xa_program.specs.Progress.{IsPlayingAt, IsPlaying, IsServing, HasFallen, NeverStarted, IsLive, Exchanged, Sends, CarriedTo, IsCarried, IsTurnedDown, Freed, outcome_heard, cause_heard, cause_by}
+use Rattle.xa_program.specs.Lives.{lives_of}
+use Rattle.xa_program.specs.Progress.{IsPlayingAt, IsPlaying, IsServing, HasFallen, NeverStarted, IsLive, Exchanged, CarriedTo, IsCarried, IsTurnedDown, outcome_heard, cause_heard, cause_by}
 use Rattle.xa_program.proofs.Pipes.{life_kept}
 use Rattle.xa_program.proofs.Turns.{sound_return, sound_lost, idle_return, ends_exit, ends_lost, awaited_ends, serving_on, fallen_behind, fallen_exit, fallen_lost}
 use Rattle.xa_program.proofs.Playing.{playing_fallen, playing_served, reverse_falls, reverse_refused, refused_while_up, refused_while_down, shown_by}
@@ -198,6 +197,7 @@ never_down service name n m op ops ask history now lines printed is old never do
     let same : now ≡ longer = down.noted ∙ ap (λ (k : ℕ). history ++ Refuse (refuse k down.fault down.evidence) ∷ []) is in
     let told : printed ≡ lines ++ line_text name (n + 1) (FaultReply down.fault) = down.printed_so ∙ ap (λ (k : ℕ). lines ++ line_text name k (FaultReply down.fault)) is in
     subst (λ (es : List Event). IsPlaying service name 1 (n + 1) m (ops ++ Call ask ∷ []) es printed × NeverStarted service (reverse es)) (sym same)
-    (subst (λ (es : List Event). IsPlayingAt service name 1 (n + 1) m (ops ++ Call ask ∷ []) longer es printed × NeverStarted service es) (sym (reverse_refused history (n + 1) down.fault down.evidence))
-    (subst (λ (text : List ℕ). IsPlayingAt service name 1 (n + 1) m (ops ++ Call ask ∷ []) longer past text) (sym told) (refused_while_down service name n m ops ask history (reverse history) lines down.fault down.evidence old never.down down.refused),
-    never_turned service n down.fault down.evidence (reverse history) (shown_by service 2 ask down.fault down.evidence down.refused) never))
+    (subst (λ (es : List Event). IsPlayingAt service name 1 (n + 1) m (ops ++ Call ask ∷ []) longer es printed × NeverStarted service es) (sym (reverse_refused history (n + 1) down.fault down.evidence)) (
+      subst (λ (text : List ℕ). IsPlayingAt service name 1 (n + 1) m (ops ++ Call ask ∷ []) longer past text) (sym told) (refused_while_down service name n m ops ask history (reverse history) lines down.fault down.evidence old never.down down.refused),
+      never_turned service n down.fault down.evidence (reverse history) (shown_by service 2 ask down.fault down.evidence down.refused) never,
+    ))

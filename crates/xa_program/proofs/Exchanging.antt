@@ -1,6 +1,6 @@
 -- What goes through the pipes at an exchange.
-use Rattle.std.proofs.Common.{◌≡◌, ℕ, List, [], ◌∷◌, ◌++◌, length, take, Option, Some, None, Ok, Err, inl, inr, refl, sym, ◌∙◌, ap, subst, arith, take_all}
-use Rattle.std.specs.Prelude.{Result, IfOk, IfErr, option_map}
+use Rattle.std.proofs.Common.{◌≡◌, ℕ, List, [], ◌∷◌, ◌++◌, length, Option, Ok, Err, inr, sym, ◌∙◌, subst, arith, take_all}
+use Rattle.std.specs.Prelude.{Result, IfOk, IfErr}
 use Rattle.xa_types.specs.declared.data.Data.{Data}
 use Rattle.xa_link.specs.Told.{Grew, GrewByPrefix}
 use Rattle.xa_events.specs.declared.event.StopCause.{StopCause}

@@ -1,5 +1,6 @@
 pub mod Built
 pub mod Carrying
+pub mod Complete
 pub mod Exchanging
 pub mod Over
 pub mod Pipes

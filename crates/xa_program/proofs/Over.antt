@@ -1,9 +1,9 @@
 -- From the boot to the first call, and from the last call to the end.
-use Rattle.std.proofs.Common.{◌≡◌, ◌⊎◌, ℕ, ◌+◌, ◌<◌, ◌≤◌, Bool, true, false, List, [], ◌∷◌, ◌++◌, length, reverse, Option, Some, None, inl, inr, refl, sym, ◌∙◌, ap, subst, append-nil, arith}
+use Rattle.std.proofs.Common.{◌≡◌, ◌⊎◌, ℕ, ◌<◌, Bool, true, false, List, [], ◌∷◌, ◌++◌, length, reverse, Option, Some, inl, inr, refl, sym, ◌∙◌, ap, subst, append-nil, arith}
 use Rattle.std.specs.Prelude.{IfSome}
 use Rattle.std.proofs.lemmas.List.{reverse-append}
 use Rattle.xa_types.specs.declared.call.Op.{Op}
-use Rattle.xa_types.specs.Rows.{Change, Put, Remove}
+use Rattle.xa_types.specs.Rows.{Change}
 use Rattle.xa_events.specs.declared.event.Event.{Event}
 use Rattle.xa_events.specs.declared.event.Event.TheVariants.{Advertise, Start, StartFailed, Gone, Withdraw, Down, Leave, Close, Stop}
 use Rattle.xa_events.specs.declared.event.Outcome.{Outcome}
@@ -25,25 +25,25 @@ use Rattle.xa_frame.specs.declared.frame.Frame.{Frame}
 use Rattle.xa_frame.specs.Spelling.{spelled}
 use Rattle.xa_script.specs.declared.script.Client.{Client}
 use Rattle.xa_pipe.specs.Frames.{frames_out, ready_frame, next_frame, shutdown_frame}
-use Rattle.xa_pipe.specs.Life.{Says, Silent, Named, Free, Turn, IsLife, TookBy, outcomes_in, all_outcomes, may_end, IsCounted, Shows, tag_after}
-use Rattle.xa_pipe.specs.Life.Turn.{AwaitsReady, AwaitsNext, Idle as IdleTurn, Serving, Exited}
+use Rattle.xa_pipe.specs.Life.{Says, Named, Free, Turn, TookBy, outcomes_in, all_outcomes, may_end, IsCounted, Shows, tag_after}
+use Rattle.xa_pipe.specs.Life.Turn.{AwaitsReady, AwaitsNext, Idle as IdleTurn, Exited}
 use Rattle.xa_pipe.specs.Pipe.{Piped, Wrote, HasRead, CutOff}
 use Rattle.xa_pipe.proofs.Frames.{read_same, told_more}
 use Rattle.xa_play.specs.PlaySetup.{play_setup, server_name}
 use Rattle.xa_play.specs.Spoken.{spoken, lines_up_to}
 use Rattle.xa_play.specs.History.{advertise, withdraw, start, stop, gone, falls, begun, not_begun, closed}
-use Rattle.xa_play.specs.Between.{at, IsQuiet, IsOpen, IsUp, IsDown, IsLeft, IsFresh, KnowsAnswers}
+use Rattle.xa_play.specs.Between.{at, IsUp, IsDown, IsFresh, KnowsAnswers}
 use Rattle.xa_play.proofs.Machine.{run_append}
 use Rattle.xa_play.proofs.After.{down_fallen}
 use Rattle.xa_play.proofs.Closing.{run_begun, quiet_begun, open_begun, up_begun, run_not_begun, quiet_not_begun, open_not_begun, down_not_begun, left_none, left_one, up_left, down_left, leave_case, run_shut, run_dropped, run_closed, final_shut, final_dropped, final_down}
 use Rattle.xa_play.proofs.Told.{Keeps, keeps_on, each_kept, lines_kept}
 use Rattle.xa_play.proofs.ToldCalls.{keeps_leave, keeps_closed, keeps_shut, keeps_fallen}
 use Rattle.xa_program.specs.Headline.{IsHistoryAt, EachMadeCalls, names_of}
-use Rattle.xa_program.specs.Lives.{lives_of, failed_starts}
-use Rattle.xa_program.specs.Progress.{IsPlayingAt, IsPlaying, IsServing, HasFallen, NeverStarted, IsLive, HasMade, IsLeavingAt, IsLeaving, IsOver, HasLived, HasNotLived, ReadNothing, SendFails, IsDone}
+use Rattle.xa_program.specs.Lives.{lives_of}
+use Rattle.xa_program.specs.Progress.{IsPlaying, IsServing, HasFallen, NeverStarted, IsLive, HasMade, IsLeavingAt, IsLeaving, IsOver, HasLived, HasNotLived, ReadNothing, SendFails, IsDone, Greets}
 use Rattle.xa_program.proofs.Pipes.{out_fallen, outcomes_fallen, lives_fallen, life_kept, wrote_more, took_all, took_no_shutdown}
 use Rattle.xa_program.proofs.Turns.{awaited_ends}
-use Rattle.xa_program.proofs.Playing.{playing_fallen, reverse_falls}
+use Rattle.xa_program.proofs.Playing.{playing_fallen}
 
 -- ---- the beginning
 
@@ -366,20 +366,20 @@ done false service clients m history now lines before after left live (noted, sa
     subst (λ (es : List Event). IsOver service clients es lines × HasLived service (reverse es) after) (sym noted) (
       over_closed service clients history lines left live.down,
       subst (λ (es : List Event). HasLived service es after) (sym (reverse-append history (Close (record { 0 = 1 }) ∷ [])))
-      (subst (λ (p : Piped). HasLived service (closed (reverse history)) p) (sym same) (closed_none service (reverse history) before live)),
+          (subst (λ (p : Piped). HasLived service (closed (reverse history)) p) (sym same) (closed_none service (reverse history) before live)),
     )
 done true service clients m history now lines before after left live (same, inl (noted, grew)) =
     subst (λ (es : List Event). IsOver service clients es lines × HasLived service (reverse es) after) (sym noted) (
       over_shut service clients history lines left live.up,
       subst (λ (es : List Event). HasLived service es after) (sym (reverse-append history (Close (record { 0 = 1 }) ∷ Stop (stop Shutdown) ∷ [])))
-      (shut_lived service m (reverse history) before after live same (wrote_more before.took after.took (frames_out 1 1 (reverse history)) shutdown_frame live.wrote grew)),
+          (shut_lived service m (reverse history) before after live same (wrote_more before.took after.took (frames_out 1 1 (reverse history)) shutdown_frame live.wrote grew)),
     )
 done true service clients m history now lines before after left live (same, inr (cause, noted, fails)) =
     let other = send_fails cause before after (spelled shutdown_frame) fails in
     subst (λ (es : List Event). IsOver service clients es lines × HasLived service (reverse es) after) (sym noted) (
       over_dropped service clients history lines left cause live.up other.0 other.1,
       subst (λ (es : List Event). HasLived service es after) (sym (reverse-append history (Close (record { 0 = 1 }) ∷ falls service (Some cause))))
-      (dropped_lived service m (reverse history) before after cause live same fails),
+          (dropped_lived service m (reverse history) before after cause live same fails),
     )
 
 -- the run is over where no server was started
@@ -389,4 +389,56 @@ done_without service clients history now lines left never noted =
     subst (λ (es : List Event). IsOver service clients es lines × HasNotLived (reverse es)) (sym noted) (
       over_closed service clients history lines left never.down,
       subst (λ (es : List Event). HasNotLived es) (sym (reverse-append history (Close (record { 0 = 1 }) ∷ []))) (record { lives = append-nil _ ∙ never.lives; failed = never.failed }),
+    )
+
+-- ---- put together
+
+-- the one client of the script, whose calls were made, has left
+pub leaving_all : (service : List ℕ) (client : Client) (clients : List Client) (m : ℕ) (ops : List Op) (history now : List Event) (lines : List ℕ) → clients ≡ client ∷ [] → ops ≡ client.ops
+    → IsPlaying service client.name 1 (length ops) m ops history lines → 0 < length (changes (reverse history)) → now ≡ history ++ Leave (record { 0 = 1 }) ∷ [] → IsLeaving service clients now lines
+leaving_all service client clients m ops history now lines alone same playing some noted =
+    let whole = subst (λ (xs : List Op). IsPlaying service client.name 1 (length xs) m xs history lines) same playing in
+    subst (λ (es : List Event). IsLeaving service clients es lines) (sym noted)
+    (subst (λ (all : List Client). IsLeaving service all (history ++ Leave (record { 0 = 1 }) ∷ []) lines) (sym alone) (leaving_one service client.name (length client.ops) m client.ops history lines whole some))
+
+pub live_gone : (up : Bool) (service : List ℕ) (m : ℕ) (history now : List Event) (pipe : Piped) → IsLive up service m (reverse history) pipe → now ≡ history ++ Leave (record { 0 = 1 }) ∷ [] → IsLive up service m (reverse now) pipe
+live_gone up service m history now pipe live noted =
+    subst (λ (es : List Event). IsLive up service m es pipe) (sym (ap reverse noted ∙ reverse_one history (Leave (record { 0 = 1 })))) (live_left up service m (reverse history) pipe live)
+
+pub never_gone : (service : List ℕ) (history now : List Event) → NeverStarted service (reverse history) → now ≡ history ++ Leave (record { 0 = 1 }) ∷ [] → NeverStarted service (reverse now)
+never_gone service history now never noted = subst (λ (es : List Event). NeverStarted service es) (sym (ap reverse noted ∙ reverse_one history (Leave (record { 0 = 1 })))) (never_left service (reverse history) never)
+
+pub board_never : (service : List ℕ) (past : List Event) → NeverStarted service past → 0 < length (changes past)
+board_never service past never = omega (arith, ap length never.down.board)
+
+-- behind the greeting
+pub greeted : (up : Bool) (service : List ℕ) (history now : List Event) (lines : List ℕ) (before after : Piped) → history ≡ Advertise (advertise service) ∷ Start start ∷ [] → lines ≡ [] → Wrote before [] → HasRead before [] → after.took ≡ before.took
+    → Greets up service history now before after → ((name : List ℕ) (clients : ℕ) → IsPlaying service name clients 0 0 [] now lines) × IsLive up service 0 (reverse now) after
+greeted true service history now lines before after is silent wrote read took (same, greets) =
+    let events : now ≡ Advertise (advertise service) ∷ Start start ∷ [] = same ∙ is in (
+      λ name clients. subst (λ (es : List Event). IsPlaying service name clients 0 0 [] es lines) (sym events) (subst (λ (text : List ℕ). IsPlaying service name clients 0 0 [] (Advertise (advertise service) ∷ Start start ∷ []) text) (sym silent) (playing_begun service name clients)),
+      subst (λ (es : List Event). IsServing service 0 (reverse es) after) (sym events)
+          (serving_begun service after (subst (λ (t : Option (List ℕ)). IfSome t (λ octets. octets ≡ [])) (sym took) wrote) (greets read)),
+    )
+greeted false service history now lines before after is silent wrote read took (cause, noted, cut) =
+    let first = Advertise (advertise service) ∷ Start start ∷ [] in
+    let events : now ≡ first ++ falls service (Some cause) = noted ∙ ap (λ (es : List Event). es ++ falls service (Some cause)) is in
+    let ended = cut read in
+    let other = greeted_ends service after cause ended in (
+      λ name clients. subst (λ (es : List Event). IsPlaying service name clients 0 0 [] es lines) (sym events)
+          (subst (λ (text : List ℕ). IsPlaying service name clients 0 0 [] (first ++ falls service (Some cause)) text) (sym silent)
+          (playing_fallen service name clients 0 0 [] first (begun service) [] cause (playing_begun service name clients) (up_begun service) other.0 other.1)),
+      subst (λ (es : List Event). HasFallen service (reverse es) after) (sym events)
+          (fallen_begun service after cause (subst (λ (t : Option (List ℕ)). IfSome t (λ octets. octets ≡ [])) (sym took) wrote) ended),
+    )
+
+-- behind a start that failed
+pub not_started : (service : List ℕ) (history now : List Event) (lines : List ℕ) → history ≡ Advertise (advertise service) ∷ [] → lines ≡ []
+    → now ≡ history ++ StartFailed start ∷ Gone (record { 0 = 1 }) ∷ Withdraw (withdraw service) ∷ Down (record { 0 = 1 }) ∷ []
+    → ((name : List ℕ) (clients : ℕ) → IsPlaying service name clients 0 0 [] now lines) × NeverStarted service (reverse now)
+not_started service history now lines is silent noted =
+    let first = Advertise (advertise service) ∷ StartFailed start ∷ Gone (record { 0 = 1 }) ∷ Withdraw (withdraw service) ∷ Down (record { 0 = 1 }) ∷ [] in
+    let events : now ≡ first = noted ∙ ap (λ (es : List Event). es ++ StartFailed start ∷ Gone (record { 0 = 1 }) ∷ Withdraw (withdraw service) ∷ Down (record { 0 = 1 }) ∷ []) is in (
+      λ name clients. subst (λ (es : List Event). IsPlaying service name clients 0 0 [] es lines) (sym events) (subst (λ (text : List ℕ). IsPlaying service name clients 0 0 [] first text) (sym silent) (playing_not_begun service name clients)),
+      subst (λ (es : List Event). NeverStarted service (reverse es)) (sym events) (never_begun service),
     )

@@ -1,15 +1,13 @@
 -- What the events of `play` say of the pipes of the one life.
-use Rattle.std.proofs.Common.{◌≡◌, ℕ, ◌+◌, ◌<◌, ◌^◌, ◌%◌, true, false, List, [], ◌∷◌, ◌++◌, length, take, drop, Option, Some, None, inl, inr, refl, sym, ◌∙◌, ap, subst, arith, append-nil, append_assoc}
-use Rattle.std.specs.Prelude.{IfSome, option_map}
+use Rattle.std.proofs.Common.{◌≡◌, ℕ, ◌+◌, ◌<◌, ◌^◌, ◌%◌, false, List, [], ◌∷◌, ◌++◌, take, drop, Option, Some, None, inl, inr, refl, sym, ◌∙◌, ap, subst, append-nil, append_assoc}
+use Rattle.std.specs.Prelude.{IfSome}
 use Rattle.std.proofs.Math.Nat.{mod-eq_of_lt}
 use Rattle.std.proofs.lemmas.List.{take-append-drop}
 use Rattle.xa_types.specs.declared.data.Data.{Data}
-use Rattle.xa_types.specs.declared.fault.Fault.{Fault}
 use Rattle.xa_types.specs.declared.reply.Answer.{Answer}
-use Rattle.xa_link.specs.Told.{Grew, GrewByPrefix}
+use Rattle.xa_link.specs.Told.{Grew}
 use Rattle.xa_events.specs.declared.event.Event.{Event}
-use Rattle.xa_events.specs.declared.event.Event.TheVariants.{Accept, Take, Close, Stop, Leave, Refuse}
-use Rattle.xa_events.specs.declared.event.Evidence.{Evidence}
+use Rattle.xa_events.specs.declared.event.Event.TheVariants.{Accept, Take, Stop}
 use Rattle.xa_events.specs.declared.event.Outcome.{Outcome}
 use Rattle.xa_events.specs.declared.event.StopCause.{StopCause}
 use Rattle.xa_events.specs.declared.event.StopCause.TheVariants.{Shutdown, Exit, EndOfInput, ReadFault, WriteFault, BadBytes, OutOfTurn, Starved}
@@ -21,7 +19,7 @@ use Rattle.xa_pipe.specs.Life.{IsLife, IsFront, TookBy, outcomes_in, cause_of}
 use Rattle.xa_pipe.specs.Pipe.{Piped, Wrote}
 use Rattle.xa_pipe.proofs.Frames.{all_spelled-push, told_more}
 use Rattle.xa_play.specs.PlaySetup.{play_setup, server_name}
-use Rattle.xa_play.specs.History.{accept, take_of, refuse, stop, gone, ended_call, served, closed}
+use Rattle.xa_play.specs.History.{accept, take_of, stop, gone, served}
 use Rattle.xa_play.proofs.Machine.{same_request-self}
 use Rattle.xa_program.specs.Lives.{lives_of, failed_starts}
 use Rattle.xa_program.specs.Progress.{invocations, Sends, SendFails}

@@ -1,46 +1,126 @@
 -- How a run of `play` ends, by how its script was served.
-use Rattle.std.proofs.Common.{◌≡◌, ℕ, List, [], ◌∷◌, length, reverse, Option, inl, inr, arith, slice_set}
-use Rattle.xa_link.specs.Told.{Rose}
+use Rattle.std.proofs.Common.{◌≡◌, ◌⊎◌, ℕ, ◌≤◌, List, [], ◌∷◌, length, reverse, Option, Ok, Err, inl, inr, sym, subst, arith, slice_set, slice_index_or}
+use Rattle.std.specs.Prelude.{Result, OnOk, MatchResult}
+use Rattle.xa_link.specs.Told.{Rose, Grew, GrewByPrefix}
 use Rattle.xa_events.specs.declared.event.Event.{Event}
 use Rattle.xa_script.specs.declared.script.Client.{Client}
+use Rattle.xa_pipe.specs.Life.{IsLife}
+use Rattle.xa_pipe.specs.Pipe.{Piped}
+use Rattle.xa_play.specs.PlaySetup.{play_setup, server_name}
+use Rattle.xa_play.specs.Spoken.{spoken}
 use Rattle.xa_program.specs.declared.outcome.Life.{Life}
 use Rattle.xa_program.specs.declared.status.Status.{Status}
-use Rattle.xa_program.specs.declared.status.Status.TheVariants.{Done, WriteFault, NoMemory, Unbuilt}
-use Rattle.xa_program.specs.Headline.{Streams, IsTheScript, IsPlayed, EachCounts, OneFailed, PlayEnds}
-use Rattle.xa_program.specs.Pipes.{failed_starts}
-use Rattle.xa_program.specs.Progress.{IsServed, ServingEnds}
+use Rattle.xa_program.specs.declared.status.Status.TheVariants.{Done, WriteFault, NoMemory}
+use Rattle.xa_types.specs.declared.memory.NoMemory.{NoMemory as NoMemoryError}
+use Rattle.xa_program.specs.Headline.{Streams, LinkTells, IsLifeOf, IsTheScript, IsPlayed, EachCounts, PlayEnds, names_of}
+use Rattle.xa_program.specs.Lives.{failed_starts}
+use Rattle.xa_program.specs.Progress.{IsOver, HasLived, HasNotLived, StartsCount, IsServed, ServingEnds, Printed}
 
-each_counts : {S : Type 0} (start_faults : S → ℕ) (starters : List S) (now : S) (past : List Event) → length starters ≡ 1 → failed_starts 1 past ≡ 0 → EachCounts start_faults 1 (slice_set starters 0 now) past
-each_counts start_faults [] now past one none = absurd (omega (arith, one))
-each_counts start_faults (starter ∷ []) now past one none = (omega (arith, none), tt)
-each_counts start_faults (starter ∷ other ∷ starters) now past one none = absurd (omega (arith, one))
+-- ---- one life
 
-one_failed : {S : Type 0} (start_faults : S → ℕ) (starters : List S) (old now : S) → length starters ≡ 1 → start_faults old ≡ 0 → Rose (start_faults old) (start_faults now) → OneFailed start_faults (slice_set starters 0 now)
-one_failed start_faults [] old now one none rose = absurd (omega (arith, one))
-one_failed start_faults (starter ∷ []) old now one none (inl rose) = inl (omega (arith, rose))
-one_failed start_faults (starter ∷ []) old now one none (inr stands) = inl (omega (arith, stands))
-one_failed start_faults (starter ∷ other ∷ starters) old now one none rose = absurd (omega (arith, one))
+abbrev the_life : {L : Type 0} → L → Life L
+the_life link = record { server = record { 0 = 1 }; generation = record { 0 = 1 }; link = link }
 
-module _ {L S : Type 0} (took gave left : L → Option (List ℕ)) (reads writes : L → ℕ) (start_faults : S → ℕ) (streams : Streams) (service : List ℕ) (clients : List Client)
+-- what the link of a life shows of its pipes
+pub record ShowsPipe {L : Type 0} (tells : LinkTells L) (link : L) (pipe : Piped) : Type 0 where
+  pub took_is : tells.took link ≡ pipe.took
+  pub gave_is : tells.gave link ≡ pipe.gave
+  pub left_is : tells.left link ≡ pipe.left
+  pub reads_is : tells.reads link ≡ pipe.reads
+  pub writes_is : tells.writes link ≡ pipe.writes
+
+life_shown : {L : Type 0} (tells : LinkTells L) (link : L) (pipe : Piped) (service : List ℕ) (past : List Event) → ShowsPipe tells link pipe → IsLife (play_setup service) server_name 1 1 past pipe.took pipe.gave pipe.left pipe.reads pipe.writes
+    → IsLifeOf tells (play_setup service) past (the_life link)
+life_shown tells link pipe service past shows life = rw (shows.took_is, shows.gave_is, shows.left_is, shows.reads_is, shows.writes_is) life
+
+served_life : {L : Type 0} (tells : LinkTells L) (link : L) (pipe : Piped) (starts starts_after : ℕ) (service : List ℕ) (clients : List Client) (history : List Event) (lines : List ℕ) (lives : List (Life L))
+    → lives ≡ the_life link ∷ [] → ShowsPipe tells link pipe → IsOver service clients history lines → HasLived service (reverse history) pipe → IsServed tells starts starts_after service clients history lives
+served_life {L} tells link pipe starts starts_after service clients history lines lives is shows over lived =
+    subst (λ (all : List (Life L)). IsServed tells starts starts_after service clients history all) (sym is) (record {
+      machine = over.machine;
+      lives_are = sym lived.lives;
+      pipes = λ k d low.
+          let first : 0 ≡ k = omega arith in
+          subst (λ (j : ℕ). IsLifeOf tells (play_setup service) (reverse history) (slice_index_or (the_life link ∷ []) j d)) first (life_shown tells link pipe service (reverse history) shows lived.life);
+      failed = inl lived.failed;
+    })
+
+served_none : {L : Type 0} (tells : LinkTells L) (starts starts_after : ℕ) (service : List ℕ) (clients : List Client) (history : List Event) (lines : List ℕ) (lives : List (Life L))
+    → lives ≡ [] → Rose starts starts_after → IsOver service clients history lines → HasNotLived (reverse history) → IsServed tells starts starts_after service clients history lives
+served_none {L} tells starts starts_after service clients history lines lives is rose over none =
+    subst (λ (all : List (Life L)). IsServed tells starts starts_after service clients history all) (sym is) (record {
+      machine = over.machine;
+      lives_are = sym none.lives;
+      pipes = λ k d low. absurd (omega arith);
+      failed = inr (none.failed, rose);
+    })
+
+-- ---- the transcript
+
+printed_ends : {L : Type 0} (tells : LinkTells L) (before after : Option (List ℕ)) (faults faults_after starts starts_after : ℕ) (service : List ℕ) (clients : List Client) (history : List Event) (lines : List ℕ) (lives : List (Life L)) (status : Status)
+    → IsServed tells starts starts_after service clients history lives → lines ≡ spoken (names_of clients) (reverse history) → Printed before after faults faults_after lines status
+    → ServingEnds tells before after faults faults_after starts starts_after service clients status history lives
+printed_ends tells before after faults faults_after starts starts_after service clients history lines lives Done served said printed = (served, subst (λ text. Grew before after text) said printed)
+printed_ends tells before after faults faults_after starts starts_after service clients history lines lives WriteFault served said printed = (served, subst (λ text. GrewByPrefix before after text) said printed.0, printed.1)
+printed_ends tells before after faults faults_after starts starts_after service clients history lines lives status served said printed = absurd printed
+
+no_memory : {L : Type 0} (tells : LinkTells L) (before after : Option (List ℕ)) (faults faults_after starts starts_after : ℕ) (service : List ℕ) (clients : List Client) (history : List Event) (lives : List (Life L)) (status : Status)
+    → status ≡ NoMemory → ServingEnds tells before after faults faults_after starts starts_after service clients status history lives
+no_memory tells before after faults faults_after starts starts_after service clients history lives status is =
+    subst (λ s. ServingEnds tells before after faults faults_after starts starts_after service clients s history lives) (sym is) tt
+
+-- how a life and its transcript end
+pub life_ends : {L : Type 0} (tells : LinkTells L) (link : L) (pipe : Piped) (before after : Option (List ℕ)) (faults faults_after starts starts_after : ℕ) (service : List ℕ) (clients : List Client) (history : List Event) (lines : List ℕ) (lives : List (Life L))
+    (served : Result (Unit {0}) NoMemoryError) (status : Status)
+    → lives ≡ the_life link ∷ [] → ShowsPipe tells link pipe → OnOk served (IsOver service clients history lines × HasLived service (reverse history) pipe)
+    → MatchResult served (λ _. Printed before after faults faults_after lines status) (λ _. status ≡ NoMemory)
+    → ServingEnds tells before after faults faults_after starts starts_after service clients status history lives
+life_ends tells link pipe before after faults faults_after starts starts_after service clients history lines lives (Ok u) status is shows over printed =
+    printed_ends tells before after faults faults_after starts starts_after service clients history lines lives status (served_life tells link pipe starts starts_after service clients history lines lives is shows over.0 over.1) over.0.said printed
+life_ends tells link pipe before after faults faults_after starts starts_after service clients history lines lives (Err e) status is shows over printed =
+    no_memory tells before after faults faults_after starts starts_after service clients history lives status printed
+
+-- how the transcript ends where no life began
+pub none_ends : {L : Type 0} (tells : LinkTells L) (before after : Option (List ℕ)) (faults faults_after starts starts_after : ℕ) (service : List ℕ) (clients : List Client) (history : List Event) (lines : List ℕ) (lives : List (Life L))
+    (served : Result (Unit {0}) NoMemoryError) (status : Status)
+    → lives ≡ [] → Rose starts starts_after → OnOk served (IsOver service clients history lines × HasNotLived (reverse history))
+    → MatchResult served (λ _. Printed before after faults faults_after lines status) (λ _. status ≡ NoMemory)
+    → ServingEnds tells before after faults faults_after starts starts_after service clients status history lives
+none_ends tells before after faults faults_after starts starts_after service clients history lines lives (Ok u) status is rose over printed =
+    printed_ends tells before after faults faults_after starts starts_after service clients history lines lives status (served_none tells starts starts_after service clients history lines lives is rose over.0 over.1) over.0.said printed
+none_ends tells before after faults faults_after starts starts_after service clients history lines lives (Err e) status is rose over printed =
+    no_memory tells before after faults faults_after starts starts_after service clients history lives status printed
+
+-- ---- the run
+
+at_least : (failed old now : ℕ) → old ≡ 0 → (failed ≡ 0) ⊎ ((failed ≡ 1) × Rose old now) → failed ≤ now
+at_least failed old now none (inl zero_failed) = omega (arith, zero_failed)
+at_least failed old now none (inr (one, inl rose)) = omega (arith, one, rose)
+at_least failed old now none (inr (one, inr stands)) = omega (arith, one, stands)
+
+each_counts : {S : Type 0} (start_faults : S → ℕ) (starters : List S) (old now : S) (past : List Event) → length starters ≡ 1 → start_faults old ≡ 0 → StartsCount past (start_faults old) (start_faults now) → EachCounts start_faults 1 (slice_set starters 0 now) past
+each_counts start_faults [] old now past one none count = absurd (omega (arith, one))
+each_counts start_faults (starter ∷ []) old now past one none count = (at_least (failed_starts 1 past) (start_faults old) (start_faults now) none count, tt)
+each_counts start_faults (starter ∷ other ∷ starters) old now past one none count = absurd (omega (arith, one))
+
+module _ {L S : Type 0} (tells : LinkTells L) (start_faults : S → ℕ) (streams : Streams) (service : List ℕ) (clients : List Client)
     (history : List Event) (lives : List (Life L)) (starters : List S) (old now : S)
-    (one : length starters ≡ 1) (none : start_faults old ≡ 0) (script : IsTheScript streams.told service clients) where
-  played : IsServed took gave service clients history lives → IsPlayed took gave start_faults streams.told service clients history lives (slice_set starters 0 now)
+    (one : length starters ≡ 1) (none : start_faults old ≡ 0) (script : IsTheScript streams.told clients) where
+  played : IsServed tells (start_faults old) (start_faults now) service clients history lives → IsPlayed tells start_faults streams.told service clients history lives (slice_set starters 0 now)
   played served = record {
     script = script;
     machine = served.machine;
     carried = record {
       lives_are = served.lives_are;
       pipes = served.pipes;
-      starts = each_counts start_faults starters now (reverse history) one served.failed;
+      starts = each_counts start_faults starters old now (reverse history) one none served.failed;
     };
   }
 
   pub play_ends : (status : Status)
-      → ServingEnds took gave left reads writes streams.took_before streams.took_after streams.writes_before streams.writes_after (start_faults old) (start_faults now) service clients status history lives
-      → PlayEnds took gave left reads writes start_faults streams service status history lives (slice_set starters 0 now)
-  play_ends Done ends = (clients, played ends.0, ends.1, ends.2)
-  play_ends WriteFault ends = (clients, played ends.0, ends.1, ends.2, ends.3)
+      → ServingEnds tells streams.took_before streams.took_after streams.writes_before streams.writes_after (start_faults old) (start_faults now) service clients status history lives
+      → PlayEnds tells start_faults streams service status history lives (slice_set starters 0 now)
+  play_ends Done ends = (clients, played ends.0, ends.1)
+  play_ends WriteFault ends = (clients, played ends.0, ends.1, ends.2)
   play_ends NoMemory ends = tt
-  play_ends Unbuilt (inl broken) = (clients, script, inl broken)
-  play_ends Unbuilt (inr failed) = (clients, script, inr (failed.0, one_failed start_faults starters old now one none failed.1))
   play_ends status ends = absurd ends

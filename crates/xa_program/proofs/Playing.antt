@@ -1,23 +1,19 @@
 -- The calls of `play`, one after another: what is known behind one more.
-use Rattle.std.proofs.Common.{◌≡◌, ◌⊎◌, ◌==◌, ◌&&◌, eqb-true, ℕ, ◌+◌, ◌<◌, ◌≤◌, ◌^◌, Bool, true, false, not, ◌||◌, List, [], ◌∷◌, ◌++◌, length, reverse, Option, Some, None, Ok, Err, inl, inr, refl, sym, ◌∙◌, ap, subst, arith, append_assoc, append-nil}
-use Rattle.std.specs.Prelude.{Result}
+use Rattle.std.proofs.Common.{◌≡◌, ◌⊎◌, ◌==◌, ◌&&◌, eqb-true, ℕ, ◌+◌, Bool, true, false, not, ◌||◌, List, [], ◌∷◌, ◌++◌, reverse, Option, Some, None, inl, inr, refl, sym, ◌∙◌, ap, subst, arith}
 use Rattle.std.proofs.lemmas.List.{reverse-append, length_push}
-use Rattle.xa_types.specs.declared.data.Data.{Data}
 use Rattle.xa_types.specs.declared.data.Kind.{Kind}
 use Rattle.xa_types.specs.declared.call.Op.{Op}
 use Rattle.xa_types.specs.declared.call.Op.TheVariants.{Call}
 use Rattle.xa_types.specs.declared.call.Ask.{Ask}
-use Rattle.xa_types.specs.declared.call.Rval.{Rval}
-use Rattle.xa_types.specs.declared.call.Rval.TheVariants.{Success, Fail, Exit as ExitValue}
 use Rattle.xa_types.specs.declared.fault.Fault.{Fault}
 use Rattle.xa_types.specs.declared.fault.Fault.TheVariants.{Inval, NoEnt}
 use Rattle.xa_types.specs.declared.reply.Reply.TheVariants.{Answered as AnsweredReply, Fault as FaultReply}
 use Rattle.xa_types.specs.Name.{is_name}
 use Rattle.xa_types.specs.Setup.{same_name}
 use Rattle.xa_types.specs.Kind.{is_sound}
-use Rattle.xa_types.specs.Rows.{Change, Put, Remove, all_kinds}
+use Rattle.xa_types.specs.Rows.{Change, Put, Remove}
 use Rattle.xa_events.specs.declared.event.Event.{Event}
-use Rattle.xa_events.specs.declared.event.Event.TheVariants.{Gone, Withdraw, Down, Stop, Refuse}
+use Rattle.xa_events.specs.declared.event.Event.TheVariants.{Stop, Refuse}
 use Rattle.xa_events.specs.declared.event.Evidence.{Evidence}
 use Rattle.xa_events.specs.declared.event.Evidence.TheVariants.{Argument, Version}
 use Rattle.xa_events.specs.declared.event.Outcome.{Outcome}
@@ -32,17 +28,16 @@ use Rattle.xa_events.specs.Server.{is_shutdown}
 use Rattle.xa_events.specs.Cases.{Case, is_sound_outcome}
 use Rattle.xa_events.specs.State.{opening}
 use Rattle.xa_text.specs.Line.{line_text}
-use Rattle.xa_pipe.specs.Pipe.{Piped}
 use Rattle.xa_play.specs.PlaySetup.{play_setup}
-use Rattle.xa_play.specs.History.{refuse, stop, withdraw, gone, served, falls, in_order}
+use Rattle.xa_play.specs.History.{refuse, stop, gone, served, falls, in_order}
 use Rattle.xa_play.specs.Refusal.{IsAdmitted, IsRefused}
-use Rattle.xa_play.specs.Between.{at, IsQuiet, IsUp, IsDown}
-use Rattle.xa_play.proofs.Falls.{falls_run, same_name-self, no_rows}
+use Rattle.xa_play.specs.Between.{at, IsUp, IsDown}
+use Rattle.xa_play.proofs.Falls.{falls_run, same_name-self}
 use Rattle.xa_play.proofs.Machine.{EndsSo, run_append, run_served}
 use Rattle.xa_play.proofs.After.{IsShown, quiet_served, open_served, refuse_up, refuse_down, quiet_refused, open_refused, may_fall_idle, quiet_fallen, open_fallen}
 use Rattle.xa_play.proofs.Told.{lines_kept, each_kept}
-use Rattle.xa_play.proofs.ToldCalls.{keeps_fallen, fresh_fallen, knows_fallen, order_fallen, keeps_refused, fresh_refused, knows_refused, order_refused, lines_refused, calls_refused, fresh_served, knows_served, order_served, lines_served, calls_served}
-use Rattle.xa_program.specs.Progress.{IsPlayingAt, IsPlaying}
+use Rattle.xa_play.proofs.ToldCalls.{keeps_fallen, fresh_fallen, knows_fallen, order_fallen, fresh_refused, knows_refused, order_refused, lines_refused, calls_refused, fresh_served, knows_served, order_served, lines_served, calls_served}
+use Rattle.xa_program.specs.Progress.{IsPlayingAt}
 
 -- ---- the life ends between two calls
 
@@ -75,9 +70,9 @@ names_differ [] [] other = absurd (other refl)
 names_differ [] (y ∷ ys) other = refl
 names_differ (x ∷ xs) [] other = refl
 names_differ (x ∷ xs) (y ∷ ys) other = elim (y == x) as (λ b. (y == x) ≡ b → (b && same_name ys xs) ≡ false) [
-    | true ↦ λ e. names_differ xs ys (λ rest. other (ap (λ k. k ∷ xs) (sym (eqb-true y x e)) ∙ ap (λ l. y ∷ l) rest))
-    | false ↦ λ e. refl
-  ] refl
+  | true ↦ λ e. names_differ xs ys (λ rest. other (ap (λ k. k ∷ xs) (sym (eqb-true y x e)) ∙ ap (λ l. y ∷ l) rest))
+  | false ↦ λ e. refl
+] refl
 
 -- what the version that stands lists: nothing of another service, and nothing once the row is withdrawn
 unlisted_up : (service : List ℕ) (past : List Event) (name : List ℕ) → changes past ≡ Put service 1 service ∷ [] → (name ≡ service → ⊥) → listed_in (play_setup service) past 1 name false ≡ []
@@ -130,7 +125,7 @@ module _ (service name : List ℕ) (n m : ℕ) (ops : List Op) (ask : Ask) (hist
       → IsPlayingAt service name 1 (n + 1) m (ops ++ Call ask ∷ []) (history ++ Refuse (refuse (n + 1) fault evidence) ∷ []) turned (lines ++ line_text name (n + 1) (FaultReply fault))
   refused_while_up up refused =
       goes_by (refuse_up service n m fault evidence past old.quiet old.opens (Idle (record { 0 = 1 })) up (shown_by service 1 ask fault evidence refused))
-      (refused_by service 1 ask turned (λ word which. elim which [ | inl down ↦ absurd (omega (arith, down)) | inr other ↦ unlisted_up service turned word (board_turned _ past (n + 1) fault evidence up.board) other ]) fault evidence refused)
+      (refused_by service 1 ask turned (λ word which. elim which [ inl down ↦ absurd (omega (arith, down)) | inr other ↦ unlisted_up service turned word (board_turned _ past (n + 1) fault evidence up.board) other ]) fault evidence refused)
 
   pub refused_while_down : IsDown service past → IsRefused service 2 ask fault evidence
       → IsPlayingAt service name 1 (n + 1) m (ops ++ Call ask ∷ []) (history ++ Refuse (refuse (n + 1) fault evidence) ∷ []) turned (lines ++ line_text name (n + 1) (FaultReply fault))
@@ -158,7 +153,7 @@ admitted_sound service ask valid = valid_sound (is_name ask.service) (is_sound (
 pub playing_served : (service name : List ℕ) (n m : ℕ) (ops : List Op) (ask : Ask) (history past : List Event) (lines : List ℕ) (outcome : Outcome) (cause : Option StopCause)
     → IsPlayingAt service name 1 n m ops history past lines → IsUp service (Idle (record { 0 = 1 })) past → IsAdmitted service 1 ask → ask.expect ≡ None → is_sound_outcome (at service 1 past) outcome ≡ true → EndsSo outcome cause
     → IsPlayingAt service name 1 (n + 1) (m + 1) (ops ++ Call ask ∷ []) (history ++ in_order service (n + 1) (m + 1) ask.payload outcome cause (reply_of outcome)) (served service (n + 1) (m + 1) ask.payload outcome cause (reply_of outcome) past)
-      (lines ++ line_text name (n + 1) (AnsweredReply 0 (reply_of outcome)))
+    (lines ++ line_text name (n + 1) (AnsweredReply 0 (reply_of outcome)))
 playing_served service name n m ops ask history past lines outcome cause old up admitted plain sound so =
     let answer = reply_of outcome in
     let now = served service (n + 1) (m + 1) ask.payload outcome cause answer past in

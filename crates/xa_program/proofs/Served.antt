@@ -1,6 +1,6 @@
 -- What the steps of a call come to, put together.
-use Rattle.std.proofs.Common.{◌≡◌, ℕ, Bool, true, false, List, [], ◌∷◌, ◌++◌, Option, Some, None, Ok, Err, refl, sym, ◌∙◌, ap, subst, append_assoc}
-use Rattle.std.specs.Prelude.{Result, IfOk, is_some}
+use Rattle.std.proofs.Common.{◌≡◌, ℕ, Bool, true, false, List, [], ◌∷◌, ◌++◌, Option, Some, None, Ok, Err, refl, ◌∙◌, ap, subst, append_assoc}
+use Rattle.std.specs.Prelude.{Result, IfOk, OnOk, is_some}
 use Rattle.xa_types.specs.declared.data.Data.{Data}
 use Rattle.xa_events.specs.declared.event.Event.{Event}
 use Rattle.xa_events.specs.declared.event.Event.TheVariants.{Accept, Take, End, Answer as Answers}
@@ -52,3 +52,8 @@ carried_so up service name op number payload history now lines printed before mi
   carried = subst (λ (o : Outcome). CarriedTo up service op number payload o (cause_heard heard) history now mid after) is_outcome
       (subst (λ (c : Option StopCause). CarriedTo up service op number payload outcome c history now mid after) is_cause carried);
 }
+
+-- what is known once it is done, of which more follows
+pub done_more : {A E : Type 0} (result : Result A E) (is so : Type 0) → (is → so) → OnOk result is → OnOk result so
+done_more (Ok x) is so follows h = follows h
+done_more (Err e) is so follows h = tt

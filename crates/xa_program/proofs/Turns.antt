@@ -1,5 +1,5 @@
 -- The one life at a call of `play`: it goes on, or it ends.
-use Rattle.std.proofs.Common.{◌≡◌, ℕ, ℤ, ◌+◌, ◌<◌, ◌^◌, ◌%◌, Bool, true, false, List, [], ◌∷◌, ◌++◌, length, Option, Some, None, inl, inr, refl, sym, ◌∙◌, ap, subst, arith}
+use Rattle.std.proofs.Common.{◌≡◌, ℕ, ℤ, ◌+◌, ◌<◌, ◌^◌, ◌%◌, Bool, true, false, List, [], ◌∷◌, ◌++◌, length, Some, None, inl, inr, refl, sym, ◌∙◌, ap, subst}
 use Rattle.std.proofs.lemmas.List.{length_push}
 use Rattle.std.proofs.Math.Nat.{mod-eq_of_lt}
 use Rattle.std.specs.Prelude.{IfSome}
@@ -12,7 +12,6 @@ use Rattle.xa_link.specs.Told.{Grew}
 use Rattle.xa_events.specs.declared.event.Event.{Event}
 use Rattle.xa_events.specs.declared.event.Event.TheVariants.{Stop}
 use Rattle.xa_events.specs.declared.event.Outcome.{Outcome}
-use Rattle.xa_events.specs.declared.event.Outcome.TheVariants.{BadReturn}
 use Rattle.xa_events.specs.declared.event.StopCause.{StopCause}
 use Rattle.xa_events.specs.declared.event.StopCause.TheVariants.{Shutdown, Exit, EndOfInput, ReadFault, WriteFault, BadBytes, OutOfTurn, Starved}
 use Rattle.xa_events.specs.declared.event.Doing.TheVariants.{Idle}
@@ -21,16 +20,15 @@ use Rattle.xa_events.specs.Cases.{is_sound_outcome, idle_stops}
 use Rattle.xa_frame.specs.declared.frame.Frame.{Frame}
 use Rattle.xa_frame.specs.Spelling.{spelled, all_spelled}
 use Rattle.xa_pipe.specs.Frames.{frames_out, next_frame, invoke_frame, return_frame}
-use Rattle.xa_pipe.specs.Life.{Says, Free, Invoked, Answers, Turn, IsLife, outcomes_in, outcome_of, outcome_by, lost_by, all_outcomes, tag_after, turn_behind, may_end, Shows, TookBy}
+use Rattle.xa_pipe.specs.Life.{Says, Free, Invoked, Answers, Turn, outcomes_in, outcome_by, lost_by, tag_after, turn_behind, may_end, Shows, TookBy}
 use Rattle.xa_pipe.specs.Life.Turn.{AwaitsNext, Idle as IdleTurn, Serving, Exited}
 use Rattle.xa_pipe.specs.Pipe.{Piped, Wrote, HasRead, Ceases}
 use Rattle.xa_pipe.proofs.Frames.{told_more}
 use Rattle.xa_play.specs.PlaySetup.{play_setup, server_name}
 use Rattle.xa_play.specs.History.{stop, gone, served}
-use Rattle.xa_play.specs.Between.{at, IsUp}
+use Rattle.xa_play.specs.Between.{at}
 use Rattle.xa_play.proofs.Machine.{EndsSo}
 use Rattle.xa_play.proofs.After.{up_served, down_served, down_fallen}
-use Rattle.xa_program.specs.Lives.{lives_of, failed_starts}
 use Rattle.xa_program.specs.Progress.{IsServing, HasFallen, Sends}
 use Rattle.xa_program.proofs.Pipes.{out_served, outcomes_served, invoked_served, lives_served, failed_served, out_fallen, outcomes_fallen, lives_fallen, wrote_more, took_all, took_sent}
 

@@ -1,5 +1,5 @@
 -- What a run of `play` comes to.
-use Rattle.std.specs.Prelude.{◌≡◌, ◌⊎◌, ◌≤◌, ◌<◌, ◌+◌, ℕ, List, [], ◌∷◌, length, reverse, map, Option, IfSome, All, ⊤}
+use Rattle.std.specs.Prelude.{◌≡◌, ◌≤◌, ◌<◌, ◌+◌, ℕ, List, [], ◌∷◌, length, reverse, map, Option, IfSome, All, ⊤}
 use Rattle.xa_types.specs.declared.setup.Setup.{Setup}
 use Rattle.xa_types.specs.Setup.{numbered}
 use Rattle.xa_link.specs.Told.{Rose, Grew, GrewByPrefix}

@@ -1,6 +1,6 @@
 -- What is known between two calls of `play`, and how its parts end.
 -- Contracts inside this crate rest on this file, and no public one.
-use Rattle.std.specs.Prelude.{◌≡◌, ◌⊎◌, ℕ, ◌+◌, ◌<◌, ◌≤◌, ◌^◌, ⊤, All, Bool, true, false, List, [], ◌∷◌, ◌++◌, length, map, reverse, Option, Some, None, IfSome, Result, Ok, Err}
+use Rattle.std.specs.Prelude.{◌≡◌, ◌⊎◌, ℕ, ◌<◌, ◌^◌, ⊤, All, Bool, true, false, List, [], ◌∷◌, ◌++◌, length, map, reverse, Option, Some, None, IfSome, Result, Ok, Err}
 use Rattle.xa_types.specs.declared.data.Data.{Data}
 use Rattle.xa_types.specs.declared.call.Op.{Op}
 use Rattle.xa_types.specs.declared.call.Op.TheVariants.{Call}
@@ -29,7 +29,7 @@ use Rattle.xa_frame.specs.declared.frame.Frame.{Frame}
 use Rattle.xa_frame.specs.Spelling.{spelled}
 use Rattle.xa_script.specs.declared.script.Client.{Client}
 use Rattle.xa_pipe.specs.Frames.{is_take_in, frames_out, ready_frame, next_frame, shutdown_frame, invoke_frame, return_frame}
-use Rattle.xa_pipe.specs.Life.{Says, Turn, IsLife, outcomes_in, outcome_by, lost_by}
+use Rattle.xa_pipe.specs.Life.{Says, IsLife, outcomes_in, outcome_by, lost_by}
 use Rattle.xa_pipe.specs.Life.Turn.{Idle as IdleTurn, AwaitsNext, Serving}
 use Rattle.xa_pipe.specs.Pipe.{Piped, Wrote, HasRead, Ceases, CutOff}
 use Rattle.xa_pipe.specs.declared.hearing.Return.{Return}
@@ -39,7 +39,7 @@ use Rattle.xa_play.specs.History.{refuse, stop, falls, in_order}
 use Rattle.xa_play.specs.Refusal.{IsRefused}
 use Rattle.xa_play.specs.Between.{at, IsQuiet, IsOpen, IsUp, IsDown, IsLeft, IsFresh, KnowsAnswers}
 use Rattle.xa_program.specs.Lives.{lives_of, failed_starts}
-use Rattle.xa_program.specs.Headline.{IsHistory, LinkTells, IsLifeOf, EachMadeCalls, HasFirstFault, longest_script, names_of}
+use Rattle.xa_program.specs.Headline.{IsHistory, LinkTells, IsLifeOf, HasFirstFault, longest_script, names_of}
 use Rattle.xa_program.specs.declared.outcome.Life.{Life}
 use Rattle.xa_program.specs.declared.status.Status.{Status}
 use Rattle.xa_program.specs.declared.status.Status.TheVariants.{Done, ScriptRead, TooLong, BadLine, WriteFault, NoMemory}

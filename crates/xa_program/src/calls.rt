@@ -77,9 +77,12 @@ fn cause_heard(heard: &Result<Return, StopCause>) -> Option<StopCause>
     ensures { result ≡ cause_heard heard.now }
 {
     match heard {
-        Ok(Return {
-            value: Rval::Exit, ..
-        }) => Some(StopCause::Exit),
+        Ok(
+            Return {
+                value: Rval::Exit,
+                ..
+            },
+        ) => Some(StopCause::Exit),
         Ok(_) => None,
         Err(cause) => Some(*cause),
     }

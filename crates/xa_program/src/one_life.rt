@@ -112,8 +112,8 @@ pub fn serve<L: Link>(
     requires silent { account.old.lines.items ≡ [] }
     requires wrote { Wrote pipe.old [] }
     requires read { HasRead pipe.old [] }
-    ensures over { OnOk result (IsOver service.now script.now.clients account.new.history.items account.new.lines.items) }
-    ensures lived { OnOk result (HasLived service.now (reverse account.new.history.items) pipe.new) }
+    ensures { OnOk result (IsOver service.now script.now.clients account.new.history.items account.new.lines.items
+        × HasLived service.now (reverse account.new.history.items) pipe.new) }
 {
     note_started(&mut account.history)?;
     let up = greet(pipe, &mut account.history, service, server)?;
@@ -121,18 +121,29 @@ pub fn serve<L: Link>(
     close(pipe, &mut account.history, service, up)
 }
 
+// Each call of the client is refused, and it leaves, if there is one.
+fn refuse_all(account: &mut Account, service: &Name, script: &Script) -> Result<(), NoMemory>
+    requires { IsBuiltScript script.now.clients }
+    ensures { OnOk result (((name : List ℕ) (clients : ℕ) → IsPlaying service.now name clients 0 0 [] account.old.history.items account.old.lines.items)
+        → NeverStarted service.now (reverse account.old.history.items)
+        → IsLeaving service.now script.now.clients account.new.history.items account.new.lines.items × NeverStarted service.now (reverse account.new.history.items)) }
+{
+    let Some(client) = only_client(script) else {
+        return Ok(());
+    };
+    refuse_calls(account, service, &client.name, client.ops.slice())?;
+    note_left(&mut account.history)
+}
+
 /// Serves the script where the server couldn't be started: the queue is down, and each call is refused.
 pub fn serve_none(account: &mut Account, service: &Name, script: &Script) -> Result<(), NoMemory>
     requires built { IsBuiltScript script.now.clients }
     requires booted { account.old.history.items ≡ Advertise (advertise service.now) ∷ [] }
     requires silent { account.old.lines.items ≡ [] }
-    ensures over { OnOk result (IsOver service.now script.now.clients account.new.history.items account.new.lines.items) }
-    ensures none { OnOk result (HasNotLived (reverse account.new.history.items)) }
+    ensures { OnOk result (IsOver service.now script.now.clients account.new.history.items account.new.lines.items
+        × HasNotLived (reverse account.new.history.items)) }
 {
     note_not_started(&mut account.history, service)?;
-    if let Some(client) = only_client(script) {
-        refuse_calls(account, service, &client.name, client.ops.slice())?;
-        note_left(&mut account.history)?;
-    }
+    refuse_all(account, service, script)?;
     note_closed(&mut account.history)
 }

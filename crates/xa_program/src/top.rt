@@ -1,8 +1,11 @@
 // The top call.
-ghost use Rattle.std.specs.Prelude.{◌≡◌, ◌≤◌, ◌↔◌, [], ◌∷◌, ℕ, List, map, string_bytes, None, Some, All, IfOk, IfErr, length, vec_len};
+ghost use Rattle.std.specs.Prelude.{◌≡◌, ◌⊎◌, ◌≤◌, ◌↔◌, [], ◌∷◌, ℕ, List, map, string_bytes, None, Some, All, IfOk, IfErr, length, vec_len};
 ghost use Rattle.xa_types.specs.Name.{IsName};
+ghost use Rattle.xa_link.specs.Told.{Rose};
+ghost use Rattle.xa_script.specs.declared.script.Script.{Script};
+ghost use Rattle.xa_script.specs.Script.{IsScript};
 ghost use Rattle.xa_program.specs.declared.words.Command.TheVariants.{Play, Server};
-ghost use Rattle.xa_program.specs.Headline.{Streams, PlayEnds, IsTheScript, EndsEarly};
+ghost use Rattle.xa_program.specs.Headline.{Streams, PlayEnds, IsTheScript, EndsEarly, longest_script};
 ghost use Rattle.xa_program.specs.Progress.{IsBuiltScript, ScriptRefusedAs};
 ghost use Rattle.xa_program.specs.Server.{ServerEnds};
 ghost use Rattle.xa_program.specs.Words.{command_in};
@@ -51,6 +54,12 @@ pub fn run<R, S: Shelf, I: Source, O: Sink, Y: Yard, G: Gate>(
           writes_after = O.write_faults out.new;
         })
         service result.status result.history.items result.lives.items result.starters.items }
+
+    // Where a script is read that isn't too long, and neither the input nor the output fails, `play` comes to its end.
+    ensures complete { (service : List ℕ) (octets : List ℕ) (script : Script) → command_in (map string_bytes words.now) ≡ Some (Play service)
+        → I.left input.old ≡ Some octets → length octets ≤ longest_script → IsScript octets script
+        → (Rose (I.read_faults input.old) (I.read_faults input.new) → ⊥) → (Rose (O.write_faults out.old) (O.write_faults out.new) → ⊥)
+        → (result.status ≡ Status.Done) ⊎ (result.status ≡ Status.NoMemory) }
 
     // What the program of a server comes to.
     ensures server { (name : List ℕ) → command_in (map string_bytes words.now) ≡ Some (Server name)

@@ -1,6 +1,9 @@
 //! The program: makes the real objects, runs the command that its words are, and ends with the number of its status.
 #![tactic(auto)]
 
+#[cfg(test)]
+mod tests;
+
 use std::process::ExitCode;
 use std::rt::Env;
 use std::{env, io};
@@ -9,7 +12,10 @@ use xa_program::{Input, Outcome, Status, run};
 
 // The word that this program was started by, and the words after it.
 fn read_words<R: Env + AllocGlobal>(rt: &R) -> Result<(String, Vec<String>), Status> {
-    let mut args = env::args(rt).map_err(|_| Status::Usage)?;
+    let mut args = env::args(rt).map_err(|error| match error.kind() {
+        io::ErrorKind::OutOfMemory => Status::NoMemory,
+        _ => Status::Usage,
+    })?;
     let program = args.next().unwrap_or(String::new(rt.alloc()));
     let mut words = Vec::new(rt.alloc());
     for word in args {

@@ -1,4 +1,4 @@
-use Rattle.std.proofs.Common.{◌≡◌, ◌<◌, ◌^◌, ◌+◌, arith}
+use Rattle.std.proofs.Common.{◌<◌, ◌^◌, ◌+◌, arith}
 use Rattle.xa_program.proofs.Carrying.{carried_at, turned_up}
 use Rattle.xa_program.proofs.Served.{ok_more}
 use Rattle.xa_program.proofs.calls.call.Goals as goal
@@ -12,7 +12,7 @@ pub returns-clause-goes : goal.returns-clause-goes
 returns-clause-goes g c =
     ok_more c.serve_call.result _ _
     (λ up carried n ops first old serving.
-        let small : c.args.sent.now + 1 < 2 ^ 32 = omega (arith, c.requires.few, c.ranges.op.fits) in
-        carried_at up c.args.service.now c.args.name.now n c.args.sent.now c.args.op ops c.args.ask.now c.args.account.now.history.items c.serve_call.new.account.history.items c.args.account.now.lines.items c.serve_call.new.account.lines.items
-        c.args.pipe.now c.serve_call.new.pipe first small old serving c.in_default.ensures c.requires.built carried)
+    let small : c.args.sent.now + 1 < 2 ^ 32 = omega (arith, c.requires.few, c.ranges.op.fits) in
+    carried_at up c.args.service.now c.args.name.now n c.args.sent.now c.args.op ops c.args.ask.now c.args.account.now.history.items c.serve_call.new.account.history.items c.args.account.now.lines.items c.serve_call.new.account.lines.items
+    c.args.pipe.now c.serve_call.new.pipe first small old serving c.in_default.ensures c.requires.built carried)
     c.serve_call.ensures

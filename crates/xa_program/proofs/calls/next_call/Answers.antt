@@ -1,4 +1,4 @@
-use Rattle.std.proofs.Common.{Bool, reverse, subst, sym}
+use Rattle.std.proofs.Common.{Bool, reverse, subst}
 use Rattle.xa_program.specs.Progress.{IsLive}
 use Rattle.xa_program.proofs.Served.{ok_more}
 use Rattle.xa_program.proofs.Carrying.{turned_down}

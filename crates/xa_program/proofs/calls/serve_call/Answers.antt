@@ -1,4 +1,4 @@
-use Rattle.std.proofs.Common.{◌≡◌, ◌∙◌, sym}
+use Rattle.std.proofs.Common.{◌∙◌, sym}
 use Rattle.xa_program.proofs.Served.{ok_more, in_order_of, carried_some, carried_none, carried_so}
 use Rattle.xa_program.proofs.calls.serve_call.Goals as goal
 
@@ -19,10 +19,10 @@ returns g c =
     let cause = c.cause_heard-cause.result in
     ok_more c.await_next.result _ _
     (λ up freed.
-        carried_so up service c.args.name.now c.args.op c.args.number c.args.payload.now c.args.account.now.history.items c.await_next.new.history.items c.args.account.now.lines.items c.note_call.new.account.lines.items
-        c.args.pipe.now c.exchange.new.pipe c.await_next.new.pipe c.in_ok-heard.heard outcome cause (c.outcome_heard-outcome.ensures service) c.cause_heard-cause.ensures c.in_ok-heard.ensures.heard c.in_ok-note_call.ensures.lines
-        (carried_none up service c.args.op c.args.number c.args.payload.now outcome cause c.args.account.now.history.items c.note_call.new.account.history.items c.await_next.new.history.items c.exchange.new.pipe c.await_next.new.pipe
-        (sym c.is_some.ensures ∙ c.if-is_some.false)
-        (in_order_of service c.args.op c.args.number c.args.payload.now outcome cause c.args.account.now.history.items c.exchange.new.history.items c.note_call.new.account.history.items c.in_ok-heard.ensures.taken c.in_ok-note_call.ensures.history)
-        c.await_next.ensures.took freed))
+    carried_so up service c.args.name.now c.args.op c.args.number c.args.payload.now c.args.account.now.history.items c.await_next.new.history.items c.args.account.now.lines.items c.note_call.new.account.lines.items
+    c.args.pipe.now c.exchange.new.pipe c.await_next.new.pipe c.in_ok-heard.heard outcome cause (c.outcome_heard-outcome.ensures service) c.cause_heard-cause.ensures c.in_ok-heard.ensures.heard c.in_ok-note_call.ensures.lines
+    (carried_none up service c.args.op c.args.number c.args.payload.now outcome cause c.args.account.now.history.items c.note_call.new.account.history.items c.await_next.new.history.items c.exchange.new.pipe c.await_next.new.pipe
+    (sym c.is_some.ensures ∙ c.if-is_some.false)
+    (in_order_of service c.args.op c.args.number c.args.payload.now outcome cause c.args.account.now.history.items c.exchange.new.history.items c.note_call.new.account.history.items c.in_ok-heard.ensures.taken c.in_ok-note_call.ensures.history)
+    c.await_next.ensures.took freed))
     c.await_next.ensures.freed

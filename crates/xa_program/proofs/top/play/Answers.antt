@@ -6,7 +6,7 @@ pub returns-in-Ok-starters_of-clause-play : goal.returns-in-Ok-starters_of-claus
 returns-in-Ok-starters_of-clause-play g c =
     let one : length c.in-Ok-starters_of.starters.items ≡ 1 = c.in-Ok-starters_of.ensures.one in
     let none = subst (λ s. g.Y.Start.Starter.start_faults s ≡ 0) (sym c.index_mut.ensures.value) (c.in-Ok-starters_of.ensures.counts 0 c.index_mut.result.now (omega (arith, one))) in
-    play_ends g.Y.Line.Sink.took g.Y.Line.Source.gave g.Y.Line.Source.left g.Y.Line.Source.read_faults g.Y.Line.Sink.write_faults g.Y.Start.Starter.start_faults _ c.args.service.now c.in-Ok.script.clients
+    play_ends _ g.Y.Start.Starter.start_faults _ c.args.service.now c.in-Ok.script.clients
     c.perform-status.result.history.items c.perform-status.result.lives.items c.in-Ok-starters_of.starters.items c.index_mut.result.now c.perform-status.new.starter
     one none c.in-Ok.ensures.script
     c.perform-status.result.status c.perform-status.ensures

@@ -9,4 +9,4 @@ returns-in-Ok-read_script-clause-built g c =
     let same : length octets ≡ length c.in-Ok.octets.items = ap length c.as_slice.ensures.value in
     let short : length c.in-Ok.octets.items ≤ 1048576 = c.in-Ok.ensures.short in
     let fewer = few_lines octets in
-    script_built c.args.service.now (lines octets) c.in-Ok-read_script.script.clients c.octets-named.ensures.named (omega (arith, fewer, same, short)) c.in-Ok-read_script.ensures.found
+    script_built (lines octets) c.in-Ok-read_script.script.clients (omega (arith, fewer, same, short)) c.in-Ok-read_script.ensures.found
