@@ -4,7 +4,7 @@ use std::test::Fail;
 use xa_link::{MemoryLink, MemoryShelf, MemorySink, MemorySource, MemoryYard, OpenGate, Yard};
 use xa_types::Octets;
 
-// A command over streams in memory: its status, what it wrote, how many events there were, and what the server got.
+// A command over streams in memory: its status, what it wrote, and how many events and lives there were.
 #[derive(Drop)]
 struct Ran {
     status: Status,
@@ -13,12 +13,20 @@ struct Ran {
     lives: usize,
 }
 
+fn words_of(alloc: Global, words: &[&str]) -> Result<Vec<String>, Fail> {
+    let mut texts = Vec::new(alloc);
+    for word in words {
+        texts.push(String::from_str(alloc, word)?)?;
+    }
+    Ok(texts)
+}
+
 fn run_in<Y: Yard>(
     rt: &HostRuntime,
     yard: &mut Y,
     words: &[&str],
     script: &[u8],
-    read_fails: &[u64],
+    reads: &[u64],
     idle: &[u64],
 ) -> Result<Ran, Fail>
 where
@@ -26,16 +34,7 @@ where
     Y::Start: Drop,
 {
     let alloc = rt.alloc();
-    let mut texts = Vec::new(alloc);
-    for word in words {
-        texts.push(String::from_str(alloc, word)?)?;
-    }
-    let mut shelf = MemoryShelf::new(Vec::new(alloc), Vec::new(alloc));
-    let mut input = MemorySource::new(
-        Octets::of(alloc, script)?,
-        Vec::from_slice(alloc, read_fails)?,
-        7,
-    );
+    let script = Octets::of(alloc, script)?;
     let mut out = MemorySink::new(alloc, Vec::new(alloc), Vec::from_slice(alloc, idle)?, 5);
     let Outcome {
         status,
@@ -45,20 +44,18 @@ where
     } = run(
         rt,
         alloc,
-        texts.as_slice(),
-        &mut shelf,
-        &mut input,
+        words_of(alloc, words)?.as_slice(),
+        &mut MemoryShelf::new(Vec::new(alloc), Vec::new(alloc)),
+        &mut MemorySource::new(script, Vec::from_slice(alloc, reads)?, 7),
         &mut out,
         yard,
         &OpenGate,
     );
-    let wrote = Vec::from_slice(alloc, out.taken())?;
-    let count = lives.len();
     Ok(Ran {
         status,
-        wrote,
+        wrote: Vec::from_slice(alloc, out.taken())?,
         events: history.len(),
-        lives: count,
+        lives: lives.len(),
     })
 }
 
@@ -66,11 +63,11 @@ fn run_on(
     rt: &HostRuntime,
     words: &[&str],
     script: &[u8],
-    read_fails: &[u64],
+    reads: &[u64],
     idle: &[u64],
 ) -> Result<Ran, Fail> {
     let mut yard = LocalYard::new(rt.alloc());
-    run_in(rt, &mut yard, words, script, read_fails, idle)
+    run_in(rt, &mut yard, words, script, reads, idle)
 }
 
 #[test]
