@@ -4,7 +4,7 @@ use Rattle.std.proofs.lemmas.List.Elements.{All-nil, All-cons, All-append}
 use Rattle.xa_types.specs.declared.memory.NoMemory.{NoMemory}
 use Rattle.xa_frame.specs.declared.frame.Frame.{Frame}
 use Rattle.xa_frame.specs.Spelling.{spelled, all_spelled, HasSpelling}
-use Rattle.xa_frame.specs.Stream.{Took}
+use Rattle.xa_frame.specs.Reader.{Took}
 use Rattle.xa_child.specs.declared.serving.Serving.{Serving}
 use Rattle.xa_child.specs.declared.serving.Halt.{Halt}
 use Rattle.xa_child.specs.Child.{admits, after, after_all, answer, said}

@@ -6,7 +6,8 @@ use Rattle.std.proofs.lemmas.List.Elements.{All-nil, All-append}
 use Rattle.std.specs.List.{All}
 use Rattle.xa_frame.specs.declared.frame.Frame.{Frame}
 use Rattle.xa_frame.specs.Spelling.{all_spelled, HasSpelling}
-use Rattle.xa_frame.specs.Stream.{Incoming, IsPartial}
+use Rattle.xa_frame.specs.Stream.{IsPartial}
+use Rattle.xa_frame.specs.Reader.{Incoming}
 use Rattle.xa_link.specs.Told.{Grew, GrewByPrefix, Shrank, Empty}
 use Rattle.xa_child.specs.declared.working.WorkRefused.{WorkRefused}
 use Rattle.xa_child.specs.declared.working.WorkRefused.TheVariants.{ReadFault, WriteFault, BadFrame, NoMemory}

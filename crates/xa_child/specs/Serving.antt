@@ -3,7 +3,8 @@ use Rattle.std.specs.Prelude.{ℕ, ◌≡◌, true, false, List, ◌++◌, Optio
 use Rattle.std.specs.List.{All}
 use Rattle.xa_frame.specs.declared.frame.Frame.{Frame}
 use Rattle.xa_frame.specs.Spelling.{all_spelled, HasSpelling}
-use Rattle.xa_frame.specs.Stream.{Incoming, IsPartial, Took}
+use Rattle.xa_frame.specs.Stream.{IsPartial}
+use Rattle.xa_frame.specs.Reader.{Incoming, Took}
 use Rattle.xa_child.specs.declared.serving.Serving.{Serving}
 use Rattle.xa_child.specs.declared.serving.Halt.{Halt}
 use Rattle.xa_child.specs.declared.serving.Halt.TheVariants.{Waits, Ended, Bad}

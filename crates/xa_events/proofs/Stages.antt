@@ -275,10 +275,11 @@ end_finds s _ r case agree h = cc h
 
 pub ends_law : (s : State) (e : Event) → Case s e → Agree s.setup s.past → TakenAndEndedOnce e s.past
 ends_law s e case agree = record {
+  sent = λ r h. agree.accepts r ∙ ap accepts_at (take_finds s e r case agree h).1;
   taken = λ r h. agree.takes r ∙ ap takes_at (take_finds s e r case agree h).1;
   first = λ r h. agree.ends r ∙ ap ends_at (take_finds s e r case agree h).1;
   ended = λ r h. agree.ends r ∙ ap ends_at (end_finds s e r case agree h).2;
-  known = λ r h. agree.accepts r ∙ ap accepts_at (end_finds s e r case agree h).2;
+  served = λ r h. agree.takes r ∙ ap takes_at (end_finds s e r case agree h).2;
 }
 
 pub ends_along : (es : List Event) (s new : State) → Agree s.setup s.past → LawOfEnds s.past → Run s es new → LawOfEnds new.past

@@ -11,7 +11,7 @@ use Rattle.xa_events.specs.declared.event.Evidence.TheVariants.{Argument, Versio
 use Rattle.xa_events.specs.Words.{count, greatest}
 use Rattle.xa_events.specs.State.{State, noted}
 use Rattle.xa_events.specs.Board.{change_in, changes, published, boot}
-use Rattle.xa_events.specs.Caller.{reads, floor, version_in}
+use Rattle.xa_events.specs.Caller.{reads, least_version, version_in}
 use Rattle.xa_events.specs.Cases.{Case, IsFresh, Shows}
 use Rattle.xa_events.specs.Run.{Run}
 use Rattle.xa_events.specs.Laws.{is_change, ReadsForward, LawOfVersions}
@@ -31,13 +31,13 @@ published_is (e ∷ past) = change_one e (count is_change past) (filter_map chan
 
 -- ---- what one event reads
 
-pub floor_least : (s : State) (caller version : ℕ) → floor s.setup caller s.past ≤ version → greatest 0 (filter_map (reads caller) s.past) ≤ version
-unfolding floor
+pub floor_least : (s : State) (caller version : ℕ) → least_version s.setup caller s.past ≤ version → greatest 0 (filter_map (reads caller) s.past) ≤ version
+unfolding least_version
 floor_least s caller version h = le_trans (greatest_rises 0 (boot s.setup) (filter_map (reads caller) s.past) (zero-le {n = boot s.setup})) h
 
-fresh_version : (s : State) (caller : ℕ) (e : Evidence) (version : ℕ) → IsFresh s caller e → version_in e ≡ Some version → floor s.setup caller s.past ≤ version
+fresh_version : (s : State) (caller : ℕ) (e : Evidence) (version : ℕ) → IsFresh s caller e → version_in e ≡ Some version → least_version s.setup caller s.past ≤ version
 fresh_version s caller Argument version h e = cc e
-fresh_version s caller (Version v) version h e = subst (λ n. floor s.setup caller s.past ≤ n) (some_is v version e) h
+fresh_version s caller (Version v) version h e = subst (λ n. least_version s.setup caller s.past ≤ n) (some_is v version e) h
 
 shown_version : (s : State) (fault : Fault) (e : Evidence) (version : ℕ) → Shows s fault e → version_in e ≡ Some version → version ≤ published s.past
 shown_version s fault Argument version h e = cc e
@@ -46,7 +46,7 @@ shown_version s _ (Version v) version h e = absurd h
 
 -- what is read is no older than the floor, and stands, or it is made by this event
 abbrev pub Reads : State → Event → ℕ → ℕ → Type 0
-Reads s e caller version = ((floor s.setup caller s.past ≤ version) × (version ≤ published s.past)) ⊎ ((is_change e ≡ true) × (version ≡ published s.past + 1))
+Reads s e caller version = ((least_version s.setup caller s.past ≤ version) × (version ≤ published s.past)) ⊎ ((is_change e ≡ true) × (version ≡ published s.past + 1))
 
 pub reads_so : (s : State) (e : Event) (caller version : ℕ) → Case s e → reads caller e ≡ Some version → Reads s e caller version
 reads_so s (Advertise a) caller version case h =
@@ -59,13 +59,13 @@ reads_so s (Accept a) caller version case h =
     let r = if_some (a.by.0 == caller) (Some a.version) version h in
     let is : a.version ≡ version = some_is a.version version r.1 in
     inl (
-      subst (λ n. floor s.setup caller s.past ≤ n) is (subst (λ c. floor s.setup c s.past ≤ a.version) (eqb-true a.by.0 caller r.0) case.kind.worker.fresh),
+      subst (λ n. least_version s.setup caller s.past ≤ n) is (subst (λ c. least_version s.setup c s.past ≤ a.version) (eqb-true a.by.0 caller r.0) case.kind.worker.fresh),
       subst (λ n. n ≤ published s.past) is case.kind.before.version,
     )
 reads_so s (Refuse r) caller version case h =
     let i = if_some (r.by.0 == caller) (version_in r.evidence) version h in
     inl (
-      subst (λ c. floor s.setup c s.past ≤ version) (eqb-true r.by.0 caller i.0) (fresh_version s r.by.0 r.evidence version case.kind.worker.fresh i.1),
+      subst (λ c. least_version s.setup c s.past ≤ version) (eqb-true r.by.0 caller i.0) (fresh_version s r.by.0 r.evidence version case.kind.worker.fresh i.1),
       shown_version s r.fault r.evidence version case.kind.before.shown i.1,
     )
 reads_so s _ caller version case h = cc h

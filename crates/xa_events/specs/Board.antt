@@ -1,4 +1,5 @@
--- The board, read off the events: which services are advertised on which queues (XATMI, tpadvertise).
+-- The board, read off the events: which services are advertised on which queues (XATMI, tpadvertise). That the domain changes it, at the boot
+-- and where a queue's last server is gone, is this project's own.
 use Rattle.std.specs.Prelude.{ℕ, Bool, List, length, Option, Some, None}
 use Rattle.std.specs.List.{filter_map}
 use Rattle.xa_types.specs.declared.setup.Setup.{Setup}

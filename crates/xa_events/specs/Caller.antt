@@ -1,5 +1,6 @@
--- A caller, read off the events: its last call, its requests, its open descriptors, what it has read of the board.
-use Rattle.std.specs.Prelude.{ℕ, zero, suc, ◌==◌, ◌&&◌, nat_le, Bool, true, false, List, Option, Some, None, if◌then◌else◌}
+-- A caller, read off the events: its last call, its requests, its open descriptors, what it has read of the board (XATMI, tpcall, tpacall and
+-- tpgetrply; that 50 and 16 descriptors may be open is this project's own).
+use Rattle.std.specs.Prelude.{◌≡◌, ℕ, ◌+◌, ◌==◌, ◌<◌, ◌&&◌, nat_le, Bool, true, false, List, Option, Some, None, if◌then◌else◌}
 use Rattle.std.specs.List.{list_any, filter_map}
 use Rattle.xa_types.specs.declared.ids.RequestId.{RequestId}
 use Rattle.xa_types.specs.declared.setup.Setup.{Setup}
@@ -12,14 +13,14 @@ use Rattle.xa_events.specs.declared.event.Evidence.TheVariants.{Argument, Versio
 use Rattle.xa_events.specs.Words.{latest, count, kept, greatest}
 use Rattle.xa_events.specs.Board.{boot}
 
--- the event is one of the caller's calls
-abbrev pub calls : ℕ → Event → Bool
-calls caller (Advertise a) = a.by.0 == caller
-calls caller (Withdraw w) = w.by.0 == caller
-calls caller (Accept a) = a.by.0 == caller
-calls caller (Answer a) = a.by.0 == caller
-calls caller (Refuse r) = r.by.0 == caller
-calls caller _ = false
+-- the event is of a call of the caller
+abbrev pub is_call_of : ℕ → Event → Bool
+is_call_of caller (Advertise a) = a.by.0 == caller
+is_call_of caller (Withdraw w) = w.by.0 == caller
+is_call_of caller (Accept a) = a.by.0 == caller
+is_call_of caller (Answer a) = a.by.0 == caller
+is_call_of caller (Refuse r) = r.by.0 == caller
+is_call_of caller _ = false
 
 abbrev pub op_in : Event → ℕ
 op_in (Advertise a) = a.op
@@ -35,15 +36,15 @@ op_of (Some event) = op_in event
 
 -- the number of the caller's last call; 0 where it made none
 unfoldable pub last_op : ℕ → List Event → ℕ
-last_op caller past = op_of (latest (calls caller) past)
+last_op caller past = op_of (latest (is_call_of caller) past)
 
 abbrev pub accepted_in : Option Event → Option RequestId
 accepted_in (Some (Accept a)) = Some a.request
 accepted_in _ = None
 
--- the request that the caller's last event accepted, if it did
+-- the request as which the caller's last call was accepted, where it was and nothing of it came since
 unfoldable pub just_accepted : ℕ → List Event → Option RequestId
-just_accepted caller past = accepted_in (latest (calls caller) past)
+just_accepted caller past = accepted_in (latest (is_call_of caller) past)
 
 abbrev pub accepts_for : ℕ → Event → Bool
 accepts_for caller (Accept a) = a.by.0 == caller
@@ -84,25 +85,24 @@ reads caller (Refuse r) = if r.by.0 == caller then version_in r.evidence else No
 reads caller _ = None
 
 -- the least version that the caller may still read: the greatest that it read or made, and at least the boot's
-unfoldable pub floor : Setup → ℕ → List Event → ℕ
-floor setup caller past = greatest (boot setup) (filter_map (reads caller) past)
+unfoldable pub least_version : Setup → ℕ → List Event → ℕ
+least_version setup caller past = greatest (boot setup) (filter_map (reads caller) past)
 
-abbrev pub parts : ℕ → Event → Bool
-parts client (Leave c) = c.0 == client
-parts client _ = false
+abbrev pub is_leave_of : ℕ → Event → Bool
+is_leave_of client (Leave c) = c.0 == client
+is_leave_of client _ = false
 
 -- whether the client has left
 unfoldable pub has_left : ℕ → List Event → Bool
-has_left client past = list_any (parts client) past
+has_left client past = list_any (is_leave_of client) past
 
 -- callers from 1 to the number of clients are clients
 abbrev pub is_client : ℕ → ℕ → Bool
 is_client clients caller = nat_le 1 caller && nat_le caller clients
 
--- whether each client up to that number has left
-abbrev pub all_left : ℕ → List Event → Bool
-all_left zero past = true
-all_left (suc n) past = has_left (suc n) past && all_left n past
+-- each client has left
+abbrev pub AllLeft : ℕ → List Event → Type 0
+AllLeft clients past = (client : ℕ) → 0 < client → client < clients + 1 → has_left client past ≡ true
 
 -- how many descriptors a caller may have open: a client 50, a server 16
 abbrev pub descriptors : ℕ → ℕ → ℕ

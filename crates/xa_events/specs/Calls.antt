@@ -1,5 +1,5 @@
--- What a call may have become: the events of the call, the newest first, and why.
-use Rattle.std.specs.Prelude.{◌≡◌, ℕ, ◌+◌, ◌==◌, ◌&&◌, ◌||◌, not, Bool, true, false, List, [], ◌∷◌, length, IsSomeAnd}
+-- What a call may have become: the events of the call, the newest first, and why (XATMI, tpcall).
+use Rattle.std.specs.Prelude.{◌≡◌, ℕ, ◌==◌, ◌&&◌, ◌||◌, not, Bool, true, false, List, [], ◌∷◌, length, IsSomeAnd}
 use Rattle.std.specs.List.{filter}
 use Rattle.xa_types.specs.declared.call.Op.{Op}
 use Rattle.xa_types.specs.declared.call.Op.TheVariants.{Call}
@@ -16,13 +16,14 @@ use Rattle.xa_events.specs.declared.event.Accepted.{Accepted}
 use Rattle.xa_events.specs.declared.event.Answered.{Answered}
 use Rattle.xa_events.specs.declared.event.Evidence.{Evidence}
 use Rattle.xa_events.specs.declared.event.Evidence.TheVariants.{Argument, Version}
-use Rattle.xa_events.specs.Befell.{answer_to}
+use Rattle.xa_events.specs.Answers.{answer_to}
 use Rattle.xa_events.specs.Board.{listed_in}
-use Rattle.xa_events.specs.Caller.{calls, op_in, last_op}
+use Rattle.xa_events.specs.Caller.{is_call_of, op_in, last_op}
 use Rattle.xa_events.specs.Request.{ended}
+use Rattle.xa_events.specs.Words.{EachNumbered}
 
 abbrev pub is_op : ℕ → ℕ → Event → Bool
-is_op caller op e = calls caller e && (op_in e == op)
+is_op caller op e = is_call_of caller e && (op_in e == op)
 
 -- the events of that call of the caller, the newest first
 unfoldable pub events_of_op : ℕ → ℕ → List Event → List Event
@@ -59,8 +60,7 @@ Became setup op past events = ⊥
 
 -- each of the calls, the first of which has that number, became what it may
 abbrev pub EachBecame : Setup → ℕ → ℕ → List Op → List Event → Type 0
-EachBecame setup caller n [] past = Unit {0}
-EachBecame setup caller n (op ∷ ops) past = Became setup op past (events_of_op caller n past) × EachBecame setup caller (n + 1) ops past
+EachBecame setup caller n ops past = EachNumbered (λ k op. Became setup op past (events_of_op caller k past)) n ops
 
 -- the client made exactly these calls, in this order, and each became what it may
 pub record MadeCalls (setup : Setup) (caller : ℕ) (ops : List Op) (past : List Event) : Type 0 where

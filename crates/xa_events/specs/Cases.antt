@@ -1,6 +1,7 @@
--- When an event may come next. A case has up to three parts: what is asked of the list of the event's own home,
--- what is asked of the list of its own worker, and which events stand before.
-use Rattle.std.specs.Prelude.{◌≡◌, ℕ, ◌+◌, ◌<◌, ◌≤◌, ◌⊎◌, Bool, true, false, List, [], length, Option, Some, None, IsSomeAnd, slice_get}
+-- When an event may come next. A case has up to three parts: what is asked of the events of its own place, which is the board, a queue or the
+-- clock (Home); what is asked of those of its own worker, a client or a server (Worker); and which events of other places stand before (Before).
+-- Where a case names no other source its rule is this project's own.
+use Rattle.std.specs.Prelude.{◌≡◌, ℕ, ◌+◌, ◌<◌, ◌≤◌, ◌⊎◌, Bool, true, false, List, [], length, Option, Some, None, IsSome, IsSomeAnd, slice_get}
 use Rattle.xa_types.specs.declared.row.Row.{Row}
 use Rattle.xa_types.specs.declared.call.Mode.TheVariants.{Reply}
 use Rattle.xa_types.specs.declared.fault.Fault.{Fault}
@@ -32,13 +33,13 @@ use Rattle.xa_events.specs.Words.{has}
 use Rattle.xa_events.specs.State.{State}
 use Rattle.xa_events.specs.Board.{published, boot, rows_of_version}
 use Rattle.xa_events.specs.Queue.{waiting, takes, is_down, is_closed}
-use Rattle.xa_events.specs.Server.{doing, starts, is_gone, let_go, last_outcome, may_start, all_gone}
-use Rattle.xa_events.specs.Caller.{last_op, just_accepted, accepted, opened, floor, has_left, is_client, all_left, descriptors}
+use Rattle.xa_events.specs.Server.{doing, starts, is_gone, was_shut_down, last_outcome, may_start, AllGone}
+use Rattle.xa_events.specs.Caller.{last_op, just_accepted, accepted, opened, least_version, has_left, is_client, AllLeft, descriptors}
 use Rattle.xa_events.specs.Request.{ended}
 use Rattle.xa_events.specs.Clock.{is_shown}
-use Rattle.xa_events.specs.Befell.{reply_of, has_payload}
+use Rattle.xa_events.specs.Answers.{reply_of, has_payload}
 
--- ---- Advertise: the boot advertises the configured services in order
+-- ---- Advertise: the boot advertises the configured services in order (XATMI, tpadvertise)
 
 pub record AdvertiseHome (s : State) (a : Advertised) : Type 0 where
   pub booting : slice_get (configured s.setup) (published s.past) ≡ Some (Put a.service a.queue.0 a.routine)
@@ -52,10 +53,10 @@ pub record AdvertiseCase (s : State) (a : Advertised) : Type 0 where
   pub home : AdvertiseHome s a
   pub worker : AdvertiseWorker s a
 
--- ---- Withdraw: by the domain, once all servers of the queue are gone
+-- ---- Withdraw: by the domain, where all servers of the queue are gone (XATMI, tpunadvertise)
 
 pub record WithdrawHome (s : State) (w : Withdrawn) : Type 0 where
-  pub stands : IsSomeAnd (row_of w.service w.queue.0 (rows_of_version s.setup s.past (published s.past))) (λ row. Unit {0})
+  pub stands : IsSome (row_of w.service w.queue.0 (rows_of_version s.setup s.past (published s.past)))
   pub version : w.version ≡ published s.past + 1
 
 pub record WithdrawWorker (s : State) (w : Withdrawn) : Type 0 where
@@ -63,7 +64,7 @@ pub record WithdrawWorker (s : State) (w : Withdrawn) : Type 0 where
   pub op : w.op ≡ 0
 
 pub record WithdrawBefore (s : State) (w : Withdrawn) : Type 0 where
-  pub gone : all_gone s.setup w.queue.0 s.past ≡ true
+  pub gone : AllGone s.setup w.queue.0 s.past
 
 pub record WithdrawCase (s : State) (w : Withdrawn) : Type 0 where
   pub home : WithdrawHome s w
@@ -77,7 +78,7 @@ pub record IsNextCall (s : State) (caller op : ℕ) : Type 0 where
   pub stays : has_left caller s.past ≡ false
   pub next : op ≡ last_op caller s.past + 1
 
--- ---- Accept
+-- ---- Accept: a queue accepts the request of a call (XATMI, tpcall)
 
 pub record AcceptHome (s : State) (a : Accepted) : Type 0 where
   pub up : is_down a.queue.0 s.past ≡ false
@@ -91,7 +92,7 @@ pub record AcceptWorker (s : State) (a : Accepted) : Type 0 where
   pub mode : a.mode ≡ Reply
   pub few : length (opened a.by.0 s.past) < descriptors s.clients a.by.0
   pub sound : is_sound s.setup a.payload ≡ true
-  pub fresh : floor s.setup a.by.0 s.past ≤ a.version
+  pub fresh : least_version s.setup a.by.0 s.past ≤ a.version
 
 -- the row by which the request is accepted
 pub record RowAdmits (s : State) (a : Accepted) (row : Row) : Type 0 where
@@ -109,7 +110,7 @@ pub record AcceptCase (s : State) (a : Accepted) : Type 0 where
   pub worker : AcceptWorker s a
   pub before : AcceptBefore s a
 
--- ---- Take
+-- ---- Take: a server is given a request that waits (XATMI, tpservice)
 
 pub record TakeHome (s : State) (t : Taken) : Type 0 where
   pub up : is_down (queue_of s.setup t.server.0) s.past ≡ false
@@ -124,13 +125,13 @@ pub record TakeCase (s : State) (t : Taken) : Type 0 where
   pub home : TakeHome s t
   pub worker : TakeWorker s t
 
--- ---- Gone: a server that may not start again takes no more
+-- ---- Gone: a server that is off and may not start again is given up (after Tuxedo, RESTART and MAXGEN of UBBCONFIG)
 
 pub record GoneWorker (s : State) (server : ℕ) : Type 0 where
   pub known : 0 < queue_of s.setup server
   pub off : doing server s.past ≡ Off
   pub still : is_gone server s.past ≡ false
-  pub kept : let_go server s.past ≡ false
+  pub kept : was_shut_down server s.past ≡ false
   pub spent : may_start s.setup server (starts server s.past) 0 ≡ false
 
 pub record GoneCase (s : State) (server : ℕ) : Type 0 where
@@ -141,7 +142,7 @@ pub record GoneCase (s : State) (server : ℕ) : Type 0 where
 pub record DownHome (s : State) (queue : ℕ) : Type 0 where
   pub known : 0 < capacity_of s.setup queue
   pub still : is_down queue s.past ≡ false
-  pub gone : all_gone s.setup queue s.past ≡ true
+  pub gone : AllGone s.setup queue s.past
 
 pub record DownBefore (s : State) (queue : ℕ) : Type 0 where
   pub withdrawn : (service : List ℕ) → row_of service queue (rows_of_version s.setup s.past (published s.past)) ≡ None
@@ -157,18 +158,18 @@ pub record CloseHome (s : State) (queue : ℕ) : Type 0 where
   pub still : is_closed queue s.past ≡ false
 
 pub record CloseBefore (s : State) (queue : ℕ) : Type 0 where
-  pub left : all_left s.clients s.past ≡ true
+  pub left : AllLeft s.clients s.past
 
 pub record CloseCase (s : State) (queue : ℕ) : Type 0 where
   pub home : CloseHome s queue
   pub before : CloseBefore s queue
 
--- ---- Start and StartFailed
+-- ---- Start and StartFailed (after Tuxedo, RESTART, MAXGEN and GRACE of UBBCONFIG)
 
 pub record StartWorker (s : State) (b : Started) : Type 0 where
   pub off : doing b.server.0 s.past ≡ Off
   pub still : is_gone b.server.0 s.past ≡ false
-  pub kept : let_go b.server.0 s.past ≡ false
+  pub kept : was_shut_down b.server.0 s.past ≡ false
   pub count : b.generation.0 ≡ length (starts b.server.0 s.past) + 1
   pub may : may_start s.setup b.server.0 (starts b.server.0 s.past) b.tick ≡ true
 
@@ -179,7 +180,7 @@ pub record StartCase (s : State) (b : Started) : Type 0 where
   pub worker : StartWorker s b
   pub before : StartBefore s b
 
--- ---- End
+-- ---- End: a request ends at its server (XATMI, tpreturn)
 
 -- data that is returned is sound
 abbrev pub is_sound_outcome : State → Outcome → Bool
@@ -194,7 +195,7 @@ pub record EndWorker (s : State) (e : Ended) : Type 0 where
 pub record EndCase (s : State) (e : Ended) : Type 0 where
   pub worker : EndWorker s e
 
--- ---- Stop
+-- ---- Stop: a life of a server ends (TPEXIT after Tuxedo)
 
 -- the life failed: its input ended, a pipe failed, or it wrote what it may not
 abbrev pub is_failure : StopCause → Bool
@@ -215,7 +216,7 @@ dying_stops cause (Some Died) = is_failure cause
 dying_stops cause (Some Starved) = is_starved cause
 dying_stops cause _ = false
 
--- with which cause a server that is idle may stop by itself: TPEXIT follows a request that failed
+-- with which cause a server that is idle may stop: TPEXIT follows a request that failed
 abbrev pub idle_stops : StopCause → Option Outcome → Bool
 idle_stops Exit (Some (Failed code payload)) = true
 idle_stops Exit (Some BadReturn) = true
@@ -236,7 +237,7 @@ pub record StopCase (s : State) (x : Stopped) : Type 0 where
   pub worker : StopWorker s x
   pub before : StopBefore s x
 
--- ---- Answer: the descriptor is open, and the request ended so
+-- ---- Answer: the caller is told how its request ended (XATMI, tpcall and tpgetrply)
 
 pub record AnswerWorker (s : State) (a : Answered) : Type 0 where
   pub client : is_client s.clients a.by.0 ≡ true
@@ -256,18 +257,19 @@ pub record AnswerCase (s : State) (a : Answered) : Type 0 where
   pub worker : AnswerWorker s a
   pub before : AnswerBefore s a
 
--- ---- Leave
+-- ---- Leave: a client has made its last call, and has no descriptor open
 
 pub record LeaveCase (s : State) (client : ℕ) : Type 0 where
   pub known : is_client s.clients client ≡ true
   pub stays : has_left client s.past ≡ false
   pub none : opened client s.past ≡ []
 
--- ---- Refuse, by the evidence: a version that was looked up is no older than what the caller has seen, and stands
+-- ---- Refuse: a call is refused (XATMI, tpcall), with what shows that it is right: a version that was looked up is no older than what the
+-- caller has seen, and stands
 
 abbrev pub IsFresh : State → ℕ → Evidence → Type 0
 IsFresh s caller Argument = Unit {0}
-IsFresh s caller (Version v) = floor s.setup caller s.past ≤ v
+IsFresh s caller (Version v) = least_version s.setup caller s.past ≤ v
 
 pub record RefuseWorker (s : State) (r : Refused) : Type 0 where
   pub call : IsNextCall s r.by.0 r.op

@@ -1,4 +1,4 @@
--- The clock, read off the events. No event moves it yet: it shows the tick 0.
+-- The clock, read off the events (this project's own). No event moves it yet: it shows the tick 0.
 use Rattle.std.specs.Prelude.{ℕ, ◌==◌, Bool, List}
 use Rattle.xa_events.specs.declared.event.Event.{Event}
 

@@ -1,4 +1,5 @@
--- Laws of every run, by counts in the list of events. They share nothing with the cases.
+-- Laws of every run, by counts in the list of events (this project's own). They rest on no case: of the words that the cases use
+-- they have the events' readings alone.
 use Rattle.std.specs.Prelude.{◌≡◌, ℕ, ◌≤◌, Bool, true, false, List, [], ◌∷◌, ◌⊎◌, Some}
 use Rattle.std.specs.List.{filter_map}
 use Rattle.xa_types.specs.declared.ids.RequestId.{RequestId}
@@ -8,7 +9,7 @@ use Rattle.xa_events.specs.declared.event.Event.{Event}
 use Rattle.xa_events.specs.declared.event.Event.TheVariants.{Advertise, Withdraw, Take, End, Answer}
 use Rattle.xa_events.specs.declared.event.Answered.{Answered}
 use Rattle.xa_events.specs.Words.{count, same_request, greatest, AtEach}
-use Rattle.xa_events.specs.Befell.{reply_of, has_payload}
+use Rattle.xa_events.specs.Answers.{reply_of, has_payload}
 use Rattle.xa_events.specs.Caller.{reads}
 use Rattle.xa_events.specs.Request.{is_accept_of, is_end_of}
 
@@ -16,12 +17,13 @@ abbrev pub is_take_of : RequestId → Event → Bool
 is_take_of request (Take t) = same_request t.request request
 is_take_of request _ = false
 
--- a request is taken at most once and ended at most once, none of its takes comes after its end, and it ends only once it was accepted
+-- a request is accepted, then taken once, then ended once: a take finds it accepted, not taken and not ended, and an end finds it taken and not ended
 pub record TakenAndEndedOnce (e : Event) (before : List Event) : Type 0 where
+  pub sent : (request : RequestId) → is_take_of request e ≡ true → count (is_accept_of request) before ≡ 1
   pub taken : (request : RequestId) → is_take_of request e ≡ true → count (is_take_of request) before ≡ 0
   pub first : (request : RequestId) → is_take_of request e ≡ true → count (is_end_of request) before ≡ 0
   pub ended : (request : RequestId) → is_end_of request e ≡ true → count (is_end_of request) before ≡ 0
-  pub known : (request : RequestId) → is_end_of request e ≡ true → count (is_accept_of request) before ≡ 1
+  pub served : (request : RequestId) → is_end_of request e ≡ true → count (is_take_of request) before ≡ 1
 
 abbrev pub LawOfEnds : List Event → Type 0
 LawOfEnds past = AtEach TakenAndEndedOnce past

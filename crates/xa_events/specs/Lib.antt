@@ -6,7 +6,7 @@ pub mod Server
 pub mod Caller
 pub mod Request
 pub mod Clock
-pub mod Befell
+pub mod Answers
 pub mod Cases
 pub mod Run
 pub mod Order

@@ -1,4 +1,5 @@
--- A queue, read off the events: what waits, how many requests were taken, whether it is down or closed.
+-- A queue, read off the events: what waits, how many requests were taken, whether it is down or closed (this project's own, after the request
+-- queues of Tuxedo).
 use Rattle.std.specs.Prelude.{ℕ, ◌==◌, Bool, false, List, Option, Some, None, if◌then◌else◌}
 use Rattle.std.specs.List.{list_any}
 use Rattle.xa_types.specs.declared.ids.RequestId.{RequestId}
@@ -28,18 +29,18 @@ takes_from setup queue _ = false
 unfoldable pub takes : Setup → ℕ → List Event → ℕ
 takes setup queue past = count (takes_from setup queue) past
 
-abbrev pub downs : ℕ → Event → Bool
-downs queue (Down q) = q.0 == queue
-downs queue _ = false
+abbrev pub is_down_of : ℕ → Event → Bool
+is_down_of queue (Down q) = q.0 == queue
+is_down_of queue _ = false
 
 -- whether the queue is down: it has no server left
 unfoldable pub is_down : ℕ → List Event → Bool
-is_down queue past = list_any (downs queue) past
+is_down queue past = list_any (is_down_of queue) past
 
-abbrev pub closes : ℕ → Event → Bool
-closes queue (Close q) = q.0 == queue
-closes queue _ = false
+abbrev pub is_close_of : ℕ → Event → Bool
+is_close_of queue (Close q) = q.0 == queue
+is_close_of queue _ = false
 
 -- whether the queue is closed: it accepts no more
 unfoldable pub is_closed : ℕ → List Event → Bool
-is_closed queue past = list_any (closes queue) past
+is_closed queue past = list_any (is_close_of queue) past

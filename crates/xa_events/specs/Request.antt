@@ -1,4 +1,4 @@
--- A request, read off the events: its priority and how it ended.
+-- A request, read off the events: its priority (Tuxedo, tpsprio), the call that sent it, and how it ended (XATMI, tpreturn).
 use Rattle.std.specs.Prelude.{ℕ, Bool, false, List, Option, Some}
 use Rattle.xa_types.specs.declared.ids.RequestId.{RequestId}
 use Rattle.xa_events.specs.declared.event.Event.{Event}

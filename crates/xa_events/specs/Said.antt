@@ -1,4 +1,4 @@
--- What a caller was told of a call: the reply that the call's last event shows.
+-- What a caller was told of a call: the reply that the call's last event shows (XATMI, tpcall).
 use Rattle.std.specs.Prelude.{ℕ, ◌==◌, List, Option, Some, if◌then◌else◌}
 use Rattle.xa_types.specs.declared.reply.Reply.{Reply}
 use Rattle.xa_types.specs.declared.reply.Reply.TheVariants.{Done, Descriptor, Answered as AnsweredReply, Fault as FaultReply}

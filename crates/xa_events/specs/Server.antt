@@ -1,5 +1,6 @@
--- A server, read off the events: what it does, its starts, whether it is gone or was let go (Tuxedo, RESTART, MAXGEN and GRACE).
-use Rattle.std.specs.Prelude.{ℕ, ◌+◌, ◌-◌, ◌==◌, ◌&&◌, nat_lt, Bool, true, false, List, [], ◌∷◌, Option, Some, None, if◌then◌else◌}
+-- A server, read off the events: what it does, its starts, whether it is gone or was shut down (after Tuxedo, RESTART, MAXGEN and GRACE of
+-- UBBCONFIG; that GRACE counts ticks is this project's own).
+use Rattle.std.specs.Prelude.{◌≡◌, ℕ, ◌+◌, ◌-◌, ◌==◌, ◌<◌, ◌&&◌, nat_lt, Bool, true, false, List, [], ◌∷◌, length, Option, Some, None, if◌then◌else◌}
 use Rattle.std.specs.List.{list_any, filter_map}
 use Rattle.xa_types.specs.declared.ids.Generation.{Generation}
 use Rattle.xa_types.specs.declared.setup.Setup.{Setup}
@@ -51,13 +52,13 @@ start_in server _ = None
 unfoldable pub starts : ℕ → List Event → List ℕ
 starts server past = filter_map (start_in server) past
 
-abbrev pub goes : ℕ → Event → Bool
-goes server (Gone s) = s.0 == server
-goes server _ = false
+abbrev pub is_gone_of : ℕ → Event → Bool
+is_gone_of server (Gone s) = s.0 == server
+is_gone_of server _ = false
 
--- whether the server takes no more
+-- whether the server is given up: it takes no more, and isn't started again
 unfoldable pub is_gone : ℕ → List Event → Bool
-is_gone server past = list_any (goes server) past
+is_gone server past = list_any (is_gone_of server) past
 
 abbrev pub stops_server : ℕ → Event → Bool
 stops_server server (Stop x) = x.server.0 == server
@@ -67,13 +68,13 @@ abbrev pub is_shutdown : StopCause → Bool
 is_shutdown Shutdown = true
 is_shutdown _ = false
 
-abbrev pub is_let_go_by : Option Event → Bool
-is_let_go_by (Some (Stop x)) = is_shutdown x.cause
-is_let_go_by _ = false
+abbrev pub was_shutdown : Option Event → Bool
+was_shutdown (Some (Stop x)) = is_shutdown x.cause
+was_shutdown _ = false
 
--- whether the server's last stop was a shutdown
-unfoldable pub let_go : ℕ → List Event → Bool
-let_go server past = is_let_go_by (latest (stops_server server) past)
+-- whether the server was shut down: its last stop was a shutdown
+unfoldable pub was_shut_down : ℕ → List Event → Bool
+was_shut_down server past = was_shutdown (latest (stops_server server) past)
 
 abbrev pub ends_at : ℕ → Event → Bool
 ends_at server (End e) = e.server.0 == server
@@ -97,12 +98,6 @@ may_start_as (Some server) (last ∷ earlier) now =
 abbrev pub may_start : Setup → ℕ → List ℕ → ℕ → Bool
 may_start setup server made now = may_start_as (numbered server setup.servers) made now
 
--- whether each server of the queue is gone, of the servers from that number on
-abbrev pub all_gone_from : Setup → ℕ → ℕ → List ServerSetup → List Event → Bool
-all_gone_from setup queue server [] past = true
-all_gone_from setup queue server (first ∷ rest) past =
-    (if queue_of setup server == queue then is_gone server past else true) && all_gone_from setup queue (server + 1) rest past
-
--- whether no server of the queue is left
-abbrev pub all_gone : Setup → ℕ → List Event → Bool
-all_gone setup queue past = all_gone_from setup queue 1 setup.servers past
+-- no server of the queue is left
+abbrev pub AllGone : Setup → ℕ → List Event → Type 0
+AllGone setup queue past = (server : ℕ) → 0 < server → server < length setup.servers + 1 → queue_of setup server ≡ queue → is_gone server past ≡ true

@@ -1,4 +1,5 @@
--- The state of the machine: the setup, the number of clients, and the events so far, the newest first. All else is read off the events.
+-- The state of the machine (this project's own): the setup, the number of clients, and the events so far, the newest first. All else is read
+-- off the events.
 use Rattle.std.specs.Prelude.{ℕ, List, [], ◌∷◌}
 use Rattle.xa_types.specs.declared.setup.Setup.{Setup}
 use Rattle.xa_events.specs.declared.event.Event.{Event}

@@ -1,4 +1,4 @@
--- Words that read a list of events, the newest first. Each reading of the machine is made of these.
+-- Words that read a list of events, the newest first (this project's own). Each reading of the machine is made of these.
 use Rattle.std.specs.Prelude.{ℕ, ◌+◌, ◌==◌, ◌&&◌, max, not, Bool, cond, List, [], ◌∷◌, ◌++◌, Option, Some, None}
 use Rattle.std.specs.List.{filter, list_any}
 use Rattle.xa_types.specs.declared.ids.RequestId.{RequestId}
@@ -38,6 +38,16 @@ has request requests = list_any (same_request request) requests
 abbrev pub kept : {X : Type 0} → (X → Option RequestId) → (X → Option RequestId) → List X → List RequestId
 kept enters leaves [] = []
 kept enters leaves (e ∷ past) = added (enters e) (without (leaves e) (kept enters leaves past))
+
+-- what each gives, the oldest first; an event is handed over with those before it
+abbrev pub from_each : {X Y : Type 0} → (X → List X → List Y) → List X → List Y
+from_each gives [] = []
+from_each gives (e ∷ past) = from_each gives past ++ gives e past
+
+-- P holds of each with its number, of which the first has this one
+abbrev pub EachNumbered : {X : Type 0} → (ℕ → X → Type 0) → ℕ → List X → Type 0
+EachNumbered P n [] = Unit {0}
+EachNumbered P n (x ∷ xs) = P n x × EachNumbered P (n + 1) xs
 
 -- P holds of each with those before it; the newest stands first
 abbrev pub AtEach : {X : Type 0} → (X → List X → Type 0) → List X → Type 0

@@ -128,7 +128,7 @@ pub enum Event {
     Withdraw(Withdrawn),
     Accept(Accepted),
     Take(Taken),
-    /// A server takes no more.
+    /// A server is given up: it takes no more, and isn't started again.
     Gone(ServerId),
     /// A queue has no server left.
     Down(QueueId),

@@ -3,19 +3,17 @@ ghost use Rattle.std.specs.Prelude.{ℕ, List};
 ghost use Rattle.xa_types.specs.declared.setup.Setup.{Setup};
 ghost use Rattle.xa_events.specs.declared.event.Event.{Event};
 ghost use Rattle.xa_events.specs.State.{State, opening};
-ghost use Rattle.xa_events.specs.Run.{Run, IsFinal};
-ghost use Rattle.xa_events.specs.Order.{TakesInOrder};
-ghost use Rattle.xa_events.specs.Calls.{MadeCalls};
-ghost use Rattle.xa_events.specs.Said.{reply_at};
+ghost use Rattle.xa_events.specs.Run.{Run};
 ghost use Rattle.xa_events.specs.Laws.{LawOfEnds, LawOfAnswers, LawOfVersions};
 
-/// Each request is taken at most once and ended at most once, none of its takes comes after its end, and it ends only
-/// once it was accepted.
+/// Each request is taken at most once and ended at most once: a take finds it accepted, not taken and not ended, and an
+/// end finds it taken and not ended.
 pub fn ends_once()
     ensures { (setup : Setup) (clients : ℕ) (events : List Event) (new : State) → Run (opening setup clients) events new → LawOfEnds new.past }
 {}
 
-/// Each answer is of a request that its caller had accepted; it is what the request's end says, and the request's only one.
+/// Each answer is of a request of its own caller that was accepted; it is what the request's end says, or TPEOTYPE where
+/// data came back, and the request's only one.
 pub fn answers_once()
     ensures { (setup : Setup) (clients : ℕ) (events : List Event) (new : State) → Run (opening setup clients) events new → LawOfAnswers new.past }
 {}

@@ -12,7 +12,8 @@ use Rattle.xa_frame.specs.declared.header.FrameKind.TheVariants as kinds
 use Rattle.xa_frame.specs.declared.header.Header.{Header}
 use Rattle.xa_frame.specs.Spelling.{header, kind_octet, body_octets, spelled, HasSpelling}
 use Rattle.xa_frame.specs.Reading.{◌>>=◌, octet_at, number_at, kind_of, most_octets, after_mark, header_at, body_of, Front, Whole, Partial, Malformed, whole_of, front_after, front_at, IsWhole, Stands, StandsFirst, IsFirst}
-use Rattle.xa_frame.specs.Stream.{Incoming, has_body, has_no_body, allows, LacksBody, IsPartial, Begins, IsMalformed, Answered}
+use Rattle.xa_frame.specs.Stream.{has_body, has_no_body, allows, LacksBody, IsPartial, Begins, IsMalformed}
+use Rattle.xa_frame.specs.Reader.{Incoming, Answered}
 use Rattle.xa_frame.specs.declared.reading.ReadError.{ReadError}
 use Rattle.xa_frame.specs.declared.reading.ReadError.TheVariants as errors
 use Rattle.xa_frame.specs.declared.reader.NextRefused.{NextRefused}
@@ -241,7 +242,7 @@ allows_kind kinds.Shutdown size h = eq-eqb size 0 (omega (arith, h))
 header_short : (octets : List ℕ) (kind size tag : ℕ) (body : List ℕ) → LacksBody octets kind size tag body → front_at octets ≡ Partial
 unfolding front_at
 header_short octets kind size tag body h =
-    let a = allowed kind size h.sound in
+    let a = allowed kind size h.allowed in
     let k = a.0 in
     let whole : octets ≡ header (octet_of k) size tag ++ body = h.whole ∙ ap (λ (o : ℕ). header o size tag ++ body) a.1 in
     let long : ltb (length octets) 12 ≡ false = le-ltb _ _ (omega (arith, ap length whole)) in
@@ -263,7 +264,7 @@ partial_is octets fits e = by_length (ltb (length octets) 12) refl e where
   by_body h (Some b) e = absurd cc
 
   by_size : (h : Header × List ℕ) → IsHeader octets h.0 h.1 → (t : Bool) → ltb (length h.1) h.0.size ≡ t → cond t Partial (whole_of h.0 (body_of h.0.kind (take h.0.size h.1))) ≡ Partial → IsPartial octets
-  by_size h head true is e = inr (octet_of h.0.kind, h.0.size, h.0.tag, h.1, record { sound = allows_kind h.0.kind h.0.size head.most; tag_fits = head.tag_fits; whole = head.taken.parts; short = ltb-true _ _ is })
+  by_size h head true is e = inr (octet_of h.0.kind, h.0.size, h.0.tag, h.1, record { allowed = allows_kind h.0.kind h.0.size head.most; tag_fits = head.tag_fits; whole = head.taken.parts; short = ltb-true _ _ is })
   by_size h head false is e = by_body h.0 (body_of h.0.kind (take h.0.size h.1)) e
 
   by_header : (r : Option (Header × List ℕ)) → header_at octets ≡ r → front_after r ≡ Partial → IsPartial octets
@@ -335,7 +336,7 @@ headed_short : (octets more body : List ℕ) (kind size tag : ℕ) → allows ki
 headed_short octets more body kind size tag sound tag_fits e short =
     elim (cases_lt (length octets) 12) [
       | inl lt ↦ inl lt
-      | inr le ↦ inr (kind, size, tag, drop 12 octets, record { sound = sound; tag_fits = tag_fits; whole = prefixed octets more (header kind size tag) body e le; short = omega (arith, length-drop 12 octets) })
+      | inr le ↦ inr (kind, size, tag, drop 12 octets, record { allowed = sound; tag_fits = tag_fits; whole = prefixed octets more (header kind size tag) body e le; short = omega (arith, length-drop 12 octets) })
     ]
 
 still_partial : (octets more : List ℕ) → IsPartial (octets ++ more) → IsPartial octets
@@ -345,7 +346,7 @@ still_partial octets more (inr h) =
     let all = ap length l.whole in
     let parts = length-append octets more in
     let text = length-append (header h.0 h.1 h.2) h.3 in
-    headed_short octets more h.3 h.0 h.1 h.2 l.sound l.tag_fits l.whole (omega (arith, l.short, all, parts, text))
+    headed_short octets more h.3 h.0 h.1 h.2 l.allowed l.tag_fits l.whole (omega (arith, l.short, all, parts, text))
 
 pub still_malformed : (octets more : List ℕ) → IsMalformed octets → IsMalformed (octets ++ more)
 still_malformed octets more h = record {

@@ -1,6 +1,7 @@
--- Frames as octets. Numbers are big-endian, and signed ones two's complement.
+-- Frames as octets (this project's own). Numbers are big-endian, and signed ones two's complement.
 use Rattle.std.specs.Prelude.{ℕ, ◌≤◌, ◌<◌, ◌^◌, ⊤, List, [], ◌∷◌, ◌++◌, length, FitsSigned}
 use Rattle.std.specs.Int.{w32, cast_unsigned}
+use Rattle.std.specs.List.{flat_map}
 use Rattle.byteorder.specs.Endian.{big_bytes}
 use Rattle.xa_types.specs.Name.{IsName}
 use Rattle.xa_types.specs.declared.data.Data.{Data}
@@ -62,8 +63,7 @@ spelled f = header (kind_octet f.body) (length (body_octets f.body)) f.tag ++ bo
 
 -- frames, one after another
 abbrev pub all_spelled : List Frame → List ℕ
-all_spelled [] = []
-all_spelled (f ∷ fs) = spelled f ++ all_spelled fs
+all_spelled frames = flat_map spelled frames
 
 -- data has at most 65,536 octets, and a subtype is a name
 abbrev pub IsData : Data → Type 0

@@ -1,14 +1,7 @@
--- What a reader of frames holds, and what stands first in it.
-use Rattle.std.specs.Prelude.{ℕ, ◌≡◌, ◌+◌, ◌-◌, ◌<◌, ◌^◌, min, Option, Some, None, Result, Ok, Err, ◌==◌, ◌&&◌, ◌||◌, nat_le, Bool, true, List, ◌++◌, length, ◌⊎◌}
+-- What stands first in some octets: less than a frame, that frame, or no frame (this project's own).
+use Rattle.std.specs.Prelude.{ℕ, ◌≡◌, ◌<◌, ◌^◌, ◌==◌, ◌&&◌, ◌||◌, nat_le, Bool, true, List, ◌++◌, length, ◌⊎◌}
 use Rattle.xa_frame.specs.declared.frame.Frame.{Frame}
-use Rattle.xa_frame.specs.declared.reader.NextRefused.{NextRefused}
-use Rattle.xa_frame.specs.declared.reader.NextRefused.TheVariants.{BadFrame, NoMemory}
 use Rattle.xa_frame.specs.Spelling.{header, spelled, HasSpelling}
-
--- how many octets were taken as frames, and what was fed and is not taken
-pub record Incoming : Type 0 where
-  pub place : ℕ
-  pub rest : List ℕ
 
 -- the kinds of frames with a body, of at most 66,000 octets, and those without
 abbrev pub has_body : ℕ → Bool
@@ -23,12 +16,12 @@ allows kind size = (has_body kind && nat_le size 66_000) || (has_no_body kind &&
 
 -- a header stands first, and less than the body that it speaks of
 pub record LacksBody (octets : List ℕ) (kind size tag : ℕ) (body : List ℕ) : Type 0 where
-  pub sound : allows kind size ≡ true
+  pub allowed : allows kind size ≡ true
   pub tag_fits : tag < 2 ^ 32
   pub whole : octets ≡ header kind size tag ++ body
   pub short : length body < size
 
--- less than a frame: fewer octets than a header has, or a header without its whole body
+-- less than a frame: fewer octets than a header has, whatever they are, or a header without its whole body
 abbrev pub IsPartial : List ℕ → Type 0
 IsPartial octets = (length octets < 12) ⊎ ((kind : ℕ) × (size : ℕ) × (tag : ℕ) × (body : List ℕ) × LacksBody octets kind size tag body)
 
@@ -41,21 +34,3 @@ pub record Begins (octets : List ℕ) (f : Frame) (more : List ℕ) : Type 0 whe
 pub record IsMalformed (octets : List ℕ) : Type 0 where
   pub not_partial : ¬ IsPartial octets
   pub not_whole : (f : Frame) (more : List ℕ) → Begins octets f more → ⊥
-
--- that frame is taken from the front; the place ends at 2 ^ 64 - 1
-pub record Took (old new : Incoming) (f : Frame) : Type 0 where
-  pub begins : Begins old.rest f new.rest
-  pub place : new.place ≡ min (old.place + length (spelled f)) (2 ^ 64 - 1)
-
--- What a reader answers, and what it holds then. Memory runs out only where a frame stands first.
-abbrev pub Refused : Incoming → Incoming → NextRefused → Type 0
-Refused old new (BadFrame place) = (new ≡ old) × (place ≡ old.place) × IsMalformed old.rest
-Refused old new NoMemory = (new ≡ old) × ((f : Frame) × (more : List ℕ) × Begins old.rest f more)
-
-abbrev pub Found : Incoming → Incoming → Option Frame → Type 0
-Found old new None = (new ≡ old) × IsPartial old.rest
-Found old new (Some f) = Took old new f
-
-abbrev pub Answered : Incoming → Incoming → Result (Option Frame) NextRefused → Type 0
-Answered old new (Ok found) = Found old new found
-Answered old new (Err why) = Refused old new why

@@ -1,7 +1,8 @@
 ghost use Rattle.std.specs.Prelude.{◌≡◌, ◌+◌, ◌-◌, ◌<◌, ◌≤◌, drop, ◌^◌, ◌↔◌, ◌++◌, [], length, min, ℕ, List, OnOk, OnErr, MatchResult};
 ghost use Rattle.xa_frame.specs.declared.frame.Frame.{Frame};
 ghost use Rattle.xa_frame.specs.Spelling.{spelled, HasSpelling};
-ghost use Rattle.xa_frame.specs.Stream.{IsPartial, IsMalformed, Begins, Answered};
+ghost use Rattle.xa_frame.specs.Stream.{IsPartial, IsMalformed, Begins};
+ghost use Rattle.xa_frame.specs.Reader.{Answered};
 
 use crate::frame::Frame;
 use crate::reading::{ReadError, frame_after};
@@ -28,7 +29,7 @@ pub struct Reader {
 
 impl Model for Reader {
     ghost use Rattle.std.specs.Prelude.{drop, length, ◌≤◌, ◌<◌, ◌-◌, ◌^◌};
-    ghost use Rattle.xa_frame.specs.Stream.{Incoming};
+    ghost use Rattle.xa_frame.specs.Reader.{Incoming};
 
     ghost Value = { Incoming };
 

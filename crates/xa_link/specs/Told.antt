@@ -1,7 +1,8 @@
--- What the calls of the outside tell, and what a fault counts.
-use Rattle.std.specs.Prelude.{◌≡◌, ◌⊎◌, ◌≤◌, ◌<◌, ◌^◌, ◌-◌, ℕ, List, [], ◌++◌, take, length, Option, Some, IfSome, option_map}
+-- What the objects of the outside tell of their octets, and how their counts of failures rise (this project's own). An object that tells nothing
+-- of its octets satisfies what is said of them.
+use Rattle.std.specs.Prelude.{◌≡◌, ◌⊎◌, ◌≤◌, ◌<◌, ◌^◌, ◌-◌, ℕ, List, [], ◌++◌, take, length, Option, IfSome, option_map}
 
--- the count rose, or stands at its end
+-- the count rose, or stands at 2^64 - 1
 abbrev pub Rose : ℕ → ℕ → Type 0
 Rose before now = (before < now) ⊎ (now ≡ 2 ^ 64 - 1)
 
@@ -17,22 +18,6 @@ GrewByPrefix before now piece = (n : ℕ) × (n ≤ length piece) × Grew before
 abbrev pub Shrank : Option (List ℕ) → Option (List ℕ) → List ℕ → Type 0
 Shrank before now piece = before ≡ option_map (λ xs. piece ++ xs) now
 
--- what is told is nothing
+-- where octets are told, there are none
 abbrev pub Empty : Option (List ℕ) → Type 0
 Empty told = IfSome told (λ xs. xs ≡ [])
-
--- what is told is that the file is there, and has these octets
-abbrev pub Holds : Option (Option (List ℕ)) → List ℕ → Type 0
-Holds told octets = IfSome told (λ file. file ≡ Some octets)
-
--- what is told is that the file is there, and has more octets than that
-abbrev pub HoldsMore : Option (Option (List ℕ)) → ℕ → Type 0
-HoldsMore told limit = IfSome told (λ file. (octets : List ℕ) × (file ≡ Some octets) × (limit < length octets))
-
--- what is told is these octets
-abbrev pub HasExactly : Option (List ℕ) → List ℕ → Type 0
-HasExactly told octets = IfSome told (λ xs. xs ≡ octets)
-
--- what is told is more octets than that
-abbrev pub HasMore : Option (List ℕ) → ℕ → Type 0
-HasMore told limit = IfSome told (λ xs. limit < length xs)

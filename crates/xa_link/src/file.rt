@@ -1,6 +1,7 @@
 // The files of the system.
-ghost use Rattle.std.specs.Prelude.{◌≡◌, ◌≤◌, ◌<◌, ◌-◌, ℕ, List, length, None, IfOk, IfSome, IsErrOf};
-ghost use Rattle.xa_link.specs.Told.{Rose, HasExactly, HasMore};
+ghost use Rattle.std.specs.Prelude.{◌≡◌, ◌≤◌, ◌<◌, ◌-◌, ℕ, List, length, None, IfOk, IfSome, OnOk, IsErrOf};
+ghost use Rattle.xa_link.specs.Told.{Rose, Empty};
+ghost use Rattle.xa_link.specs.Reads.{HasExactly, HasMore};
 
 use crate::count::raise;
 use crate::{ReadSource, Shelf, ShelfRefused, Source};
@@ -54,6 +55,7 @@ pub fn read_all<S: Source>(
     ensures content { IfOk result (λ all. HasExactly (S.left source.old) all.items) }
     ensures short { IfOk result (λ all. length all.items ≤ limit) }
     ensures long { IsErrOf result ShelfRefused.TooLong → HasMore (S.left source.old) limit }
+    ensures ended { OnOk result (Empty (S.left source.new)) }
     ensures cause { IsErrOf result ShelfRefused.Failed → Rose (S.read_faults source.old) (S.read_faults source.new) }
 {
     let mut all = Vec::new(alloc);

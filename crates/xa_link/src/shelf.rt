@@ -1,6 +1,7 @@
 // Named files.
 ghost use Rattle.std.specs.Prelude.{◌≡◌, ◌≤◌, ◌<◌, ℕ, List, length, Option, IfOk, OnOk, IsErrOf};
-ghost use Rattle.xa_link.specs.Told.{Rose, Holds, HoldsMore};
+ghost use Rattle.xa_link.specs.Told.{Rose};
+ghost use Rattle.xa_link.specs.Reads.{Holds, HoldsMore};
 
 use thiserror::Error;
 use xa_types::Octets;

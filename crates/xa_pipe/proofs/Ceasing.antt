@@ -35,7 +35,7 @@ module _ (name : List ℕ) (tag : ℕ) (turn : Turn) (frames : List Frame) (pipe
   -- no frame stands there
   pub ceases_none : (cause : StopCause) → is_reading turn ≡ true → Keeps pipe frames cause → ReadsNone pipe frames cause → Ceases name tag turn frames pipe cause
   ceases_none EndOfInput reads read why = record { may = reads; counted = tt; gave = told_more pipe.gave _ _ (λ octets e. (pipe.rest, e, why)) read.told }
-  ceases_none ReadFault reads read why = record { may = reads; counted = why; gave = told_more pipe.gave _ _ (λ octets e. (pipe.rest, e, tt)) read.told }
+  ceases_none ReadFault reads read why = record { may = reads; counted = why.0; gave = told_more pipe.gave _ _ (λ octets e. (pipe.rest, e, why.1)) read.told }
   ceases_none (BadBytes place) reads read why = record { may = reads; counted = tt; gave = told_more pipe.gave _ _ (λ octets e. (pipe.rest, e, why)) read.told }
   ceases_none Starved reads read why = record { may = starved_reading turn reads; counted = tt; gave = told_more pipe.gave _ _ (λ octets front. (front.0, front.1, tt)) read }
   ceases_none Shutdown reads read why = absurd why

@@ -1,13 +1,13 @@
--- The frames that the monitor and a server's program say, and what the monitor writes in a life, read off the events of the run.
-use Rattle.std.specs.Prelude.{ℕ, ℤ, ◌%◌, ◌^◌, ◌==◌, ◌&&◌, Bool, false, List, [], ◌∷◌, ◌++◌, Option, Some, if◌then◌else◌}
+-- The frames that the monitor and a server's program say, and what the monitor writes in a life, read off the events of the run (this
+-- project's own).
+use Rattle.std.specs.Prelude.{ℕ, ℤ, ◌%◌, ◌^◌, ◌==◌, ◌&&◌, Bool, false, List, [], ◌∷◌, Option, Some, if◌then◌else◌}
 use Rattle.xa_types.specs.declared.data.Data.{Data}
-use Rattle.xa_types.specs.declared.call.Mode.TheVariants.{Reply}
 use Rattle.xa_types.specs.declared.call.Rval.{Rval}
 use Rattle.xa_events.specs.declared.event.Event.{Event}
 use Rattle.xa_events.specs.declared.event.Event.TheVariants.{Accept, Take, Stop}
 use Rattle.xa_events.specs.declared.event.StopCause.{StopCause}
 use Rattle.xa_events.specs.declared.event.StopCause.TheVariants.{Shutdown}
-use Rattle.xa_events.specs.Words.{latest, count}
+use Rattle.xa_events.specs.Words.{latest, count, from_each}
 use Rattle.xa_events.specs.Request.{is_accept_of}
 use Rattle.xa_frame.specs.declared.frame.Frame.{Frame}
 use Rattle.xa_frame.specs.declared.frame.Body.TheVariants.{Ready, Next, Return, Invoke, Shutdown as ShutdownBody}
@@ -24,7 +24,7 @@ is_take_in server g _ = false
 unfoldable pub invocation : ℕ → ℕ → List Event → ℕ
 invocation server g past = count (is_take_in server g) past % 2 ^ 32
 
--- ---- the frames of a request
+-- ---- frames
 
 abbrev pub next_frame : Frame
 next_frame = record { tag = 0; body = Next }
@@ -35,10 +35,7 @@ ready_frame name = record { tag = 0; body = Ready name }
 abbrev pub shutdown_frame : Frame
 shutdown_frame = record { tag = 0; body = ShutdownBody }
 
--- the request to a routine that has its service's name
-abbrev pub invoke_frame : List ℕ → ℕ → Data → Frame
-invoke_frame service tag payload = record { tag = tag; body = Invoke service service Reply payload }
-
+-- the RETURN of the invocation with that number
 abbrev pub return_frame : ℕ → Rval → ℤ → Data → Frame
 return_frame tag value code payload = record { tag = tag; body = Return value code payload }
 
@@ -59,6 +56,6 @@ written_at server g (Take t) past =
 written_at server g (Stop x) past = if is_of_life server g x.server.0 x.generation.0 then farewell x.cause else []
 written_at server g _ past = []
 
+-- what it writes in the life
 abbrev pub frames_out : ℕ → ℕ → List Event → List Frame
-frames_out server g [] = []
-frames_out server g (e ∷ past) = frames_out server g past ++ written_at server g e past
+frames_out server g past = from_each (written_at server g) past

@@ -1,5 +1,6 @@
--- A life of a server: what its program says, how the life ends, and what shows that.
-use Rattle.std.specs.Prelude.{◌≡◌, ℕ, ℤ, ◌+◌, ◌-◌, ◌<◌, ◌^◌, ◌%◌, min, Bool, true, false, List, [], ◌∷◌, ◌++◌, length, Option, Some, None, IfSome, if◌then◌else◌}
+-- A life of a server: what its program says, how the life ends, and what shows that (after tpreturn of XATMI, and TPEXIT of Tuxedo; frames and
+-- causes are this project's own).
+use Rattle.std.specs.Prelude.{◌≡◌, ◌⊎◌, ℕ, ℤ, ◌+◌, ◌-◌, ◌<◌, ◌^◌, ◌%◌, min, Bool, true, false, List, [], ◌∷◌, ◌++◌, length, take, Option, Some, None, IfSome, if◌then◌else◌}
 use Rattle.xa_types.specs.declared.data.Data.{Data}
 use Rattle.xa_types.specs.declared.setup.Setup.{Setup}
 use Rattle.xa_types.specs.declared.call.Rval.{Rval}
@@ -7,7 +8,7 @@ use Rattle.xa_types.specs.declared.call.Rval.TheVariants.{Success, Exit as ExitV
 use Rattle.xa_types.specs.Kind.{is_sound}
 use Rattle.xa_link.specs.Told.{Empty}
 use Rattle.xa_frame.specs.declared.frame.Frame.{Frame}
-use Rattle.xa_frame.specs.Spelling.{all_spelled, kind_octet, HasSpelling}
+use Rattle.xa_frame.specs.Spelling.{spelled, all_spelled, kind_octet, HasSpelling}
 use Rattle.xa_frame.specs.Stream.{IsPartial, IsMalformed, Begins}
 use Rattle.xa_events.specs.declared.event.Event.{Event}
 use Rattle.xa_events.specs.declared.event.Event.TheVariants.{End, Stop}
@@ -15,11 +16,12 @@ use Rattle.xa_events.specs.declared.event.Outcome.{Outcome}
 use Rattle.xa_events.specs.declared.event.Outcome.TheVariants.{Returned, Failed, BadReturn, Died, Starved}
 use Rattle.xa_events.specs.declared.event.StopCause.{StopCause}
 use Rattle.xa_events.specs.declared.event.StopCause.TheVariants.{Shutdown, Exit, EndOfInput, ReadFault, WriteFault, BadBytes, OutOfTurn, Starved as StarvedStop}
-use Rattle.xa_events.specs.Words.{latest}
+use Rattle.xa_events.specs.Words.{latest, from_each}
 use Rattle.xa_pipe.specs.Frames.{is_of_life, next_frame, ready_frame, shutdown_frame, return_frame, frames_out}
 
 -- ---- what the program says
 
+-- how a request ends by a RETURN with data that is sound
 abbrev pub outcome_of : Rval → ℤ → Data → Outcome
 outcome_of Success code payload = Returned code payload
 outcome_of value code payload = Failed code payload
@@ -40,7 +42,7 @@ abbrev pub turn_behind : Rval → Turn
 turn_behind ExitValue = Exited
 turn_behind value = AwaitsNext
 
--- the number of the invocation after so many
+-- the number of the invocation after so many, modulo 2^32
 abbrev pub tag_after : ℕ → ℕ
 tag_after n = (n + 1) % 2 ^ 32
 
@@ -101,6 +103,7 @@ place_behind frames = min (length (all_spelled frames)) (2 ^ 64 - 1)
 -- what stands behind the frames: no whole frame and nothing more in the link, no frame, or one that the program may not say
 abbrev pub Shows : List ℕ → ℕ → Turn → StopCause → List Frame → List ℕ → Option (List ℕ) → Type 0
 Shows name tag turn EndOfInput frames rest left = IsPartial rest × Empty left
+Shows name tag turn ReadFault frames rest left = IsPartial rest
 Shows name tag turn (BadBytes place) frames rest left = (place ≡ place_behind frames) × IsMalformed rest
 Shows name tag turn (OutOfTurn kind number) frames rest left =
     (f : Frame) × (more : List ℕ) × Begins rest f more × (kind ≡ kind_octet f.body) × (number ≡ f.tag) × (MaySay name tag turn f → ⊥)
@@ -111,6 +114,7 @@ abbrev pub lost_by : StopCause → Outcome
 lost_by StarvedStop = Starved
 lost_by cause = Died
 
+-- how the life's requests ended, the one in hand too
 abbrev pub all_outcomes : StopCause → Turn → List Outcome → List Outcome
 all_outcomes cause Serving outcomes = outcomes ++ lost_by cause ∷ []
 all_outcomes cause turn outcomes = outcomes
@@ -123,8 +127,7 @@ outcome_at server g _ = []
 
 -- how the life's requests ended, the oldest first
 abbrev pub outcomes_in : ℕ → ℕ → List Event → List Outcome
-outcomes_in server g [] = []
-outcomes_in server g (e ∷ past) = outcomes_in server g past ++ outcome_at server g e
+outcomes_in server g past = from_each (λ e before. outcome_at server g e) past
 
 abbrev pub stops_life : ℕ → ℕ → Event → Bool
 stops_life server g (Stop x) = is_of_life server g x.server.0 x.generation.0
@@ -138,14 +141,21 @@ cause_in _ = None
 abbrev pub cause_of : ℕ → ℕ → List Event → Option StopCause
 cause_of server g past = cause_in (latest (stops_life server g) past)
 
-abbrev pub IsFront : List ℕ → List ℕ → Type 0
-IsFront front octets = (more : List ℕ) × (octets ≡ front ++ more)
+-- all of these frames but the last, and a front of the last
+abbrev pub IsCut : List Frame → List ℕ → Type 0
+IsCut frames octets = (earlier : List Frame) × (last : Frame) × (n : ℕ) × (frames ≡ earlier ++ last ∷ []) × (octets ≡ all_spelled earlier ++ take n (spelled last))
 
--- the link took what the monitor wrote: all of it, or a front where memory ran out or the pipe failed, then perhaps at SHUTDOWN
-abbrev pub TookBy : StopCause → List Frame → List ℕ → Type 0
-TookBy WriteFault frames octets = IsFront octets (all_spelled (frames ++ shutdown_frame ∷ []))
-TookBy StarvedStop frames octets = IsFront octets (all_spelled frames)
-TookBy cause frames octets = octets ≡ all_spelled frames
+-- all of these frames but the last
+abbrev pub LacksLast : List Frame → List ℕ → Type 0
+LacksLast frames octets = (earlier : List Frame) × (last : Frame) × (frames ≡ earlier ++ last ∷ []) × (octets ≡ all_spelled earlier)
+
+-- the link took what the monitor wrote: all of it, but that the last frame, an INVOKE or SHUTDOWN, may be cut where the pipe failed, and that
+-- the last INVOKE may be left out where memory ran out
+abbrev pub TookBy : StopCause → Turn → List Frame → List ℕ → Type 0
+TookBy WriteFault Serving frames octets = IsCut frames octets
+TookBy WriteFault turn frames octets = IsCut (frames ++ shutdown_frame ∷ []) octets
+TookBy StarvedStop Serving frames octets = (octets ≡ all_spelled frames) ⊎ LacksLast frames octets
+TookBy cause turn frames octets = octets ≡ all_spelled frames
 
 -- how a life went and why it ended, by its events, by its link's counts, and by what the link took, gave and still holds, where it tells
 pub record IsLife (setup : Setup) (name : List ℕ) (server g : ℕ) (past : List Event) (took gave left : Option (List ℕ)) (reads writes : ℕ) : Type 0 where
@@ -158,5 +168,5 @@ pub record IsLife (setup : Setup) (name : List ℕ) (server g : ℕ) (past : Lis
   pub says : Says setup name outcomes frames turn
   pub may : may_end cause turn ≡ true
   pub counted : IsCounted cause reads writes
-  pub took_frames : IfSome took (TookBy cause (frames_out server g past))
+  pub took_frames : IfSome took (TookBy cause turn (frames_out server g past))
   pub gave_frames : IfSome gave (λ octets. (rest : List ℕ) × (octets ≡ all_spelled frames ++ rest) × Shows name (tag_after (length outcomes)) turn cause frames rest left)

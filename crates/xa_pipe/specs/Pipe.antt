@@ -1,15 +1,26 @@
 -- What the monitor's end of the pipes of a life has seen.
 use Rattle.std.specs.Prelude.{◌≡◌, ◌⊎◌, ℕ, ◌+◌, ◌-◌, ◌^◌, min, ◌<◌, List, ◌++◌, length, true, Option, Some, None, IfSome}
 use Rattle.xa_types.specs.declared.setup.Setup.{Setup}
+use Rattle.xa_types.specs.declared.data.Data.{Data}
+use Rattle.xa_types.specs.declared.call.Mode.TheVariants.{Reply}
 use Rattle.xa_link.specs.Told.{Empty}
 use Rattle.xa_frame.specs.declared.frame.Frame.{Frame}
+use Rattle.xa_frame.specs.declared.frame.Body.TheVariants.{Invoke}
 use Rattle.xa_frame.specs.Stream.{IsPartial, IsMalformed}
 use Rattle.xa_frame.specs.Spelling.{spelled, all_spelled, HasSpelling}
 use Rattle.xa_events.specs.declared.event.Outcome.{Outcome}
 use Rattle.xa_events.specs.declared.event.StopCause.{StopCause}
 use Rattle.xa_events.specs.declared.event.StopCause.TheVariants.{EndOfInput, ReadFault, WriteFault, BadBytes, Starved}
 use Rattle.xa_pipe.specs.Life.Turn.{AwaitsReady, AwaitsNext}
-use Rattle.xa_pipe.specs.Life.{Turn, Says, Shows, IsCounted, IsFront, may_end, tag_after, place_behind}
+use Rattle.xa_pipe.specs.Life.{Turn, Says, Shows, IsCounted, may_end, tag_after, place_behind}
+
+-- the request to a routine that has its service's name
+abbrev pub invoke_frame : List ℕ → ℕ → Data → Frame
+invoke_frame service tag payload = record { tag = tag; body = Invoke service service Reply payload }
+
+-- these octets stand in front
+abbrev pub IsFront : List ℕ → List ℕ → Type 0
+IsFront front octets = (more : List ℕ) × (octets ≡ front ++ more)
 
 -- what the link took, gave and still holds, where it tells them, how often its reads and writes failed, and of what it gave the octets that aren't read as a frame, and their place
 pub record Piped : Type 0 where
@@ -38,7 +49,7 @@ Finds old new (Some f) = HasSpelling f × (old.rest ≡ spelled f ++ new.rest) �
 -- why no frame was read behind these
 abbrev pub ReadsNone : Piped → List Frame → StopCause → Type 0
 ReadsNone pipe frames EndOfInput = IsPartial pipe.rest × Empty pipe.left
-ReadsNone pipe frames ReadFault = 0 < pipe.reads
+ReadsNone pipe frames ReadFault = (0 < pipe.reads) × IsPartial pipe.rest
 ReadsNone pipe frames (BadBytes place) = (place ≡ place_behind frames) × IsMalformed pipe.rest
 ReadsNone pipe frames Starved = Unit {0}
 ReadsNone pipe frames cause = ⊥

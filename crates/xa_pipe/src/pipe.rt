@@ -4,8 +4,8 @@ ghost use Rattle.xa_frame.specs.declared.frame.Frame.{Frame};
 ghost use Rattle.xa_frame.specs.Spelling.{spelled, HasSpelling, IsData};
 ghost use Rattle.xa_events.specs.declared.event.StopCause.TheVariants.{Starved};
 ghost use Rattle.xa_frame.specs.Stream.{IsPartial, IsMalformed};
-ghost use Rattle.xa_pipe.specs.Frames.{invoke_frame, shutdown_frame};
-ghost use Rattle.xa_pipe.specs.Pipe.{Wrote, HasRead, Finds, Keeps, ReadsNone, WritesNone};
+ghost use Rattle.xa_pipe.specs.Frames.{shutdown_frame};
+ghost use Rattle.xa_pipe.specs.Pipe.{invoke_frame, Wrote, HasRead, Finds, Keeps, ReadsNone, WritesNone};
 
 use std::alloc::Global;
 use std::marker::Model;

@@ -19,11 +19,12 @@ use Rattle.xa_events.specs.Words.{count, without, same_request}
 use Rattle.xa_events.specs.Board.{changes, published}
 use Rattle.xa_events.specs.Queue.{waiting, takes, is_down, is_closed}
 use Rattle.xa_events.specs.Server.{doing, starts, is_gone, last_outcome, is_shutdown}
-use Rattle.xa_events.specs.Caller.{last_op, accepted, opened, floor, has_left}
+use Rattle.xa_events.specs.Caller.{last_op, accepted, opened, least_version, has_left}
 use Rattle.xa_events.specs.Request.{is_accept_of, is_end_of}
 use Rattle.xa_events.specs.Cases.{Case, idle_stops}
 use Rattle.xa_play.specs.PlaySetup.{play_setup}
-use Rattle.xa_play.specs.History.{request, accept, take_of, refuse, stop, gone, served}
+use Rattle.xa_play.specs.History.{request, accept, take_of, refuse, stop}
+use Rattle.xa_play.proofs.Newest.{gone, served}
 use Rattle.xa_play.specs.Between.{at, IsQuiet, IsOpen, IsUp, IsDown}
 use Rattle.xa_play.proofs.Falls.{MayFall}
 use Rattle.xa_play.proofs.Machine.{EndsSo, same_request-self}
@@ -75,12 +76,12 @@ module _ (service : List ℕ) (n m : ℕ) (payload : Data) (outcome : Outcome) (
   open_served (Some cause) opens = record { stays = opens.stays; still = opens.still }
 
   pub up_served : EndsSo outcome None → IsUp service (Idle (record { 0 = 1 })) past → IsUp service (Idle (record { 0 = 1 })) (served service (n + 1) (m + 1) payload outcome None answer past)
-  unfolding changes doing is_gone is_down floor
+  unfolding changes doing is_gone is_down least_version
   up_served so up = record { board = up.board; server = so; stays = up.stays; up = up.up; seen = omega (arith, up.seen) }
 
   pub down_served : (cause : StopCause) → IsUp service (Idle (record { 0 = 1 })) past → IsDown service (served service (n + 1) (m + 1) payload outcome (Some cause) answer past)
-  unfolding changes doing floor
-  down_served cause up = record { board = ap (λ (cs : List Change). Remove service 1 ∷ cs) up.board; server = refl; seen = omega (arith, up.seen) }
+  unfolding changes doing is_gone least_version
+  down_served cause up = record { board = ap (λ (cs : List Change). Remove service 1 ∷ cs) up.board; server = refl; gone = refl; seen = omega (arith, up.seen) }
 
 -- ---- behind a refusal
 
@@ -90,7 +91,7 @@ IsShown version Inval Argument = Unit {0}
 IsShown version NoEnt (Version v) = v ≡ version
 IsShown version fault evidence = ⊥
 
-refuse_case : (service : List ℕ) (n version : ℕ) (past : List Event) → has_left 1 past ≡ false → last_op 1 past ≡ n → floor (play_setup service) 1 past ≤ version → length (changes past) ≡ version → 0 < version
+refuse_case : (service : List ℕ) (n version : ℕ) (past : List Event) → has_left 1 past ≡ false → last_op 1 past ≡ n → least_version (play_setup service) 1 past ≤ version → length (changes past) ≡ version → 0 < version
     → (fault : Fault) (evidence : Evidence) → IsShown version fault evidence → Case (at service 1 past) (Refuse (refuse (n + 1) fault evidence))
 unfolding published
 refuse_case service n version past stays op seen board some Inval Argument shown = record {
@@ -131,9 +132,9 @@ module _ (service : List ℕ) (n m : ℕ) (fault : Fault) (evidence : Evidence) 
   open_refused = record { stays = opens.stays; still = opens.still }
 
 -- a refusal shows its caller the version that stands
-seen_refused : (service : List ℕ) (n version : ℕ) (past : List Event) → floor (play_setup service) 1 past ≤ version → (fault : Fault) (evidence : Evidence) → IsShown version fault evidence
-    → floor (play_setup service) 1 (Refuse (refuse n fault evidence) ∷ past) ≤ version
-unfolding floor
+seen_refused : (service : List ℕ) (n version : ℕ) (past : List Event) → least_version (play_setup service) 1 past ≤ version → (fault : Fault) (evidence : Evidence) → IsShown version fault evidence
+    → least_version (play_setup service) 1 (Refuse (refuse n fault evidence) ∷ past) ≤ version
+unfolding least_version
 seen_refused service n version past seen Inval Argument shown = seen
 seen_refused service n version past seen NoEnt (Version v) shown = omega (arith, seen, shown)
 seen_refused service n version past seen fault evidence shown = absurd shown
@@ -144,8 +145,8 @@ up_refused service n does fault evidence past up shown =
     record { board = up.board; server = up.server; stays = up.stays; up = up.up; seen = seen_refused service (n + 1) 1 past up.seen fault evidence shown }
 
 pub down_refused : (service : List ℕ) (n : ℕ) (fault : Fault) (evidence : Evidence) (past : List Event) → IsDown service past → IsShown 2 fault evidence → IsDown service (Refuse (refuse (n + 1) fault evidence) ∷ past)
-unfolding changes doing
-down_refused service n fault evidence past down shown = record { board = down.board; server = down.server; seen = seen_refused service (n + 1) 2 past down.seen fault evidence shown }
+unfolding changes doing is_gone
+down_refused service n fault evidence past down shown = record { board = down.board; server = down.server; gone = down.gone; seen = seen_refused service (n + 1) 2 past down.seen fault evidence shown }
 
 -- ---- behind the end of the server's life
 
@@ -192,5 +193,5 @@ module _ (service : List ℕ) (cause : StopCause) (past : List Event) where
   open_fallen opens = record { stays = opens.stays; still = opens.still }
 
   pub down_fallen : (does : Doing) → IsUp service does past → IsDown service (gone service (Stop (stop cause) ∷ past))
-  unfolding changes doing floor
-  down_fallen does up = record { board = ap (λ (cs : List Change). Remove service 1 ∷ cs) up.board; server = refl; seen = omega (arith, up.seen) }
+  unfolding changes doing is_gone least_version
+  down_fallen does up = record { board = ap (λ (cs : List Change). Remove service 1 ∷ cs) up.board; server = refl; gone = refl; seen = omega (arith, up.seen) }

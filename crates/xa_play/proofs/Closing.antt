@@ -1,5 +1,5 @@
 -- How a run of `play` begins, and how it ends.
-use Rattle.std.proofs.Common.{◌≡◌, ℕ, zero, suc, ◌<◌, ◌&&◌, true, false, List, [], ◌∷◌, length, inl, refl, ◌∙◌, ap, subst, arith}
+use Rattle.std.proofs.Common.{◌≡◌, ℕ, zero, suc, ◌<◌, ◌&&◌, true, false, List, [], ◌∷◌, length, inl, refl, ◌∙◌, ap, subst, arith, inr}
 use Rattle.xa_events.specs.declared.event.Event.{Event}
 use Rattle.xa_events.specs.declared.event.Event.TheVariants.{Advertise, Gone, Withdraw, Down, Close, Start, StartFailed, Stop, Leave}
 use Rattle.xa_events.specs.declared.event.StopCause.{StopCause}
@@ -8,16 +8,17 @@ use Rattle.xa_events.specs.declared.event.Doing.{Doing}
 use Rattle.xa_events.specs.declared.event.Doing.TheVariants.{Off, Idle}
 use Rattle.xa_events.specs.Board.{changes, published, rows_of_version}
 use Rattle.xa_events.specs.Queue.{waiting, takes, is_down, is_closed}
-use Rattle.xa_events.specs.Server.{doing, starts, is_gone, let_go, last_outcome, is_shutdown}
-use Rattle.xa_events.specs.Caller.{last_op, accepted, opened, floor, has_left, all_left}
+use Rattle.xa_events.specs.Server.{doing, starts, is_gone, was_shut_down, last_outcome, is_shutdown}
+use Rattle.xa_events.specs.Caller.{last_op, accepted, opened, least_version, has_left}
 use Rattle.xa_events.specs.Clock.{is_shown}
 use Rattle.xa_events.specs.Cases.{Case}
 use Rattle.xa_events.specs.State.{opening}
 use Rattle.xa_events.specs.Run.{Run, IsFinal}
 use Rattle.xa_play.specs.PlaySetup.{play_setup}
-use Rattle.xa_play.specs.History.{advertise, withdraw, start, stop, gone, begun, not_begun, closed}
+use Rattle.xa_play.specs.History.{advertise, withdraw, start, stop}
+use Rattle.xa_play.proofs.Newest.{gone, begun, not_begun, closed}
 use Rattle.xa_play.specs.Between.{at, IsQuiet, IsOpen, IsUp, IsDown, IsLeft}
-use Rattle.xa_play.proofs.Falls.{MayFall, same_name-self, falls_run}
+use Rattle.xa_play.proofs.Falls.{MayFall, bytes_eq-self, only_gone, falls_run}
 use Rattle.xa_play.proofs.After.{idle_any}
 
 -- ---- the beginning
@@ -27,7 +28,7 @@ unfolding published changes
 advertise_case service clients = record { boot = tt; kind = record { home = record { booting = refl; version = refl }; worker = record { domain = refl; op = refl } } }
 
 start_case : (service : List ℕ) (clients : ℕ) → Case (at service clients (Advertise (advertise service) ∷ [])) (Start start)
-unfolding published changes doing is_gone let_go starts is_shown
+unfolding published changes doing is_gone was_shut_down starts is_shown
 start_case service clients = record {
   boot = omega arith;
   kind = record { worker = record { off = refl; still = refl; kept = refl; count = refl; may = refl }; before = record { shown = refl } };
@@ -45,20 +46,20 @@ unfolding has_left is_closed
 open_begun service = record { stays = refl; still = refl }
 
 pub up_begun : (service : List ℕ) → IsUp service (Idle (record { 0 = 1 })) (begun service)
-unfolding changes doing is_gone is_down floor
+unfolding changes doing is_gone is_down least_version
 up_begun service = record { board = refl; server = refl; stays = refl; up = refl; seen = omega arith }
 
 -- ---- the beginning where the server can't be started
 
 failed_case : (service : List ℕ) (clients : ℕ) → Case (at service clients (Advertise (advertise service) ∷ [])) (StartFailed start)
-unfolding published changes doing is_gone let_go starts is_shown
+unfolding published changes doing is_gone was_shut_down starts is_shown
 failed_case service clients = record {
   boot = omega arith;
   kind = record { worker = record { off = refl; still = refl; kept = refl; count = refl; may = refl }; before = record { shown = refl } };
 }
 
 gone_case : (service : List ℕ) (clients : ℕ) → Case (at service clients (StartFailed start ∷ Advertise (advertise service) ∷ [])) (Gone (record { 0 = 1 }))
-unfolding published changes doing is_gone let_go starts
+unfolding published changes doing is_gone was_shut_down starts
 gone_case service clients = record { boot = omega arith; kind = record { worker = record { known = omega arith; off = refl; still = refl; kept = refl; spent = refl } } }
 
 withdraw_case : (service : List ℕ) (clients : ℕ) → Case (at service clients (Gone (record { 0 = 1 }) ∷ StartFailed start ∷ Advertise (advertise service) ∷ [])) (Withdraw (withdraw service))
@@ -66,9 +67,9 @@ unfolding published changes is_gone rows_of_version
 withdraw_case service clients = record {
   boot = omega arith;
   kind = record {
-    home = record { stands = rw (same_name-self service) (rw (same_name-self service) tt); version = refl };
+    home = record { stands = rw (bytes_eq-self service) (rw (bytes_eq-self service) refl); version = refl };
     worker = record { domain = refl; op = refl };
-    before = record { gone = refl };
+    before = record { gone = only_gone service (Gone (record { 0 = 1 }) ∷ StartFailed start ∷ Advertise (advertise service) ∷ []) refl };
   };
 }
 
@@ -77,8 +78,8 @@ unfolding published changes is_gone is_down rows_of_version
 down_case service clients = record {
   boot = omega arith;
   kind = record {
-    home = record { known = omega arith; still = refl; gone = refl };
-    before = record { withdrawn = λ name. rw (same_name-self service) (rw (same_name-self service) refl) };
+    home = record { known = omega arith; still = refl; gone = only_gone service (Withdraw (withdraw service) ∷ Gone (record { 0 = 1 }) ∷ StartFailed start ∷ Advertise (advertise service) ∷ []) refl };
+    before = record { withdrawn = λ name. rw (bytes_eq-self service) (rw (bytes_eq-self service) refl) };
   };
 }
 
@@ -95,25 +96,25 @@ unfolding has_left is_closed
 open_not_begun service = record { stays = refl; still = refl }
 
 pub down_not_begun : (service : List ℕ) → IsDown service (not_begun service)
-unfolding changes doing floor
-down_not_begun service = record { board = refl; server = refl; seen = omega arith }
+unfolding changes doing is_gone least_version
+down_not_begun service = record { board = refl; server = refl; gone = refl; seen = omega arith }
 
 -- ---- the clients leave
 
 pub left_none : (service : List ℕ) (n m : ℕ) (past : List Event) → IsQuiet service 0 n m past → IsOpen past → IsLeft service 0 past
-left_none service n m past quiet opens = record { made = quiet.made; waits = quiet.waits; open_server = quiet.open_server; matched = quiet.matched; still = opens.still; left = refl }
+left_none service n m past quiet opens = record { made = quiet.made; waits = quiet.waits; open_server = quiet.open_server; matched = quiet.matched; still = opens.still; left = λ client low high. absurd (omega arith) }
 
 pub left_one : (service : List ℕ) (n m : ℕ) (past : List Event) → IsQuiet service 1 n m past → IsOpen past → IsLeft service 1 (Leave (record { 0 = 1 }) ∷ past)
 unfolding starts waiting opened is_closed has_left
-left_one service n m past quiet opens = record { made = quiet.made; waits = quiet.waits; open_server = quiet.open_server; matched = quiet.matched; still = opens.still; left = refl }
+left_one service n m past quiet opens = record { made = quiet.made; waits = quiet.waits; open_server = quiet.open_server; matched = quiet.matched; still = opens.still; left = λ client low high. let is : 1 ≡ client = omega arith in subst (λ k. has_left k (Leave (record { 0 = 1 }) ∷ past) ≡ true) is refl }
 
 pub up_left : (service : List ℕ) (does : Doing) (past : List Event) → IsUp service does past → IsUp service does (Leave (record { 0 = 1 }) ∷ past)
-unfolding changes doing is_gone is_down floor
+unfolding changes doing is_gone is_down least_version
 up_left service does past up = record { board = up.board; server = up.server; stays = up.stays; up = up.up; seen = up.seen }
 
 pub down_left : (service : List ℕ) (past : List Event) → IsDown service past → IsDown service (Leave (record { 0 = 1 }) ∷ past)
-unfolding changes doing floor
-down_left service past down = record { board = down.board; server = down.server; seen = down.seen }
+unfolding changes doing is_gone least_version
+down_left service past down = record { board = down.board; server = down.server; gone = down.gone; seen = down.seen }
 
 pub leave_case : (service : List ℕ) (n m : ℕ) (past : List Event) → IsQuiet service 1 n m past → IsOpen past → 0 < length (changes past) → Case (at service 1 past) (Leave (record { 0 = 1 }))
 unfolding published
@@ -155,44 +156,32 @@ module _ (service : List ℕ) (clients : ℕ) (past : List Event) (left : IsLeft
   pub run_closed : IsDown service past → Run (at service clients past) (Close (record { 0 = 1 }) ∷ []) (at service clients (closed past))
   run_closed down = (close_case (omega (arith, ap length down.board)), refl)
 
-all_left_closed : (clients : ℕ) (past : List Event) → all_left clients (closed past) ≡ all_left clients past
-unfolding has_left
-all_left_closed zero past = refl
-all_left_closed (suc n) past = ap (λ b. has_left (suc n) past && b) (all_left_closed n past)
-
-all_left_shut : (clients : ℕ) (past : List Event) → all_left clients (Stop (stop Shutdown) ∷ past) ≡ all_left clients past
-unfolding has_left
-all_left_shut zero past = refl
-all_left_shut (suc n) past = ap (λ b. has_left (suc n) past && b) (all_left_shut n past)
-
-all_left_gone : (service : List ℕ) (cause : StopCause) (clients : ℕ) (past : List Event) → all_left clients (gone service (Stop (stop cause) ∷ past)) ≡ all_left clients past
-unfolding has_left
-all_left_gone service cause zero past = refl
-all_left_gone service cause (suc n) past = ap (λ b. has_left (suc n) past && b) (all_left_gone service cause n past)
-
 pub final_shut : (service : List ℕ) (clients : ℕ) (past : List Event) → IsLeft service clients past → IsFinal (at service clients (Stop (stop Shutdown) ∷ closed past))
-unfolding doing is_closed
+unfolding doing is_closed has_left was_shut_down
 final_shut service clients past left = record {
-  left = all_left_shut clients (closed past) ∙ (all_left_closed clients past ∙ left.left);
+  left = left.left;
   ended = left.matched;
   off = λ server low high. let is : 1 ≡ server = omega arith in subst (λ k. doing k (Stop (stop Shutdown) ∷ closed past) ≡ Off) is refl;
+  over = λ server low high. let is : 1 ≡ server = omega arith in inl (subst (λ k. was_shut_down k (Stop (stop Shutdown) ∷ closed past) ≡ true) is refl);
   closed = λ queue low high. let is : 1 ≡ queue = omega arith in subst (λ k. is_closed k (Stop (stop Shutdown) ∷ closed past) ≡ true) is refl;
 }
 
 pub final_dropped : (service : List ℕ) (clients : ℕ) (cause : StopCause) (past : List Event) → IsLeft service clients past → IsFinal (at service clients (gone service (Stop (stop cause) ∷ closed past)))
-unfolding doing is_closed
+unfolding doing is_closed has_left is_gone
 final_dropped service clients cause past left = record {
-  left = all_left_gone service cause clients (closed past) ∙ (all_left_closed clients past ∙ left.left);
+  left = left.left;
   ended = left.matched;
   off = λ server low high. let is : 1 ≡ server = omega arith in subst (λ k. doing k (gone service (Stop (stop cause) ∷ closed past)) ≡ Off) is refl;
+  over = λ server low high. let is : 1 ≡ server = omega arith in inr (subst (λ k. is_gone k (gone service (Stop (stop cause) ∷ closed past)) ≡ true) is refl);
   closed = λ queue low high. let is : 1 ≡ queue = omega arith in subst (λ k. is_closed k (gone service (Stop (stop cause) ∷ closed past)) ≡ true) is refl;
 }
 
 pub final_down : (service : List ℕ) (clients : ℕ) (past : List Event) → IsLeft service clients past → IsDown service past → IsFinal (at service clients (closed past))
-unfolding doing is_closed
+unfolding doing is_closed has_left is_gone
 final_down service clients past left down = record {
-  left = all_left_closed clients past ∙ left.left;
+  left = left.left;
   ended = left.matched;
   off = λ server low high. let is : 1 ≡ server = omega arith in subst (λ k. doing k (closed past) ≡ Off) is down.server;
+  over = λ server low high. let is : 1 ≡ server = omega arith in inr (subst (λ k. is_gone k (closed past) ≡ true) is down.gone);
   closed = λ queue low high. let is : 1 ≡ queue = omega arith in subst (λ k. is_closed k (closed past) ≡ true) is refl;
 }

@@ -1,6 +1,6 @@
 -- The end of the server's only life: it stops, it is gone, its row is withdrawn, and its queue is down.
-use Rattle.std.proofs.Common.{◌≡◌, ◌⊎◌, ℕ, ◌+◌, true, false, List, [], ◌∷◌, length, Some, refl, sym, ◌∙◌, ap, arith, eq-eqb}
-use Rattle.xa_types.specs.Setup.{same_name}
+use Rattle.std.proofs.Common.{◌≡◌, ◌⊎◌, ℕ, ◌+◌, true, false, List, [], ◌∷◌, length, Some, refl, sym, ◌∙◌, ap, arith, eq-eqb, subst}
+use Rattle.std.specs.Str.{bytes_eq}
 use Rattle.xa_types.specs.Rows.{Put, Remove, row_of, all_kinds}
 use Rattle.xa_events.specs.declared.event.Event.{Event}
 use Rattle.xa_events.specs.declared.event.Event.TheVariants.{Gone, Withdraw, Down, Stop}
@@ -9,12 +9,13 @@ use Rattle.xa_events.specs.declared.event.StopCause.TheVariants.{Shutdown}
 use Rattle.xa_events.specs.declared.event.Doing.TheVariants.{Idle, Dying}
 use Rattle.xa_events.specs.Board.{changes, published, rows_of_version}
 use Rattle.xa_events.specs.Queue.{is_down, is_closed, waiting}
-use Rattle.xa_events.specs.Server.{doing, starts, is_gone, let_go, last_outcome, is_shutdown}
+use Rattle.xa_events.specs.Server.{doing, starts, is_gone, was_shut_down, last_outcome, is_shutdown, AllGone}
 use Rattle.xa_events.specs.Caller.{opened}
 use Rattle.xa_events.specs.Cases.{Case, idle_stops, dying_stops}
 use Rattle.xa_events.specs.Run.{Run}
 use Rattle.xa_play.specs.PlaySetup.{play_setup}
-use Rattle.xa_play.specs.History.{stop, withdraw, gone}
+use Rattle.xa_play.specs.History.{stop, withdraw}
+use Rattle.xa_play.proofs.Newest.{gone}
 use Rattle.xa_play.specs.Between.{at}
 
 -- the server's life may end so
@@ -28,9 +29,13 @@ pub record MayFall (service : List ℕ) (clients : ℕ) (cause : StopCause) (pas
       ⊎ ((doing 1 past ≡ Dying (record { 0 = 1 })) × (dying_stops cause (last_outcome 1 past) ≡ true))
   pub kind : is_shutdown cause ≡ false
 
-pub same_name-self : (xs : List ℕ) → same_name xs xs ≡ true
-same_name-self [] = refl
-same_name-self (x ∷ xs) = rw (eq-eqb x x refl) (same_name-self xs)
+pub bytes_eq-self : (xs : List ℕ) → bytes_eq xs xs ≡ true
+bytes_eq-self [] = refl
+bytes_eq-self (x ∷ xs) = rw (eq-eqb x x refl) (bytes_eq-self xs)
+
+-- the one server is all the servers of the one queue
+pub only_gone : (service : List ℕ) (past : List Event) → is_gone 1 past ≡ true → AllGone (play_setup service) 1 past
+only_gone service past gone server low high of = let is : 1 ≡ server = omega arith in subst (λ k. is_gone k past ≡ true) is gone
 
 no_shutdown : (cause : StopCause) (P : Type 0) → is_shutdown cause ≡ false → cause ≡ Shutdown → P
 no_shutdown cause P other is = absurd (cc (sym other ∙ ap is_shutdown is))
@@ -38,11 +43,11 @@ no_shutdown cause P other is = absurd (cc (sym other ∙ ap is_shutdown is))
 pub the_row : (service : List ℕ) (past : List Event) → changes past ≡ Put service 1 service ∷ []
     → row_of service 1 (rows_of_version (play_setup service) past 1) ≡ Some (record { service = service; queue = record { 0 = 1 }; routine = service; priority = 50; conversational = false; accepts = all_kinds })
 unfolding rows_of_version
-the_row service past board = rw board (rw (same_name-self service) (rw (same_name-self service) refl))
+the_row service past board = rw board (rw (bytes_eq-self service) (rw (bytes_eq-self service) refl))
 
 pub no_rows : (service : List ℕ) (past : List Event) → changes past ≡ Remove service 1 ∷ Put service 1 service ∷ [] → rows_of_version (play_setup service) past 2 ≡ []
 unfolding rows_of_version
-no_rows service past board = rw board (rw (same_name-self service) (rw (same_name-self service) refl))
+no_rows service past board = rw board (rw (bytes_eq-self service) (rw (bytes_eq-self service) refl))
 
 stop_case : (service : List ℕ) (clients : ℕ) (cause : StopCause) (past : List Event) → MayFall service clients cause past → Case (at service clients past) (Stop (stop cause))
 unfolding published
@@ -56,7 +61,7 @@ stop_case service clients cause past may = record {
 
 gone_case : (service : List ℕ) (clients : ℕ) (cause : StopCause) (past : List Event) → MayFall service clients cause past
     → Case (at service clients (Stop (stop cause) ∷ past)) (Gone (record { 0 = 1 }))
-unfolding published changes doing is_gone let_go starts
+unfolding published changes doing is_gone was_shut_down starts
 gone_case service clients cause past may = record {
   boot = omega (arith, ap length may.board);
   kind = record { worker = record { known = omega arith; off = refl; still = may.stays; kept = may.kind; spent = rw may.made refl } };
@@ -68,9 +73,9 @@ unfolding published changes is_gone rows_of_version
 withdraw_case service clients cause past may = record {
   boot = omega (arith, ap length may.board);
   kind = record {
-    home = record { stands = rw may.board (rw (same_name-self service) (rw (same_name-self service) tt)); version = rw may.board refl };
+    home = record { stands = rw may.board (rw (bytes_eq-self service) (rw (bytes_eq-self service) refl)); version = rw may.board refl };
     worker = record { domain = refl; op = refl };
-    before = record { gone = refl };
+    before = record { gone = only_gone service (Gone (record { 0 = 1 }) ∷ Stop (stop cause) ∷ past) refl };
   };
 }
 
@@ -80,8 +85,8 @@ unfolding published changes is_gone is_down rows_of_version
 down_case service clients cause past may = record {
   boot = omega (arith, ap length may.board);
   kind = record {
-    home = record { known = omega arith; still = may.up; gone = refl };
-    before = record { withdrawn = λ name. rw may.board (rw (same_name-self service) (rw (same_name-self service) refl)) };
+    home = record { known = omega arith; still = may.up; gone = only_gone service (Withdraw (withdraw service) ∷ Gone (record { 0 = 1 }) ∷ Stop (stop cause) ∷ past) refl };
+    before = record { withdrawn = λ name. rw may.board (rw (bytes_eq-self service) (rw (bytes_eq-self service) refl)) };
   };
 }
 

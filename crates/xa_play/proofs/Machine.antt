@@ -11,7 +11,7 @@ use Rattle.xa_events.specs.declared.event.Event.TheVariants.{Accept, Take, End, 
 use Rattle.xa_events.specs.declared.event.Outcome.{Outcome}
 use Rattle.xa_events.specs.declared.event.StopCause.{StopCause}
 use Rattle.xa_events.specs.declared.event.Doing.TheVariants.{Idle, Dying}
-use Rattle.xa_events.specs.Befell.{reply_of}
+use Rattle.xa_events.specs.Answers.{reply_of}
 use Rattle.xa_events.specs.Words.{has, without, same_request}
 use Rattle.xa_events.specs.Board.{changes, published}
 use Rattle.xa_events.specs.Queue.{waiting, takes, is_down}
@@ -22,7 +22,8 @@ use Rattle.xa_events.specs.Cases.{Case, is_sound_outcome, idle_stops, dying_stop
 use Rattle.xa_events.specs.State.{State, noted}
 use Rattle.xa_events.specs.Run.{Run}
 use Rattle.xa_play.specs.PlaySetup.{play_setup}
-use Rattle.xa_play.specs.History.{request, accept, take_of, end_with, answer_of, ended_call, served, falls, in_order}
+use Rattle.xa_play.specs.History.{request, accept, take_of, end_with, answer_of, falls, in_order}
+use Rattle.xa_play.proofs.Newest.{ended_call, served}
 use Rattle.xa_play.specs.Between.{at, IsQuiet, IsOpen, IsUp}
 use Rattle.xa_play.proofs.Falls.{MayFall, the_row, falls_run}
 

@@ -18,11 +18,11 @@ use Rattle.xa_events.specs.declared.event.Outcome.{Outcome}
 use Rattle.xa_events.specs.Words.{latest}
 use Rattle.xa_events.specs.Request.{ended, sent_by_op}
 use Rattle.xa_events.specs.Board.{listed_in}
-use Rattle.xa_events.specs.Befell.{answer_to}
+use Rattle.xa_events.specs.Answers.{answer_to}
 use Rattle.xa_events.specs.Calls.{is_op, events_of_op, Became, CallRefused, EachBecame}
 use Rattle.xa_events.specs.Said.{reply_at, reply_in}
 use Rattle.xa_text.specs.Line.{line_text}
-use Rattle.xa_play.specs.Spoken.{lines_up_to}
+use Rattle.xa_play.specs.Transcript.{lines_up_to}
 use Rattle.xa_play.specs.Between.{KnowsAnswers}
 
 -- the later list has what the earlier one has of the client's first n calls and m requests: their events, how the requests ended, what the board listed for them

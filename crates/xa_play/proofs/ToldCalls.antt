@@ -13,7 +13,7 @@ use Rattle.xa_types.specs.declared.call.Op.TheVariants.{Call}
 use Rattle.xa_types.specs.declared.call.Ask.{Ask}
 use Rattle.xa_types.specs.declared.reply.Answer.{Answer}
 use Rattle.xa_types.specs.declared.reply.Reply.TheVariants.{Answered as AnsweredReply, Fault as FaultReply}
-use Rattle.xa_types.specs.Setup.{same_name}
+use Rattle.std.specs.Str.{bytes_eq}
 use Rattle.xa_types.specs.Rows.{Change, Put, Remove, rows, rows_at, same_truth}
 use Rattle.xa_events.specs.declared.event.Event.{Event}
 use Rattle.xa_events.specs.declared.event.Event.TheVariants.{Accept, Stop, Leave, Answer as Answers, Refuse}
@@ -27,22 +27,23 @@ use Rattle.xa_events.specs.Board.{listed_in, changes}
 use Rattle.xa_events.specs.Queue.{waiting}
 use Rattle.xa_events.specs.Request.{ended, sent_by_op, priority_at}
 use Rattle.xa_events.specs.Calls.{is_op, events_of_op, Became, CallRefused, EachBecame, is_invalid_call}
-use Rattle.xa_events.specs.Befell.{answer_to}
+use Rattle.xa_events.specs.Answers.{answer_to}
 use Rattle.xa_events.specs.Said.{reply_at, reply_in}
 use Rattle.xa_events.specs.Order.{TakesInOrder, next_of, first_of_highest}
 use Rattle.xa_text.specs.Line.{line_text}
 use Rattle.xa_play.specs.PlaySetup.{play_setup}
-use Rattle.xa_play.specs.Spoken.{lines_up_to}
-use Rattle.xa_play.specs.History.{request, accept, answer_of, refuse, stop, gone, served, closed}
+use Rattle.xa_play.specs.Transcript.{lines_up_to}
+use Rattle.xa_play.specs.History.{request, accept, answer_of, refuse, stop}
+use Rattle.xa_play.proofs.Newest.{gone, served, closed}
 use Rattle.xa_play.specs.Between.{IsFresh, KnowsAnswers}
-use Rattle.xa_play.proofs.Falls.{same_name-self}
+use Rattle.xa_play.proofs.Falls.{bytes_eq-self}
 use Rattle.xa_play.proofs.Machine.{same_request-self}
 use Rattle.xa_play.proofs.Told.{Keeps, lines_kept, each_kept, each_more}
 
 -- ---- what the board listed stays listed, or is withdrawn
 
-none_listed : (name : List ℕ) (standing : List Row) → standing ≡ [] → filter (λ (row : Row). same_name row.service name && same_truth row.conversational false) standing ≡ []
-none_listed name standing none = ap (λ (rs : List Row). filter (λ (row : Row). same_name row.service name && same_truth row.conversational false) rs) none
+none_listed : (name : List ℕ) (standing : List Row) → standing ≡ [] → filter (λ (row : Row). bytes_eq row.service name && same_truth row.conversational false) standing ≡ []
+none_listed name standing none = ap (λ (rs : List Row). filter (λ (row : Row). bytes_eq row.service name && same_truth row.conversational false) rs) none
 
 module _ (service : List ℕ) where
   abbrev before : List Change
@@ -52,7 +53,7 @@ module _ (service : List ℕ) where
   after = Remove service 1 ∷ Put service 1 service ∷ []
 
   withdrawn : rows (play_setup service) after ≡ []
-  withdrawn = rw (same_name-self service) (rw (same_name-self service) refl)
+  withdrawn = rw (bytes_eq-self service) (rw (bytes_eq-self service) refl)
 
   at_first : (v : ℕ) → v ≡ 0 → rows_at (play_setup service) after v ≡ []
   at_first v is = rw is refl
@@ -64,17 +65,17 @@ module _ (service : List ℕ) where
   at_later v high = let gone : 2 - v ≡ 0 = omega (arith, high) in rw gone withdrawn
 
   pub listed_later : (v : ℕ) (name : List ℕ) (old new : List Change) → old ≡ before → new ≡ after
-      → filter (λ (row : Row). same_name row.service name && same_truth row.conversational false) (rows_at (play_setup service) old v) ≡ []
-      → filter (λ (row : Row). same_name row.service name && same_truth row.conversational false) (rows_at (play_setup service) new v) ≡ []
+      → filter (λ (row : Row). bytes_eq row.service name && same_truth row.conversational false) (rows_at (play_setup service) old v) ≡ []
+      → filter (λ (row : Row). bytes_eq row.service name && same_truth row.conversational false) (rows_at (play_setup service) new v) ≡ []
   listed_later v name old new is_old is_new none =
-      let none_at : rows_at (play_setup service) after v ≡ [] → filter (λ (row : Row). same_name row.service name && same_truth row.conversational false) (rows_at (play_setup service) new v) ≡ [] =
+      let none_at : rows_at (play_setup service) after v ≡ [] → filter (λ (row : Row). bytes_eq row.service name && same_truth row.conversational false) (rows_at (play_setup service) new v) ≡ [] =
       λ empty. none_listed name (rows_at (play_setup service) new v) (ap (λ (cs : List Change). rows_at (play_setup service) cs v) is_new ∙ empty) in
       elim (cases_lt v 1) [
         | inl first ↦ none_at (at_first v (omega (arith, first)))
         | inr later ↦ elim (cases_lt 1 v) [
           | inl high ↦ none_at (at_later v high)
           | inr low ↦
-              ap (λ (rs : List Row). filter (λ (row : Row). same_name row.service name && same_truth row.conversational false) rs)
+              ap (λ (rs : List Row). filter (λ (row : Row). bytes_eq row.service name && same_truth row.conversational false) rs)
               (ap (λ (cs : List Change). rows_at (play_setup service) cs v) is_new ∙ (at_second v (omega (arith, later, low)) ∙ ap (λ (cs : List Change). rows_at (play_setup service) cs v) (sym is_old))) ∙ none
         ]
       ]

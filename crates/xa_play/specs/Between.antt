@@ -13,7 +13,7 @@ use Rattle.xa_events.specs.State.{State}
 use Rattle.xa_events.specs.Board.{changes}
 use Rattle.xa_events.specs.Queue.{waiting, takes, is_down, is_closed}
 use Rattle.xa_events.specs.Server.{doing, starts, is_gone}
-use Rattle.xa_events.specs.Caller.{last_op, accepted, opened, floor, has_left, all_left}
+use Rattle.xa_events.specs.Caller.{last_op, accepted, opened, least_version, has_left, AllLeft}
 use Rattle.xa_events.specs.Request.{ended, is_accept_of, is_end_of}
 use Rattle.xa_events.specs.Calls.{is_op, events_of_op}
 use Rattle.xa_play.specs.PlaySetup.{play_setup}
@@ -44,13 +44,14 @@ pub record IsUp (service : List ℕ) (does : Doing) (past : List Event) : Type 0
   pub server : doing 1 past ≡ does
   pub stays : is_gone 1 past ≡ false
   pub up : is_down 1 past ≡ false
-  pub seen : floor (play_setup service) 1 past ≤ 1
+  pub seen : least_version (play_setup service) 1 past ≤ 1
 
 -- the server is gone, and its queue is down
 pub record IsDown (service : List ℕ) (past : List Event) : Type 0 where
   pub board : changes past ≡ Remove service 1 ∷ Put service 1 service ∷ []
   pub server : doing 1 past ≡ Off
-  pub seen : floor (play_setup service) 1 past ≤ 2
+  pub gone : is_gone 1 past ≡ true
+  pub seen : least_version (play_setup service) 1 past ≤ 2
 
 -- each answer to the first calls is of one of the first requests
 abbrev pub KnowsAnswers : ℕ → List Event → Type 0
@@ -68,4 +69,4 @@ pub record IsLeft (service : List ℕ) (clients : ℕ) (past : List Event) : Typ
   pub open_server : opened (clients + 1) past ≡ []
   pub matched : (r : RequestId) → count (is_end_of r) past ≡ count (is_accept_of r) past
   pub still : is_closed 1 past ≡ false
-  pub left : all_left clients past ≡ true
+  pub left : AllLeft clients past

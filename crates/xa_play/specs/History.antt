@@ -7,7 +7,7 @@ use Rattle.xa_types.specs.declared.ids.RequestId.{RequestId}
 use Rattle.xa_types.specs.declared.call.Mode.TheVariants.{Reply}
 use Rattle.xa_types.specs.declared.reply.Answer.{Answer}
 use Rattle.xa_events.specs.declared.event.Event.{Event}
-use Rattle.xa_events.specs.declared.event.Event.TheVariants.{Advertise, Accept, Take, Gone, Withdraw, Down, Close, Start, StartFailed, End, Stop, Answer as Answers}
+use Rattle.xa_events.specs.declared.event.Event.TheVariants.{Accept, Take, Gone, Withdraw, Down, End, Stop, Answer as Answers}
 use Rattle.xa_events.specs.declared.event.Advertised.{Advertised}
 use Rattle.xa_events.specs.declared.event.Withdrawn.{Withdrawn}
 use Rattle.xa_events.specs.declared.event.Accepted.{Accepted}
@@ -63,32 +63,6 @@ answer_of n m answer = record { by = record { 0 = 1 }; op = n; request = request
 
 abbrev pub refuse : ℕ → Fault → Evidence → Refused
 refuse n fault evidence = record { by = record { 0 = 1 }; op = n; fault = fault; evidence = evidence }
-
--- the one server takes no more: its queue goes down
-abbrev pub gone : List ℕ → List Event → List Event
-gone service past = Down (record { 0 = 1 }) ∷ Withdraw (withdraw service) ∷ Gone (record { 0 = 1 }) ∷ past
-
--- its life ended, where it did
-abbrev pub fallen : List ℕ → Option StopCause → List Event → List Event
-fallen service None past = past
-fallen service (Some cause) past = gone service (Stop (stop cause) ∷ past)
-
--- the m-th request is accepted by the n-th call, taken and ended, and its caller is told; behind the end the life may end
-abbrev pub ended_call : List ℕ → ℕ → ℕ → Data → Outcome → Option StopCause → List Event → List Event
-ended_call service n m payload outcome cause past = fallen service cause (End (end_with m outcome) ∷ Take (take_of m) ∷ Accept (accept service n m payload) ∷ past)
-
-abbrev pub served : List ℕ → ℕ → ℕ → Data → Outcome → Option StopCause → Answer → List Event → List Event
-served service n m payload outcome cause answer past = Answers (answer_of n m answer) ∷ ended_call service n m payload outcome cause past
-
--- the boot, and the server's start, or its failure
-abbrev pub begun : List ℕ → List Event
-begun service = Start start ∷ Advertise (advertise service) ∷ []
-
-abbrev pub not_begun : List ℕ → List Event
-not_begun service = gone service (StartFailed start ∷ Advertise (advertise service) ∷ [])
-
-abbrev pub closed : List Event → List Event
-closed past = Close (record { 0 = 1 }) ∷ past
 
 -- the events of the end of the life, the oldest first
 abbrev pub falls : List ℕ → Option StopCause → List Event

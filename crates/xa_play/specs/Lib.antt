@@ -2,4 +2,4 @@ pub mod Between
 pub mod History
 pub mod PlaySetup
 pub mod Refusal
-pub mod Spoken
+pub mod Transcript

@@ -1,4 +1,5 @@
--- The setup of `play SERVICE`: one queue, one server on it without restart, and one service with the routine of its name.
+-- The setup of `play SERVICE`: one queue, one server on it without restart, and one service with the routine of its name (after Tuxedo,
+-- UBBCONFIG).
 use Rattle.std.specs.Prelude.{ℕ, false, List, [], ◌∷◌, None, codes}
 use Rattle.xa_types.specs.declared.setup.Setup.{Setup}
 use Rattle.xa_types.specs.Rows.{all_kinds}

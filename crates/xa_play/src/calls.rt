@@ -3,7 +3,7 @@ ghost use Rattle.std.specs.Prelude.{◌≡◌, ◌++◌, ◌∷◌, [], OnOk, If
 ghost use Rattle.xa_types.specs.declared.reply.Answer.{Answer};
 ghost use Rattle.xa_types.specs.declared.reply.Reply.TheVariants.{Answered as AnsweredReply, Fault as FaultReply};
 ghost use Rattle.xa_events.specs.declared.event.Event.TheVariants.{Accept, Take, Answer as AnswerEvent, Refuse};
-ghost use Rattle.xa_events.specs.Befell.{reply_of};
+ghost use Rattle.xa_events.specs.Answers.{reply_of};
 ghost use Rattle.xa_text.specs.Line.{line_text};
 ghost use Rattle.xa_play.specs.History.{accept, take_of, answer_of, refuse};
 
@@ -14,7 +14,7 @@ use xa_events::{Accepted, Answered, Event, Outcome, Refused, Taken};
 use xa_text::push_line;
 use xa_types::{Answer, Data, Fault, Mode, Name, NoMemory, Reply, RequestId};
 
-fn request(number: u32) -> RequestId
+pub(crate) fn request(number: u32) -> RequestId
     ensures { result ≡ record { caller = record { 0 = 1 }; number = number } }
 {
     RequestId {

@@ -5,8 +5,9 @@ ghost use Rattle.xa_events.specs.declared.event.StopCause.TheVariants.{Shutdown}
 ghost use Rattle.xa_play.specs.History.{advertise, withdraw, start, stop, end_with};
 
 use crate::account::{CLIENT, LIFE, QUEUE, SERVER};
+use crate::calls::request;
 use xa_events::{Advertised, Ended, Event, Outcome, Started, StopCause, Stopped, Withdrawn};
-use xa_types::{CallerId, Name, NoMemory, RequestId};
+use xa_types::{CallerId, Name, NoMemory};
 
 const DOMAIN: CallerId = CallerId(0);
 
@@ -44,10 +45,7 @@ pub fn note_ended(history: &mut Vec<Event>, number: u32, outcome: Outcome) -> Re
     ensures { OnOk result (history.new.items ≡ history.old.items ++ End (end_with number outcome) ∷ []) }
 {
     history.push(Event::End(Ended {
-        request: RequestId {
-            caller: CLIENT,
-            number: u64::from(number),
-        },
+        request: request(number),
         server: SERVER,
         generation: LIFE,
         outcome,

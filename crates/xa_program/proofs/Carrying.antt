@@ -18,17 +18,18 @@ use Rattle.xa_events.specs.declared.event.Outcome.{Outcome}
 use Rattle.xa_events.specs.declared.event.StopCause.{StopCause}
 use Rattle.xa_events.specs.declared.event.StopCause.TheVariants.{Exit}
 use Rattle.xa_events.specs.declared.event.Doing.TheVariants.{Idle}
-use Rattle.xa_events.specs.Befell.{reply_of}
+use Rattle.xa_events.specs.Answers.{reply_of}
 use Rattle.xa_frame.specs.declared.frame.Frame.{Frame}
 use Rattle.xa_frame.specs.Spelling.{spelled, HasSpelling}
 use Rattle.xa_text.specs.Line.{line_text}
-use Rattle.xa_pipe.specs.Frames.{frames_out, invoke_frame, return_frame}
+use Rattle.xa_pipe.specs.Frames.{frames_out, return_frame}
 use Rattle.xa_pipe.specs.Life.{Says, outcomes_in, outcome_by, lost_by, turn_behind}
 use Rattle.xa_pipe.specs.Life.Turn.{AwaitsNext, Idle as IdleTurn}
-use Rattle.xa_pipe.specs.Pipe.{Piped, Wrote, HasRead}
+use Rattle.xa_pipe.specs.Pipe.{invoke_frame, Piped, Wrote, HasRead}
 use Rattle.xa_pipe.specs.declared.hearing.Return.{Return}
 use Rattle.xa_play.specs.PlaySetup.{play_setup, server_name}
-use Rattle.xa_play.specs.History.{refuse, stop, gone, served, falls, in_order}
+use Rattle.xa_play.specs.History.{refuse, stop, falls, in_order}
+use Rattle.xa_play.proofs.Newest.{gone, served}
 use Rattle.xa_play.specs.Refusal.{IsAdmitted, IsRefused}
 use Rattle.xa_play.proofs.After.{IsShown, up_served, up_refused, down_refused}
 use Rattle.xa_program.specs.Lives.{lives_of}

@@ -7,9 +7,9 @@ use Rattle.xa_events.specs.declared.event.StopCause.{StopCause}
 use Rattle.xa_events.specs.declared.event.StopCause.TheVariants.{Shutdown, Exit, EndOfInput, ReadFault, WriteFault, BadBytes, OutOfTurn, Starved}
 use Rattle.xa_frame.specs.declared.frame.Frame.{Frame}
 use Rattle.xa_frame.specs.Spelling.{spelled, HasSpelling}
-use Rattle.xa_pipe.specs.Frames.{invoke_frame, return_frame}
+use Rattle.xa_pipe.specs.Frames.{return_frame}
 use Rattle.xa_pipe.specs.Life.Turn.{Serving}
-use Rattle.xa_pipe.specs.Pipe.{Piped, HasRead, Ceases}
+use Rattle.xa_pipe.specs.Pipe.{invoke_frame, Piped, HasRead, Ceases}
 use Rattle.xa_pipe.specs.declared.hearing.Return.{Return}
 use Rattle.xa_pipe.proofs.Frames.{read_same}
 use Rattle.xa_program.specs.Progress.{Sends, Exchanged}

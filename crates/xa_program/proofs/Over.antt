@@ -25,13 +25,14 @@ use Rattle.xa_frame.specs.declared.frame.Frame.{Frame}
 use Rattle.xa_frame.specs.Spelling.{spelled, HasSpelling}
 use Rattle.xa_script.specs.declared.script.Client.{Client}
 use Rattle.xa_pipe.specs.Frames.{frames_out, ready_frame, next_frame, shutdown_frame}
-use Rattle.xa_pipe.specs.Life.{Says, Named, Free, Turn, TookBy, outcomes_in, all_outcomes, may_end, IsCounted, Shows, tag_after}
+use Rattle.xa_pipe.specs.Life.{Says, Named, Free, Turn, TookBy, outcomes_in, all_outcomes, is_writing, may_end, IsCounted, Shows, tag_after}
 use Rattle.xa_pipe.specs.Life.Turn.{AwaitsReady, AwaitsNext, Idle as IdleTurn, Exited}
 use Rattle.xa_pipe.specs.Pipe.{Piped, Wrote, HasRead, CutOff}
 use Rattle.xa_pipe.proofs.Frames.{read_same, told_more}
 use Rattle.xa_play.specs.PlaySetup.{play_setup, server_name}
-use Rattle.xa_play.specs.Spoken.{spoken, lines_up_to}
-use Rattle.xa_play.specs.History.{advertise, withdraw, start, stop, gone, falls, begun, not_begun, closed}
+use Rattle.xa_play.specs.Transcript.{transcript, lines_up_to}
+use Rattle.xa_play.specs.History.{advertise, withdraw, start, stop, falls}
+use Rattle.xa_play.proofs.Newest.{gone, begun, not_begun, closed}
 use Rattle.xa_play.specs.Between.{at, IsUp, IsDown, IsFresh, KnowsAnswers}
 use Rattle.xa_play.proofs.Machine.{run_append}
 use Rattle.xa_play.proofs.After.{down_fallen}
@@ -41,7 +42,7 @@ use Rattle.xa_play.proofs.ToldCalls.{keeps_leave, keeps_closed, keeps_shut, keep
 use Rattle.xa_program.specs.Headline.{IsHistoryAt, EachMadeCalls, names_of}
 use Rattle.xa_program.specs.Lives.{lives_of}
 use Rattle.xa_program.specs.Progress.{IsPlaying, IsServing, HasFallen, NeverStarted, IsLive, HasMade, IsLeavingAt, IsLeaving, IsOver, HasLived, HasNotLived, ReadNothing, SendFails, IsDone, Greets}
-use Rattle.xa_program.proofs.Pipes.{out_fallen, outcomes_fallen, lives_fallen, life_kept, wrote_more, took_all, took_no_shutdown}
+use Rattle.xa_program.proofs.Pipes.{out_fallen, outcomes_fallen, lives_fallen, life_kept, wrote_more, not_written, took_all, took_no_shutdown}
 use Rattle.xa_program.proofs.Turns.{awaited_ends}
 use Rattle.xa_program.proofs.Playing.{playing_fallen}
 
@@ -96,6 +97,10 @@ not_exited : (turn : Turn) → (turn ≡ AwaitsReady) ⊎ (turn ≡ AwaitsNext) 
 not_exited turn (inl is) exited = cc (sym is ∙ exited)
 not_exited turn (inr is) exited = cc (sym is ∙ exited)
 
+not_writing : (turn : Turn) → (turn ≡ AwaitsReady) ⊎ (turn ≡ AwaitsNext) → is_writing turn ≡ false
+not_writing turn (inl is) = rw is refl
+not_writing turn (inr is) = rw is refl
+
 -- the server's life ended as it was to greet
 pub fallen_begun : (service : List ℕ) (pipe : Piped) (cause : StopCause) → Wrote pipe [] → CutOff (play_setup service) server_name [] pipe cause → HasFallen service (gone service (Stop (stop cause) ∷ begun service)) pipe
 fallen_begun service pipe cause wrote cut =
@@ -112,7 +117,7 @@ fallen_begun service pipe cause wrote cut =
         says = cut.says;
         may = cut.ceases.may;
         counted = cut.ceases.counted;
-        took_frames = took_all pipe.took cause (frames_out 1 1 (gone service (Stop (stop cause) ∷ begun service))) (subst (λ (fs : List Frame). Wrote pipe fs) (sym (out_fallen service cause (begun service) other.0)) wrote);
+        took_frames = took_all pipe.took cause cut.turn (frames_out 1 1 (gone service (Stop (stop cause) ∷ begun service))) (not_written cause cut.turn cut.ceases.may (not_writing cut.turn cut.greets)) (subst (λ (fs : List Frame). Wrote pipe fs) (sym (out_fallen service cause (begun service) other.0)) wrote);
         gave_frames = cut.ceases.gave;
       };
       lives = lives_fallen service cause (begun service) other.0;
@@ -225,7 +230,7 @@ made_calls service (client ∷ []) past final lines made kept op = (
 made_calls service (client ∷ other ∷ clients) past final lines made kept op = absurd made
 
 made_lines : (service : List ℕ) (clients : List Client) (past final : List Event) (lines : List ℕ) → HasMade service clients past lines → ((n m : ℕ) → Keeps (play_setup service) n m past final) → last_op 1 final ≡ last_op 1 past
-    → lines ≡ spoken (names_of clients) final
+    → lines ≡ transcript (names_of clients) final
 made_lines service [] past final lines made kept op = made
 made_lines service (client ∷ []) past final lines made kept op =
     made.4 ∙ (sym (lines_kept (play_setup service) client.name (length client.ops) made.0 past final (kept (length client.ops) made.0) made.1 (length client.ops) (omega arith))
@@ -249,7 +254,7 @@ over_by service clients history past tail final lines old run is_final order kep
         forward = versions_along (history ++ tail) (opening (play_setup service) count) (at service count final) none_read tt whole;
         calls = made_calls service clients past final lines old.made kept op;
       });
-      said = subst (λ (es : List Event). lines ≡ spoken (names_of clients) es) (sym reversed) (made_lines service clients past final lines old.made kept op);
+      said = subst (λ (es : List Event). lines ≡ transcript (names_of clients) es) (sym reversed) (made_lines service clients past final lines old.made kept op);
     }
 
 module _ (service : List ℕ) (clients : List Client) (history : List Event) (lines : List ℕ) (old : IsLeaving service clients history lines) where
@@ -315,7 +320,7 @@ shut_lived service m past before after old same wrote =
         says = old.says;
         may = refl;
         counted = tt;
-        took_frames = took_all after.took Shutdown (frames_out 1 1 (Stop (stop Shutdown) ∷ closed past)) (subst (λ (fs : List Frame). Wrote after fs) (sym out) wrote);
+        took_frames = took_all after.took Shutdown IdleTurn (frames_out 1 1 (Stop (stop Shutdown) ∷ closed past)) (λ e. cc e) (subst (λ (fs : List Frame). Wrote after fs) (sym out) wrote);
         gave_frames = told_more after.gave _ _ (λ octets e. (after.rest, e, tt)) (read_same before after old.frames same.gave same.rest same.place old.read).told;
       };
       lives = append-nil _ ∙ (append-nil _ ∙ old.lives);
@@ -347,7 +352,7 @@ dropped_so service m past before after cause old same fails other may counted sh
         says = old.says;
         may = may;
         counted = counted;
-        took_frames = subst (λ (fs : List Frame). IfSome after.took (TookBy cause fs)) (sym out) (took_no_shutdown cause before after (frames_out 1 1 past) old.wrote fails);
+        took_frames = subst (λ (fs : List Frame). IfSome after.took (TookBy cause IdleTurn fs)) (sym out) (took_no_shutdown cause before after (frames_out 1 1 past) old.wrote fails);
         gave_frames = told_more after.gave _ _ (λ octets e. (after.rest, e, shows after.rest)) (read_same before after old.frames same.gave same.rest same.place old.read).told;
       };
       lives = lives_fallen service cause (closed past) other ∙ (append-nil _ ∙ old.lives);

@@ -1,5 +1,5 @@
 -- What the events of `play` say of the pipes of the one life.
-use Rattle.std.proofs.Common.{◌≡◌, ℕ, ◌+◌, ◌<◌, ◌^◌, ◌%◌, false, List, [], ◌∷◌, ◌++◌, take, drop, Option, Some, None, inl, inr, refl, sym, ◌∙◌, ap, subst, append-nil, append_assoc}
+use Rattle.std.proofs.Common.{◌≡◌, ℕ, ◌+◌, ◌<◌, ◌^◌, ◌%◌, true, false, List, [], ◌∷◌, ◌++◌, take, drop, Option, Some, None, inl, inr, refl, sym, ◌∙◌, ap, subst, append-nil, append_assoc}
 use Rattle.std.specs.Prelude.{IfSome}
 use Rattle.std.proofs.Math.Nat.{mod-eq_of_lt}
 use Rattle.std.proofs.lemmas.List.{take-append-drop}
@@ -14,12 +14,14 @@ use Rattle.xa_events.specs.declared.event.StopCause.TheVariants.{Shutdown, Exit,
 use Rattle.xa_events.specs.Server.{is_shutdown}
 use Rattle.xa_frame.specs.declared.frame.Frame.{Frame}
 use Rattle.xa_frame.specs.Spelling.{spelled, all_spelled}
-use Rattle.xa_pipe.specs.Frames.{invocation, frames_out, invoke_frame, shutdown_frame, farewell}
-use Rattle.xa_pipe.specs.Life.{IsLife, IsFront, TookBy, outcomes_in, cause_of}
-use Rattle.xa_pipe.specs.Pipe.{Piped, Wrote}
+use Rattle.xa_pipe.specs.Frames.{invocation, frames_out, shutdown_frame, farewell}
+use Rattle.xa_pipe.specs.Life.{IsLife, Turn, TookBy, outcomes_in, cause_of, is_writing, may_end}
+use Rattle.xa_pipe.specs.Life.Turn.{AwaitsReady, AwaitsNext, Idle, Serving, Exited}
+use Rattle.xa_pipe.specs.Pipe.{invoke_frame, Piped, Wrote}
 use Rattle.xa_pipe.proofs.Frames.{all_spelled-push, told_more}
 use Rattle.xa_play.specs.PlaySetup.{play_setup, server_name}
-use Rattle.xa_play.specs.History.{accept, take_of, stop, gone, served}
+use Rattle.xa_play.specs.History.{accept, take_of, stop}
+use Rattle.xa_play.proofs.Newest.{gone, served}
 use Rattle.xa_play.proofs.Machine.{same_request-self}
 use Rattle.xa_program.specs.Lives.{lives_of, failed_starts}
 use Rattle.xa_program.specs.Progress.{invocations, Sends, SendFails}
@@ -101,7 +103,7 @@ life_kept took gave left reads writes service past now out outcomes cause life =
   says = life.says;
   may = life.may;
   counted = life.counted;
-  took_frames = subst (λ (fs : List Frame). IfSome took (TookBy life.cause fs)) (sym out) life.took_frames;
+  took_frames = subst (λ (fs : List Frame). IfSome took (TookBy life.cause life.turn fs)) (sym out) life.took_frames;
   gave_frames = life.gave_frames;
 }
 
@@ -112,47 +114,38 @@ wrote_more None now frames f wrote grew = subst (λ o. IfSome o (λ octets. octe
 wrote_more (Some octets) now frames f wrote grew =
     subst (λ o. IfSome o (λ octets. octets ≡ all_spelled (frames ++ f ∷ []))) (sym grew) (ap (λ front. front ++ spelled f) wrote ∙ sym (all_spelled-push frames f))
 
+-- a pipe to which nothing is written doesn't fail so
+pub not_written : (cause : StopCause) (turn : Turn) → may_end cause turn ≡ true → is_writing turn ≡ false → cause ≡ WriteFault → ⊥
+not_written cause turn may silent is = let writes : is_writing turn ≡ true = subst (λ (c : StopCause). may_end c turn ≡ true) is may in cc (silent, writes)
+
 -- all of it was taken
-took_so : (cause : StopCause) (frames : List Frame) (octets : List ℕ) → octets ≡ all_spelled frames → TookBy cause frames octets
-took_so WriteFault frames octets is = (spelled shutdown_frame, all_spelled-push frames shutdown_frame ∙ ap (λ (xs : List ℕ). xs ++ spelled shutdown_frame) (sym is))
-took_so Starved frames octets is = ([], sym is ∙ sym (append-nil octets))
-took_so Shutdown frames octets is = is
-took_so Exit frames octets is = is
-took_so EndOfInput frames octets is = is
-took_so ReadFault frames octets is = is
-took_so (BadBytes place) frames octets is = is
-took_so (OutOfTurn kind tag) frames octets is = is
+took_so : (cause : StopCause) (turn : Turn) (frames : List Frame) (octets : List ℕ) → (cause ≡ WriteFault → ⊥) → octets ≡ all_spelled frames → TookBy cause turn frames octets
+took_so WriteFault turn frames octets other is = absurd (other refl)
+took_so Starved AwaitsReady frames octets other is = is
+took_so Starved AwaitsNext frames octets other is = is
+took_so Starved Idle frames octets other is = is
+took_so Starved Serving frames octets other is = inl is
+took_so Starved Exited frames octets other is = is
+took_so Shutdown turn frames octets other is = is
+took_so Exit turn frames octets other is = is
+took_so EndOfInput turn frames octets other is = is
+took_so ReadFault turn frames octets other is = is
+took_so (BadBytes place) turn frames octets other is = is
+took_so (OutOfTurn kind tag) turn frames octets other is = is
 
-pub took_all : (took : Option (List ℕ)) (cause : StopCause) (frames : List Frame) → IfSome took (λ octets. octets ≡ all_spelled frames) → IfSome took (TookBy cause frames)
-took_all took cause frames wrote = told_more took _ _ (took_so cause frames) wrote
-
-prefix_goes : (k : ℕ) (front piece behind : List ℕ) → (front ++ piece) ++ behind ≡ (front ++ take k piece) ++ (drop k piece ++ behind)
-prefix_goes k front piece behind =
-    ap (λ (xs : List ℕ). (front ++ xs) ++ behind) (sym (take-append-drop k piece)) ∙ ap (λ (xs : List ℕ). xs ++ behind) (sym (append_assoc front (take k piece) (drop k piece))) ∙ append_assoc (front ++ take k piece) (drop k piece) behind
-
--- a front of a further frame was taken
-took_front : (k : ℕ) (frames : List Frame) (f : Frame) (octets : List ℕ) → octets ≡ all_spelled frames ++ take k (spelled f) → IsFront octets (all_spelled (frames ++ f ∷ []))
-took_front k frames f octets is = (
-  drop k (spelled f) ++ [],
-  all_spelled-push frames f ∙ (sym (append-nil (all_spelled frames ++ spelled f)) ∙ (prefix_goes k (all_spelled frames) (spelled f) [] ∙ ap (λ (xs : List ℕ). xs ++ (drop k (spelled f) ++ [])) (sym is))),
-)
-
-front_on : (octets all more : List ℕ) → IsFront octets all → IsFront octets (all ++ more)
-front_on octets all more front = (front.0 ++ more, ap (λ (xs : List ℕ). xs ++ more) front.1 ∙ append_assoc octets front.0 more)
+pub took_all : (took : Option (List ℕ)) (cause : StopCause) (turn : Turn) (frames : List Frame) → (cause ≡ WriteFault → ⊥) → IfSome took (λ octets. octets ≡ all_spelled frames) → IfSome took (TookBy cause turn frames)
+took_all took cause turn frames other wrote = told_more took _ _ (λ octets. took_so cause turn frames octets other) wrote
 
 took_grown : (took now : Option (List ℕ)) (frames : List Frame) (piece : List ℕ) → IfSome took (λ octets. octets ≡ all_spelled frames) → Grew took now piece → IfSome now (λ octets. octets ≡ all_spelled frames ++ piece)
 took_grown None now frames piece wrote grew = subst (λ o. IfSome o (λ octets. octets ≡ all_spelled frames ++ piece)) (sym grew) tt
 took_grown (Some octets) now frames piece wrote grew = subst (λ o. IfSome o (λ octets. octets ≡ all_spelled frames ++ piece)) (sym grew) (ap (λ front. front ++ piece) wrote)
 
 -- the request was sent, as far as that cause lets it
-pub took_sent : (cause : StopCause) (took now : Option (List ℕ)) (frames : List Frame) (f : Frame) → IfSome took (λ octets. octets ≡ all_spelled frames) → Sends cause took now (spelled f) → IfSome now (TookBy cause (frames ++ f ∷ []))
-took_sent WriteFault took now frames f wrote sent =
-    told_more now _ _ (λ octets is. subst (λ (xs : List ℕ). IsFront octets xs) (sym (all_spelled-push (frames ++ f ∷ []) shutdown_frame)) (front_on octets (all_spelled (frames ++ f ∷ [])) (spelled shutdown_frame) (took_front sent.0 frames f octets is)))
-    (took_grown took now frames (take sent.0 (spelled f)) wrote sent.2)
+pub took_sent : (cause : StopCause) (took now : Option (List ℕ)) (frames : List Frame) (f : Frame) → IfSome took (λ octets. octets ≡ all_spelled frames) → Sends cause took now (spelled f) → IfSome now (TookBy cause Serving (frames ++ f ∷ []))
+took_sent WriteFault took now frames f wrote sent = told_more now _ _ (λ octets is. (frames, f, sent.0, refl, is)) (took_grown took now frames (take sent.0 (spelled f)) wrote sent.2)
 took_sent Starved took now frames f wrote (inl same) =
-    subst (λ (o : Option (List ℕ)). IfSome o (TookBy Starved (frames ++ f ∷ []))) (sym same)
-    (told_more took _ _ (λ octets is. (spelled f, all_spelled-push frames f ∙ ap (λ (xs : List ℕ). xs ++ spelled f) (sym is))) wrote)
-took_sent Starved took now frames f wrote (inr grew) = took_all now Starved (frames ++ f ∷ []) (wrote_more took now frames f wrote grew)
+    subst (λ (o : Option (List ℕ)). IfSome o (TookBy Starved Serving (frames ++ f ∷ []))) (sym same) (told_more took _ _ (λ octets is. inr (frames, f, refl, is)) wrote)
+took_sent Starved took now frames f wrote (inr grew) = took_all now Starved Serving (frames ++ f ∷ []) (λ e. cc e) (wrote_more took now frames f wrote grew)
 took_sent Shutdown took now frames f wrote grew = wrote_more took now frames f wrote grew
 took_sent Exit took now frames f wrote grew = wrote_more took now frames f wrote grew
 took_sent EndOfInput took now frames f wrote grew = wrote_more took now frames f wrote grew
@@ -161,9 +154,9 @@ took_sent (BadBytes place) took now frames f wrote grew = wrote_more took now fr
 took_sent (OutOfTurn kind tag) took now frames f wrote grew = wrote_more took now frames f wrote grew
 
 -- SHUTDOWN was not sent
-pub took_no_shutdown : (cause : StopCause) (before after : Piped) (frames : List Frame) → Wrote before frames → SendFails cause before after (spelled shutdown_frame) → IfSome after.took (TookBy cause frames)
+pub took_no_shutdown : (cause : StopCause) (before after : Piped) (frames : List Frame) → Wrote before frames → SendFails cause before after (spelled shutdown_frame) → IfSome after.took (TookBy cause Idle frames)
 took_no_shutdown WriteFault before after frames wrote (failed, part) =
-    told_more after.took _ _ (λ octets is. took_front part.0 frames shutdown_frame octets is) (took_grown before.took after.took frames (take part.0 (spelled shutdown_frame)) wrote part.2)
+    told_more after.took _ _ (λ octets is. (frames, shutdown_frame, part.0, refl, is)) (took_grown before.took after.took frames (take part.0 (spelled shutdown_frame)) wrote part.2)
 took_no_shutdown Starved before after frames wrote same =
-    subst (λ (o : Option (List ℕ)). IfSome o (TookBy Starved frames)) (sym same) (took_all before.took Starved frames wrote)
+    subst (λ (o : Option (List ℕ)). IfSome o (TookBy Starved Idle frames)) (sym same) (took_all before.took Starved Idle frames (λ e. cc e) wrote)
 took_no_shutdown cause before after frames wrote fails = absurd fails

@@ -1,20 +1,21 @@
 -- How a run of `play` ends, by how its script was served.
-use Rattle.std.proofs.Common.{◌≡◌, ◌⊎◌, ℕ, ◌≤◌, List, [], ◌∷◌, length, reverse, Option, Ok, Err, inl, inr, sym, subst, arith, slice_set, slice_index_or}
+use Rattle.std.proofs.Common.{◌≡◌, ◌⊎◌, ℕ, ◌≤◌, List, [], ◌∷◌, length, reverse, Option, Ok, Err, inl, inr, refl, sym, subst, arith, slice_set, slice_index_or}
 use Rattle.std.specs.Prelude.{Result, OnOk, MatchResult}
-use Rattle.xa_link.specs.Told.{Rose, Grew, GrewByPrefix}
+use Rattle.xa_link.specs.Told.{Rose, Empty, Grew, GrewByPrefix}
 use Rattle.xa_events.specs.declared.event.Event.{Event}
 use Rattle.xa_script.specs.declared.script.Client.{Client}
 use Rattle.xa_pipe.specs.Life.{IsLife}
 use Rattle.xa_pipe.specs.Pipe.{Piped}
 use Rattle.xa_play.specs.PlaySetup.{play_setup, server_name}
-use Rattle.xa_play.specs.Spoken.{spoken}
+use Rattle.xa_play.specs.Transcript.{transcript}
 use Rattle.xa_program.specs.declared.outcome.Life.{Life}
 use Rattle.xa_program.specs.declared.status.Status.{Status}
-use Rattle.xa_program.specs.declared.status.Status.TheVariants.{Done, WriteFault, NoMemory}
+use Rattle.xa_program.specs.declared.status.Status.TheVariants.{Done, ScriptRead, TooLong, BadLine, WriteFault, NoMemory}
+use Rattle.xa_program.specs.declared.status.Input.TheVariants as inputs
 use Rattle.xa_types.specs.declared.memory.NoMemory.{NoMemory as NoMemoryError}
-use Rattle.xa_program.specs.Headline.{Streams, LinkTells, IsLifeOf, IsTheScript, IsPlayed, EachCounts, PlayEnds, names_of}
+use Rattle.xa_program.specs.Headline.{Streams, IsSilent, LinkTells, IsLifeOf, IsTheScript, IsPlayed, EachCounts, PlayEnds, names_of}
 use Rattle.xa_program.specs.Lives.{failed_starts}
-use Rattle.xa_program.specs.Progress.{IsOver, HasLived, HasNotLived, StartsCount, IsServed, ServingEnds, Printed}
+use Rattle.xa_program.specs.Progress.{IsOver, HasLived, HasNotLived, StartsCount, IsServed, ServingEnds, Printed, Unprinted, ScriptRefusedAs}
 
 -- ---- one life
 
@@ -58,22 +59,22 @@ served_none {L} tells starts starts_after service clients history lines lives is
 -- ---- the transcript
 
 printed_ends : {L : Type 0} (tells : LinkTells L) (before after : Option (List ℕ)) (faults faults_after starts starts_after : ℕ) (service : List ℕ) (clients : List Client) (history : List Event) (lines : List ℕ) (lives : List (Life L)) (status : Status)
-    → IsServed tells starts starts_after service clients history lives → lines ≡ spoken (names_of clients) (reverse history) → Printed before after faults faults_after lines status
+    → IsServed tells starts starts_after service clients history lives → lines ≡ transcript (names_of clients) (reverse history) → Printed before after faults faults_after lines status
     → ServingEnds tells before after faults faults_after starts starts_after service clients status history lives
 printed_ends tells before after faults faults_after starts starts_after service clients history lines lives Done served said printed = (served, subst (λ text. Grew before after text) said printed)
 printed_ends tells before after faults faults_after starts starts_after service clients history lines lives WriteFault served said printed = (served, subst (λ text. GrewByPrefix before after text) said printed.0, printed.1)
 printed_ends tells before after faults faults_after starts starts_after service clients history lines lives status served said printed = absurd printed
 
 no_memory : {L : Type 0} (tells : LinkTells L) (before after : Option (List ℕ)) (faults faults_after starts starts_after : ℕ) (service : List ℕ) (clients : List Client) (history : List Event) (lives : List (Life L)) (status : Status)
-    → status ≡ NoMemory → ServingEnds tells before after faults faults_after starts starts_after service clients status history lives
-no_memory tells before after faults faults_after starts starts_after service clients history lives status is =
-    subst (λ s. ServingEnds tells before after faults faults_after starts starts_after service clients s history lives) (sym is) tt
+    → Unprinted before after faults faults_after status → ServingEnds tells before after faults faults_after starts starts_after service clients status history lives
+no_memory tells before after faults faults_after starts starts_after service clients history lives status unprinted =
+    subst (λ s. ServingEnds tells before after faults faults_after starts starts_after service clients s history lives) (sym unprinted.stands) (unprinted.took, unprinted.writes)
 
 -- how a life and its transcript end
 pub life_ends : {L : Type 0} (tells : LinkTells L) (link : L) (pipe : Piped) (before after : Option (List ℕ)) (faults faults_after starts starts_after : ℕ) (service : List ℕ) (clients : List Client) (history : List Event) (lines : List ℕ) (lives : List (Life L))
     (served : Result (Unit {0}) NoMemoryError) (status : Status)
     → lives ≡ the_life link ∷ [] → ShowsPipe tells link pipe → OnOk served (IsOver service clients history lines × HasLived service (reverse history) pipe)
-    → MatchResult served (λ _. Printed before after faults faults_after lines status) (λ _. status ≡ NoMemory)
+    → MatchResult served (λ _. Printed before after faults faults_after lines status) (λ _. Unprinted before after faults faults_after status)
     → ServingEnds tells before after faults faults_after starts starts_after service clients status history lives
 life_ends tells link pipe before after faults faults_after starts starts_after service clients history lines lives (Ok u) status is shows over printed =
     printed_ends tells before after faults faults_after starts starts_after service clients history lines lives status (served_life tells link pipe starts starts_after service clients history lines lives is shows over.0 over.1) over.0.said printed
@@ -84,7 +85,7 @@ life_ends tells link pipe before after faults faults_after starts starts_after s
 pub none_ends : {L : Type 0} (tells : LinkTells L) (before after : Option (List ℕ)) (faults faults_after starts starts_after : ℕ) (service : List ℕ) (clients : List Client) (history : List Event) (lines : List ℕ) (lives : List (Life L))
     (served : Result (Unit {0}) NoMemoryError) (status : Status)
     → lives ≡ [] → Rose starts starts_after → OnOk served (IsOver service clients history lines × HasNotLived (reverse history))
-    → MatchResult served (λ _. Printed before after faults faults_after lines status) (λ _. status ≡ NoMemory)
+    → MatchResult served (λ _. Printed before after faults faults_after lines status) (λ _. Unprinted before after faults faults_after status)
     → ServingEnds tells before after faults faults_after starts starts_after service clients status history lives
 none_ends tells before after faults faults_after starts starts_after service clients history lines lives (Ok u) status is rose over printed =
     printed_ends tells before after faults faults_after starts starts_after service clients history lines lives status (served_none tells starts starts_after service clients history lines lives is rose over.0 over.1) over.0.said printed
@@ -103,14 +104,20 @@ each_counts start_faults [] old now past one none count = absurd (omega (arith, 
 each_counts start_faults (starter ∷ []) old now past one none count = (at_least (failed_starts 1 past) (start_faults old) (start_faults now) none count, tt)
 each_counts start_faults (starter ∷ other ∷ starters) old now past one none count = absurd (omega (arith, one))
 
+still_one : {S : Type 0} (starters : List S) (now : S) → length starters ≡ 1 → length (slice_set starters 0 now) ≡ 1
+still_one [] now one = absurd (omega (arith, one))
+still_one (starter ∷ []) now one = refl
+still_one (starter ∷ other ∷ starters) now one = absurd (omega (arith, one))
+
 module _ {L S : Type 0} (tells : LinkTells L) (start_faults : S → ℕ) (streams : Streams) (service : List ℕ) (clients : List Client)
     (history : List Event) (lives : List (Life L)) (starters : List S) (old now : S)
-    (one : length starters ≡ 1) (none : start_faults old ≡ 0) (script : IsTheScript streams.told clients) where
+    (one : length starters ≡ 1) (none : start_faults old ≡ 0) (script : IsTheScript streams.told clients) (ended : Empty streams.left_after) where
   played : IsServed tells (start_faults old) (start_faults now) service clients history lives → IsPlayed tells start_faults streams.told service clients history lives (slice_set starters 0 now)
   played served = record {
     script = script;
     machine = served.machine;
     carried = record {
+      all = still_one starters now one;
       lives_are = served.lives_are;
       pipes = served.pipes;
       starts = each_counts start_faults starters old now (reverse history) one none served.failed;
@@ -120,7 +127,16 @@ module _ {L S : Type 0} (tells : LinkTells L) (start_faults : S → ℕ) (stream
   pub play_ends : (status : Status)
       → ServingEnds tells streams.took_before streams.took_after streams.writes_before streams.writes_after (start_faults old) (start_faults now) service clients status history lives
       → PlayEnds tells start_faults streams service status history lives (slice_set starters 0 now)
-  play_ends Done ends = (clients, played ends.0, ends.1)
-  play_ends WriteFault ends = (clients, played ends.0, ends.1, ends.2)
-  play_ends NoMemory ends = tt
+  play_ends Done ends = (clients, played ends.0, ended, ends.1)
+  play_ends WriteFault ends = (clients, played ends.0, ended, ends.1, ends.2)
+  play_ends NoMemory ends = record { took = ends.0; writes = ends.1 }
   play_ends status ends = absurd ends
+
+-- a run whose script was refused, and that left the output alone
+pub refused_ends : {L S : Type 0} (tells : LinkTells L) (start_faults : S → ℕ) (streams : Streams) (service : List ℕ) (status : Status) (history : List Event) (lives : List (Life L)) (starters : List S)
+    → ScriptRefusedAs streams.told streams.reads_before streams.reads_after status → IsSilent streams → PlayEnds tells start_faults streams service status history lives starters
+refused_ends tells start_faults streams service ScriptRead history lives starters why silent = (why, silent)
+refused_ends tells start_faults streams service (TooLong inputs.Script) history lives starters why silent = (why, silent)
+refused_ends tells start_faults streams service (BadLine line cause) history lives starters why silent = (why.0, why.1, silent)
+refused_ends tells start_faults streams service NoMemory history lives starters why silent = silent
+refused_ends tells start_faults streams service status history lives starters why silent = absurd why

@@ -9,7 +9,7 @@ use Rattle.xa_types.specs.declared.fault.Fault.{Fault}
 use Rattle.xa_types.specs.declared.fault.Fault.TheVariants.{Inval, NoEnt}
 use Rattle.xa_types.specs.declared.reply.Reply.TheVariants.{Answered as AnsweredReply, Fault as FaultReply}
 use Rattle.xa_types.specs.Name.{is_name}
-use Rattle.xa_types.specs.Setup.{same_name}
+use Rattle.std.specs.Str.{bytes_eq}
 use Rattle.xa_types.specs.Kind.{is_sound}
 use Rattle.xa_types.specs.Rows.{Change, Put, Remove}
 use Rattle.xa_events.specs.declared.event.Event.{Event}
@@ -21,7 +21,7 @@ use Rattle.xa_events.specs.declared.event.Outcome.TheVariants.{Returned, Failed,
 use Rattle.xa_events.specs.declared.event.StopCause.{StopCause}
 use Rattle.xa_events.specs.declared.event.StopCause.TheVariants.{Exit}
 use Rattle.xa_events.specs.declared.event.Doing.TheVariants.{Idle}
-use Rattle.xa_events.specs.Befell.{reply_of, answer_to}
+use Rattle.xa_events.specs.Answers.{reply_of, answer_to}
 use Rattle.xa_events.specs.Board.{changes, listed_in}
 use Rattle.xa_events.specs.Calls.{CallRefused, is_invalid_call}
 use Rattle.xa_events.specs.Server.{is_shutdown}
@@ -29,10 +29,11 @@ use Rattle.xa_events.specs.Cases.{Case, is_sound_outcome}
 use Rattle.xa_events.specs.State.{opening}
 use Rattle.xa_text.specs.Line.{line_text}
 use Rattle.xa_play.specs.PlaySetup.{play_setup}
-use Rattle.xa_play.specs.History.{refuse, stop, gone, served, falls, in_order}
+use Rattle.xa_play.specs.History.{refuse, stop, falls, in_order}
+use Rattle.xa_play.proofs.Newest.{gone, served}
 use Rattle.xa_play.specs.Refusal.{IsAdmitted, IsRefused}
 use Rattle.xa_play.specs.Between.{at, IsUp, IsDown}
-use Rattle.xa_play.proofs.Falls.{falls_run, same_name-self}
+use Rattle.xa_play.proofs.Falls.{falls_run, bytes_eq-self}
 use Rattle.xa_play.proofs.Machine.{EndsSo, run_append, run_served}
 use Rattle.xa_play.proofs.After.{IsShown, quiet_served, open_served, refuse_up, refuse_down, quiet_refused, open_refused, may_fall_idle, quiet_fallen, open_fallen}
 use Rattle.xa_play.proofs.Told.{lines_kept, each_kept}
@@ -65,11 +66,11 @@ playing_fallen service name clients n m ops history past lines cause old up othe
 
 -- ---- a call that is refused
 
-names_differ : (a b : List ℕ) → (a ≡ b → ⊥) → same_name b a ≡ false
+names_differ : (a b : List ℕ) → (a ≡ b → ⊥) → bytes_eq b a ≡ false
 names_differ [] [] other = absurd (other refl)
 names_differ [] (y ∷ ys) other = refl
 names_differ (x ∷ xs) [] other = refl
-names_differ (x ∷ xs) (y ∷ ys) other = elim (y == x) as (λ b. (y == x) ≡ b → (b && same_name ys xs) ≡ false) [
+names_differ (x ∷ xs) (y ∷ ys) other = elim (y == x) as (λ b. (y == x) ≡ b → (b && bytes_eq ys xs) ≡ false) [
   | true ↦ λ e. names_differ xs ys (λ rest. other (ap (λ k. k ∷ xs) (sym (eqb-true y x e)) ∙ ap (λ l. y ∷ l) rest))
   | false ↦ λ e. refl
 ] refl
@@ -77,11 +78,11 @@ names_differ (x ∷ xs) (y ∷ ys) other = elim (y == x) as (λ b. (y == x) ≡ 
 -- what the version that stands lists: nothing of another service, and nothing once the row is withdrawn
 unlisted_up : (service : List ℕ) (past : List Event) (name : List ℕ) → changes past ≡ Put service 1 service ∷ [] → (name ≡ service → ⊥) → listed_in (play_setup service) past 1 name false ≡ []
 unfolding listed_in
-unlisted_up service past name board other = rw board (rw (same_name-self service) (rw (names_differ name service other) refl))
+unlisted_up service past name board other = rw board (rw (bytes_eq-self service) (rw (names_differ name service other) refl))
 
 unlisted_down : (service : List ℕ) (past : List Event) (name : List ℕ) → changes past ≡ Remove service 1 ∷ Put service 1 service ∷ [] → listed_in (play_setup service) past 2 name false ≡ []
 unfolding listed_in
-unlisted_down service past name board = rw board (rw (same_name-self service) (rw (same_name-self service) refl))
+unlisted_down service past name board = rw board (rw (bytes_eq-self service) (rw (bytes_eq-self service) refl))
 
 pub shown_by : (service : List ℕ) (version : ℕ) (ask : Ask) (fault : Fault) (evidence : Evidence) → IsRefused service version ask fault evidence → IsShown version fault evidence
 shown_by service version ask Inval Argument refused = tt

@@ -6,7 +6,7 @@ use Rattle.xa_events.specs.declared.event.Event.{Event}
 use Rattle.xa_events.specs.declared.event.Event.TheVariants.{Accept, Take, End, Answer as Answers}
 use Rattle.xa_events.specs.declared.event.Outcome.{Outcome}
 use Rattle.xa_events.specs.declared.event.StopCause.{StopCause}
-use Rattle.xa_events.specs.Befell.{reply_of}
+use Rattle.xa_events.specs.Answers.{reply_of}
 use Rattle.xa_pipe.specs.Pipe.{Piped}
 use Rattle.xa_play.specs.History.{accept, take_of, end_with, answer_of, falls, in_order}
 use Rattle.xa_text.specs.Line.{line_text}

@@ -19,18 +19,19 @@ use Rattle.xa_events.specs.Server.{after_end, is_shutdown}
 use Rattle.xa_events.specs.Cases.{is_sound_outcome, idle_stops}
 use Rattle.xa_frame.specs.declared.frame.Frame.{Frame}
 use Rattle.xa_frame.specs.Spelling.{spelled, all_spelled, HasSpelling}
-use Rattle.xa_pipe.specs.Frames.{frames_out, next_frame, invoke_frame, return_frame}
+use Rattle.xa_pipe.specs.Frames.{frames_out, next_frame, return_frame}
 use Rattle.xa_pipe.specs.Life.{Says, Free, Invoked, Answers, Turn, outcomes_in, outcome_by, lost_by, tag_after, turn_behind, may_end, Shows, TookBy}
 use Rattle.xa_pipe.specs.Life.Turn.{AwaitsNext, Idle as IdleTurn, Serving, Exited}
-use Rattle.xa_pipe.specs.Pipe.{Piped, Wrote, HasRead, Ceases}
+use Rattle.xa_pipe.specs.Pipe.{invoke_frame, Piped, Wrote, HasRead, Ceases}
 use Rattle.xa_pipe.proofs.Frames.{told_more}
 use Rattle.xa_play.specs.PlaySetup.{play_setup, server_name}
-use Rattle.xa_play.specs.History.{stop, gone, served}
+use Rattle.xa_play.specs.History.{stop}
+use Rattle.xa_play.proofs.Newest.{gone, served}
 use Rattle.xa_play.specs.Between.{at}
 use Rattle.xa_play.proofs.Machine.{EndsSo}
 use Rattle.xa_play.proofs.After.{up_served, down_served, down_fallen}
 use Rattle.xa_program.specs.Progress.{IsServing, HasFallen, Sends}
-use Rattle.xa_program.proofs.Pipes.{out_served, outcomes_served, invoked_served, lives_served, failed_served, out_fallen, outcomes_fallen, lives_fallen, wrote_more, took_all, took_sent}
+use Rattle.xa_program.proofs.Pipes.{out_served, outcomes_served, invoked_served, lives_served, failed_served, out_fallen, outcomes_fallen, lives_fallen, wrote_more, not_written, took_all, took_sent}
 
 -- ---- how requests end
 
@@ -160,7 +161,7 @@ module _ (service : List ℕ) (n m : ℕ) (payload : Data) (past : List Event) (
               says = subst (λ (t : Turn). Says (play_setup service) server_name (outcomes_in 1 1 past ++ outcome ∷ []) answered t) turn says_return;
               may = ends.may;
               counted = ends.counted;
-              took_frames = took_all after.took cause (frames_out 1 1 (gone service (Stop (stop cause) ∷ now)))
+              took_frames = took_all after.took cause AwaitsNext (frames_out 1 1 (gone service (Stop (stop cause) ∷ now))) (not_written cause AwaitsNext ends.may refl)
                   (subst (λ (fs : List Frame). Wrote after fs) (sym (out_fallen service cause now other.0 ∙ out_served service n m payload outcome answer past None tt old.invoked small)) (wrote_now after same));
               gave_frames = ends.gave;
             };
@@ -186,7 +187,7 @@ module _ (service : List ℕ) (n m : ℕ) (payload : Data) (past : List Event) (
           says = says_return ExitValue code back spelling;
           may = refl;
           counted = tt;
-          took_frames = took_all mid.took Exit (frames_out 1 1 (served service (n + 1) (m + 1) payload o (Some Exit) answer past))
+          took_frames = took_all mid.took Exit Exited (frames_out 1 1 (served service (n + 1) (m + 1) payload o (Some Exit) answer past)) (λ e. cc e)
               (subst (λ (fs : List Frame). Wrote mid fs) (sym (out_served service n m payload o answer past (Some Exit) refl old.invoked small)) (wrote_more before.took mid.took (frames_out 1 1 past) (invoke_frame service (m + 1) payload) old.wrote grew));
           gave_frames = told_more mid.gave _ _ (λ octets e. (mid.rest, e, tt)) (reads old.frames old.read).told;
         };
@@ -213,7 +214,7 @@ module _ (service : List ℕ) (n m : ℕ) (payload : Data) (past : List Event) (
           says = Invoked old.says;
           may = ends.may;
           counted = ends.counted;
-          took_frames = subst (λ (fs : List Frame). IfSome mid.took (TookBy cause fs)) (sym (out_served service n m payload (lost_by cause) answer past (Some cause) other.0 old.invoked small))
+          took_frames = subst (λ (fs : List Frame). IfSome mid.took (TookBy cause Serving fs)) (sym (out_served service n m payload (lost_by cause) answer past (Some cause) other.0 old.invoked small))
               (took_sent cause before.took mid.took (frames_out 1 1 past) (invoke_frame service (m + 1) payload) old.wrote sent);
           gave_frames = subst (λ (tag : ℕ). IfSome mid.gave (λ octets. (rest : List ℕ) × (octets ≡ all_spelled old.frames ++ rest) × Shows server_name tag Serving cause old.frames rest mid.left)) (sym tag_is) ends.gave;
         };

@@ -1,9 +1,10 @@
--- What a run of `play` comes to.
+-- What a run of `play` comes to (this project's own).
 use Rattle.std.specs.Prelude.{◌≡◌, ◌≤◌, ◌<◌, ◌+◌, ℕ, List, [], ◌∷◌, length, reverse, map, Option, IfSome, All, ⊤}
 use Rattle.xa_types.specs.declared.setup.Setup.{Setup}
 use Rattle.xa_types.specs.Setup.{numbered}
-use Rattle.xa_link.specs.Told.{Rose, Grew, GrewByPrefix}
+use Rattle.xa_link.specs.Told.{Rose, Empty, Grew, GrewByPrefix}
 use Rattle.xa_events.specs.declared.event.Event.{Event}
+use Rattle.xa_events.specs.Words.{EachNumbered}
 use Rattle.xa_events.specs.State.{opening}
 use Rattle.xa_events.specs.Run.{Run, IsFinal}
 use Rattle.xa_events.specs.Order.{TakesInOrder}
@@ -16,14 +17,13 @@ use Rattle.xa_program.specs.declared.status.Status.TheVariants.{Done, Usage, Scr
 use Rattle.xa_program.specs.declared.status.Input.TheVariants as inputs
 use Rattle.xa_pipe.specs.Life.{IsLife}
 use Rattle.xa_play.specs.PlaySetup.{play_setup}
-use Rattle.xa_play.specs.Spoken.{spoken}
-use Rattle.xa_program.specs.Lives.{name_in, lives_of, failed_starts}
+use Rattle.xa_play.specs.Transcript.{transcript}
+use Rattle.xa_program.specs.Lives.{server_name_in, lives_of, failed_starts}
 use Rattle.xa_script.specs.Script.{IsScript, IsFirstFault}
 
 -- each client, of which the first has that number, made exactly its calls
 abbrev pub EachMadeCalls : Setup → ℕ → List Client → List Event → Type 0
-EachMadeCalls setup number [] past = ⊤
-EachMadeCalls setup number (client ∷ clients) past = MadeCalls setup number client.ops past × EachMadeCalls setup (number + 1) clients past
+EachMadeCalls setup number clients past = EachNumbered (λ k (client : Client). MadeCalls setup k client.ops past) number clients
 
 -- the events are one history of the machine, from its opening to its end: each request is taken at most once and ended at most once,
 -- each is answered at most once and as it ended, each queue was taken in order, and each client made exactly its calls.
@@ -42,8 +42,7 @@ IsHistory setup clients history = IsHistoryAt setup clients history (reverse his
 
 -- each starter, of which the first is of the server with that number, counts at least the failed starts of its server
 abbrev pub EachCounts : {S : Type 0} → (S → ℕ) → ℕ → List S → List Event → Type 0
-EachCounts start_faults server [] past = ⊤
-EachCounts start_faults server (starter ∷ starters) past = (failed_starts server past ≤ start_faults starter) × EachCounts start_faults (server + 1) starters past
+EachCounts start_faults server starters past = EachNumbered (λ k starter. failed_starts k past ≤ start_faults starter) server starters
 
 -- what a link tells, and how often its reads and writes failed
 pub record LinkTells (L : Type 0) : Type 0 where
@@ -55,12 +54,13 @@ pub record LinkTells (L : Type 0) : Type 0 where
 
 -- the link of the life shows what the events say of it
 abbrev pub IsLifeOf : {L : Type 0} → LinkTells L → Setup → List Event → Life L → Type 0
-IsLifeOf tells setup past life = IsLife setup (name_in (numbered life.server.0 setup.servers)) life.server.0 life.generation.0 past
+IsLifeOf tells setup past life = IsLife setup (server_name_in (numbered life.server.0 setup.servers)) life.server.0 life.generation.0 past
     (tells.took life.link) (tells.gave life.link) (tells.left life.link) (tells.reads life.link) (tells.writes life.link)
 
--- what went through the pipes is the history's: the lives are its starts, each link's octets are those of its events, and each starter
--- counts the starts that failed
+-- what went through the pipes is the history's: each server has its starter, the lives are its starts, each link's octets are those of
+-- its events, and each starter counts the starts that failed
 pub record IsCarried {L S : Type 0} (tells : LinkTells L) (start_faults : S → ℕ) (setup : Setup) (past : List Event) (lives : List (Life L)) (starters : List S) : Type 0 where
+  pub all : length starters ≡ length setup.servers
   pub lives_are : map (λ life. (life.server.0, life.generation.0)) lives ≡ lives_of past
   pub pipes : All (IsLifeOf tells setup past) lives
   pub starts : EachCounts start_faults 1 starters past
@@ -69,11 +69,11 @@ pub record IsCarried {L S : Type 0} (tells : LinkTells L) (start_faults : S → 
 abbrev pub longest_script : ℕ
 longest_script = 1_048_576
 
--- where the input tells its octets, they are a script with these clients
+-- where the input tells its octets, they are a script with these clients, and not too long
 abbrev pub IsTheScript : Option (List ℕ) → List Client → Type 0
 IsTheScript told clients = IfSome told (λ octets. (length octets ≤ longest_script) × IsScript octets (record { clients = clients }))
 
--- where the input tells its octets, their first line at fault is that one
+-- where the input tells its octets, they aren't too long, and their first line at fault is that one
 abbrev pub HasFirstFault : Option (List ℕ) → ℕ → Type 0
 HasFirstFault told line = IfSome told (λ octets. (length octets ≤ longest_script) × IsFirstFault octets line)
 
@@ -84,9 +84,11 @@ pub record IsPlayed {L S : Type 0} (tells : LinkTells L) (start_faults : S → �
   pub machine : IsHistory (play_setup service) clients history
   pub carried : IsCarried tells start_faults (play_setup service) (reverse history) lives starters
 
--- what the input and the output show of a run
+-- what the input and the output show of a run: what the input holds before and after, what the output took, and how often a read or
+-- a write failed
 pub record Streams : Type 0 where
   pub told : Option (List ℕ)
+  pub left_after : Option (List ℕ)
   pub reads_before : ℕ
   pub reads_after : ℕ
   pub took_before : Option (List ℕ)
@@ -97,25 +99,34 @@ pub record Streams : Type 0 where
 abbrev pub names_of : List Client → List (List ℕ)
 names_of clients = map (λ client. client.name) clients
 
+-- the output was left alone
+pub record IsSilent (streams : Streams) : Type 0 where
+  pub took : streams.took_after ≡ streams.took_before
+  pub writes : streams.writes_after ≡ streams.writes_before
+
 -- how `play SERVICE` ends, and what that shows
 abbrev pub PlayEnds : {L S : Type 0} → LinkTells L → (S → ℕ) → Streams → List ℕ → Status → List Event → List (Life L) → List S → Type 0
 PlayEnds tells start_faults streams service Done history lives starters =
-    (clients : List Client) × IsPlayed tells start_faults streams.told service clients history lives starters
-    × Grew streams.took_before streams.took_after (spoken (names_of clients) (reverse history))
+    (clients : List Client) × IsPlayed tells start_faults streams.told service clients history lives starters × Empty streams.left_after
+    × Grew streams.took_before streams.took_after (transcript (names_of clients) (reverse history))
 PlayEnds tells start_faults streams service WriteFault history lives starters =
-    (clients : List Client) × IsPlayed tells start_faults streams.told service clients history lives starters
-    × GrewByPrefix streams.took_before streams.took_after (spoken (names_of clients) (reverse history))
+    (clients : List Client) × IsPlayed tells start_faults streams.told service clients history lives starters × Empty streams.left_after
+    × GrewByPrefix streams.took_before streams.took_after (transcript (names_of clients) (reverse history))
     × Rose streams.writes_before streams.writes_after
-PlayEnds tells start_faults streams service ScriptRead history lives starters = Rose streams.reads_before streams.reads_after
-PlayEnds tells start_faults streams service (TooLong inputs.Script) history lives starters = IfSome streams.told (λ octets. longest_script < length octets)
-PlayEnds tells start_faults streams service (BadLine line cause) history lives starters = (cause ≡ 9) × HasFirstFault streams.told line
-PlayEnds tells start_faults streams service NoMemory history lives starters = ⊤
+PlayEnds tells start_faults streams service ScriptRead history lives starters = Rose streams.reads_before streams.reads_after × IsSilent streams
+PlayEnds tells start_faults streams service (TooLong inputs.Script) history lives starters = IfSome streams.told (λ octets. longest_script < length octets) × IsSilent streams
+PlayEnds tells start_faults streams service (BadLine line cause) history lives starters = (cause ≡ 9) × HasFirstFault streams.told line × IsSilent streams
+PlayEnds tells start_faults streams service NoMemory history lives starters = IsSilent streams
 PlayEnds tells start_faults streams service status history lives starters = ⊥
 
--- no server was started where the words, the input or the script were refused
+-- nothing is handed back
+abbrev pub HandsNothing : {L S : Type 0} → List Event → List (Life L) → List S → Type 0
+HandsNothing history lives starters = (history ≡ []) × (lives ≡ []) × (starters ≡ [])
+
+-- where the words, the input or the script were refused, nothing is handed back
 abbrev pub EndsEarly : {L S : Type 0} → Status → List Event → List (Life L) → List S → Type 0
-EndsEarly Usage history lives starters = (history ≡ []) × (lives ≡ []) × (starters ≡ [])
-EndsEarly ScriptRead history lives starters = (history ≡ []) × (lives ≡ []) × (starters ≡ [])
-EndsEarly (TooLong which) history lives starters = (history ≡ []) × (lives ≡ []) × (starters ≡ [])
-EndsEarly (BadLine line cause) history lives starters = (history ≡ []) × (lives ≡ []) × (starters ≡ [])
+EndsEarly Usage history lives starters = HandsNothing history lives starters
+EndsEarly ScriptRead history lives starters = HandsNothing history lives starters
+EndsEarly (TooLong which) history lives starters = HandsNothing history lives starters
+EndsEarly (BadLine line cause) history lives starters = HandsNothing history lives starters
 EndsEarly status history lives starters = ⊤

@@ -13,7 +13,7 @@ use Rattle.xa_types.specs.declared.reply.Reply.TheVariants.{Answered as Answered
 use Rattle.xa_events.specs.declared.event.Event.{Event}
 use Rattle.xa_events.specs.declared.event.Event.TheVariants.{Close, Stop, Refuse}
 use Rattle.xa_events.specs.declared.event.Evidence.{Evidence}
-use Rattle.xa_events.specs.Befell.{reply_of}
+use Rattle.xa_events.specs.Answers.{reply_of}
 use Rattle.xa_text.specs.Line.{line_text}
 use Rattle.xa_events.specs.declared.event.Outcome.{Outcome}
 use Rattle.xa_events.specs.declared.event.StopCause.{StopCause}
@@ -28,13 +28,13 @@ use Rattle.xa_events.specs.Caller.{last_op}
 use Rattle.xa_frame.specs.declared.frame.Frame.{Frame}
 use Rattle.xa_frame.specs.Spelling.{spelled, HasSpelling}
 use Rattle.xa_script.specs.declared.script.Client.{Client}
-use Rattle.xa_pipe.specs.Frames.{is_take_in, frames_out, ready_frame, next_frame, shutdown_frame, invoke_frame, return_frame}
+use Rattle.xa_pipe.specs.Frames.{is_take_in, frames_out, ready_frame, next_frame, shutdown_frame, return_frame}
 use Rattle.xa_pipe.specs.Life.{Says, IsLife, outcomes_in, outcome_by, lost_by}
 use Rattle.xa_pipe.specs.Life.Turn.{Idle as IdleTurn, AwaitsNext, Serving}
-use Rattle.xa_pipe.specs.Pipe.{Piped, Wrote, HasRead, Ceases, CutOff}
+use Rattle.xa_pipe.specs.Pipe.{invoke_frame, Piped, Wrote, HasRead, Ceases, CutOff}
 use Rattle.xa_pipe.specs.declared.hearing.Return.{Return}
 use Rattle.xa_play.specs.PlaySetup.{play_setup, server_name}
-use Rattle.xa_play.specs.Spoken.{lines_up_to, spoken}
+use Rattle.xa_play.specs.Transcript.{lines_up_to, transcript}
 use Rattle.xa_play.specs.History.{refuse, stop, falls, in_order}
 use Rattle.xa_play.specs.Refusal.{IsRefused}
 use Rattle.xa_play.specs.Between.{at, IsQuiet, IsOpen, IsUp, IsDown, IsLeft, IsFresh, KnowsAnswers}
@@ -197,7 +197,7 @@ IsLeaving service clients history lines = IsLeavingAt service clients history (r
 -- the run has come to its end, and all but the printing is done
 pub record IsOver (service : List ℕ) (clients : List Client) (history : List Event) (lines : List ℕ) : Type 0 where
   pub machine : IsHistory (play_setup service) clients history
-  pub said : lines ≡ spoken (names_of clients) (reverse history)
+  pub said : lines ≡ transcript (names_of clients) (reverse history)
 
 -- the one life, and its link
 pub record HasLived (service : List ℕ) (past : List Event) (pipe : Piped) : Type 0 where
@@ -250,10 +250,10 @@ pub record IsServed {L : Type 0} (tells : LinkTells L) (starts starts_after : �
 -- how serving a script ends, and what that shows; the output and the starter are seen before and after
 abbrev pub ServingEnds : {L : Type 0} → LinkTells L → Option (List ℕ) → Option (List ℕ) → ℕ → ℕ → ℕ → ℕ → List ℕ → List Client → Status → List Event → List (Life L) → Type 0
 ServingEnds tells before after faults faults_after starts starts_after service clients Done history lives =
-    IsServed tells starts starts_after service clients history lives × Grew before after (spoken (names_of clients) (reverse history))
+    IsServed tells starts starts_after service clients history lives × Grew before after (transcript (names_of clients) (reverse history))
 ServingEnds tells before after faults faults_after starts starts_after service clients WriteFault history lives =
-    IsServed tells starts starts_after service clients history lives × GrewByPrefix before after (spoken (names_of clients) (reverse history)) × Rose faults faults_after
-ServingEnds tells before after faults faults_after starts starts_after service clients NoMemory history lives = ⊤
+    IsServed tells starts starts_after service clients history lives × GrewByPrefix before after (transcript (names_of clients) (reverse history)) × Rose faults faults_after
+ServingEnds tells before after faults faults_after starts starts_after service clients NoMemory history lives = (after ≡ before) × (faults_after ≡ faults)
 ServingEnds tells before after faults faults_after starts starts_after service clients status history lives = ⊥
 
 -- the lines were written whole, or in part and the output failed
@@ -261,6 +261,12 @@ abbrev pub Printed : Option (List ℕ) → Option (List ℕ) → ℕ → ℕ →
 Printed before after writes writes_after lines Done = Grew before after lines
 Printed before after writes writes_after lines WriteFault = GrewByPrefix before after lines × Rose writes writes_after
 Printed before after writes writes_after lines status = ⊥
+
+-- memory had run out, and the output was left alone
+pub record Unprinted (before after : Option (List ℕ)) (faults faults_after : ℕ) (status : Status) : Type 0 where
+  pub stands : status ≡ NoMemory
+  pub took : after ≡ before
+  pub writes : faults_after ≡ faults
 
 -- why there is no script
 abbrev pub ScriptRefusedAs : Option (List ℕ) → ℕ → ℕ → Status → Type 0

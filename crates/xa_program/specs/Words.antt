@@ -1,4 +1,4 @@
--- The words of a command line.
+-- The words of a command line (this project's own).
 use Rattle.std.specs.Prelude.{ℕ, Bool, false, not, ◌&&◌, ◌==◌, List, [], ◌∷◌, Option, Some, None, option_and_then, codes, if◌then◌else◌}
 use Rattle.std.specs.Str.{bytes_eq}
 use Rattle.xa_types.specs.Name.{is_name}

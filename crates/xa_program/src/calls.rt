@@ -7,7 +7,7 @@ ghost use Rattle.xa_types.specs.declared.reply.Reply.TheVariants.{Answered as An
 ghost use Rattle.xa_types.specs.declared.fault.Fault.{Fault};
 ghost use Rattle.xa_events.specs.declared.event.Event.TheVariants.{Accept, Take, End, Answer as AnswerEvent, Refuse};
 ghost use Rattle.xa_events.specs.declared.event.Evidence.{Evidence};
-ghost use Rattle.xa_events.specs.Befell.{reply_of};
+ghost use Rattle.xa_events.specs.Answers.{reply_of};
 ghost use Rattle.xa_text.specs.Line.{line_text};
 ghost use Rattle.xa_pipe.specs.Life.{outcome_by};
 ghost use Rattle.xa_frame.specs.Spelling.{IsData};

@@ -3,8 +3,7 @@ ghost use Rattle.std.specs.Prelude.{◌≡◌, ◌∷◌, ◌++◌, ◌<◌, ℕ
 ghost use Rattle.xa_link.specs.Told.{Empty, Rose};
 ghost use Rattle.xa_events.specs.declared.event.Event.TheVariants.{Advertise};
 ghost use Rattle.xa_play.specs.History.{advertise};
-ghost use Rattle.xa_program.specs.declared.status.Status.TheVariants.{NoMemory as NoMemoryStatus};
-ghost use Rattle.xa_program.specs.Progress.{IsBuiltScript, Printed, ServingEnds};
+ghost use Rattle.xa_program.specs.Progress.{IsBuiltScript, Printed, Unprinted, ServingEnds};
 
 use crate::one_life::{serve, serve_none};
 use crate::outcome::Life;
@@ -187,7 +186,7 @@ fn keep_life<L>(lives: &mut Vec<Life<L>>, link: L)
 // Where the script was served its lines are written.
 fn conclude<O: Sink>(served: Result<(), NoMemory>, out: &mut O, lines: &[u8]) -> Status
     ensures { MatchResult served (λ _. Printed (O.took out.old) (O.took out.new) (O.write_faults out.old) (O.write_faults out.new) lines.now result)
-        (λ _. result ≡ NoMemoryStatus) }
+        (λ _. Unprinted (O.took out.old) (O.took out.new) (O.write_faults out.old) (O.write_faults out.new) result) }
 {
     match served {
         Ok(()) => write_lines(out, lines),

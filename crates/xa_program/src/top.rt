@@ -1,11 +1,11 @@
 // The top call.
-ghost use Rattle.std.specs.Prelude.{◌≡◌, ◌⊎◌, ◌≤◌, ◌↔◌, [], ◌∷◌, ℕ, List, map, string_bytes, None, Some, All, IfOk, IfErr, length, vec_len};
+ghost use Rattle.std.specs.Prelude.{◌≡◌, ◌⊎◌, ◌≤◌, ◌↔◌, [], ◌∷◌, ℕ, List, map, string_bytes, None, Some, All, IfOk, IfErr, OnOk, length, vec_len};
 ghost use Rattle.xa_types.specs.Name.{IsName};
-ghost use Rattle.xa_link.specs.Told.{Rose};
+ghost use Rattle.xa_link.specs.Told.{Rose, Empty};
 ghost use Rattle.xa_script.specs.declared.script.Script.{Script};
 ghost use Rattle.xa_script.specs.Script.{IsScript};
 ghost use Rattle.xa_program.specs.declared.words.Command.TheVariants.{Play, Server};
-ghost use Rattle.xa_program.specs.Headline.{Streams, PlayEnds, IsTheScript, EndsEarly, longest_script};
+ghost use Rattle.xa_program.specs.Headline.{Streams, PlayEnds, IsTheScript, EndsEarly, HandsNothing, longest_script};
 ghost use Rattle.xa_program.specs.Progress.{IsBuiltScript, ScriptRefusedAs};
 ghost use Rattle.xa_program.specs.Server.{ServerEnds};
 ghost use Rattle.xa_program.specs.Words.{command_in};
@@ -41,11 +41,16 @@ pub fn run<R, S: Shelf, I: Source, O: Sink, Y: Yard, G: Gate>(
     // The words are no command's.
     ensures usage { (result.status ≡ Status.Usage) ↔ (command_in (map string_bytes words.now) ≡ None) }
 
+    // Then nothing is read or written.
+    ensures untouched { command_in (map string_bytes words.now) ≡ None → (I.left input.new ≡ I.left input.old) × (I.read_faults input.new ≡ I.read_faults input.old)
+        × (O.took out.new ≡ O.took out.old) × (O.write_faults out.new ≡ O.write_faults out.old) }
+
     // What `play` comes to.
     ensures play { (service : List ℕ) → command_in (map string_bytes words.now) ≡ Some (Play service)
         → PlayEnds (record { took = Y.Line.took; gave = Y.Line.gave; left = Y.Line.left; reads = Y.Line.read_faults; writes = Y.Line.write_faults }) Y.Start.start_faults
         (record {
           told = I.left input.old;
+          left_after = I.left input.new;
           reads_before = I.read_faults input.old;
           reads_after = I.read_faults input.new;
           took_before = O.took out.old;
@@ -61,9 +66,10 @@ pub fn run<R, S: Shelf, I: Source, O: Sink, Y: Yard, G: Gate>(
         → (Rose (I.read_faults input.old) (I.read_faults input.new) → ⊥) → (Rose (O.write_faults out.old) (O.write_faults out.new) → ⊥)
         → (result.status ≡ Status.Done) ⊎ (result.status ≡ Status.NoMemory) }
 
-    // What the program of a server comes to.
+    // What the program of a server comes to; nothing is handed back.
     ensures server { (name : List ℕ) → command_in (map string_bytes words.now) ≡ Some (Server name)
-        → ServerEnds name (I.left input.old) (I.left input.new) (I.gave input.old) (I.gave input.new) (O.took out.old) (O.took out.new) (I.read_faults input.old) (I.read_faults input.new) (O.write_faults out.old) (O.write_faults out.new) result.status }
+        → ServerEnds name (I.left input.old) (I.left input.new) (I.gave input.old) (I.gave input.new) (O.took out.old) (O.took out.new) (I.read_faults input.old) (I.read_faults input.new) (O.write_faults out.old) (O.write_faults out.new) result.status
+        × HandsNothing result.history.items result.lives.items result.starters.items }
 
     // Before a server starts nothing is handed back.
     ensures early { EndsEarly result.status result.history.items result.lives.items result.starters.items }
@@ -86,6 +92,7 @@ fn obey<I: Source, O: Sink, Y: Yard>(
         → PlayEnds (record { took = Y.Line.took; gave = Y.Line.gave; left = Y.Line.left; reads = Y.Line.read_faults; writes = Y.Line.write_faults }) Y.Start.start_faults
         (record {
           told = I.left input.old;
+          left_after = I.left input.new;
           reads_before = I.read_faults input.old;
           reads_after = I.read_faults input.new;
           took_before = O.took out.old;
@@ -95,7 +102,8 @@ fn obey<I: Source, O: Sink, Y: Yard>(
         })
         service result.status result.history.items result.lives.items result.starters.items }
     ensures server { (name : List ℕ) → command ≡ Server name
-        → ServerEnds name (I.left input.old) (I.left input.new) (I.gave input.old) (I.gave input.new) (O.took out.old) (O.took out.new) (I.read_faults input.old) (I.read_faults input.new) (O.write_faults out.old) (O.write_faults out.new) result.status }
+        → ServerEnds name (I.left input.old) (I.left input.new) (I.gave input.old) (I.gave input.new) (O.took out.old) (O.took out.new) (I.read_faults input.old) (I.read_faults input.new) (O.write_faults out.old) (O.write_faults out.new) result.status
+        × HandsNothing result.history.items result.lives.items result.starters.items }
     ensures early { EndsEarly result.status result.history.items result.lives.items result.starters.items }
 {
     match command {
@@ -122,6 +130,7 @@ fn nothing<Y: Yard>(alloc: Global, status: Status) -> Outcome<Y>
 fn script_of<I: Source>(alloc: Global, input: &mut I) -> Result<Script, Status>
     ensures script { IfOk result (λ script. IsTheScript (I.left input.old) script.clients) }
     ensures built { IfOk result (λ script. IsBuiltScript script.clients) }
+    ensures ended { OnOk result (Empty (I.left input.new)) }
     ensures refused { IfErr result (ScriptRefusedAs (I.left input.old) (I.read_faults input.old) (I.read_faults input.new)) }
 {
     let octets = match read_all(alloc, input, LONGEST_SCRIPT) {
@@ -147,6 +156,7 @@ fn play<I: Source, O: Sink, Y: Yard>(
     ensures play { PlayEnds (record { took = Y.Line.took; gave = Y.Line.gave; left = Y.Line.left; reads = Y.Line.read_faults; writes = Y.Line.write_faults }) Y.Start.start_faults
         (record {
           told = I.left input.old;
+          left_after = I.left input.new;
           reads_before = I.read_faults input.old;
           reads_after = I.read_faults input.new;
           took_before = O.took out.old;

@@ -1,4 +1,5 @@
--- What a script says: its lines, and the calls that they make.
+-- What a script says: its lines, and the calls that they make (this project's own). `lines` cuts the octets at each 0x0A and drops a 0x0D before
+-- it; the last line may lack its end, and nothing behind a last 0x0A is no line.
 use Rattle.std.specs.Prelude.{ℕ, ◌-◌, ◌≤◌, ◌==◌, ◌≡◌, ◌⊎◌, ◌&&◌, nat_le, Bool, false, IsTrue, if◌then◌else◌, List, [], ◌∷◌, ◌++◌, length, take, replicate, codes, None, ⊤}
 use Rattle.std.specs.List.{list_all, flat_map}
 use Rattle.std.specs.Str.Lines.{lines}
@@ -11,8 +12,6 @@ use Rattle.xa_types.specs.declared.data.Data.{Data}
 use Rattle.xa_types.specs.declared.data.Data.TheVariants.{Absent, Octet, Struct}
 use Rattle.xa_script.specs.declared.script.Client.{Client}
 use Rattle.xa_script.specs.declared.script.Script.{Script}
-use Rattle.xa_script.specs.declared.script.ScriptRefused.{ScriptRefused}
-use Rattle.xa_script.specs.declared.script.ScriptRefused.TheVariants.{BadLine, NoMemory}
 
 abbrev pub is_printed : ℕ → Bool
 is_printed octet = nat_le 32 octet && nat_le octet 126
@@ -103,20 +102,3 @@ pub record IsFirstFault (octets : List ℕ) (line : ℕ) : Type 0 where
   pub within : line ≤ length (lines octets)
   pub before : (clients : List Client) × Reads (take (line - 1) (lines octets)) clients
   pub faulty : (clients : List Client) → Reads (take line (lines octets)) clients → ⊥
-
--- a refusal other than for want of memory has cause 9, and names the first line that breaks the form
-abbrev pub Tells : List ℕ → ScriptRefused → Type 0
-Tells octets (BadLine line cause) = (cause ≡ 9) × IsFirstFault octets line
-Tells octets NoMemory = ⊤
-
--- the octets are one script at most
-abbrev pub OneScript : Type 0
-OneScript = (octets : List ℕ) (a b : Script) → IsScript octets a → IsScript octets b → a ≡ b
-
--- octets with a faulty line are no script
-abbrev pub NoFaultyScript : Type 0
-NoFaultyScript = (octets : List ℕ) (line : ℕ) (script : Script) → IsFirstFault octets line → IsScript octets script → ⊥
-
--- one line at most is the first fault
-abbrev pub OneFirstFault : Type 0
-OneFirstFault = (octets : List ℕ) (line other : ℕ) → IsFirstFault octets line → IsFirstFault octets other → line ≡ other

@@ -2,7 +2,8 @@ ghost use Rattle.std.specs.Prelude.{◌≡◌, ◌∷◌, [], ◌<◌, ◌^◌, 
 ghost use Rattle.std.specs.List.{position};
 ghost use Rattle.std.specs.Str.Lines.{lines, strip_carriage_return};
 ghost use Rattle.xa_script.specs.Draft.{is_line_end};
-ghost use Rattle.xa_script.specs.Script.{IsScript, Tells, OneScript, NoFaultyScript, OneFirstFault};
+ghost use Rattle.xa_script.specs.Script.{IsScript};
+ghost use Rattle.xa_script.specs.Readings.{Tells, OneScript, NoFaultyScript, OneFirstFault};
 ghost use Rattle.xa_script.specs.ScriptLine.{line_of};
 ghost use Rattle.xa_script.specs.Draft.{kept, begun, added, with_line, read_all};
 

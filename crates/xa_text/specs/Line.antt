@@ -1,5 +1,5 @@
--- The lines that the program prints.
-use Rattle.std.specs.Prelude.{ℕ, ℤ, ◌+◌, ◌/◌, ◌%◌, ◌==◌, nat_lt, if◌then◌else◌, List, [], ◌∷◌, ◌++◌, ◌≡◌, codes, decimal}
+-- The lines of the transcript (this project's own; the names of errors are the standard's).
+use Rattle.std.specs.Prelude.{ℕ, ℤ, ◌+◌, ◌/◌, ◌%◌, ◌==◌, nat_lt, if◌then◌else◌, List, [], ◌∷◌, ◌++◌, codes, decimal}
 use Rattle.std.specs.Fmt.{signed_decimal}
 use Rattle.std.specs.List.{flat_map}
 use Rattle.xa_types.specs.Fault.{fault_text, event_text}
@@ -61,7 +61,3 @@ call_text name op = name ++ codes " " ++ decimal op ++ codes " "
 -- a line: the client's name, the number of its call, and what the call was told
 abbrev pub line_text : List ℕ → ℕ → Reply → List ℕ
 line_text name op reply = call_text name op ++ reply_text reply ++ 10 ∷ []
-
--- `after` has `before` in front
-abbrev pub Begins : List ℕ → List ℕ → Type 0
-Begins before after = (more : List ℕ) × (after ≡ before ++ more)

@@ -2,7 +2,8 @@ ghost use Rattle.std.specs.Prelude.{◌≡◌, ◌++◌, ◌+◌, ◌==◌, ◌<
 ghost use Rattle.std.specs.Fmt.{signed_decimal};
 ghost use Rattle.xa_types.specs.Fault.{fault_text, event_text};
 ghost use Rattle.std.specs.List.{flat_map};
-ghost use Rattle.xa_text.specs.Line.{hex_digit, hex_pair, hex, data_text, coded, answer_text, event_rest, reply_text, call_text, line_text, Begins};
+ghost use Rattle.xa_text.specs.Line.{hex_digit, hex_pair, hex, data_text, coded, answer_text, event_rest, reply_text, call_text, line_text};
+ghost use Rattle.xa_text.specs.Pushed.{Begins};
 
 use itoa::Buffer;
 use xa_types::{Answer, ConvEvent, Data, Name, NoMemory, Reply};

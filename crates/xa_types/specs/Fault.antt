@@ -1,4 +1,4 @@
--- The names of errors and events (XATMI, tperrno and tprecv; NOMEM is this project's own).
+-- The names of errors and of the events of a conversation (XATMI, tperrno and tprecv; NOMEM, for want of memory, is this project's own).
 use Rattle.std.specs.Prelude.{ℕ, List, codes}
 use Rattle.xa_types.specs.declared.fault.Fault.{Fault}
 use Rattle.xa_types.specs.declared.fault.Fault.TheVariants.{Inval, NoEnt, IType, OType, BadDesc, Limit, Block, Time, Proto, System, Match, SvcFail, SvcErr, Event, NoMemory}

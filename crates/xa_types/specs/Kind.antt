@@ -1,4 +1,5 @@
--- Typed data: its kind, when it is sound, and which kinds a service accepts (XATMI, typed buffers).
+-- Typed data: its kind, when it is sound, and which kinds a service accepts (XATMI, typed buffers, X_OCTET and X_C_TYPE; the limit of 65,536
+-- octets and the word sound are this project's own).
 use Rattle.std.specs.Prelude.{ℕ, suc, zero, ◌/◌, ◌%◌, ◌^◌, ◌==◌, nat_le, Bool, true, false, List, length, Option, Some, None}
 use Rattle.std.specs.List.{sum_by}
 use Rattle.xa_types.specs.declared.data.Kind.{Kind}
@@ -11,7 +12,8 @@ use Rattle.xa_types.specs.declared.setup.ShapeSetup.{ShapeSetup}
 use Rattle.xa_types.specs.declared.setup.FieldSetup.{FieldSetup}
 use Rattle.xa_types.specs.declared.setup.FieldKind.{FieldKind}
 use Rattle.xa_types.specs.declared.setup.FieldKind.TheVariants.{Short, Int, Long, Char, Text}
-use Rattle.xa_types.specs.Setup.{same_name, number_of, numbered}
+use Rattle.xa_types.specs.Setup.{number_of, numbered}
+use Rattle.std.specs.Str.{bytes_eq}
 
 -- absent data has no kind
 abbrev pub kind_of : Data → Option Kind
@@ -29,14 +31,14 @@ field_size (Text n) = n
 
 -- the shape of that subtype, by its number from 1; 0 where none is configured
 abbrev pub shape_named : Setup → List ℕ → ℕ
-shape_named setup subtype = number_of (λ (shape : ShapeSetup). same_name shape.name subtype) setup.shapes
+shape_named setup subtype = number_of (λ (shape : ShapeSetup). bytes_eq shape.name subtype) setup.shapes
 
 -- whether the shape is there and has that size: the fields of a shape lie one after another
 abbrev pub has_size : Option ShapeSetup → ℕ → Bool
 has_size None n = false
 has_size (Some shape) n = sum_by (λ (field : FieldSetup). field_size field.kind) shape.fields == n
 
--- absent data is sound, and so are at most 65,536 octets; a structure is where it has the size of its configured shape
+-- absent data is sound, X_OCTET with at most 65,536 octets, and X_C_TYPE with the size of its configured shape
 abbrev pub is_sound : Setup → Data → Bool
 is_sound setup Absent = true
 is_sound setup (Octet octets) = nat_le (length octets) 65536
@@ -47,7 +49,7 @@ abbrev pub has_bit : ℕ → ℕ → Bool
 has_bit bits zero = false
 has_bit bits (suc n) = (bits / 2 ^ n) % 2 == 1
 
--- absent data is accepted by every service
+-- whether a service that accepts these kinds takes data of that kind (TPEITYPE where it doesn't); absent data always
 abbrev pub is_accepted : Setup → Accepts → Option Kind → Bool
 is_accepted setup accepts None = true
 is_accepted setup accepts (Some OctetKind) = accepts.octet

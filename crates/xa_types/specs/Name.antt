@@ -1,4 +1,4 @@
--- Names of services, queues, servers, shapes and clients.
+-- Names of services, queues, servers, shapes and clients (this project's own; XATMI only bounds the length of a service's name).
 use Rattle.std.specs.Prelude.{ℕ, Bool, false, ◌&&◌, not, ◌==◌, nat_le, List, [], ◌∷◌, length, IsTrue}
 use Rattle.std.specs.List.{list_all}
 

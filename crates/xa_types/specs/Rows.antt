@@ -1,11 +1,13 @@
--- The board: the rows that are advertised, read off the list of its changes (XATMI, tpadvertise and tpunadvertise).
+-- The board: the rows that are advertised, read off the list of its changes (XATMI, tpadvertise and tpunadvertise; versions are this project's
+-- own).
 use Rattle.std.specs.Prelude.{ℕ, ◌-◌, ◌==◌, ◌&&◌, not, Bool, true, false, List, [], ◌∷◌, ◌++◌, length, drop, map, Option, Some, None}
 use Rattle.std.specs.List.{filter, find, flat_map}
 use Rattle.xa_types.specs.declared.row.Row.{Row}
 use Rattle.xa_types.specs.declared.row.Accepts.{Accepts}
 use Rattle.xa_types.specs.declared.setup.Setup.{Setup}
 use Rattle.xa_types.specs.declared.setup.ServiceSetup.{ServiceSetup}
-use Rattle.xa_types.specs.Setup.{same_name, service_named, queue_named}
+use Rattle.xa_types.specs.Setup.{service_named, queue_named}
+use Rattle.std.specs.Str.{bytes_eq}
 
 -- one change: a service advertised on a queue with a routine, or withdrawn from it
 pub data Change : Type 0 where
@@ -27,7 +29,7 @@ row_for setup service queue routine = row_with (service_named setup service) ser
 
 -- the row is of that service and that queue
 abbrev pub is_row_of : List ℕ → ℕ → Row → Bool
-is_row_of service queue row = same_name row.service service && (row.queue.0 == queue)
+is_row_of service queue row = bytes_eq row.service service && (row.queue.0 == queue)
 
 -- the rows that stand after these changes, of which the newest is first
 abbrev pub rows : Setup → List Change → List Row
@@ -44,10 +46,10 @@ abbrev pub same_truth : Bool → Bool → Bool
 same_truth true b = b
 same_truth false b = not b
 
--- a call sees the rows of its service that are conversational exactly where it begins a conversation
+-- the rows that a call of that service sees: those that aren't conversational, or those that are where it begins a conversation
 abbrev pub listed : Setup → List Change → ℕ → List ℕ → Bool → List Row
 listed setup changes v service conversational =
-    filter (λ row. same_name row.service service && same_truth row.conversational conversational) (rows_at setup changes v)
+    filter (λ row. bytes_eq row.service service && same_truth row.conversational conversational) (rows_at setup changes v)
 
 -- the row of a service on a queue
 abbrev pub row_of : List ℕ → ℕ → List Row → Option Row

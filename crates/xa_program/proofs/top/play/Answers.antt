@@ -8,5 +8,5 @@ returns-in-Ok-starters_of-clause-play g c =
     let none = subst (λ s. g.Y.Start.Starter.start_faults s ≡ 0) (sym c.index_mut.ensures.value) (c.in-Ok-starters_of.ensures.counts 0 c.index_mut.result.now (omega (arith, one))) in
     play_ends _ g.Y.Start.Starter.start_faults _ c.args.service.now c.in-Ok.script.clients
     c.perform-status.result.history.items c.perform-status.result.lives.items c.in-Ok-starters_of.starters.items c.index_mut.result.now c.perform-status.new.starter
-    one none c.in-Ok.ensures.script
+    one none c.in-Ok.ensures.script c.in-Ok.ensures.ended
     c.perform-status.result.status c.perform-status.ensures

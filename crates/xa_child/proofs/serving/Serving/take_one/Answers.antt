@@ -1,5 +1,5 @@
 use Rattle.std.proofs.Common.{subst, rules, refl}
-use Rattle.xa_frame.specs.Stream.{Found}
+use Rattle.xa_frame.specs.Reader.{Found}
 use Rattle.xa_child.proofs.ServingSteps.{answers_step}
 use Rattle.xa_child.proofs.serving.Serving.take_one.Goals as goal
 

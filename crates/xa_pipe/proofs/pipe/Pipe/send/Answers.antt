@@ -3,7 +3,7 @@ use Rattle.std.specs.Prelude.{OnOk}
 use Rattle.xa_types.specs.declared.data.Data.{Data}
 use Rattle.xa_link.specs.Told.{Grew}
 use Rattle.xa_frame.specs.Spelling.{spelled}
-use Rattle.xa_pipe.specs.Frames.{invoke_frame}
+use Rattle.xa_pipe.specs.Pipe.{invoke_frame}
 use Rattle.xa_pipe.proofs.pipe.Pipe.send.Goals as goal
 
 pub returns-clause-took : goal.returns-clause-took

@@ -1,4 +1,5 @@
--- What befell a request, and what its caller is told (XATMI, tpgetrply and tpreturn; TPEXIT after Tuxedo; NOMEM is this project's own).
+-- How a request ended, and what its caller is told (XATMI, tpgetrply and tpreturn; TPEXIT after Tuxedo; that a death is TPESVCERR, and NOMEM,
+-- are this project's own).
 use Rattle.std.specs.Prelude.{Bool, true, false, Option, Some, None, if◌then◌else◌}
 use Rattle.xa_types.specs.declared.data.Data.{Data}
 use Rattle.xa_types.specs.declared.data.Kind.{Kind}
@@ -7,7 +8,7 @@ use Rattle.xa_types.specs.declared.fault.Fault.TheVariants.{SvcErr, OType, NoMem
 use Rattle.xa_types.specs.declared.reply.Answer.{Answer}
 use Rattle.xa_types.specs.declared.reply.Answer.TheVariants.{Success, Failed as FailedAnswer, Error}
 use Rattle.xa_types.specs.Kind.{kind_of}
-use Rattle.xa_types.specs.Setup.{same_name}
+use Rattle.std.specs.Str.{bytes_eq}
 use Rattle.xa_events.specs.declared.event.Outcome.{Outcome}
 use Rattle.xa_events.specs.declared.event.Outcome.TheVariants.{Returned, Failed, BadReturn, Died, Starved}
 
@@ -23,7 +24,7 @@ reply_of Starved = Error NoMemory
 abbrev pub kind_fits : Kind → Option Kind → Bool
 kind_fits wanted None = true
 kind_fits OctetKind (Some OctetKind) = true
-kind_fits (StructKind wanted) (Some (StructKind subtype)) = same_name wanted subtype
+kind_fits (StructKind wanted) (Some (StructKind subtype)) = bytes_eq wanted subtype
 kind_fits wanted (Some kind) = false
 
 -- under TPNOCHANGE a reply of another kind than the buffer's is TPEOTYPE
