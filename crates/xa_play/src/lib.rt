@@ -15,4 +15,4 @@ pub use server::{
     note_boot, note_closed, note_ended, note_fallen, note_left, note_not_started, note_shut_down,
     note_started,
 };
-pub use setup::{name_of, play_setup};
+pub use setup::{play_setup, server_name};

@@ -1,13 +1,13 @@
 // The setup of `play`.
 ghost use Rattle.std.specs.Prelude.{◌≡◌, IfOk};
 ghost use Rattle.xa_types.specs.Name.{IsName};
-ghost use Rattle.xa_play.specs.PlaySetup.{play_setup};
+ghost use Rattle.xa_play.specs.PlaySetup.{play_setup, server_name};
 
 use std::alloc::Global;
 use xa_types::{Accepts, Name, NoMemory, QueueSetup, Sequence, ServerSetup, ServiceSetup, Setup};
 
-/// The name that these octets are.
-pub fn name_of(octets: &[u8]) -> Name
+// The name that these octets are.
+fn name_of(octets: &[u8]) -> Name
     requires { IsName octets.now }
     ensures { result ≡ octets.now }
 {
@@ -15,6 +15,13 @@ pub fn name_of(octets: &[u8]) -> Name
         Ok(name) => name,
         Err(_) => unreachable!(),
     }
+}
+
+/// The name of the one server.
+pub fn server_name() -> Name
+    ensures { result ≡ server_name }
+{
+    name_of(b"S")
 }
 
 /// One queue, one server on it without restart, and one service with the routine of its name.
@@ -31,7 +38,7 @@ pub fn play_setup(alloc: Global, service: &Name) -> Result<Setup, NoMemory>
     ]?;
     let servers = vec![in alloc;
         ServerSetup {
-            name: name_of(b"S"),
+            name: server_name(),
             queue,
             program: None,
             restart: false,

@@ -26,23 +26,37 @@ use xa_play::{
 };
 use xa_types::{Ask, Data, Name, NoMemory, Op, Rval};
 
+/// What stays the same from call to call: where memory comes from, the service that is played, and the client.
+#[derive(Clone, Copy)]
+pub struct Session {
+    pub alloc: Global,
+    pub service: Name,
+    pub client: Name,
+}
+
 // Sends the request and hears what its service returns, or why the life of the server ended.
 fn exchange<L: Link>(
-    alloc: Global,
+    session: &Session,
     pipe: &mut Pipe<L>,
     history: &mut Vec<Event>,
-    service: &Name,
     op: u32,
     number: u32,
     payload: &Data,
 ) -> Result<Result<Return, StopCause>, NoMemory>
-    requires { is_sound (play_setup service.now) payload.now ≡ true }
-    ensures taken { OnOk result (history.new.items ≡ history.old.items ++ Accept (accept service.now op number payload.now) ∷ Take (take_of number) ∷ []) }
-    ensures heard { IfOk result (Exchanged service.now number payload.now pipe.old pipe.new) }
+    requires { is_sound (play_setup session.now.service) payload.now ≡ true }
+    ensures taken { OnOk result (history.new.items ≡ history.old.items ++ Accept (accept session.now.service op number payload.now) ∷ Take (take_of number) ∷ []) }
+    ensures heard { IfOk result (Exchanged session.now.service number payload.now pipe.old pipe.new) }
 {
-    let sent = pipe.send(alloc, service, number, payload);
+    let sent = pipe.send(session.alloc, &session.service, number, payload);
     // The server's program works while this is noted.
-    note_taken(alloc, history, service, op, number, payload)?;
+    note_taken(
+        session.alloc,
+        history,
+        &session.service,
+        op,
+        number,
+        payload,
+    )?;
     match sent {
         Ok(()) => Ok(pipe.hear(number)),
         Err(cause) => Ok(Err(cause)),
@@ -90,24 +104,22 @@ fn cause_heard(heard: &Result<Return, StopCause>) -> Option<StopCause>
 
 // Notes how the request ended, that the life of the server ended with it, where it did, and what the client is told.
 fn note_call(
-    alloc: Global,
+    session: &Session,
     account: &mut Account,
-    service: &Name,
-    name: &Name,
     op: u32,
     number: u32,
     outcome: Outcome,
     cause: Option<StopCause>,
 ) -> Result<(), NoMemory>
-    ensures history { OnOk result (account.new.history.items ≡ account.old.history.items ++ End (end_with number outcome) ∷ (falls service.now cause ++ AnswerEvent (answer_of op number (reply_of outcome)) ∷ [])) }
-    ensures lines { OnOk result (account.new.lines.items ≡ account.old.lines.items ++ line_text name.now op (AnsweredReply 0 (reply_of outcome))) }
+    ensures history { OnOk result (account.new.history.items ≡ account.old.history.items ++ End (end_with number outcome) ∷ (falls session.now.service cause ++ AnswerEvent (answer_of op number (reply_of outcome)) ∷ [])) }
+    ensures lines { OnOk result (account.new.lines.items ≡ account.old.lines.items ++ line_text session.now.client op (AnsweredReply 0 (reply_of outcome))) }
 {
-    let answer = answer_to(alloc, &outcome)?;
+    let answer = answer_to(session.alloc, &outcome)?;
     note_ended(&mut account.history, number, outcome)?;
     if let Some(cause) = cause {
-        note_fallen(&mut account.history, service, cause)?;
+        note_fallen(&mut account.history, &session.service, cause)?;
     }
-    note_answered(account, name, op, number, answer)
+    note_answered(account, &session.client, op, number, answer)
 }
 
 // Waits until the server's program is free, and answers whether it is; else its life ended.
@@ -130,63 +142,51 @@ fn await_next<L: Link>(
 
 // Makes one call while the server is up, and answers whether it is up still.
 fn call<L: Link>(
-    alloc: Global,
+    session: &Session,
     pipe: &mut Pipe<L>,
     account: &mut Account,
     sent: &mut u32,
-    service: &Name,
-    name: &Name,
     op: u32,
     ask: &Ask,
 ) -> Result<bool, NoMemory>
     requires built { IsBuiltOp (CallOp ask.now) }
     requires few { sent.old < op }
     ensures goes { IfOk result (λ up. (n : ℕ) (ops : List Op) → op ≡ n + 1
-        → IsPlaying service.now name.now 1 n sent.old ops account.old.history.items account.old.lines.items
-        → IsServing service.now sent.old (reverse account.old.history.items) pipe.old
-        → IsPlaying service.now name.now 1 (n + 1) sent.new (ops ++ CallOp ask.now ∷ []) account.new.history.items account.new.lines.items
-        × IsLive up service.now sent.new (reverse account.new.history.items) pipe.new) }
+        → IsPlaying session.now.service session.now.client 1 n sent.old ops account.old.history.items account.old.lines.items
+        → IsServing session.now.service sent.old (reverse account.old.history.items) pipe.old
+        → IsPlaying session.now.service session.now.client 1 (n + 1) sent.new (ops ++ CallOp ask.now ∷ []) account.new.history.items account.new.lines.items
+        × IsLive up session.now.service sent.new (reverse account.new.history.items) pipe.new) }
     ensures few { IfOk result (λ up. sent.new ≤ op) }
 {
-    if let Some(refusal) = check(ask, service, 1) {
-        note_refused(account, name, op, refusal)?;
+    if let Some(refusal) = check(ask, &session.service, 1) {
+        note_refused(account, &session.client, op, refusal)?;
         return Ok(true);
     }
     *sent += 1;
-    serve_call(alloc, pipe, account, service, name, op, *sent, &ask.payload)
+    serve_call(session, pipe, account, op, *sent, &ask.payload)
 }
 
 // Carries a call that isn't refused to its answer.
 fn serve_call<L: Link>(
-    alloc: Global,
+    session: &Session,
     pipe: &mut Pipe<L>,
     account: &mut Account,
-    service: &Name,
-    name: &Name,
     op: u32,
     number: u32,
     payload: &Data,
 ) -> Result<bool, NoMemory>
-    requires { is_sound (play_setup service.now) payload.now ≡ true }
-    ensures { IfOk result (λ up. IsCarried up service.now name.now op number payload.now account.old.history.items account.new.history.items
+    requires { is_sound (play_setup session.now.service) payload.now ≡ true }
+    ensures { IfOk result (λ up. IsCarried up session.now.service session.now.client op number payload.now account.old.history.items account.new.history.items
         account.old.lines.items account.new.lines.items pipe.old pipe.new) }
 {
-    let heard = exchange(
-        alloc,
-        pipe,
-        &mut account.history,
-        service,
-        op,
-        number,
-        payload,
-    )?;
+    let heard = exchange(session, pipe, &mut account.history, op, number, payload)?;
     let cause = cause_heard(&heard);
     let outcome = outcome_heard(heard);
-    note_call(alloc, account, service, name, op, number, outcome, cause)?;
+    note_call(session, account, op, number, outcome, cause)?;
     if cause.is_some() {
         return Ok(false);
     }
-    await_next(pipe, &mut account.history, service)
+    await_next(pipe, &mut account.history, &session.service)
 }
 
 // Makes one call once the queue is down.
@@ -217,12 +217,10 @@ fn ask_of(op: &Op) -> &Ask
 
 // Makes one call, and answers whether the server is up behind it.
 fn next_call<L: Link>(
-    alloc: Global,
+    session: &Session,
     pipe: &mut Pipe<L>,
     account: &mut Account,
     sent: &mut u32,
-    service: &Name,
-    name: &Name,
     op: u32,
     up: bool,
     ask: &Ask,
@@ -230,35 +228,33 @@ fn next_call<L: Link>(
     requires built { IsBuiltOp (CallOp ask.now) }
     requires few { sent.old < op }
     ensures goes { IfOk result (λ now. (n : ℕ) (ops : List Op) → op ≡ n + 1
-        → IsPlaying service.now name.now 1 n sent.old ops account.old.history.items account.old.lines.items
-        → IsLive up service.now sent.old (reverse account.old.history.items) pipe.old
-        → IsPlaying service.now name.now 1 (n + 1) sent.new (ops ++ CallOp ask.now ∷ []) account.new.history.items account.new.lines.items
-        × IsLive now service.now sent.new (reverse account.new.history.items) pipe.new) }
+        → IsPlaying session.now.service session.now.client 1 n sent.old ops account.old.history.items account.old.lines.items
+        → IsLive up session.now.service sent.old (reverse account.old.history.items) pipe.old
+        → IsPlaying session.now.service session.now.client 1 (n + 1) sent.new (ops ++ CallOp ask.now ∷ []) account.new.history.items account.new.lines.items
+        × IsLive now session.now.service sent.new (reverse account.new.history.items) pipe.new) }
     ensures few { IfOk result (λ now. sent.new ≤ op) }
 {
     if up {
-        return call(alloc, pipe, account, sent, service, name, op, ask);
+        return call(session, pipe, account, sent, op, ask);
     }
-    refuse_call(account, service, name, op, ask)?;
+    refuse_call(account, &session.service, &session.client, op, ask)?;
     Ok(false)
 }
 
 /// Makes these calls, one after another, while the server is up and after, and answers whether it is up at the end.
 pub fn make_calls<L: Link>(
-    alloc: Global,
+    session: &Session,
     pipe: &mut Pipe<L>,
     account: &mut Account,
-    service: &Name,
-    name: &Name,
     up: bool,
     ops: &[Op],
 ) -> Result<bool, NoMemory>
     requires built { All IsBuiltOp ops.now }
     requires few { length ops.now < 2 ^ 32 }
-    ensures { IfOk result (λ now. IsPlaying service.now name.now 1 0 0 [] account.old.history.items account.old.lines.items
-        → IsLive up service.now 0 (reverse account.old.history.items) pipe.old
-        → (m : ℕ) × IsPlaying service.now name.now 1 (length ops.now) m ops.now account.new.history.items account.new.lines.items
-        × IsLive now service.now m (reverse account.new.history.items) pipe.new) }
+    ensures { IfOk result (λ now. IsPlaying session.now.service session.now.client 1 0 0 [] account.old.history.items account.old.lines.items
+        → IsLive up session.now.service 0 (reverse account.old.history.items) pipe.old
+        → (m : ℕ) × IsPlaying session.now.service session.now.client 1 (length ops.now) m ops.now account.new.history.items account.new.lines.items
+        × IsLive now session.now.service m (reverse account.new.history.items) pipe.new) }
 {
     let mut up = up;
     let mut number = 0u32;
@@ -266,9 +262,7 @@ pub fn make_calls<L: Link>(
     for op in ops {
         number += 1;
         let ask = ask_of(op);
-        up = next_call(
-            alloc, pipe, account, &mut sent, service, name, number, up, ask,
-        )?;
+        up = next_call(session, pipe, account, &mut sent, number, up, ask)?;
     }
     Ok(up)
 }

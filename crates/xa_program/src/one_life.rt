@@ -7,7 +7,7 @@ ghost use Rattle.xa_play.specs.History.{advertise, start};
 ghost use Rattle.xa_play.specs.PlaySetup.{server_name};
 ghost use Rattle.xa_program.specs.Progress.{IsPlaying, IsLive, IsLeaving, IsServing, NeverStarted, IsOver, HasLived, HasNotLived, IsBuiltScript, IsOnly, Greets, IsDone};
 
-use crate::calls::{make_calls, refuse_calls};
+use crate::calls::{Session, make_calls, refuse_calls};
 use std::alloc::Global;
 use xa_events::Event;
 use xa_link::Link;
@@ -64,15 +64,12 @@ fn make_all<L: Link>(
     let Some(client) = only_client(script) else {
         return Ok(up);
     };
-    let up = make_calls(
+    let session = Session {
         alloc,
-        pipe,
-        account,
-        service,
-        &client.name,
-        up,
-        client.ops.slice(),
-    )?;
+        service: *service,
+        client: client.name,
+    };
+    let up = make_calls(&session, pipe, account, up, client.ops.slice())?;
     note_left(&mut account.history)?;
     Ok(up)
 }

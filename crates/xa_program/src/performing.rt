@@ -12,7 +12,7 @@ use std::alloc::Global;
 use xa_events::Event;
 use xa_link::{Link, Sink, StartRefused, Starter, put};
 use xa_pipe::Pipe;
-use xa_play::{Account, LIFE, SERVER, name_of, note_boot};
+use xa_play::{Account, LIFE, SERVER, note_boot, server_name};
 use xa_script::Script;
 use xa_types::{Data, Name, NoMemory, Op};
 
@@ -68,38 +68,28 @@ pub fn perform<O: Sink, L: Link, S: Starter<L>>(
         service.now script.now.clients result.status result.history.items result.lives.items }
 {
     let Ok(mut account) = account_for(alloc, script) else {
-        return stopped(alloc, Vec::new(alloc), Status::NoMemory);
+        return out_of_memory(Vec::new(alloc), Vec::new(alloc));
     };
     let Ok(lives) = Vec::with_capacity(alloc, 1) else {
-        return stopped(alloc, account.history, Status::NoMemory);
+        return out_of_memory(account.history, Vec::new(alloc));
     };
     if note_boot(&mut account.history, service).is_err() {
-        return not_started(account, lives, Status::NoMemory);
+        return out_of_memory(account.history, lives);
     }
-    match starter.start(&name_of(b"S"), LIFE) {
+    match starter.start(&server_name(), LIFE) {
         Ok(link) => live(alloc, service, script, out, account, lives, link),
         Err(StartRefused::Failed) => never_live(service, script, out, account, lives),
-        Err(StartRefused::NoMemory) => not_started(account, lives, Status::NoMemory),
+        Err(StartRefused::NoMemory) => out_of_memory(account.history, lives),
     }
 }
 
-fn stopped<L>(alloc: Global, history: Vec<Event>, status: Status) -> Served<L>
-    ensures { result.status ≡ status }
+// What there is where memory ran out before the server was started.
+fn out_of_memory<L>(history: Vec<Event>, lives: Vec<Life<L>>) -> Served<L>
+    ensures { result.status ≡ Status.NoMemory }
 {
     Served {
-        status,
+        status: Status::NoMemory,
         history,
-        lives: Vec::new(alloc),
-    }
-}
-
-fn not_started<L>(account: Account, lives: Vec<Life<L>>, status: Status) -> Served<L>
-    ensures status { result.status ≡ status }
-    ensures lives { result.lives.items ≡ lives.items }
-{
-    Served {
-        status,
-        history: account.history,
         lives,
     }
 }
@@ -131,7 +121,7 @@ fn live<O: Sink, L: Link>(
         &mut pipe,
         &mut account,
         service,
-        &name_of(b"S"),
+        &server_name(),
         script,
     );
     keep_life(&mut lives, pipe.into_link());

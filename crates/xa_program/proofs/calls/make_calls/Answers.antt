@@ -19,7 +19,7 @@ loop-op-preserved g c = record {
       let more : take (place + 1) ops ≡ take place ops ++ Call c.ask_of-ask.result.now ∷ [] =
       take_more ops place c.op-item.result (omega arith) ∙ ap (λ (x : Op). take place ops ++ x ∷ []) (sym op ∙ c.ask_of-ask.ensures.ask) in
       let so_far = c.loop-op.invariant.played begun live in
-      subst (λ (made : List Op). IsPlaying c.args.service.now c.args.name.now 1 (place + 1) c.next_call.new.sent made c.next_call.new.account.history.items c.next_call.new.account.lines.items
-      × IsLive c.in_ok-up.up c.args.service.now c.next_call.new.sent (reverse c.next_call.new.account.history.items) c.next_call.new.pipe) (sym more)
+      subst (λ (made : List Op). IsPlaying c.args.session.now.service c.args.session.now.client 1 (place + 1) c.next_call.new.sent made c.next_call.new.account.history.items c.next_call.new.account.lines.items
+      × IsLive c.in_ok-up.up c.args.session.now.service c.next_call.new.sent (reverse c.next_call.new.account.history.items) c.next_call.new.pipe) (sym more)
       (c.in_ok-up.ensures.goes place (take place ops) (omega arith) so_far.0 so_far.1);
 }
