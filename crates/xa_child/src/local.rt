@@ -226,6 +226,8 @@ pub struct LocalStarter {
 impl Starter<LocalLink> for LocalStarter {
     ghost start_faults = { λ _. 0 };
 
+    ghost asked = { λ _. None };
+
     fn start(&mut self, server: &Name, _generation: Generation) -> Result<LocalLink, StartRefused> {
         LocalLink::start(self.alloc, server).map_err(|_| StartRefused::NoMemory)
     }

@@ -1,5 +1,6 @@
 pub mod Told
 pub mod Reads
+pub mod Starts
 pub mod Files
 pub mod Lives
 pub mod Memory

@@ -144,6 +144,8 @@ fn spawn<R: Processes + Files>(rt: &R, command: &mut Command) -> io::Result<Chil
 impl<R: Processes + Files + AllocGlobal> Starter<ChildLink<R::Started>> for ChildStarter<R> {
     ghost start_faults = { λ s. s.faults };
 
+    ghost asked = { λ _. None };
+
     fn start(
         &mut self,
         server: &Name,

@@ -1,6 +1,8 @@
 // How servers are started.
-ghost use Rattle.std.specs.Prelude.{◌≡◌, ◌≤◌, ◌<◌, ℕ, length, All, IfOk, OnOk, IsErrOf};
+ghost use Rattle.std.specs.Prelude.{◌≡◌, ◌≤◌, ◌<◌, ℕ, List, [], length, All, Option, IfSome, IfOk, OnOk, IsErrOf};
+ghost use Rattle.xa_types.specs.declared.ids.Generation.{Generation};
 ghost use Rattle.xa_link.specs.Told.{Rose, Empty};
+ghost use Rattle.xa_link.specs.Starts.{AsksFor};
 
 use crate::Link;
 use thiserror::Error;
@@ -20,11 +22,16 @@ pub trait Starter<L: Link> {
     /// How often a start failed. It stands still at 2^64 - 1.
     ghost start_faults: { Self → ℕ };
 
+    /// The starts that it was asked for, each with the server's name and the generation, where it tells them.
+    ghost asked: { Self → Option (List (List ℕ × Generation)) };
+
     /// Starts the server, for the `generation`th time, and gives the pipes of that life. Nothing went through them,
     /// and nothing failed.
     fn start(&mut self, server: &Name, generation: Generation) -> Result<L, StartRefused>
         ensures counts { IfOk result (λ link. (L.read_faults link ≡ 0) × (L.write_faults link ≡ 0)) }
         ensures fresh { IfOk result (λ link. Empty (L.took link) × Empty (L.gave link)) }
+        ensures started { OnOk result (AsksFor (asked self.old) (asked self.new) server.now generation) }
+        ensures failed { IsErrOf result StartRefused.Failed → AsksFor (asked self.old) (asked self.new) server.now generation }
 
         ensures later { start_faults self.old ≤ start_faults self.new }
         ensures cause { IsErrOf result StartRefused.Failed → Rose (start_faults self.old) (start_faults self.new) }
@@ -37,8 +44,9 @@ pub trait Yard {
 
     type Start: Starter<Self::Line> + Send;
 
-    /// One starter for each server of the setup, in its order. None of them failed yet.
+    /// One starter for each server of the setup, in its order. None of them was asked for a start yet.
     fn starters(&mut self, setup: &Setup) -> Result<Vec<Self::Start>, NoMemory>
         ensures each { IfOk result (λ all. length all.items ≡ length setup.now.servers) }
-        ensures counts { IfOk result (λ all. All (λ s. Self.Start.start_faults s ≡ 0) all.items) };
+        ensures counts { IfOk result (λ all. All (λ s. Self.Start.start_faults s ≡ 0) all.items) }
+        ensures none { IfOk result (λ all. All (λ s. IfSome (Self.Start.asked s) (λ starts. starts ≡ [])) all.items) };
 }

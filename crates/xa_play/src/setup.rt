@@ -52,7 +52,7 @@ pub fn play_setup(alloc: Global, service: &Name) -> Result<Setup, NoMemory>
             routine: *service,
             queues: Sequence::from_vec(vec![in alloc; queue]?),
             priority: 50,
-            accepts: Accepts::ALL,
+            accepts: Accepts::all(),
             conversational: false
         },
     ]?;

@@ -15,7 +15,7 @@ use Rattle.xa_events.specs.State.{opening}
 use Rattle.xa_events.specs.Caller.{last_op}
 use Rattle.xa_events.specs.Order.{TakesInOrder}
 use Rattle.xa_events.specs.Run.{Run, IsFinal}
-use Rattle.xa_events.specs.Server.{is_shutdown}
+use Rattle.xa_events.specs.Server.{is_shutdown, starts}
 use Rattle.xa_events.specs.Request.{ended}
 use Rattle.xa_events.specs.Calls.{events_of_op}
 use Rattle.xa_events.proofs.Stages.{agree_none, ends_along}
@@ -240,8 +240,8 @@ made_lines service (client ∷ other ∷ clients) past final lines made kept op 
 -- these events end the run
 over_by : (service : List ℕ) (clients : List Client) (history past tail final : List Event) (lines : List ℕ) → IsLeavingAt service clients history past lines
     → Run (at service (length clients) past) tail (at service (length clients) final) → IsFinal (at service (length clients) final) → TakesInOrder (play_setup service) final
-    → ((n m : ℕ) → Keeps (play_setup service) n m past final) → last_op 1 final ≡ last_op 1 past → reverse (history ++ tail) ≡ final → IsOver service clients (history ++ tail) lines
-over_by service clients history past tail final lines old run is_final order kept op reversed =
+    → ((n m : ℕ) → Keeps (play_setup service) n m past final) → last_op 1 final ≡ last_op 1 past → starts 1 final ≡ starts 1 past → reverse (history ++ tail) ≡ final → IsOver service clients (history ++ tail) lines
+over_by service clients history past tail final lines old run is_final order kept op made reversed =
     let count = length clients in
     let whole : Run (opening (play_setup service) count) (history ++ tail) (at service count final) = run_append history tail (opening (play_setup service) count) (at service count past) (at service count final) old.run run in
     record {
@@ -254,12 +254,25 @@ over_by service clients history past tail final lines old run is_final order kep
         forward = versions_along (history ++ tail) (opening (play_setup service) count) (at service count final) none_read tt whole;
         calls = made_calls service clients past final lines old.made kept op;
       });
+      made = subst (λ (es : List Event). starts 1 es ≡ 0 ∷ []) (sym reversed) (made ∙ old.left.made);
       said = subst (λ (es : List Event). lines ≡ transcript (names_of clients) es) (sym reversed) (made_lines service clients past final lines old.made kept op);
     }
 
 module _ (service : List ℕ) (clients : List Client) (history : List Event) (lines : List ℕ) (old : IsLeaving service clients history lines) where
   abbrev so_far : List Event
   so_far = reverse history
+
+  starts_closed : starts 1 (closed so_far) ≡ starts 1 so_far
+  unfolding starts
+  starts_closed = refl
+
+  starts_shut : starts 1 (Stop (stop Shutdown) ∷ closed so_far) ≡ starts 1 so_far
+  unfolding starts
+  starts_shut = refl
+
+  starts_dropped : (cause : StopCause) → starts 1 (gone service (Stop (stop cause) ∷ closed so_far)) ≡ starts 1 so_far
+  unfolding starts
+  starts_dropped cause = refl
 
   op_closed : last_op 1 (closed so_far) ≡ last_op 1 so_far
   unfolding last_op
@@ -281,20 +294,20 @@ module _ (service : List ℕ) (clients : List Client) (history : List Event) (li
   over_shut up =
       over_by service clients history so_far (Close (record { 0 = 1 }) ∷ Stop (stop Shutdown) ∷ []) (Stop (stop Shutdown) ∷ closed so_far) lines old (run_shut service (length clients) so_far old.left up)
       (final_shut service (length clients) so_far old.left) (tt, (tt, old.order))
-      (λ n m. keeps_on (play_setup service) n m so_far (closed so_far) (Stop (stop Shutdown) ∷ closed so_far) (keeps_closed service n m so_far) (keeps_shut service n m (closed so_far))) op_shut
+      (λ n m. keeps_on (play_setup service) n m so_far (closed so_far) (Stop (stop Shutdown) ∷ closed so_far) (keeps_closed service n m so_far) (keeps_shut service n m (closed so_far))) op_shut starts_shut
       (reverse-append history (Close (record { 0 = 1 }) ∷ Stop (stop Shutdown) ∷ []))
 
   pub over_dropped : (cause : StopCause) → IsUp service (Idle (record { 0 = 1 })) so_far → is_shutdown cause ≡ false → (cause ≡ Exit → ⊥) → IsOver service clients (history ++ Close (record { 0 = 1 }) ∷ falls service (Some cause)) lines
   over_dropped cause up other no_exit =
       over_by service clients history so_far (Close (record { 0 = 1 }) ∷ falls service (Some cause)) (gone service (Stop (stop cause) ∷ closed so_far)) lines old (run_dropped service (length clients) so_far old.left cause up other no_exit)
       (final_dropped service (length clients) cause so_far old.left) (tt, (tt, (tt, (tt, (tt, old.order)))))
-      (λ n m. keeps_on (play_setup service) n m so_far (closed so_far) (gone service (Stop (stop cause) ∷ closed so_far)) (keeps_closed service n m so_far) (keeps_fallen service n m (closed so_far) cause (board_closed _ up.board))) (op_dropped cause)
+      (λ n m. keeps_on (play_setup service) n m so_far (closed so_far) (gone service (Stop (stop cause) ∷ closed so_far)) (keeps_closed service n m so_far) (keeps_fallen service n m (closed so_far) cause (board_closed _ up.board))) (op_dropped cause) (starts_dropped cause)
       (reverse-append history (Close (record { 0 = 1 }) ∷ falls service (Some cause)))
 
   pub over_closed : IsDown service so_far → IsOver service clients (history ++ Close (record { 0 = 1 }) ∷ []) lines
   over_closed down =
       over_by service clients history so_far (Close (record { 0 = 1 }) ∷ []) (closed so_far) lines old (run_closed service (length clients) so_far old.left down)
-      (final_down service (length clients) so_far old.left down) (tt, old.order) (λ n m. keeps_closed service n m so_far) op_closed (reverse-append history (Close (record { 0 = 1 }) ∷ []))
+      (final_down service (length clients) so_far old.left down) (tt, old.order) (λ n m. keeps_closed service n m so_far) op_closed starts_closed (reverse-append history (Close (record { 0 = 1 }) ∷ []))
 
 -- ---- the life at the end
 

@@ -1,9 +1,11 @@
 -- What a run of `play` comes to (this project's own).
-use Rattle.std.specs.Prelude.{◌≡◌, ◌≤◌, ◌<◌, ◌+◌, ℕ, List, [], ◌∷◌, length, reverse, map, Option, IfSome, All, ⊤}
+use Rattle.std.specs.Prelude.{◌≡◌, ◌≤◌, ◌<◌, ℕ, zero, suc, List, [], ◌∷◌, ◌++◌, length, reverse, map, Option, IfSome, All, ⊤}
 use Rattle.xa_types.specs.declared.setup.Setup.{Setup}
 use Rattle.xa_types.specs.Setup.{numbered}
 use Rattle.xa_link.specs.Told.{Rose, Empty, Grew, GrewByPrefix}
 use Rattle.xa_events.specs.declared.event.Event.{Event}
+use Rattle.xa_types.specs.declared.ids.Generation.{Generation}
+use Rattle.xa_events.specs.Server.{starts}
 use Rattle.xa_events.specs.Words.{EachNumbered}
 use Rattle.xa_events.specs.State.{opening}
 use Rattle.xa_events.specs.Run.{Run, IsFinal}
@@ -40,9 +42,24 @@ pub record IsHistoryAt (setup : Setup) (clients : List Client) (history past : L
 abbrev pub IsHistory : Setup → List Client → List Event → Type 0
 IsHistory setup clients history = IsHistoryAt setup clients history (reverse history)
 
--- each starter, of which the first is of the server with that number, counts at least the failed starts of its server
-abbrev pub EachCounts : {S : Type 0} → (S → ℕ) → ℕ → List S → List Event → Type 0
-EachCounts start_faults server starters past = EachNumbered (λ k starter. failed_starts k past ≤ start_faults starter) server starters
+-- what a starter shows: how often a start failed, and the starts that it was asked for, where it tells them
+pub record StarterShows : Type 0 where
+  pub faults : ℕ
+  pub asked : Option (List (List ℕ × Generation))
+
+-- the first n starts of the server of that name
+abbrev pub starts_of : List ℕ → ℕ → List (List ℕ × Generation)
+starts_of name zero = []
+starts_of name (suc n) = starts_of name n ++ (name, record { 0 = suc n }) ∷ []
+
+-- the starter of the server with that number counts at least the server's failed starts, and was asked for its starts, and for no others
+pub record IsStarterOf (setup : Setup) (server : ℕ) (shown : StarterShows) (past : List Event) : Type 0 where
+  pub counts : failed_starts server past ≤ shown.faults
+  pub each : IfSome shown.asked (λ all. all ≡ starts_of (server_name_in (numbered server setup.servers)) (length (starts server past)))
+
+-- each starter is that of its server, the first of the first
+abbrev pub EachStarter : {S : Type 0} → Setup → (S → StarterShows) → ℕ → List S → List Event → Type 0
+EachStarter setup shows server starters past = EachNumbered (λ k starter. IsStarterOf setup k (shows starter) past) server starters
 
 -- what a link tells, and how often its reads and writes failed
 pub record LinkTells (L : Type 0) : Type 0 where
@@ -57,13 +74,13 @@ abbrev pub IsLifeOf : {L : Type 0} → LinkTells L → Setup → List Event → 
 IsLifeOf tells setup past life = IsLife setup (server_name_in (numbered life.server.0 setup.servers)) life.server.0 life.generation.0 past
     (tells.took life.link) (tells.gave life.link) (tells.left life.link) (tells.reads life.link) (tells.writes life.link)
 
--- what went through the pipes is the history's: each server has its starter, the lives are its starts, each link's octets are those of
--- its events, and each starter counts the starts that failed
-pub record IsCarried {L S : Type 0} (tells : LinkTells L) (start_faults : S → ℕ) (setup : Setup) (past : List Event) (lives : List (Life L)) (starters : List S) : Type 0 where
+-- what went through the pipes is the history's: each server has its starter, which was asked for the server's starts, the lives are those that
+-- didn't fail, and each link's octets are those of its events
+pub record IsCarried {L S : Type 0} (tells : LinkTells L) (shows : S → StarterShows) (setup : Setup) (past : List Event) (lives : List (Life L)) (starters : List S) : Type 0 where
   pub all : length starters ≡ length setup.servers
   pub lives_are : map (λ life. (life.server.0, life.generation.0)) lives ≡ lives_of past
   pub pipes : All (IsLifeOf tells setup past) lives
-  pub starts : EachCounts start_faults 1 starters past
+  pub each : EachStarter setup shows 1 starters past
 
 -- how long a script may be, in octets
 abbrev pub longest_script : ℕ
@@ -78,11 +95,11 @@ abbrev pub HasFirstFault : Option (List ℕ) → ℕ → Type 0
 HasFirstFault told line = IfSome told (λ octets. (length octets ≤ longest_script) × IsFirstFault octets line)
 
 -- the clients are the script's, and the history and the pipes are theirs
-pub record IsPlayed {L S : Type 0} (tells : LinkTells L) (start_faults : S → ℕ) (told : Option (List ℕ)) (service : List ℕ) (clients : List Client)
+pub record IsPlayed {L S : Type 0} (tells : LinkTells L) (shows : S → StarterShows) (told : Option (List ℕ)) (service : List ℕ) (clients : List Client)
     (history : List Event) (lives : List (Life L)) (starters : List S) : Type 0 where
   pub script : IsTheScript told clients
   pub machine : IsHistory (play_setup service) clients history
-  pub carried : IsCarried tells start_faults (play_setup service) (reverse history) lives starters
+  pub carried : IsCarried tells shows (play_setup service) (reverse history) lives starters
 
 -- what the input and the output show of a run: what the input holds before and after, what the output took, and how often a read or
 -- a write failed
@@ -105,19 +122,19 @@ pub record IsSilent (streams : Streams) : Type 0 where
   pub writes : streams.writes_after ≡ streams.writes_before
 
 -- how `play SERVICE` ends, and what that shows
-abbrev pub PlayEnds : {L S : Type 0} → LinkTells L → (S → ℕ) → Streams → List ℕ → Status → List Event → List (Life L) → List S → Type 0
-PlayEnds tells start_faults streams service Done history lives starters =
-    (clients : List Client) × IsPlayed tells start_faults streams.told service clients history lives starters × Empty streams.left_after
+abbrev pub PlayEnds : {L S : Type 0} → LinkTells L → (S → StarterShows) → Streams → List ℕ → Status → List Event → List (Life L) → List S → Type 0
+PlayEnds tells shows streams service Done history lives starters =
+    (clients : List Client) × IsPlayed tells shows streams.told service clients history lives starters × Empty streams.left_after
     × Grew streams.took_before streams.took_after (transcript (names_of clients) (reverse history))
-PlayEnds tells start_faults streams service WriteFault history lives starters =
-    (clients : List Client) × IsPlayed tells start_faults streams.told service clients history lives starters × Empty streams.left_after
+PlayEnds tells shows streams service WriteFault history lives starters =
+    (clients : List Client) × IsPlayed tells shows streams.told service clients history lives starters × Empty streams.left_after
     × GrewByPrefix streams.took_before streams.took_after (transcript (names_of clients) (reverse history))
     × Rose streams.writes_before streams.writes_after
-PlayEnds tells start_faults streams service ScriptRead history lives starters = Rose streams.reads_before streams.reads_after × IsSilent streams
-PlayEnds tells start_faults streams service (TooLong inputs.Script) history lives starters = IfSome streams.told (λ octets. longest_script < length octets) × IsSilent streams
-PlayEnds tells start_faults streams service (BadLine line cause) history lives starters = (cause ≡ 9) × HasFirstFault streams.told line × IsSilent streams
-PlayEnds tells start_faults streams service NoMemory history lives starters = IsSilent streams
-PlayEnds tells start_faults streams service status history lives starters = ⊥
+PlayEnds tells shows streams service ScriptRead history lives starters = Rose streams.reads_before streams.reads_after × IsSilent streams
+PlayEnds tells shows streams service (TooLong inputs.Script) history lives starters = IfSome streams.told (λ octets. longest_script < length octets) × IsSilent streams
+PlayEnds tells shows streams service (BadLine line cause) history lives starters = (cause ≡ 9) × HasFirstFault streams.told line × IsSilent streams
+PlayEnds tells shows streams service NoMemory history lives starters = IsSilent streams
+PlayEnds tells shows streams service status history lives starters = ⊥
 
 -- nothing is handed back
 abbrev pub HandsNothing : {L S : Type 0} → List Event → List (Life L) → List S → Type 0

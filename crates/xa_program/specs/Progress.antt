@@ -25,6 +25,8 @@ use Rattle.xa_events.specs.Run.{Run}
 use Rattle.xa_events.specs.Order.{TakesInOrder}
 use Rattle.xa_events.specs.Calls.{EachBecame}
 use Rattle.xa_events.specs.Caller.{last_op}
+use Rattle.xa_events.specs.Server.{starts}
+use Rattle.xa_link.specs.Starts.{AsksFor}
 use Rattle.xa_frame.specs.declared.frame.Frame.{Frame}
 use Rattle.xa_frame.specs.Spelling.{spelled, HasSpelling}
 use Rattle.xa_script.specs.declared.script.Client.{Client}
@@ -39,7 +41,7 @@ use Rattle.xa_play.specs.History.{refuse, stop, falls, in_order}
 use Rattle.xa_play.specs.Refusal.{IsRefused}
 use Rattle.xa_play.specs.Between.{at, IsQuiet, IsOpen, IsUp, IsDown, IsLeft, IsFresh, KnowsAnswers}
 use Rattle.xa_program.specs.Lives.{lives_of, failed_starts}
-use Rattle.xa_program.specs.Headline.{IsHistory, LinkTells, IsLifeOf, HasFirstFault, longest_script, names_of}
+use Rattle.xa_program.specs.Headline.{IsHistory, StarterShows, LinkTells, IsLifeOf, HasFirstFault, longest_script, names_of}
 use Rattle.xa_program.specs.declared.outcome.Life.{Life}
 use Rattle.xa_program.specs.declared.status.Status.{Status}
 use Rattle.xa_program.specs.declared.status.Status.TheVariants.{Done, ScriptRead, TooLong, BadLine, WriteFault, NoMemory}
@@ -197,6 +199,7 @@ IsLeaving service clients history lines = IsLeavingAt service clients history (r
 -- the run has come to its end, and all but the printing is done
 pub record IsOver (service : List ℕ) (clients : List Client) (history : List Event) (lines : List ℕ) : Type 0 where
   pub machine : IsHistory (play_setup service) clients history
+  pub made : starts 1 (reverse history) ≡ 0 ∷ []
   pub said : lines ≡ transcript (names_of clients) (reverse history)
 
 -- the one life, and its link
@@ -206,8 +209,12 @@ pub record HasLived (service : List ℕ) (past : List Event) (pipe : Piped) : Ty
   pub failed : failed_starts 1 past ≡ 0
 
 -- no start failed, or one that its starter counted
-abbrev pub StartsCount : List Event → ℕ → ℕ → Type 0
-StartsCount past starts starts_after = (failed_starts 1 past ≡ 0) ⊎ ((failed_starts 1 past ≡ 1) × Rose starts starts_after)
+abbrev pub StartsCount : List Event → StarterShows → StarterShows → Type 0
+StartsCount past before after = (failed_starts 1 past ≡ 0) ⊎ ((failed_starts 1 past ≡ 1) × Rose before.faults after.faults)
+
+-- the starter was asked for the one start
+abbrev pub IsAsked : StarterShows → StarterShows → Type 0
+IsAsked before after = AsksFor before.asked after.asked server_name (record { 0 = 1 })
 
 -- no life began, and one start failed
 pub record HasNotLived (past : List Event) : Type 0 where
@@ -241,20 +248,22 @@ IsDone true service history now before after = ReadNothing before after
     ⊎ ((cause : StopCause) × (now ≡ history ++ Close (record { 0 = 1 }) ∷ falls service (Some cause)) × SendFails cause before after (spelled shutdown_frame)))
 
 -- the history, its lives and their links, and the starts that failed
-pub record IsServed {L : Type 0} (tells : LinkTells L) (starts starts_after : ℕ) (service : List ℕ) (clients : List Client) (history : List Event) (lives : List (Life L)) : Type 0 where
+pub record IsServed {L : Type 0} (tells : LinkTells L) (before after : StarterShows) (service : List ℕ) (clients : List Client) (history : List Event) (lives : List (Life L)) : Type 0 where
   pub machine : IsHistory (play_setup service) clients history
   pub lives_are : map (λ life. (life.server.0, life.generation.0)) lives ≡ lives_of (reverse history)
   pub pipes : All (IsLifeOf tells (play_setup service) (reverse history)) lives
-  pub failed : StartsCount (reverse history) starts starts_after
+  pub made : starts 1 (reverse history) ≡ 0 ∷ []
+  pub failed : StartsCount (reverse history) before after
+  pub asked : IsAsked before after
 
 -- how serving a script ends, and what that shows; the output and the starter are seen before and after
-abbrev pub ServingEnds : {L : Type 0} → LinkTells L → Option (List ℕ) → Option (List ℕ) → ℕ → ℕ → ℕ → ℕ → List ℕ → List Client → Status → List Event → List (Life L) → Type 0
-ServingEnds tells before after faults faults_after starts starts_after service clients Done history lives =
-    IsServed tells starts starts_after service clients history lives × Grew before after (transcript (names_of clients) (reverse history))
-ServingEnds tells before after faults faults_after starts starts_after service clients WriteFault history lives =
-    IsServed tells starts starts_after service clients history lives × GrewByPrefix before after (transcript (names_of clients) (reverse history)) × Rose faults faults_after
-ServingEnds tells before after faults faults_after starts starts_after service clients NoMemory history lives = (after ≡ before) × (faults_after ≡ faults)
-ServingEnds tells before after faults faults_after starts starts_after service clients status history lives = ⊥
+abbrev pub ServingEnds : {L : Type 0} → LinkTells L → Option (List ℕ) → Option (List ℕ) → ℕ → ℕ → StarterShows → StarterShows → List ℕ → List Client → Status → List Event → List (Life L) → Type 0
+ServingEnds tells before after faults faults_after asks asks_after service clients Done history lives =
+    IsServed tells asks asks_after service clients history lives × Grew before after (transcript (names_of clients) (reverse history))
+ServingEnds tells before after faults faults_after asks asks_after service clients WriteFault history lives =
+    IsServed tells asks asks_after service clients history lives × GrewByPrefix before after (transcript (names_of clients) (reverse history)) × Rose faults faults_after
+ServingEnds tells before after faults faults_after asks asks_after service clients NoMemory history lives = (after ≡ before) × (faults_after ≡ faults)
+ServingEnds tells before after faults faults_after asks asks_after service clients status history lives = ⊥
 
 -- the lines were written whole, or in part and the output failed
 abbrev pub Printed : Option (List ℕ) → Option (List ℕ) → ℕ → ℕ → List ℕ → Status → Type 0

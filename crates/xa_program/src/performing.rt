@@ -3,7 +3,8 @@ ghost use Rattle.std.specs.Prelude.{◌≡◌, ◌∷◌, ◌++◌, ◌<◌, ℕ
 ghost use Rattle.xa_link.specs.Told.{Empty, Rose};
 ghost use Rattle.xa_events.specs.declared.event.Event.TheVariants.{Advertise};
 ghost use Rattle.xa_play.specs.History.{advertise};
-ghost use Rattle.xa_program.specs.Progress.{IsBuiltScript, Printed, Unprinted, ServingEnds};
+ghost use Rattle.xa_program.specs.Headline.{StarterShows};
+ghost use Rattle.xa_program.specs.Progress.{IsBuiltScript, IsAsked, Printed, Unprinted, ServingEnds};
 
 use crate::one_life::{serve, serve_none};
 use crate::outcome::Life;
@@ -64,7 +65,7 @@ pub fn perform<O: Sink, L: Link, S: Starter<L>>(
 ) -> Served<L>
     requires { IsBuiltScript script.now.clients }
     ensures { ServingEnds (record { took = L.took; gave = L.gave; left = L.left; reads = L.read_faults; writes = L.write_faults }) (O.took out.old) (O.took out.new) (O.write_faults out.old) (O.write_faults out.new)
-        (S.start_faults starter.old) (S.start_faults starter.new)
+        (record { faults = S.start_faults starter.old; asked = S.asked starter.old }) (record { faults = S.start_faults starter.new; asked = S.asked starter.new })
         service.now script.now.clients result.status result.history.items result.lives.items }
 {
     let Ok(mut account) = account_for(alloc, script) else {
@@ -111,7 +112,7 @@ fn live<O: Sink, L: Link>(
     requires room { vec_len lives < vec_capacity lives }
     requires took { Empty (L.took link) }
     requires gave { Empty (L.gave link) }
-    ensures { (starts starts_after : ℕ) → ServingEnds (record { took = L.took; gave = L.gave; left = L.left; reads = L.read_faults; writes = L.write_faults })
+    ensures { (starts starts_after : StarterShows) → IsAsked starts starts_after → ServingEnds (record { took = L.took; gave = L.gave; left = L.left; reads = L.read_faults; writes = L.write_faults })
         (O.took out.old) (O.took out.new) (O.write_faults out.old) (O.write_faults out.new) starts starts_after
         service.now script.now.clients result.status result.history.items result.lives.items }
 {
@@ -145,7 +146,7 @@ fn never_live<O: Sink, L: Link>(
     requires booted { account.history.items ≡ Advertise (advertise service.now) ∷ [] }
     requires silent { account.lines.items ≡ [] }
     requires none { lives.items ≡ [] }
-    ensures { (starts starts_after : ℕ) → Rose starts starts_after → ServingEnds (record { took = L.took; gave = L.gave; left = L.left; reads = L.read_faults; writes = L.write_faults })
+    ensures { (starts starts_after : StarterShows) → Rose starts.faults starts_after.faults → IsAsked starts starts_after → ServingEnds (record { took = L.took; gave = L.gave; left = L.left; reads = L.read_faults; writes = L.write_faults })
         (O.took out.old) (O.took out.new) (O.write_faults out.old) (O.write_faults out.new) starts starts_after
         service.now script.now.clients result.status result.history.items result.lives.items }
 {

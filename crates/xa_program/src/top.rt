@@ -1,5 +1,5 @@
 // The top call.
-ghost use Rattle.std.specs.Prelude.{◌≡◌, ◌⊎◌, ◌≤◌, ◌↔◌, [], ◌∷◌, ℕ, List, map, string_bytes, None, Some, All, IfOk, IfErr, OnOk, length, vec_len};
+ghost use Rattle.std.specs.Prelude.{◌≡◌, ◌⊎◌, ◌≤◌, ◌↔◌, [], ◌∷◌, ℕ, List, map, string_bytes, None, Some, All, IfSome, IfOk, IfErr, OnOk, length, vec_len};
 ghost use Rattle.xa_types.specs.Name.{IsName};
 ghost use Rattle.xa_link.specs.Told.{Rose, Empty};
 ghost use Rattle.xa_script.specs.declared.script.Script.{Script};
@@ -47,7 +47,7 @@ pub fn run<R, S: Shelf, I: Source, O: Sink, Y: Yard, G: Gate>(
 
     // What `play` comes to.
     ensures play { (service : List ℕ) → command_in (map string_bytes words.now) ≡ Some (Play service)
-        → PlayEnds (record { took = Y.Line.took; gave = Y.Line.gave; left = Y.Line.left; reads = Y.Line.read_faults; writes = Y.Line.write_faults }) Y.Start.start_faults
+        → PlayEnds (record { took = Y.Line.took; gave = Y.Line.gave; left = Y.Line.left; reads = Y.Line.read_faults; writes = Y.Line.write_faults }) (λ s. record { faults = Y.Start.start_faults s; asked = Y.Start.asked s })
         (record {
           told = I.left input.old;
           left_after = I.left input.new;
@@ -60,7 +60,7 @@ pub fn run<R, S: Shelf, I: Source, O: Sink, Y: Yard, G: Gate>(
         })
         service result.status result.history.items result.lives.items result.starters.items }
 
-    // Where a script is read that isn't too long, and neither the input nor the output fails, `play` comes to its end.
+    // Where a script is read that isn't too long, and neither the input nor the output fails, `play` ends with Done or NoMemory.
     ensures complete { (service : List ℕ) (octets : List ℕ) (script : Script) → command_in (map string_bytes words.now) ≡ Some (Play service)
         → I.left input.old ≡ Some octets → length octets ≤ longest_script → IsScript octets script
         → (Rose (I.read_faults input.old) (I.read_faults input.new) → ⊥) → (Rose (O.write_faults out.old) (O.write_faults out.new) → ⊥)
@@ -71,7 +71,7 @@ pub fn run<R, S: Shelf, I: Source, O: Sink, Y: Yard, G: Gate>(
         → ServerEnds name (I.left input.old) (I.left input.new) (I.gave input.old) (I.gave input.new) (O.took out.old) (O.took out.new) (I.read_faults input.old) (I.read_faults input.new) (O.write_faults out.old) (O.write_faults out.new) result.status
         × HandsNothing result.history.items result.lives.items result.starters.items }
 
-    // Before a server starts nothing is handed back.
+    // Where the words, the input or the script are refused, no event, life or starter is handed back.
     ensures early { EndsEarly result.status result.history.items result.lives.items result.starters.items }
 {
     match read_words(words) {
@@ -89,7 +89,7 @@ fn obey<I: Source, O: Sink, Y: Yard>(
 ) -> Outcome<Y>
     ensures known { result.status ≡ Status.Usage → ⊥ }
     ensures play { (service : List ℕ) → command ≡ Play service
-        → PlayEnds (record { took = Y.Line.took; gave = Y.Line.gave; left = Y.Line.left; reads = Y.Line.read_faults; writes = Y.Line.write_faults }) Y.Start.start_faults
+        → PlayEnds (record { took = Y.Line.took; gave = Y.Line.gave; left = Y.Line.left; reads = Y.Line.read_faults; writes = Y.Line.write_faults }) (λ s. record { faults = Y.Start.start_faults s; asked = Y.Start.asked s })
         (record {
           told = I.left input.old;
           left_after = I.left input.new;
@@ -153,7 +153,7 @@ fn play<I: Source, O: Sink, Y: Yard>(
     out: &mut O,
     yard: &mut Y,
 ) -> Outcome<Y>
-    ensures play { PlayEnds (record { took = Y.Line.took; gave = Y.Line.gave; left = Y.Line.left; reads = Y.Line.read_faults; writes = Y.Line.write_faults }) Y.Start.start_faults
+    ensures play { PlayEnds (record { took = Y.Line.took; gave = Y.Line.gave; left = Y.Line.left; reads = Y.Line.read_faults; writes = Y.Line.write_faults }) (λ s. record { faults = Y.Start.start_faults s; asked = Y.Start.asked s })
         (record {
           told = I.left input.old;
           left_after = I.left input.new;
@@ -196,6 +196,7 @@ fn starters_of<Y: Yard>(
 ) -> Result<Vec<Y::Start>, NoMemory>
     ensures one { IfOk result (λ starters. length starters.items ≡ 1) }
     ensures counts { IfOk result (λ starters. All (λ s. Y.Start.start_faults s ≡ 0) starters.items) }
+    ensures none { IfOk result (λ starters. All (λ s. IfSome (Y.Start.asked s) (λ starts. starts ≡ [])) starters.items) }
 {
     let setup = play_setup(alloc, service)?;
     yard.starters(&setup)

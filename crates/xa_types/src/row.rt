@@ -1,3 +1,6 @@
+ghost use Rattle.std.specs.Prelude.{◌≡◌};
+ghost use Rattle.xa_types.specs.Rows.{all_kinds};
+
 use crate::{Name, QueueId};
 
 /// The kinds of data that a service accepts: X_OCTET, and by one bit each the shapes in the order of the setup.
@@ -9,10 +12,14 @@ pub struct Accepts {
 
 impl Accepts {
     /// All kinds.
-    pub const ALL: Accepts = Accepts {
-        octet: true,
-        structs: u64::MAX,
-    };
+    pub fn all() -> Accepts
+        ensures { result ≡ all_kinds }
+    {
+        Accepts {
+            octet: true,
+            structs: u64::MAX,
+        }
+    }
 }
 
 /// A row of the board: a service that is advertised on a queue.

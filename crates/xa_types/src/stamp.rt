@@ -22,7 +22,7 @@ impl Stamp {
             (λ worn. (worn.0.0 ≡ max a.0 b.0) × (max a.0 b.0 ≡ 2 ^ 63)) }
     {
         let larger = a.0.max(b.0);
-        if larger >= 1 << 63 {
+        if larger >= Stamp::LAST.0 {
             return Err(Worn(Stamp(larger)));
         }
         Ok(Stamp(larger + 1))

@@ -55,6 +55,7 @@ impl MemorySource {
         ensures left { source_left self.new ≡ drop result (source_left self.old) }
         ensures gave { source_gave self.new ≡ source_gave self.old ++ take result into.new }
         ensures moved { result ≤ length (source_left self.old) }
+        ensures few { result ≤ self.old.most }
         ensures end { result ≡ 0 → 0 < length into.new → source_left self.old ≡ [] }
         ensures count { source_faults self.new ≡ source_faults self.old }
     {
@@ -71,6 +72,7 @@ fn give(octets: &[u8], at: usize, into: &mut [u8], most: usize) -> usize
     ensures room { result ≤ length into.new }
     ensures there { result ≤ length (drop at octets.now) }
     ensures copied { take result into.new ≡ take result (drop at octets.now) }
+    ensures few { result ≤ most }
     ensures end { result ≡ 0 → 0 < length into.new → drop at octets.now ≡ [] }
 {
     let rest = &octets[at..];

@@ -1,5 +1,5 @@
 // A yard in memory.
-ghost use Rattle.std.specs.Prelude.{◌≡◌, map};
+ghost use Rattle.std.specs.Prelude.{◌≡◌, map, Some};
 ghost use Rattle.xa_link.specs.Lives.{life_of};
 
 use super::MemoryLink;
@@ -13,6 +13,7 @@ use xa_types::{Generation, Name, NoMemory, Setup};
 #[derive(Debug, Drop)]
 pub struct MemoryStarter {
     lives: Vec<Option<MemoryLink>>,
+    asked: Vec<(Name, Generation)>,
     faults: u64,
 }
 
@@ -21,6 +22,7 @@ impl MemoryStarter {
     fn take(&mut self, generation: Generation) -> Option<MemoryLink>
         ensures given { result ≡ life_of self.old.lives.items generation.0 }
         ensures count { self.new.faults ≡ self.old.faults }
+        ensures asked { self.new.asked.items ≡ self.old.asked.items }
     {
         let place = generation.0.checked_sub(1)?;
         let life = self.lives.get_mut(usize::try_from(place).ok()?)?;
@@ -31,11 +33,12 @@ impl MemoryStarter {
 impl Starter<MemoryLink> for MemoryStarter {
     ghost start_faults = { λ s. s.faults };
 
-    fn start(
-        &mut self,
-        _server: &Name,
-        generation: Generation,
-    ) -> Result<MemoryLink, StartRefused> {
+    ghost asked = { λ s. Some s.asked.items };
+
+    fn start(&mut self, server: &Name, generation: Generation) -> Result<MemoryLink, StartRefused> {
+        if self.asked.push((*server, generation)).is_err() {
+            return Err(StartRefused::NoMemory);
+        }
         let Some(mut link) = self.take(generation) else {
             raise(&mut self.faults);
             return Err(StartRefused::Failed);
@@ -76,7 +79,11 @@ impl Yard for MemoryYard {
             if i < self.lives.len() {
                 mem::swap(&mut self.lives[i], &mut lives);
             }
-            all.push(MemoryStarter { lives, faults: 0 })?;
+            all.push(MemoryStarter {
+                lives,
+                asked: Vec::new(self.alloc),
+                faults: 0,
+            })?;
         }
         Ok(all)
     }

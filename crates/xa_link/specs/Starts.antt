@@ -1,0 +1,7 @@
+-- The starts that a starter was asked for.
+use Rattle.std.specs.Prelude.{◌≡◌, ℕ, List, [], ◌∷◌, ◌++◌, Option, option_map}
+use Rattle.xa_types.specs.declared.ids.Generation.{Generation}
+
+-- one start more was asked for, of that server and generation; what isn't told stays so
+abbrev pub AsksFor : Option (List (List ℕ × Generation)) → Option (List (List ℕ × Generation)) → List ℕ → Generation → Type 0
+AsksFor before now server generation = now ≡ option_map (λ starts. starts ++ (server, generation) ∷ []) before

@@ -1,0 +1,9 @@
+use Rattle.std.proofs.Common.{◌≡◌, ◌∙◌, sym}
+use Rattle.xa_program.specs.declared.words.Command.TheVariants.{Play}
+use Rattle.xa_program.proofs.top.obey.Goals as goal
+
+pub returns-in-Play-clause-play : goal.returns-in-Play-clause-play
+returns-in-Play-clause-play g c service is =
+    let both : Play c.in-Play.service ≡ Play service = sym c.in-Play.is ∙ is in
+    let same : c.in-Play.service ≡ service = cc both in
+    rw same at c.play.ensures.play
