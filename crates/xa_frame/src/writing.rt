@@ -141,8 +141,8 @@ fn put_header(out: &mut Vec<u8>, kind: u8, size: u32, tag: u32) -> Result<(), No
     Ok(())
 }
 
-/// Puts the octets of a frame, whose data has at most 65,536 octets, at the end. Where memory runs out, some of them may
-/// stand there.
+/// Puts the octets of a frame, whose data has at most 65,536 octets, at the end. Where memory runs out, nothing
+/// is said of what stands there.
 pub fn append(out: &mut Vec<u8>, frame: &Frame) -> Result<(), NoMemory>
     requires { HasSpelling frame.now }
     ensures { OnOk result (out.new.items ≡ out.old.items ++ spelled frame.now) }

@@ -1,5 +1,7 @@
 // Servers as processes.
-ghost use Rattle.std.specs.Prelude.{◌≡◌, ◌≤◌, ◌<◌, length, None, IfOk};
+ghost use Rattle.std.specs.Prelude.{◌≡◌, ◌≤◌, ◌<◌, length, None, IfOk, OnOk, IsErr};
+ghost use Rattle.std.specs.Io.KnownBytes.{ReadConsumes};
+ghost use Rattle.xa_link.specs.Told.{Rose};
 
 use crate::count::raise;
 use crate::{Failed, Link, ReadSource, Sink, Source, StartRefused, Starter, WriteSink, Yard};
@@ -40,7 +42,14 @@ impl<P: OpenProcess + Drop> Source for ChildLink<P> {
 
     ghost beside_reads = { λ l. (None, l.to.faults) };
 
-    fn read(&mut self, into: &mut [u8]) -> Result<usize, Failed> {
+    fn read(&mut self, into: &mut [u8]) -> Result<usize, Failed>
+        ensures bound { IfOk result (λ n. n ≤ length into.new) }
+        ensures bytes { ReadConsumes (P.Stdout.remaining self.old.from.reader) (P.Stdout.remaining self.new.from.reader) result into.new }
+        ensures alone { self.new.to.faults ≡ self.old.to.faults }
+        ensures later { self.old.from.faults ≤ self.new.from.faults }
+        ensures cause { IsErr result → Rose self.old.from.faults self.new.from.faults }
+        ensures quiet { OnOk result (self.new.from.faults ≡ self.old.from.faults) }
+    {
         self.from.read(into)
     }
 }

@@ -56,7 +56,10 @@ pub fn read_all<S: Source>(
     ensures short { IfOk result (λ all. length all.items ≤ limit) }
     ensures long { IsErrOf result ShelfRefused.TooLong → HasMore (S.left source.old) limit }
     ensures ended { OnOk result (Empty (S.left source.new)) }
+    ensures alone { S.beside_reads source.new ≡ S.beside_reads source.old }
+    ensures later { S.read_faults source.old ≤ S.read_faults source.new }
     ensures cause { IsErrOf result ShelfRefused.Failed → Rose (S.read_faults source.old) (S.read_faults source.new) }
+    ensures quiet { OnOk result (S.read_faults source.new ≡ S.read_faults source.old) }
 {
     let mut all = Vec::new(alloc);
     let mut piece = [0u8; PIECE];

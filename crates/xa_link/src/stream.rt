@@ -1,5 +1,7 @@
 // The standard streams, and other readers and writers.
-ghost use Rattle.std.specs.Prelude.{◌≡◌, ◌≤◌, ◌<◌, length, IfOk, None};
+ghost use Rattle.std.specs.Prelude.{◌≡◌, ◌≤◌, ◌<◌, ◌⊎◌, [], length, IfOk, OnOk, IsErr, Ok, None};
+ghost use Rattle.xa_link.specs.Told.{Rose};
+ghost use Rattle.std.specs.Io.KnownBytes.{ReadConsumes, WriteAppends};
 
 use crate::count::raise;
 use crate::{Failed, Sink, Source};
@@ -9,8 +11,8 @@ use std::io::{ErrorKind, Read, Write};
 // How often a read or a write is tried again that a signal interrupted.
 const TRIES: u32 = 1_000_000;
 
-/// A reader, such as standard input. It tells nothing of its octets. A read that a signal interrupts is tried again;
-/// every other error of the system is a failure.
+/// A reader, such as standard input. It tells nothing of its octets: a read gives what the reader gives. A read that a
+/// signal interrupts is tried again; every other error of the system is a failure.
 #[derive(Drop)]
 pub struct ReadSource<R: Read> {
     reader: R,
@@ -26,7 +28,8 @@ impl<R: Read> ReadSource<R> {
 }
 
 fn read_on<R: Read>(reader: &mut R, into: &mut [u8]) -> io::Result<usize>
-    ensures { IfOk result (λ n. n ≤ length into.new) }
+    ensures bound { IfOk result (λ n. n ≤ length into.new) }
+    ensures bytes { ReadConsumes (R.remaining reader.old) (R.remaining reader.new) result into.new }
 {
     for _ in 0..TRIES {
         match reader.read(into) {
@@ -46,7 +49,13 @@ impl<R: Read> Source for ReadSource<R> {
 
     ghost beside_reads = { λ _. (None, 0) };
 
-    fn read(&mut self, into: &mut [u8]) -> Result<usize, Failed> {
+    fn read(&mut self, into: &mut [u8]) -> Result<usize, Failed>
+        ensures bound { IfOk result (λ n. n ≤ length into.new) }
+        ensures bytes { ReadConsumes (R.remaining self.old.reader) (R.remaining self.new.reader) result into.new }
+        ensures later { self.old.faults ≤ self.new.faults }
+        ensures cause { IsErr result → Rose self.old.faults self.new.faults }
+        ensures quiet { OnOk result (self.new.faults ≡ self.old.faults) }
+    {
         let Ok(n) = read_on(&mut self.reader, into) else {
             raise(&mut self.faults);
             return Err(Failed);
@@ -55,8 +64,8 @@ impl<R: Read> Source for ReadSource<R> {
     }
 }
 
-/// A writer, such as standard output. It tells nothing of its octets. A write that a signal interrupts is tried again;
-/// every other error of the system is a failure.
+/// A writer, such as standard output. It tells nothing of its octets: a write takes what the writer takes. A write that
+/// a signal interrupts is tried again; every other error of the system is a failure.
 #[derive(Drop)]
 pub struct WriteSink<W: Write> {
     writer: W,
@@ -72,7 +81,8 @@ impl<W: Write> WriteSink<W> {
 }
 
 fn write_on<W: Write>(writer: &mut W, from: &[u8]) -> io::Result<usize>
-    ensures { IfOk result (λ n. n ≤ length from.now) }
+    ensures bound { IfOk result (λ n. n ≤ length from.now) }
+    ensures bytes { WriteAppends (W.contents writer.old) (W.contents writer.new) result from.now }
 {
     for _ in 0..TRIES {
         match writer.write(from) {
@@ -90,7 +100,14 @@ impl<W: Write> Sink for WriteSink<W> {
 
     ghost beside_writes = { λ _. (None, 0) };
 
-    fn write(&mut self, from: &[u8]) -> Result<usize, Failed> {
+    fn write(&mut self, from: &[u8]) -> Result<usize, Failed>
+        ensures bound { IfOk result (λ n. n ≤ length from.now) }
+        ensures bytes { WriteAppends (W.contents self.old.writer) (W.contents self.new.writer) result from.now }
+        ensures later { self.old.faults ≤ self.new.faults }
+        ensures cause { IsErr result → Rose self.old.faults self.new.faults }
+        ensures nothing { result ≡ Ok 0 → 0 < length from.now → Rose self.old.faults self.new.faults }
+        ensures quiet { IfOk result (λ n. (0 < n) ⊎ (from.now ≡ []) → self.new.faults ≡ self.old.faults) }
+    {
         let Ok(n) = write_on(&mut self.writer, from) else {
             raise(&mut self.faults);
             return Err(Failed);

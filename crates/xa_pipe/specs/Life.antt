@@ -100,13 +100,16 @@ IsCounted cause reads writes = Unit {0}
 abbrev pub place_behind : List Frame → ℕ
 place_behind frames = min (length (all_spelled frames)) (2 ^ 64 - 1)
 
--- what stands behind the frames: no whole frame and nothing more in the link, no frame, or one that the program may not say
+-- what stands behind the frames: no whole frame, and at the end of the input nothing more in the link; no frame at all; a frame that the program
+-- may not say; or where memory ran out, any octets
 abbrev pub Shows : List ℕ → ℕ → Turn → StopCause → List Frame → List ℕ → Option (List ℕ) → Type 0
 Shows name tag turn EndOfInput frames rest left = IsPartial rest × Empty left
 Shows name tag turn ReadFault frames rest left = IsPartial rest
 Shows name tag turn (BadBytes place) frames rest left = (place ≡ place_behind frames) × IsMalformed rest
 Shows name tag turn (OutOfTurn kind number) frames rest left =
     (f : Frame) × (more : List ℕ) × Begins rest f more × (kind ≡ kind_octet f.body) × (number ≡ f.tag) × (MaySay name tag turn f → ⊥)
+Shows name tag AwaitsReady StarvedStop frames rest left = rest ≡ [] → ⊥
+Shows name tag AwaitsNext StarvedStop frames rest left = rest ≡ [] → ⊥
 Shows name tag turn cause frames rest left = Unit {0}
 
 -- a request in hand has died with the life, or starved

@@ -1,5 +1,5 @@
 -- What the monitor's end of the pipes of a life has seen.
-use Rattle.std.specs.Prelude.{◌≡◌, ◌⊎◌, ℕ, ◌+◌, ◌-◌, ◌^◌, min, ◌<◌, List, ◌++◌, length, true, Option, Some, None, IfSome}
+use Rattle.std.specs.Prelude.{◌≡◌, ◌⊎◌, ℕ, ◌+◌, ◌-◌, ◌^◌, min, ◌<◌, List, [], ◌++◌, length, true, Option, Some, None, IfSome}
 use Rattle.xa_types.specs.declared.setup.Setup.{Setup}
 use Rattle.xa_types.specs.declared.data.Data.{Data}
 use Rattle.xa_types.specs.declared.call.Mode.TheVariants.{Reply}
@@ -46,12 +46,12 @@ abbrev pub Finds : Piped → Piped → Option Frame → Type 0
 Finds old new None = (new.rest ≡ old.rest) × (new.place ≡ old.place) × (length old.rest < 66_012) × IsPartial old.rest
 Finds old new (Some f) = HasSpelling f × (old.rest ≡ spelled f ++ new.rest) × (new.place ≡ min (old.place + length (spelled f)) (2 ^ 64 - 1))
 
--- why no frame was read behind these
+-- why no frame was read behind these: where memory ran out, the link gave more than these
 abbrev pub ReadsNone : Piped → List Frame → StopCause → Type 0
 ReadsNone pipe frames EndOfInput = IsPartial pipe.rest × Empty pipe.left
 ReadsNone pipe frames ReadFault = (0 < pipe.reads) × IsPartial pipe.rest
 ReadsNone pipe frames (BadBytes place) = (place ≡ place_behind frames) × IsMalformed pipe.rest
-ReadsNone pipe frames Starved = Unit {0}
+ReadsNone pipe frames Starved = IfSome pipe.gave (λ octets. (more : List ℕ) × (octets ≡ all_spelled frames ++ more) × (more ≡ [] → ⊥))
 ReadsNone pipe frames cause = ⊥
 
 -- what stays where no more was read: these frames, or where memory ran out that the link gave them, since octets behind them may be lost

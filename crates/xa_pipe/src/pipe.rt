@@ -3,7 +3,7 @@ ghost use Rattle.xa_link.specs.Told.{Grew, GrewByPrefix, Empty};
 ghost use Rattle.xa_frame.specs.declared.frame.Frame.{Frame};
 ghost use Rattle.xa_frame.specs.Spelling.{spelled, HasSpelling, IsData};
 ghost use Rattle.xa_events.specs.declared.event.StopCause.TheVariants.{Starved};
-ghost use Rattle.xa_frame.specs.Stream.{IsPartial, IsMalformed};
+ghost use Rattle.xa_frame.specs.Stream.{IsPartial, IsMalformed, Begins};
 ghost use Rattle.xa_pipe.specs.Frames.{shutdown_frame};
 ghost use Rattle.xa_pipe.specs.Pipe.{invoke_frame, Wrote, HasRead, Finds, Keeps, ReadsNone, WritesNone};
 
@@ -175,6 +175,7 @@ impl<L: Link> Pipe<L> {
         ensures writes { self.new.writes ≡ self.old.writes }
         ensures found { IfOk result (Finds self.old self.new) }
         ensures kept { OnErr result ((self.new.rest ≡ self.old.rest) × (self.new.place ≡ self.old.place)) }
+        ensures stands { result ≡ Err Starved → (f : Frame) × (more : List ℕ) × Begins self.old.rest f more }
         ensures why { IfErr result (λ cause. (frames : List Frame) → HasRead self.old frames → ReadsNone self.new frames cause) }
     {
         match self.reader.next() {

@@ -171,7 +171,7 @@ fn push_call(out: &mut Vec<u8>, name: &Name, op: u32) -> Result<(), NoMemory>
 }
 
 /// Puts one line of the transcript at the end: what the client of that name was told of its call with that number.
-/// Where memory runs out a part of the line may stand there.
+/// Where memory runs out, what stood there stays in front.
 pub fn push_line(out: &mut Vec<u8>, name: &Name, op: u32, reply: &Reply) -> Result<(), NoMemory>
     ensures ok { OnOk result (out.new.items ≡ out.old.items ++ line_text name.now op reply.now) }
     ensures err { OnErr result (Begins out.old.items out.new.items) }

@@ -7,6 +7,7 @@ abbrev pub invariant-loop-all : goal.invariant-loop-all
 invariant-loop-all g l = record {
   short : length l.all.items ≤ l.limit;
   shrank : Shrank (g.S.Source.left l.initial.source) (g.S.Source.left l.source) l.all.items;
+  alone : g.S.Source.beside_reads l.source ≡ g.S.Source.beside_reads l.initial.source;
   quiet : g.S.Source.read_faults l.source ≡ g.S.Source.read_faults l.initial.source;
 }
 
