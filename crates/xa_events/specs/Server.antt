@@ -68,13 +68,13 @@ abbrev pub is_shutdown : StopCause → Bool
 is_shutdown Shutdown = true
 is_shutdown _ = false
 
-abbrev pub was_shutdown : Option Event → Bool
-was_shutdown (Some (Stop x)) = is_shutdown x.cause
-was_shutdown _ = false
+abbrev pub is_shutdown_stop : Option Event → Bool
+is_shutdown_stop (Some (Stop x)) = is_shutdown x.cause
+is_shutdown_stop _ = false
 
 -- whether the server was shut down: its last stop was a shutdown
 unfoldable pub was_shut_down : ℕ → List Event → Bool
-was_shut_down server past = was_shutdown (latest (stops_server server) past)
+was_shut_down server past = is_shutdown_stop (latest (stops_server server) past)
 
 abbrev pub ends_at : ℕ → Event → Bool
 ends_at server (End e) = e.server.0 == server

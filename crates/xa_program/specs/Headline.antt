@@ -57,7 +57,7 @@ pub record IsStarterOf (setup : Setup) (server : ℕ) (shown : StarterShows) (pa
   pub counts : failed_starts server past ≤ shown.faults
   pub each : IfSome shown.asked (λ all. all ≡ starts_of (server_name_in (numbered server setup.servers)) (length (starts server past)))
 
--- each starter is that of its server, the first of the first
+-- each starter, of which the first is of the server with that number, is that of its server
 abbrev pub EachStarter : {S : Type 0} → Setup → (S → StarterShows) → ℕ → List S → List Event → Type 0
 EachStarter setup shows server starters past = EachNumbered (λ k starter. IsStarterOf setup k (shows starter) past) server starters
 
