@@ -278,6 +278,7 @@ ends_law s e case agree = record {
   sent = λ r h. agree.accepts r ∙ ap accepts_at (take_finds s e r case agree h).1;
   taken = λ r h. agree.takes r ∙ ap takes_at (take_finds s e r case agree h).1;
   first = λ r h. agree.ends r ∙ ap ends_at (take_finds s e r case agree h).1;
+  known = λ r h. agree.accepts r ∙ ap accepts_at (end_finds s e r case agree h).2;
   ended = λ r h. agree.ends r ∙ ap ends_at (end_finds s e r case agree h).2;
   served = λ r h. agree.takes r ∙ ap takes_at (end_finds s e r case agree h).2;
 }

@@ -17,11 +17,12 @@ abbrev pub is_take_of : RequestId → Event → Bool
 is_take_of request (Take t) = same_request t.request request
 is_take_of request _ = false
 
--- a request is accepted, then taken once, then ended once: a take finds it accepted, not taken and not ended, and an end finds it taken and not ended
+-- a request is accepted once, then taken once, then ended once: a take finds it accepted, not taken and not ended, and an end finds it accepted, taken and not ended
 pub record TakenAndEndedOnce (e : Event) (before : List Event) : Type 0 where
   pub sent : (request : RequestId) → is_take_of request e ≡ true → count (is_accept_of request) before ≡ 1
   pub taken : (request : RequestId) → is_take_of request e ≡ true → count (is_take_of request) before ≡ 0
   pub first : (request : RequestId) → is_take_of request e ≡ true → count (is_end_of request) before ≡ 0
+  pub known : (request : RequestId) → is_end_of request e ≡ true → count (is_accept_of request) before ≡ 1
   pub ended : (request : RequestId) → is_end_of request e ≡ true → count (is_end_of request) before ≡ 0
   pub served : (request : RequestId) → is_end_of request e ≡ true → count (is_take_of request) before ≡ 1
 
