@@ -12,11 +12,8 @@ use Rattle.xa_frame.specs.declared.frame.Frame.{Frame}
 use Rattle.xa_frame.specs.declared.frame.Body.{Body}
 use Rattle.xa_frame.specs.declared.frame.Body.TheVariants.{Ready, Next, Return, Invoke, Shutdown}
 use Rattle.xa_frame.specs.Spelling.{spelled, all_spelled, HasSpelling, IsBody, IsData}
+use Rattle.xa_frame.proofs.FrameLemmas.{all_spelled-push}
 use Rattle.xa_child.specs.Child.{ChildState, admits, admits_all, after, after_all, answer, answer_body, said, greeting, returned, next, is_die, is_echo}
-
-pub all_spelled-append : (xs ys : List Frame) → all_spelled (xs ++ ys) ≡ all_spelled xs ++ all_spelled ys
-all_spelled-append [] ys = refl
-all_spelled-append (x ∷ xs) ys = ap (λ z. spelled x ++ z) (all_spelled-append xs ys) ∙ sym (append_assoc (spelled x) (all_spelled xs) (all_spelled ys))
 
 pub admits_all-append : (s : ChildState) (xs ys : List Frame) → admits_all s (xs ++ ys) ≡ (admits_all s xs && admits_all (after_all s xs) ys)
 admits_all-append s [] ys = refl
@@ -77,9 +74,6 @@ ready_spelling name h = record { tag = omega arith; body = h }
 
 pub spelling-greeting : (name : List ℕ) → IsName name → All HasSpelling (greeting name)
 spelling-greeting name h = two_spellings _ next (ready_spelling name h) next_spelling
-
-pub all_spelled-push : (fs : List Frame) (f : Frame) → all_spelled (fs ++ f ∷ []) ≡ all_spelled fs ++ spelled f
-all_spelled-push fs f = all_spelled-append fs (f ∷ []) ∙ ap (λ z. all_spelled fs ++ z) (append-nil (spelled f))
 
 -- one frame more, as a loop over frames adds it
 pub spelled-more : (fs : List Frame) (i : ℕ) (f : Frame) → i < length fs → f ≡ get_or fs i f → all_spelled (take (i + 1) fs) ≡ all_spelled (take i fs) ++ spelled f

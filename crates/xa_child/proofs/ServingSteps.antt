@@ -10,7 +10,8 @@ use Rattle.xa_child.specs.declared.serving.Halt.{Halt}
 use Rattle.xa_child.specs.Child.{admits, after, after_all, answer, said}
 use Rattle.xa_child.specs.Work.{place_after}
 use Rattle.xa_child.specs.Serving.{HaltsAt, StepsTo, Answers, Takes, TakesUpTo}
-use Rattle.xa_child.proofs.Frames.{all_spelled-append, all_spelled-push, admits_all-append, after_all-append, said-append, said-one}
+use Rattle.xa_frame.proofs.FrameLemmas.{all_spelled-append, all_spelled-push}
+use Rattle.xa_child.proofs.Frames.{admits_all-append, after_all-append, said-append, said-one}
 
 -- these frames were taken so far
 pub record Taken (old new : Serving) (due : List ℕ) : Type 0 where

@@ -17,7 +17,8 @@ use Rattle.xa_child.specs.Child.{ChildState, begun, admits_all, after_all, said,
 use Rattle.xa_child.specs.Work.{IsBad, place_after, IsBegun, CameTo, Worked}
 use Rattle.xa_child.specs.Turns.{TurnsTo, Hears, Turns, AtEnd, Unanswered, SoFar}
 use Rattle.xa_child.specs.Serving.{TakesUpTo}
-use Rattle.xa_child.proofs.Frames.{all_spelled-append, admits_all-append, after_all-append, said-append}
+use Rattle.xa_frame.proofs.FrameLemmas.{all_spelled-append}
+use Rattle.xa_child.proofs.Frames.{admits_all-append, after_all-append, said-append}
 
 -- what is told, over two calls
 

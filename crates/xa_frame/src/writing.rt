@@ -1,10 +1,15 @@
 ghost use Rattle.std.specs.Prelude.{◌≡◌, ◌≤◌, ◌++◌, length, IfOk, OnOk};
+ghost use Rattle.xa_types.specs.declared.call.Mode.{Mode};
+ghost use Rattle.xa_frame.specs.declared.frame.Body.TheVariants.{Invoke};
 ghost use Rattle.xa_frame.specs.Spelling.{kind_octet, rval_octet, mode_octet, word, sized, data_octets, body_octets, header, spelled, IsData, IsBody, HasSpelling};
 
 use crate::frame::{Body, Frame};
 use crate::header::{HEADER, MARK};
 use std::alloc::Global;
 use xa_types::{Data, Mode, Name, NoMemory, Octets, Rval};
+
+// The kind of an INVOKE.
+const INVOKE: u8 = 0x11;
 
 /// The kind in the header of a frame with that body.
 pub fn kind_octet(body: &Body) -> u8
@@ -14,7 +19,7 @@ pub fn kind_octet(body: &Body) -> u8
         Body::Ready(_) => 0x01,
         Body::Next => 0x02,
         Body::Return(..) => 0x04,
-        Body::Invoke(..) => 0x11,
+        Body::Invoke(..) => INVOKE,
         Body::Shutdown => 0x13,
     }
 }
@@ -41,20 +46,30 @@ fn mode_octet(mode: Mode) -> u8
 }
 
 fn word_len(name: &Name) -> usize
-    ensures { result ≡ length (word name.now) }
+    ensures length { result ≡ length (word name.now) }
+    ensures few { result ≤ 32 }
 {
     1 + name.octets().len()
 }
 
 fn data_len(payload: &Data) -> usize
     requires { IsData payload.now }
-    ensures { result ≡ length (data_octets payload.now) }
+    ensures length { result ≡ length (data_octets payload.now) }
+    ensures few { result ≤ 65_573 }
 {
     match payload {
         Data::Absent => 1,
         Data::Octet(octets) => 5 + octets.slice().len(),
         Data::Struct(subtype, octets) => 5 + word_len(subtype) + octets.slice().len(),
     }
+}
+
+fn invoke_len(service: &Name, routine: &Name, payload: &Data) -> usize
+    requires { IsData payload.now }
+    ensures length { (mode : Mode) → result ≡ length (body_octets (Invoke service.now routine.now mode payload.now)) }
+    ensures few { result ≤ 66_000 }
+{
+    word_len(service) + word_len(routine) + 1 + data_len(payload)
 }
 
 fn body_len(body: &Body) -> usize
@@ -65,9 +80,7 @@ fn body_len(body: &Body) -> usize
         Body::Ready(name) => word_len(name),
         Body::Next | Body::Shutdown => 0,
         Body::Return(_, _, payload) => 5 + data_len(payload),
-        Body::Invoke(service, routine, _, payload) => {
-            word_len(service) + word_len(routine) + 1 + data_len(payload)
-        }
+        Body::Invoke(service, routine, _, payload) => invoke_len(service, routine, payload),
     }
 }
 
@@ -109,6 +122,22 @@ fn put_data(out: &mut Vec<u8>, payload: &Data) -> Result<(), NoMemory>
     Ok(())
 }
 
+fn put_invoke(
+    out: &mut Vec<u8>,
+    service: &Name,
+    routine: &Name,
+    mode: Mode,
+    payload: &Data,
+) -> Result<(), NoMemory>
+    requires { IsData payload.now }
+    ensures { OnOk result (out.new.items ≡ out.old.items ++ body_octets (Invoke service.now routine.now mode payload.now)) }
+{
+    put_word(out, service)?;
+    put_word(out, routine)?;
+    out.push(mode_octet(mode))?;
+    put_data(out, payload)
+}
+
 fn put_body(out: &mut Vec<u8>, body: &Body) -> Result<(), NoMemory>
     requires { IsBody body.now }
     ensures { OnOk result (out.new.items ≡ out.old.items ++ body_octets body.now) }
@@ -122,10 +151,7 @@ fn put_body(out: &mut Vec<u8>, body: &Body) -> Result<(), NoMemory>
             put_data(out, payload)?;
         }
         Body::Invoke(service, routine, mode, payload) => {
-            put_word(out, service)?;
-            put_word(out, routine)?;
-            out.push(mode_octet(*mode))?;
-            put_data(out, payload)?;
+            put_invoke(out, service, routine, *mode, payload)?;
         }
     }
     Ok(())
@@ -152,6 +178,24 @@ pub fn append(out: &mut Vec<u8>, frame: &Frame) -> Result<(), NoMemory>
     put_header(out, kind_octet(&frame.body), size as u32, frame.tag)?;
     put_body(out, &frame.body)?;
     Ok(())
+}
+
+/// The same of an INVOKE, whose data stays with the caller.
+pub fn append_invoke(
+    out: &mut Vec<u8>,
+    tag: u32,
+    service: &Name,
+    routine: &Name,
+    mode: Mode,
+    payload: &Data,
+) -> Result<(), NoMemory>
+    requires { IsData payload.now }
+    ensures { OnOk result (out.new.items ≡ out.old.items ++ spelled (record { tag = tag; body = Invoke service.now routine.now mode payload.now })) }
+{
+    let size = invoke_len(service, routine, payload);
+    out.reserve(HEADER + size)?;
+    put_header(out, INVOKE, size as u32, tag)?;
+    put_invoke(out, service, routine, mode, payload)
 }
 
 /// The octets of a frame, whose data has at most 65,536 octets.

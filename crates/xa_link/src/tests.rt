@@ -1,8 +1,8 @@
-// How the forms in memory cut and fail, and what the system does behind the real ones.
+// How the forms in memory cut and fail, and what the system does behind files and the standard streams.
 use crate::{
-    ChildYard, Failed, FileShelf, Link, MemoryLink, MemoryShelf, MemorySink, MemorySource,
-    MemoryYard, ReadSource, Shelf, ShelfRefused, Sink, Source, StartRefused, Starter, WriteSink,
-    Yard, put,
+    Failed, FileShelf, MemoryLink, MemoryShelf, MemorySink, MemorySource, MemoryStarter,
+    MemoryYard, ReadSource, Shelf, ShelfRefused, Source, StartRefused, Starter, WriteSink, Yard,
+    put,
 };
 use std::alloc::Global;
 use std::fs;
@@ -13,32 +13,25 @@ fn octets(alloc: Global, text: &str) -> Result<Octets, Fail> {
     Ok(Octets::of(alloc, text.as_bytes())?)
 }
 
-fn server(alloc: Global, name: &str, program: Option<&str>) -> Result<ServerSetup, Fail> {
-    let program = match program {
-        Some(program) => Some(octets(alloc, program)?),
-        None => None,
-    };
+fn server(name: &[u8]) -> Result<ServerSetup, Fail> {
     Ok(ServerSetup {
-        name: Name::read(name.as_bytes())?,
+        name: Name::read(name)?,
         queue: Name::read(b"Q")?,
-        program,
+        program: None,
         restart: false,
         maxgen: 1,
         grace: 1,
     })
 }
 
-fn setup(alloc: Global, servers: &[(&str, Option<&str>)]) -> Result<Setup, Fail> {
-    let mut all = Vec::new(alloc);
-    for (name, program) in servers {
-        all.push(server(alloc, name, *program)?)?;
-    }
+fn setup(alloc: Global) -> Result<Setup, Fail> {
+    let servers = Vec::from_array(alloc, [server(b"A")?, server(b"B")?])?;
     Ok(Setup {
         block_time: 1,
         blocks: 1,
         shapes: Sequence::from_vec(Vec::new(alloc)),
         queues: Sequence::from_vec(Vec::new(alloc)),
-        servers: Sequence::from_vec(all),
+        servers: Sequence::from_vec(servers),
         services: Sequence::from_vec(Vec::new(alloc)),
     })
 }
@@ -82,20 +75,20 @@ fn takes(alloc: Global, fails: u64, idle: u64, want: &str) -> Result<bool, Fail>
     Ok(sink.taken() == want.as_bytes() && whole == (want == "hello"))
 }
 
-// Whether the starter at that place starts what gives these; for no octets, whether it fails.
-fn starts<L: Link + Drop, S: Starter<L>>(
-    starters: &mut [S],
+// Whether the starter at that place starts what gives these octets; without octets, whether it fails.
+fn starts(
+    starters: &mut [MemoryStarter],
     place: usize,
     generation: u64,
-    want: &[Option<&str>],
+    want: Option<&str>,
 ) -> Result<bool, Fail> {
     let name = Name::read(b"S")?;
     let Some(starter) = starters.get_mut(place) else {
         return Ok(false);
     };
     Ok(match starter.start(&name, Generation(generation)) {
-        Ok(mut link) => !want.is_empty() && gives(&mut link, want),
-        Err(refused) => want.is_empty() && refused == StartRefused::Failed,
+        Ok(mut link) => want.is_some() && gives(&mut link, &[want]),
+        Err(refused) => want.is_none() && refused == StartRefused::Failed,
     })
 }
 
@@ -118,7 +111,7 @@ fn links_in_memory_cut_and_fail(rt: HostRuntime) -> Result<(), Fail> {
 
 #[test]
 fn yards_in_memory_start_each_life_once(rt: HostRuntime) -> Result<(), Fail> {
-    let setup = setup(rt.alloc(), &[("A", None), ("B", None)])?;
+    let setup = setup(rt.alloc())?;
     let mut starters = yard(rt.alloc())?.starters(&setup)?;
     assert_eq!(rt; starters.len(), 2);
     for (place, generation, want) in [
@@ -130,10 +123,7 @@ fn yards_in_memory_start_each_life_once(rt: HostRuntime) -> Result<(), Fail> {
         (0, 4, None),
         (1, 1, None),
     ] {
-        let same = match want {
-            Some(_) => starts(&mut starters, place, generation, &[want])?,
-            None => starts(&mut starters, place, generation, &[])?,
-        };
+        let same = starts(&mut starters, place, generation, want)?;
         assert!(rt; same, "{place}, {generation}");
     }
     Ok(())
@@ -202,113 +192,5 @@ fn standard_streams_end_and_take(rt: HostRuntime) -> Result<(), Fail> {
     assert!(rt; gives(&mut ReadSource::new(rt.stdin()), &[Some(""), Some("")]));
     put(&mut WriteSink::new(rt.stdout()), b"to standard output\n")?;
     put(&mut WriteSink::new(rt.stderr()), b"to standard error\n")?;
-    Ok(())
-}
-
-fn count_descriptors(rt: &HostRuntime) -> Result<usize, Fail> {
-    Ok(fs::read_dir(rt, "/proc/self/fd")?.count())
-}
-
-fn child_yard(rt: &HostRuntime, monitor: &str) -> Result<ChildYard<HostRuntime>, Fail> {
-    Ok(ChildYard::new(rt.clone()?, String::from_str(rt.alloc(), monitor)?))
-}
-
-#[test]
-fn children_write_into_their_links(rt: HostRuntime) -> Result<(), Fail> {
-    let programs = [
-        ("A", Some("/bin/echo")),
-        ("B", Some("/bin/no-such-program")),
-        ("C", None),
-    ];
-    let setup = setup(rt.alloc(), &programs)?;
-    let mut starters = child_yard(&rt, "echo")?.starters(&setup)?;
-    assert_eq!(rt; starters.len(), 3);
-    let before = count_descriptors(&rt)?;
-    let echoed = [Some("serve"), Some("r S\n"), Some("")];
-    assert!(rt; starts(&mut starters, 0, 1, &echoed)?);
-    assert!(rt; starts(&mut starters, 1, 1, &[])?);
-    assert!(rt; starts(&mut starters, 2, 1, &echoed)?);
-    assert_eq!(rt; count_descriptors(&rt)?, before);
-    Ok(())
-}
-
-// What a link is to do next.
-enum Step<'a> {
-    Takes(&'a str),
-    Refuses(&'a str),
-    Gives(&'a str),
-    Ends,
-}
-
-// The octets are read one by one, so it is all the same in which pieces they were written.
-fn gives_each<S: Source>(source: &mut S, want: &str) -> bool {
-    for octet in want.as_bytes() {
-        let mut piece = [0u8];
-        if source.read(&mut piece) != Ok(1) || piece[0] != *octet {
-            return false;
-        }
-    }
-    true
-}
-
-fn does<L: Link>(link: &mut L, step: &Step<'_>) -> bool {
-    match step {
-        Step::Takes(text) => put(link, text.as_bytes()).is_ok(),
-        Step::Refuses(text) => put(link, text.as_bytes()).is_err(),
-        Step::Gives(text) => gives_each(link, text),
-        Step::Ends => link.read(&mut [0u8]) == Ok(0),
-    }
-}
-
-// Whether what the first starter starts does these in turn.
-fn runs<L: Link + Drop, S: Starter<L>>(
-    starters: &mut [S],
-    steps: &[Step<'_>],
-) -> Result<bool, Fail> {
-    let name = Name::read(b"S")?;
-    let Some(starter) = starters.first_mut() else {
-        return Ok(false);
-    };
-    let mut link = starter.start(&name, Generation(1))?;
-    for step in steps {
-        if !does(&mut link, step) {
-            return Ok(false);
-        }
-    }
-    Ok(true)
-}
-
-// A server is started with the words `server` and its name, so `sh` reads its script from the file `server`.
-#[test]
-fn children_end_alone_and_leave_nothing(rt: HostRuntime) -> Result<(), Fail> {
-    let setup = setup(rt.alloc(), &[("S", Some("/bin/sh"))])?;
-    let mut starters = child_yard(&rt, "sh")?.starters(&setup)?;
-    let before = count_descriptors(&rt)?;
-    let scripts: [(&str, &[Step<'_>]); 5] = [
-        ("exec cat", &[Step::Takes("hello"), Step::Gives("hello")]),
-        ("exit 0", &[Step::Ends, Step::Ends]),
-        (
-            "exec 0<&-; echo shut",
-            &[Step::Gives("shut\n"), Step::Refuses("x"), Step::Ends],
-        ),
-        (
-            "printf a; printf b; printf c",
-            &[Step::Gives("abc"), Step::Ends],
-        ),
-        (
-            "read -r all < /proc/$PPID/task/$PPID/children; test \"$all\" = $$ && echo alone",
-            &[Step::Gives("alone\n"), Step::Ends],
-        ),
-    ];
-    for (script, steps) in scripts {
-        fs::write(&rt, "server", script)?;
-        assert!(rt; runs(&mut starters, steps)?, "{script}");
-    }
-    fs::remove_file(&rt, "server")?;
-    assert_eq!(rt;
-        fs::read_to_string(&rt, "/proc/thread-self/children")?.as_str(),
-        ""
-    );
-    assert_eq!(rt; count_descriptors(&rt)?, before);
     Ok(())
 }

@@ -10,7 +10,8 @@ use Rattle.xa_events.specs.declared.event.StopCause.TheVariants.{Shutdown, Exit,
 use Rattle.xa_pipe.specs.Life.{Turn, MaySay, Shows, is_reading, may_end}
 use Rattle.xa_pipe.specs.Life.Turn.{AwaitsReady, AwaitsNext, Idle, Serving, Exited}
 use Rattle.xa_pipe.specs.Pipe.{Piped, HasRead, Keeps, ReadsNone, Ceases}
-use Rattle.xa_pipe.proofs.Frames.{all_spelled-push, told_more}
+use Rattle.xa_frame.proofs.FrameLemmas.{all_spelled-push}
+use Rattle.xa_pipe.proofs.Frames.{told_more}
 
 -- ---- errors
 

@@ -1,16 +1,13 @@
 -- Frames, one after another, and what was read of them.
-use Rattle.std.proofs.Common.{◌≡◌, ℕ, ◌+◌, ◌-◌, ◌^◌, List, [], ◌∷◌, ◌++◌, length, Option, Some, None, sym, ◌∙◌, ap, subst, append_assoc, append-nil, arith}
+use Rattle.std.proofs.Common.{◌≡◌, ℕ, ◌+◌, ◌-◌, ◌^◌, List, [], ◌∷◌, ◌++◌, length, Option, Some, None, sym, ◌∙◌, ap, subst, append_assoc, arith}
 use Rattle.std.specs.Prelude.{IfSome, min}
 use Rattle.std.proofs.lemmas.List.{length-append}
 use Rattle.xa_link.specs.Told.{Empty}
 use Rattle.xa_frame.specs.declared.frame.Frame.{Frame}
 use Rattle.xa_frame.specs.Spelling.{spelled, all_spelled}
+use Rattle.xa_frame.proofs.FrameLemmas.{all_spelled-push}
 use Rattle.xa_pipe.specs.Life.{place_behind}
 use Rattle.xa_pipe.specs.Pipe.{Piped, HasRead}
-
-pub all_spelled-push : (frames : List Frame) (f : Frame) → all_spelled (frames ++ f ∷ []) ≡ all_spelled frames ++ spelled f
-all_spelled-push [] f = append-nil (spelled f)
-all_spelled-push (g ∷ frames) f = ap (λ octets. spelled g ++ octets) (all_spelled-push frames f) ∙ sym (append_assoc (spelled g) (all_spelled frames) (spelled f))
 
 -- what is told of octets, of which more follows
 pub told_more : (told : Option (List ℕ)) (is so : List ℕ → Type 0) → ((octets : List ℕ) → is octets → so octets) → IfSome told is → IfSome told so

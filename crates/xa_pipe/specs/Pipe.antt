@@ -1,5 +1,6 @@
 -- What the monitor's end of the pipes of a life has seen.
 use Rattle.std.specs.Prelude.{◌≡◌, ◌⊎◌, ℕ, ◌+◌, ◌-◌, ◌^◌, min, ◌<◌, List, [], ◌++◌, length, true, Option, Some, None, IfSome}
+use Rattle.std.specs.Io.{StartsWith}
 use Rattle.xa_types.specs.declared.setup.Setup.{Setup}
 use Rattle.xa_types.specs.declared.data.Data.{Data}
 use Rattle.xa_types.specs.declared.call.Mode.TheVariants.{Reply}
@@ -17,10 +18,6 @@ use Rattle.xa_pipe.specs.Life.{Turn, Says, Shows, IsCounted, may_end, tag_after,
 -- the request to a routine that has its service's name
 abbrev pub invoke_frame : List ℕ → ℕ → Data → Frame
 invoke_frame service tag payload = record { tag = tag; body = Invoke service service Reply payload }
-
--- these octets stand in front
-abbrev pub IsFront : List ℕ → List ℕ → Type 0
-IsFront front octets = (more : List ℕ) × (octets ≡ front ++ more)
 
 -- what the link took, gave and still holds, where it tells them, how often its reads and writes failed, and of what it gave the octets that aren't read as a frame, and their place
 pub record Piped : Type 0 where
@@ -56,7 +53,7 @@ ReadsNone pipe frames cause = ⊥
 
 -- what stays where no more was read: these frames, or where memory ran out that the link gave them, since octets behind them may be lost
 abbrev pub Keeps : Piped → List Frame → StopCause → Type 0
-Keeps pipe frames Starved = IfSome pipe.gave (λ octets. IsFront (all_spelled frames) octets)
+Keeps pipe frames Starved = IfSome pipe.gave (λ octets. StartsWith octets (all_spelled frames))
 Keeps pipe frames cause = HasRead pipe frames
 
 -- why a frame wasn't written

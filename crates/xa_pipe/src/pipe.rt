@@ -10,7 +10,7 @@ ghost use Rattle.xa_pipe.specs.Pipe.{invoke_frame, Wrote, HasRead, Finds, Keeps,
 use std::alloc::Global;
 use std::marker::Model;
 use xa_events::StopCause;
-use xa_frame::{Body, Frame, NextRefused, Reader, append};
+use xa_frame::{Body, Frame, NextRefused, Reader, append, append_invoke};
 use xa_link::{Link, put};
 use xa_types::{Data, Mode, Name};
 
@@ -39,6 +39,18 @@ impl<L: Link> Model for Pipe<L> {
       rest = p.reader.rest;
       place = p.reader.place;
     } };
+}
+
+// Writes the octets: WriteFault where the link fails.
+fn write<L: Link>(link: &mut L, octets: &[u8]) -> Result<(), StopCause>
+    ensures took { OnOk result (Grew (L.took link.old) (L.took link.new) octets.now) }
+    ensures part { OnErr result (GrewByPrefix (L.took link.old) (L.took link.new) octets.now) }
+    ensures gave { L.gave link.new ≡ L.gave link.old }
+    ensures reads { L.read_faults link.new ≡ L.read_faults link.old }
+    ensures well { OnOk result (L.write_faults link.new ≡ L.write_faults link.old) }
+    ensures why { IfErr result (λ cause. (cause ≡ StopCause.WriteFault) × (0 < L.write_faults link.new)) }
+{
+    put(link, octets).map_err(|_| StopCause::WriteFault)
 }
 
 impl<L: Link> Pipe<L> {
@@ -76,37 +88,8 @@ impl<L: Link> Pipe<L> {
         link
     }
 
-    // Writes the frame: WriteFault where the link fails, and Starved where memory runs out.
-    fn write(&mut self, frame: &Frame) -> Result<(), StopCause>
-        requires { HasSpelling frame.now }
-        ensures took { OnOk result (Grew self.old.took self.new.took (spelled frame.now)) }
-        ensures part { OnErr result (GrewByPrefix self.old.took self.new.took (spelled frame.now)) }
-        ensures starved { result ≡ Err Starved → self.new.took ≡ self.old.took }
-        ensures gave { self.new.gave ≡ self.old.gave }
-        ensures rest { self.new.rest ≡ self.old.rest }
-        ensures place { self.new.place ≡ self.old.place }
-        ensures reads { self.new.reads ≡ self.old.reads }
-        ensures well { OnOk result (self.new.writes ≡ self.old.writes) }
-        ensures why { IfErr result (WritesNone self.new) }
-    {
-        self.due.clear();
-        let Ok(()) = append(&mut self.due, frame) else {
-            return Err(StopCause::Starved);
-        };
-        let Ok(()) = put(&mut self.link, self.due.as_slice()) else {
-            return Err(StopCause::WriteFault);
-        };
-        Ok(())
-    }
-
     /// Sends a request to the routine that has its service's name.
-    pub fn send(
-        &mut self,
-        alloc: Global,
-        service: &Name,
-        number: u32,
-        payload: &Data,
-    ) -> Result<(), StopCause>
+    pub fn send(&mut self, service: &Name, number: u32, payload: &Data) -> Result<(), StopCause>
         requires { IsData payload.now }
         ensures took { OnOk result (Grew self.old.took self.new.took (spelled (invoke_frame service.now number payload.now))) }
         ensures part { OnErr result (GrewByPrefix self.old.took self.new.took (spelled (invoke_frame service.now number payload.now))) }
@@ -118,15 +101,19 @@ impl<L: Link> Pipe<L> {
         ensures well { OnOk result (self.new.writes ≡ self.old.writes) }
         ensures why { IfErr result (WritesNone self.new) }
     {
-        let _named = service.octets();
-        let Ok(payload) = payload.copy(alloc) else {
+        self.due.clear();
+        let sent = append_invoke(
+            &mut self.due,
+            number,
+            service,
+            service,
+            Mode::Reply,
+            payload,
+        );
+        let Ok(()) = sent else {
             return Err(StopCause::Starved);
         };
-        let frame = Frame {
-            tag: number,
-            body: Body::Invoke(*service, *service, Mode::Reply, payload),
-        };
-        self.write(&frame)
+        write(&mut self.link, &self.due)
     }
 
     /// Sends SHUTDOWN.
@@ -141,10 +128,15 @@ impl<L: Link> Pipe<L> {
         ensures well { OnOk result (self.new.writes ≡ self.old.writes) }
         ensures why { IfErr result (WritesNone self.new) }
     {
-        self.write(&Frame {
+        let frame = Frame {
             tag: 0,
             body: Body::Shutdown,
-        })
+        };
+        self.due.clear();
+        let Ok(()) = append(&mut self.due, &frame) else {
+            return Err(StopCause::Starved);
+        };
+        write(&mut self.link, &self.due)
     }
 
     // Reads the next frame, or says why there is none.

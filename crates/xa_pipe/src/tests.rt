@@ -123,7 +123,7 @@ fn write(
         5,
     );
     let mut pipe = Pipe::new(alloc, MemoryLink::new(source, sink));
-    let mut done = pipe.send(alloc, &service, 1, &payload);
+    let mut done = pipe.send(&service, 1, &payload);
     if done.is_ok() {
         done = pipe.shut_down();
     }

@@ -1,5 +1,5 @@
 -- How a run of `play` begins, and how it ends.
-use Rattle.std.proofs.Common.{◌≡◌, ℕ, zero, suc, ◌<◌, ◌&&◌, true, false, List, [], ◌∷◌, length, inl, refl, ◌∙◌, ap, subst, arith, inr}
+use Rattle.std.proofs.Common.{◌≡◌, ℕ, ◌<◌, true, false, List, [], ◌∷◌, length, inl, refl, ap, subst, arith, inr}
 use Rattle.xa_events.specs.declared.event.Event.{Event}
 use Rattle.xa_events.specs.declared.event.Event.TheVariants.{Advertise, Gone, Withdraw, Down, Close, Start, StartFailed, Stop, Leave}
 use Rattle.xa_events.specs.declared.event.StopCause.{StopCause}

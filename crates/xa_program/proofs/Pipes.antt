@@ -1,8 +1,7 @@
 -- What the events of `play` say of the pipes of the one life.
-use Rattle.std.proofs.Common.{◌≡◌, ℕ, ◌+◌, ◌<◌, ◌^◌, ◌%◌, true, false, List, [], ◌∷◌, ◌++◌, take, drop, Option, Some, None, inl, inr, refl, sym, ◌∙◌, ap, subst, append-nil, append_assoc}
+use Rattle.std.proofs.Common.{◌≡◌, ℕ, ◌+◌, ◌<◌, ◌^◌, ◌%◌, true, false, List, [], ◌∷◌, ◌++◌, take, Option, Some, None, inl, inr, refl, sym, ◌∙◌, ap, subst, append-nil}
 use Rattle.std.specs.Prelude.{IfSome}
 use Rattle.std.proofs.Math.Nat.{mod-eq_of_lt}
-use Rattle.std.proofs.lemmas.List.{take-append-drop}
 use Rattle.xa_types.specs.declared.data.Data.{Data}
 use Rattle.xa_types.specs.declared.reply.Answer.{Answer}
 use Rattle.xa_link.specs.Told.{Grew}
@@ -18,7 +17,8 @@ use Rattle.xa_pipe.specs.Frames.{invocation, frames_out, shutdown_frame, farewel
 use Rattle.xa_pipe.specs.Life.{IsLife, Turn, TookBy, outcomes_in, cause_of, is_writing, may_end}
 use Rattle.xa_pipe.specs.Life.Turn.{AwaitsReady, AwaitsNext, Idle, Serving, Exited}
 use Rattle.xa_pipe.specs.Pipe.{invoke_frame, Piped, Wrote}
-use Rattle.xa_pipe.proofs.Frames.{all_spelled-push, told_more}
+use Rattle.xa_frame.proofs.FrameLemmas.{all_spelled-push}
+use Rattle.xa_pipe.proofs.Frames.{told_more}
 use Rattle.xa_play.specs.PlaySetup.{play_setup, server_name}
 use Rattle.xa_play.specs.History.{accept, take_of, stop}
 use Rattle.xa_play.proofs.Newest.{gone, served}

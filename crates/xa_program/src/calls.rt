@@ -47,7 +47,7 @@ fn exchange<L: Link>(
     ensures taken { OnOk result (history.new.items ≡ history.old.items ++ Accept (accept session.now.service op number payload.now) ∷ Take (take_of number) ∷ []) }
     ensures heard { IfOk result (Exchanged session.now.service number payload.now pipe.old pipe.new) }
 {
-    let sent = pipe.send(session.alloc, &session.service, number, payload);
+    let sent = pipe.send(&session.service, number, payload);
     // The server's program works while this is noted.
     note_taken(
         session.alloc,

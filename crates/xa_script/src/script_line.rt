@@ -15,10 +15,21 @@ pub enum Line {
     Call(Op),
 }
 
+fn is_printed(octet: u8) -> bool
+    ensures { result ≡ is_printed octet }
+{
+    octet >= b' ' && octet <= b'~'
+}
+
+// No octet ends the loop, so that many are tested at once.
 fn all_printed(octets: &[u8]) -> bool
     ensures { result ≡ list_all is_printed octets.now }
 {
-    octets.iter().all(|octet| *octet >= b' ' && *octet <= b'~')
+    let mut all = true;
+    for octet in octets {
+        all &= is_printed(*octet);
+    }
+    all
 }
 
 fn skip_spaces(octets: &[u8]) -> &[u8]

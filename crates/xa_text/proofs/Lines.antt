@@ -1,6 +1,7 @@
 -- What is put at the end, piece by piece.
-use Rattle.std.proofs.Common.{◌≡◌, ℕ, List, ◌++◌, ap, ◌∙◌, append_assoc}
-use Rattle.xa_text.specs.Pushed.{Begins}
+use Rattle.std.proofs.Common.{◌≡◌, ℕ, List, ◌++◌}
+use Rattle.std.proofs.Transfers.{starts_with_of_append, starts_with_trans}
+use Rattle.std.specs.Io.{StartsWith}
 
-pub begins_behind : (old more front now : List ℕ) → front ≡ old ++ more → Begins front now → Begins old now
-begins_behind old more front now h b = (more ++ b.0, b.1 ∙ ap (λ x. x ++ b.0) h ∙ append_assoc old more b.0)
+pub starts_behind : (old more front now : List ℕ) → front ≡ old ++ more → StartsWith now front → StartsWith now old
+starts_behind old more front now e h = starts_with_trans now front old h (starts_with_of_append front old more e)

@@ -3,35 +3,35 @@ ghost use Rattle.std.specs.Fmt.{signed_decimal};
 ghost use Rattle.xa_types.specs.Fault.{fault_text, event_text};
 ghost use Rattle.std.specs.List.{flat_map};
 ghost use Rattle.xa_text.specs.Line.{hex_digit, hex_pair, hex, data_text, coded, answer_text, event_rest, reply_text, call_text, line_text};
-ghost use Rattle.xa_text.specs.Pushed.{Begins};
+ghost use Rattle.std.specs.Io.{StartsWith};
 
 use itoa::Buffer;
 use xa_types::{Answer, ConvEvent, Data, Name, NoMemory, Reply};
 
 fn push_text(out: &mut Vec<u8>, text: &[u8]) -> Result<(), NoMemory>
     ensures ok { OnOk result (out.new.items ≡ out.old.items ++ text.now) }
-    ensures err { OnErr result (Begins out.old.items out.new.items) }
+    ensures err { OnErr result (StartsWith out.new.items out.old.items) }
 {
     Ok(out.extend_from_slice(text)?)
 }
 
 fn push_number(out: &mut Vec<u8>, number: u64) -> Result<(), NoMemory>
     ensures ok { OnOk result (out.new.items ≡ out.old.items ++ decimal number) }
-    ensures err { OnErr result (Begins out.old.items out.new.items) }
+    ensures err { OnErr result (StartsWith out.new.items out.old.items) }
 {
     push_text(out, Buffer::new().format(number).as_bytes())
 }
 
 fn push_code(out: &mut Vec<u8>, code: i32) -> Result<(), NoMemory>
     ensures ok { OnOk result (out.new.items ≡ out.old.items ++ signed_decimal code) }
-    ensures err { OnErr result (Begins out.old.items out.new.items) }
+    ensures err { OnErr result (StartsWith out.new.items out.old.items) }
 {
     push_text(out, Buffer::new().format(code).as_bytes())
 }
 
 fn push_pairs(out: &mut Vec<u8>, octets: &[u8]) -> Result<(), NoMemory>
     ensures ok { OnOk result (out.new.items ≡ out.old.items ++ flat_map hex_pair octets.now) }
-    ensures err { OnErr result (Begins out.old.items out.new.items) }
+    ensures err { OnErr result (StartsWith out.new.items out.old.items) }
 {
     let at = out.len();
     out.resize(at.saturating_add(octets.len().saturating_mul(2)), 0)?;
@@ -43,7 +43,7 @@ fn push_pairs(out: &mut Vec<u8>, octets: &[u8]) -> Result<(), NoMemory>
 
 fn push_hex(out: &mut Vec<u8>, octets: &[u8]) -> Result<(), NoMemory>
     ensures ok { OnOk result (out.new.items ≡ out.old.items ++ hex octets.now) }
-    ensures err { OnErr result (Begins out.old.items out.new.items) }
+    ensures err { OnErr result (StartsWith out.new.items out.old.items) }
 {
     if octets.is_empty() {
         return push_text(out, b"-");
@@ -53,7 +53,7 @@ fn push_hex(out: &mut Vec<u8>, octets: &[u8]) -> Result<(), NoMemory>
 
 fn push_data(out: &mut Vec<u8>, payload: &Data) -> Result<(), NoMemory>
     ensures ok { OnOk result (out.new.items ≡ out.old.items ++ data_text payload.now) }
-    ensures err { OnErr result (Begins out.old.items out.new.items) }
+    ensures err { OnErr result (StartsWith out.new.items out.old.items) }
 {
     match payload {
         Data::Absent => push_text(out, b"none"),
@@ -72,7 +72,7 @@ fn push_data(out: &mut Vec<u8>, payload: &Data) -> Result<(), NoMemory>
 
 fn push_coded(out: &mut Vec<u8>, code: i32, payload: &Data) -> Result<(), NoMemory>
     ensures ok { OnOk result (out.new.items ≡ out.old.items ++ coded code payload.now) }
-    ensures err { OnErr result (Begins out.old.items out.new.items) }
+    ensures err { OnErr result (StartsWith out.new.items out.old.items) }
 {
     push_text(out, b" ")?;
     push_code(out, code)?;
@@ -82,7 +82,7 @@ fn push_coded(out: &mut Vec<u8>, code: i32, payload: &Data) -> Result<(), NoMemo
 
 fn push_answer(out: &mut Vec<u8>, answer: &Answer) -> Result<(), NoMemory>
     ensures ok { OnOk result (out.new.items ≡ out.old.items ++ answer_text answer.now) }
-    ensures err { OnErr result (Begins out.old.items out.new.items) }
+    ensures err { OnErr result (StartsWith out.new.items out.old.items) }
 {
     match answer {
         Answer::Success(code, payload) => {
@@ -100,7 +100,7 @@ fn push_answer(out: &mut Vec<u8>, answer: &Answer) -> Result<(), NoMemory>
 fn push_descriptor(out: &mut Vec<u8>, descriptor: u64) -> Result<(), NoMemory>
     ensures ok { OnOk result (out.new.items
         ≡ out.old.items ++ (if descriptor == 0 then [] else codes "CD " ++ decimal descriptor ++ codes " ")) }
-    ensures err { OnErr result (Begins out.old.items out.new.items) }
+    ensures err { OnErr result (StartsWith out.new.items out.old.items) }
 {
     if descriptor == 0 {
         return Ok(());
@@ -117,7 +117,7 @@ fn push_event_rest(
     payload: &Data,
 ) -> Result<(), NoMemory>
     ensures ok { OnOk result (out.new.items ≡ out.old.items ++ event_rest event code payload.now) }
-    ensures err { OnErr result (Begins out.old.items out.new.items) }
+    ensures err { OnErr result (StartsWith out.new.items out.old.items) }
 {
     match event {
         ConvEvent::SendOnly => {
@@ -131,7 +131,7 @@ fn push_event_rest(
 
 fn push_reply(out: &mut Vec<u8>, reply: &Reply) -> Result<(), NoMemory>
     ensures ok { OnOk result (out.new.items ≡ out.old.items ++ reply_text reply.now) }
-    ensures err { OnErr result (Begins out.old.items out.new.items) }
+    ensures err { OnErr result (StartsWith out.new.items out.old.items) }
 {
     match reply {
         Reply::Done => push_text(out, b"DONE"),
@@ -162,7 +162,7 @@ fn push_reply(out: &mut Vec<u8>, reply: &Reply) -> Result<(), NoMemory>
 
 fn push_call(out: &mut Vec<u8>, name: &Name, op: u32) -> Result<(), NoMemory>
     ensures ok { OnOk result (out.new.items ≡ out.old.items ++ call_text name.now op) }
-    ensures err { OnErr result (Begins out.old.items out.new.items) }
+    ensures err { OnErr result (StartsWith out.new.items out.old.items) }
 {
     push_text(out, name.octets())?;
     push_text(out, b" ")?;
@@ -174,7 +174,7 @@ fn push_call(out: &mut Vec<u8>, name: &Name, op: u32) -> Result<(), NoMemory>
 /// Where memory runs out, what stood there stays in front.
 pub fn push_line(out: &mut Vec<u8>, name: &Name, op: u32, reply: &Reply) -> Result<(), NoMemory>
     ensures ok { OnOk result (out.new.items ≡ out.old.items ++ line_text name.now op reply.now) }
-    ensures err { OnErr result (Begins out.old.items out.new.items) }
+    ensures err { OnErr result (StartsWith out.new.items out.old.items) }
 {
     push_call(out, name, op)?;
     push_reply(out, reply)?;
@@ -188,67 +188,42 @@ mod tests {
     use std::test::Fail;
     use xa_types::{Answer, ConvEvent, Data, Fault, Name, Octets, Reply};
 
-    fn told(alloc: Global) -> Result<[(Reply, &'static [u8]); 9], Fail> {
-        let entry = Name::read(b"entry")?;
-        Ok([
-            (
-                Reply::Answered(
-                    0,
-                    Answer::Success(0, Data::Octet(Octets::of(alloc, b"hello")?)),
-                ),
-                b"a 1 OK 0 octet 68656c6c6f\n",
-            ),
-            (
-                Reply::Answered(0, Answer::Success(0, Data::Absent)),
-                b"a 1 OK 0 none\n",
-            ),
-            (
-                Reply::Answered(0, Answer::Success(0, Data::Octet(Octets::of(alloc, b"")?))),
-                b"a 1 OK 0 octet -\n",
-            ),
-            (
-                Reply::Answered(0, Answer::Failed(7, Data::Octet(Octets::of(alloc, b"no")?))),
-                b"a 1 TPESVCFAIL 7 octet 6e6f\n",
-            ),
-            (
-                Reply::Answered(1, Answer::Error(Fault::OType)),
-                b"a 1 CD 1 TPEOTYPE\n",
-            ),
-            (
-                Reply::Answered(
-                    12,
-                    Answer::Success(
-                        -40,
-                        Data::Struct(entry, Octets::of(alloc, b"\x00\x7f\xff")?),
-                    ),
-                ),
-                b"a 1 CD 12 OK -40 c:entry 007fff\n",
-            ),
-            (
-                Reply::Event(
-                    ConvEvent::SvcSucc,
-                    3,
-                    Data::Octet(Octets::of(alloc, b"bye")?),
-                ),
-                b"a 1 TPEEVENT TPEV_SVCSUCC 3 octet 627965\n",
-            ),
-            (
-                Reply::Now(18446744073709551615),
-                b"a 1 NOW 18446744073709551615\n",
-            ),
-            (Reply::Done, b"a 1 DONE\n"),
-        ])
+    fn octet(alloc: Global, octets: &[u8]) -> Result<Data, Fail> {
+        Ok(Data::Octet(Octets::of(alloc, octets)?))
+    }
+
+    // Whether the line of the first call of the client a reads so behind its number.
+    fn reads(alloc: Global, reply: Reply, want: &[u8]) -> Result<bool, Fail> {
+        let mut out = Vec::new(alloc);
+        push_line(&mut out, &Name::read(b"a")?, 1, &reply)?;
+        Ok(out.as_slice() == want)
+    }
+
+    fn answers(alloc: Global, descriptor: u64, answer: Answer, want: &[u8]) -> Result<bool, Fail> {
+        reads(alloc, Reply::Answered(descriptor, answer), want)
     }
 
     #[test]
     fn lines_read_as_they_should(rt: HostRuntime) -> Result<(), Fail> {
         let alloc = rt.alloc();
-        let name = Name::read(b"a")?;
-        for (reply, line) in told(alloc)? {
-            let mut out = Vec::new(alloc);
-            push_line(&mut out, &name, 1, &reply)?;
-            assert_eq!(rt; out.as_slice(), line);
-        }
+        let hello = Answer::Success(0, octet(alloc, b"hello")?);
+        assert!(rt; answers(alloc, 0, hello, b"a 1 OK 0 octet 68656c6c6f\n")?);
+        let none = Answer::Success(0, Data::Absent);
+        assert!(rt; answers(alloc, 0, none, b"a 1 OK 0 none\n")?);
+        let empty = Answer::Success(0, octet(alloc, b"")?);
+        assert!(rt; answers(alloc, 0, empty, b"a 1 OK 0 octet -\n")?);
+        let failed = Answer::Failed(7, octet(alloc, b"no")?);
+        assert!(rt; answers(alloc, 0, failed, b"a 1 TPESVCFAIL 7 octet 6e6f\n")?);
+        let other = Answer::Error(Fault::OType);
+        assert!(rt; answers(alloc, 1, other, b"a 1 CD 1 TPEOTYPE\n")?);
+        let entry = Data::Struct(Name::read(b"entry")?, Octets::of(alloc, b"\x00\x7f\xff")?);
+        let typed = Answer::Success(-40, entry);
+        assert!(rt; answers(alloc, 12, typed, b"a 1 CD 12 OK -40 c:entry 007fff\n")?);
+        let bye = Reply::Event(ConvEvent::SvcSucc, 3, octet(alloc, b"bye")?);
+        assert!(rt; reads(alloc, bye, b"a 1 TPEEVENT TPEV_SVCSUCC 3 octet 627965\n")?);
+        let now = Reply::Now(18446744073709551615);
+        assert!(rt; reads(alloc, now, b"a 1 NOW 18446744073709551615\n")?);
+        assert!(rt; reads(alloc, Reply::Done, b"a 1 DONE\n")?);
         Ok(())
     }
 }

@@ -1,4 +1,4 @@
-use Rattle.std.proofs.Common.{[], ◌∷◌, ◌++◌, ◌∙◌, ap, subst, ◌≡◌}
+use Rattle.std.proofs.Common.{[], ◌∷◌, ◌++◌, ◌∙◌, ap, subst}
 use Rattle.std.specs.Prelude.{MatchResult}
 use Rattle.xa_program.specs.Progress.{Printed, Unprinted}
 use Rattle.xa_program.proofs.Played.{life_ends}

@@ -1,4 +1,4 @@
-use Rattle.std.proofs.Common.{◌≡◌, refl, sym, rules}
+use Rattle.std.proofs.Common.{rules}
 use Rattle.xa_pipe.proofs.Ceasing.{stands_more}
 use Rattle.xa_pipe.proofs.pipe.Pipe.next.Goals.{in-Ok, in-Err-BadFrame, in-Err-NoMemory}
 use Rattle.xa_pipe.proofs.pipe.Pipe.next.Goals as goal

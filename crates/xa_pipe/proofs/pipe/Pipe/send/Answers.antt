@@ -1,11 +1,19 @@
-use Rattle.std.proofs.Common.{subst}
-use Rattle.std.specs.Prelude.{OnOk}
-use Rattle.xa_types.specs.declared.data.Data.{Data}
-use Rattle.xa_link.specs.Told.{Grew}
+use Rattle.std.proofs.Common.{rules, ◌≡◌, List, ℕ, Option, subst}
+use Rattle.std.specs.Prelude.{OnOk, OnErr}
+use Rattle.xa_link.specs.Told.{Grew, GrewByPrefix}
 use Rattle.xa_frame.specs.Spelling.{spelled}
 use Rattle.xa_pipe.specs.Pipe.{invoke_frame}
 use Rattle.xa_pipe.proofs.pipe.Pipe.send.Goals as goal
 
 pub returns-clause-took : goal.returns-clause-took
 returns-clause-took g c =
-    subst (λ (payload : Data). OnOk c.write.result (Grew c.args.self.now.took c.write.new.self.took (spelled (invoke_frame c.args.service.now c.args.number payload)))) c.in-Ok.ensures c.write.ensures.took
+    let due : c.deref.result.now ≡ spelled (invoke_frame c.args.service.now c.args.number c.args.payload.now) = search rules in
+    let took : OnOk c.write.result (Grew c.args.self.now.took (g.L.Sink.took c.write.new.link) c.deref.result.now) = search rules in
+    subst (λ (octets : List ℕ). OnOk c.write.result (Grew c.args.self.now.took (g.L.Sink.took c.write.new.link) octets)) due took
+
+pub returns-clause-part : goal.returns-clause-part
+returns-clause-part g c =
+    let due : c.deref.result.now ≡ spelled (invoke_frame c.args.service.now c.args.number c.args.payload.now) = search rules in
+    let before : g.L.Sink.took c.self.inside.link ≡ c.args.self.now.took = search rules in
+    let part = subst (λ (told : Option (List ℕ)). OnErr c.write.result (GrewByPrefix told (g.L.Sink.took c.write.new.link) c.deref.result.now)) before c.write.ensures.part in
+    subst (λ (octets : List ℕ). OnErr c.write.result (GrewByPrefix c.args.self.now.took (g.L.Sink.took c.write.new.link) octets)) due part

@@ -1,0 +1,137 @@
+// What the processes of servers do: how they are started, what their pipes carry, and that nothing is left of them.
+use std::alloc::Global;
+use std::fs;
+use std::test::Fail;
+use xa_link::{ChildYard, Link, Sink, Source, StartRefused, Starter, Yard, put};
+use xa_types::{Generation, Name, NoMemory, Octets, Sequence, ServerSetup, Setup};
+
+// What a link is to do next.
+enum Step {
+    Takes(&'static str),
+    Refuses(&'static str),
+    Gives(&'static str),
+    Ends,
+}
+
+// A server's program or the monitor's own, the script that it reads where it is a shell, and what its link does; for a
+// program that can't be started, nothing.
+type Row = (Option<&'static str>, &'static str, Option<&'static [Step]>);
+
+const SHELL: Option<&str> = Some("/bin/sh");
+
+const ROWS: [Row; 8] = [
+    (
+        Some("/bin/echo"),
+        "",
+        Some(&[Step::Gives("server S\n"), Step::Ends]),
+    ),
+    (None, "", Some(&[Step::Gives("server S\n"), Step::Ends])),
+    (Some("/bin/no-such-program"), "", None),
+    (
+        SHELL,
+        "exec cat",
+        Some(&[Step::Takes("hello"), Step::Gives("hello")]),
+    ),
+    (SHELL, "exit 0", Some(&[Step::Ends, Step::Ends])),
+    (
+        SHELL,
+        "exec 0<&-; echo shut",
+        Some(&[Step::Gives("shut\n"), Step::Refuses("x"), Step::Ends]),
+    ),
+    (
+        SHELL,
+        "printf a; printf b; printf c",
+        Some(&[Step::Gives("abc"), Step::Ends]),
+    ),
+    (
+        SHELL,
+        "read -r all < /proc/$PPID/task/$PPID/children; test \"$all\" = $$ && echo alone",
+        Some(&[Step::Gives("alone\n"), Step::Ends]),
+    ),
+];
+
+fn setup(alloc: Global, name: Name, program: Option<&str>) -> Result<Setup, Fail> {
+    let program = match program {
+        Some(program) => Some(Octets::of(alloc, program.as_bytes())?),
+        None => None,
+    };
+    let server = ServerSetup {
+        name,
+        queue: name,
+        program,
+        restart: false,
+        maxgen: 1,
+        grace: 1,
+    };
+    Ok(Setup {
+        block_time: 1,
+        blocks: 1,
+        shapes: Sequence::from_vec(Vec::new(alloc)),
+        queues: Sequence::from_vec(Vec::new(alloc)),
+        servers: Sequence::from_vec(Vec::from_array(alloc, [server])?),
+        services: Sequence::from_vec(Vec::new(alloc)),
+    })
+}
+
+// The octets are read one by one, so it is all the same in which pieces they were written.
+fn gives<S: Source>(source: &mut S, want: &str) -> bool {
+    for octet in want.as_bytes() {
+        let mut piece = [0u8];
+        if source.read(&mut piece) != Ok(1) || piece[0] != *octet {
+            return false;
+        }
+    }
+    true
+}
+
+fn does<L: Link>(link: &mut L, step: &Step) -> bool {
+    match step {
+        Step::Takes(text) => put(link, text.as_bytes()).is_ok(),
+        Step::Refuses(text) => put(link, text.as_bytes()).is_err(),
+        Step::Gives(text) => gives(link, text),
+        Step::Ends => link.read(&mut [0u8]) == Ok(0),
+    }
+}
+
+// Whether what the starter starts does these in turn; without steps, whether it fails.
+fn runs<L: Link + Drop, S: Starter<L>>(
+    starter: &mut S,
+    name: &Name,
+    steps: Option<&[Step]>,
+) -> bool {
+    match (starter.start(name, Generation(1)), steps) {
+        (Ok(mut link), Some(steps)) => steps.iter().all(|step| does(&mut link, step)),
+        (Err(refused), None) => refused == StartRefused::Failed,
+        _ => false,
+    }
+}
+
+fn starts(rt: &HostRuntime, program: Option<&str>, steps: Option<&[Step]>) -> Result<bool, Fail> {
+    let name = Name::read(b"S")?;
+    let setup = setup(rt.alloc(), name, program)?;
+    let mut yard = ChildYard::new(rt.clone()?, String::from_str(rt.alloc(), "echo")?);
+    let mut starters = yard.starters(&setup)?;
+    match starters.as_mut_slice() {
+        [starter] => Ok(runs(starter, &name, steps)),
+        _ => Ok(false),
+    }
+}
+
+fn count_descriptors(rt: &HostRuntime) -> Result<usize, Fail> {
+    Ok(fs::read_dir(rt, "/proc/self/fd")?.count())
+}
+
+// A server is started with the words `server` and its name, so `sh` reads its script from the file `server`.
+#[test]
+fn processes_end_alone_and_leave_nothing(rt: HostRuntime) -> Result<(), Fail> {
+    let before = count_descriptors(&rt)?;
+    for (program, script, steps) in ROWS {
+        fs::write(&rt, "server", script)?;
+        assert!(rt; starts(&rt, program, steps)?, "{script}");
+    }
+    fs::remove_file(&rt, "server")?;
+    let children = fs::read_to_string(&rt, "/proc/thread-self/children")?;
+    assert_eq!(rt; children.as_str(), "");
+    assert_eq!(rt; count_descriptors(&rt)?, before);
+    Ok(())
+}
