@@ -150,39 +150,39 @@ fn shelf(alloc: Global) -> Result<MemoryShelf, Fail> {
     Ok(MemoryShelf::new(files, Vec::from_slice(alloc, &[5])?))
 }
 
+const WANT: [(&str, u32, Result<&str, ShelfRefused>); 4] = [
+    ("a", 3, Ok("xyz")),
+    ("a", 2, Err(ShelfRefused::TooLong)),
+    ("empty", 0, Ok("")),
+    ("none", 9, Err(ShelfRefused::Failed)),
+];
+
 #[test]
-fn shelves_read_whole_files(rt: HostRuntime) -> Result<(), Fail> {
-    let want = [
-        ("a", 3, Ok("xyz")),
-        ("a", 2, Err(ShelfRefused::TooLong)),
-        ("empty", 0, Ok("")),
-        ("none", 9, Err(ShelfRefused::Failed)),
-    ];
+fn shelves_in_memory_give_whole_files(rt: HostRuntime) -> Result<(), Fail> {
     let mut shelf = shelf(rt.alloc())?;
-    assert!(rt; reads(&mut shelf, &want));
-    assert!(rt;
-        reads(
-            &mut shelf,
-            &[("a", 3, Err(ShelfRefused::Failed)), ("a", 3, Ok("xyz"))]
-        )
-    );
-    fs::write(&rt, "a", "xyz")?;
-    fs::write(&rt, "empty", "")?;
-    let mut shelf = FileShelf::new(&rt, rt.alloc());
-    assert!(rt; reads(&mut shelf, &want));
+    let failed = [("a", 3, Err(ShelfRefused::Failed)), ("a", 3, Ok("xyz"))];
+    assert!(rt; reads(&mut shelf, &WANT) && reads(&mut shelf, &failed));
+    Ok(())
+}
+
+#[test]
+fn files_are_read_whole(rt: HostRuntime) -> Result<(), Fail> {
     // Of this file a read gives but a part, and a folder can be opened, but not read.
-    let long = [b'x'; 4097];
-    let long = str::from_utf8(&long)?;
-    fs::write(&rt, "long", long)?;
-    let want = [
+    let long = str::from_utf8(&[b'x'; 4097])?;
+    let others = [
         ("long", 4097, Ok(long)),
         ("long", 4096, Err(ShelfRefused::TooLong)),
         (".", 9, Err(ShelfRefused::Failed)),
     ];
-    assert!(rt; reads(&mut shelf, &want));
+    for (name, text) in [("a", "xyz"), ("empty", ""), ("long", long)] {
+        fs::write(&rt, name, text)?;
+    }
+    let mut shelf = FileShelf::new(&rt, rt.alloc());
+    let read = reads(&mut shelf, &WANT) && reads(&mut shelf, &others);
     for name in ["a", "empty", "long"] {
         fs::remove_file(&rt, name)?;
     }
+    assert!(rt; read);
     Ok(())
 }
 
