@@ -1,5 +1,6 @@
-/* The bare cost of a call: so many octets to a child and so many back, over two pipes, one write each way.
-   usage: pingpong ROUNDS THERE BACK */
+/* The bare cost of a call: so many octets to a child and so many back, over two pipes, one write each way, and so many
+   octets of memory that are written for the first time and kept.
+   usage: pingpong ROUNDS THERE BACK KEPT */
 #include <stdio.h>
 #include <stdlib.h>
 #include <string.h>
@@ -40,8 +41,10 @@ static int child(size_t there, size_t back) {
     return 0;
 }
 
-static int parent(char **words, long rounds, size_t there, size_t back) {
+static int parent(char **words, long rounds, size_t there, size_t back, size_t kept) {
     int down[2], up[2], status;
+    char *memory = malloc((size_t)rounds * kept + 1);
+    if (memory == NULL) fail("malloc");
     if (pipe(down) < 0 || pipe(up) < 0) fail("pipe");
     pid_t pid = fork();
     if (pid < 0) fail("fork");
@@ -52,7 +55,7 @@ static int parent(char **words, long rounds, size_t there, size_t back) {
         close(down[1]);
         close(up[0]);
         close(up[1]);
-        char *again[] = {words[0], "child", words[2], words[3], NULL};
+        char *again[] = {words[0], "child", words[2], words[3], "0", NULL};
         execv("/proc/self/exe", again);
         fail("exec");
     }
@@ -60,6 +63,7 @@ static int parent(char **words, long rounds, size_t there, size_t back) {
     close(up[1]);
     for (long i = 0; i < rounds; i++) {
         give(down[1], there);
+        memset(memory + (size_t)i * kept, 1, kept);
         if (!take(up[0], back)) {
             fprintf(stderr, "the child ended\n");
             return 1;
@@ -67,12 +71,13 @@ static int parent(char **words, long rounds, size_t there, size_t back) {
     }
     close(down[1]);
     if (waitpid(pid, &status, 0) < 0) fail("wait");
+    free(memory);
     return status == 0 ? 0 : 1;
 }
 
 int main(int count, char **words) {
-    if (count != 4) {
-        fprintf(stderr, "usage: pingpong ROUNDS THERE BACK\n");
+    if (count != 5) {
+        fprintf(stderr, "usage: pingpong ROUNDS THERE BACK KEPT\n");
         return 2;
     }
     size_t there = strtoul(words[2], NULL, 10), back = strtoul(words[3], NULL, 10);
@@ -81,5 +86,5 @@ int main(int count, char **words) {
         return 2;
     }
     if (strcmp(words[1], "child") == 0) return child(there, back);
-    return parent(words, strtol(words[1], NULL, 10), there, back);
+    return parent(words, strtol(words[1], NULL, 10), there, back, strtoul(words[4], NULL, 10));
 }

@@ -48,6 +48,7 @@ impl MemorySink {
     pub(super) fn rewind(&mut self)
         ensures took { sink_took self.new ≡ [] }
         ensures count { sink_faults self.new ≡ 0 }
+        ensures anew { self.new.calls ≡ 0 }
     {
         self.taken.clear();
         self.calls = 0;

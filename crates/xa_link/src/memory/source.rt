@@ -43,6 +43,7 @@ impl MemorySource {
         ensures left { source_left self.new ≡ source_gave self.old ++ source_left self.old }
         ensures gave { source_gave self.new ≡ [] }
         ensures count { source_faults self.new ≡ 0 }
+        ensures anew { self.new.calls ≡ 0 }
     {
         self.at = 0;
         self.calls = 0;
