@@ -13,6 +13,11 @@ struct Ran {
     lives: usize,
 }
 
+// Whether the command is done, and wrote this.
+fn is_done(ran: &Ran, wrote: &[u8]) -> bool {
+    ran.status == Status::Done && ran.wrote.as_slice() == wrote
+}
+
 fn words_of(alloc: Global, words: &[&str]) -> Result<Vec<String>, Fail> {
     let mut texts = Vec::new(alloc);
     for word in words {
@@ -74,17 +79,11 @@ fn run_on(
 fn a_script_is_played(rt: HostRuntime) -> Result<(), Fail> {
     let script = b"client a\ncall ECHO text \"hello\"\n# again\n call  ECHO none \n";
     let ran = run_on(&rt, &["play", "ECHO"], script, &[], &[])?;
-    assert_eq!(rt; ran.status, Status::Done);
-    assert_eq!(rt;
-        ran.wrote.as_slice(),
-        b"a 1 OK 0 octet 68656c6c6f\na 2 OK 0 none\n".as_slice()
-    );
-    assert_eq!(rt; ran.events, 13);
-    assert_eq!(rt; ran.lives, 1);
+    let wrote = b"a 1 OK 0 octet 68656c6c6f\na 2 OK 0 none\n";
+    assert!(rt; is_done(&ran, wrote));
+    assert!(rt; ran.events == 13 && ran.lives == 1);
     let ran = run_on(&rt, &["play", "ECHO"], b"", &[], &[])?;
-    assert_eq!(rt; ran.status, Status::Done);
-    assert!(rt; ran.wrote.is_empty());
-    assert_eq!(rt; ran.events, 4);
+    assert!(rt; is_done(&ran, b"") && ran.events == 4);
     Ok(())
 }
 
@@ -283,36 +282,31 @@ fn yard_of(alloc: Global, life: Option<&[&[u8]]>, faults: [&[u64]; 3]) -> Result
     Ok(MemoryYard::new(alloc, Vec::from_array(alloc, [lives])?))
 }
 
+fn serves(rt: &HostRuntime, row: &Row) -> Result<bool, Fail> {
+    let (script, life, faults, wrote) = row;
+    let mut yard = yard_of(rt.alloc(), *life, *faults)?;
+    let ran = run_in(rt, &mut yard, &["play", "ECHO"], script, &[], &[])?;
+    Ok(is_done(&ran, wrote) && ran.lives == usize::from(life.is_some()))
+}
+
 #[test]
 fn each_life_is_served(rt: HostRuntime) -> Result<(), Fail> {
-    for (script, life, faults, wrote) in ROWS {
-        let mut yard = yard_of(rt.alloc(), life, faults)?;
-        let ran = run_in(&rt, &mut yard, &["play", "ECHO"], script, &[], &[])?;
-        assert_eq!(rt; ran.status, Status::Done);
-        assert_eq!(rt; ran.wrote.as_slice(), wrote);
-        assert_eq!(rt; ran.lives, usize::from(life.is_some()));
+    for (place, row) in ROWS.iter().enumerate() {
+        assert!(rt; serves(&rt, row)?, "row {place}");
     }
     Ok(())
 }
 
+fn plays(rt: &HostRuntime, service: &str, script: &[u8], wrote: &[u8]) -> Result<bool, Fail> {
+    let ran = run_on(rt, &["play", service], script, &[], &[])?;
+    Ok(is_done(&ran, wrote))
+}
+
 #[test]
 fn local_servers_fail_and_die(rt: HostRuntime) -> Result<(), Fail> {
-    let cases = [
-        (
-            "FAIL",
-            b"client a\ncall FAIL none\n".as_slice(),
-            b"a 1 TPESVCFAIL 99 none\n".as_slice(),
-        ),
-        (
-            "DIE",
-            b"client a\ncall DIE none\ncall DIE none\n".as_slice(),
-            DIED,
-        ),
-    ];
-    for (service, script, wrote) in cases {
-        let ran = run_on(&rt, &["play", service], script, &[], &[])?;
-        assert_eq!(rt; ran.status, Status::Done);
-        assert_eq!(rt; ran.wrote.as_slice(), wrote);
-    }
+    let fail = b"client a\ncall FAIL none\n";
+    assert!(rt; plays(&rt, "FAIL", fail, b"a 1 TPESVCFAIL 99 none\n")?);
+    let die = b"client a\ncall DIE none\ncall DIE none\n";
+    assert!(rt; plays(&rt, "DIE", die, DIED)?);
     Ok(())
 }

@@ -2,8 +2,8 @@
 use std::alloc::Global;
 use std::fs;
 use std::test::Fail;
-use xa_link::{ChildYard, Link, Sink, Source, StartRefused, Starter, Yard, put};
-use xa_types::{Generation, Name, NoMemory, Octets, Sequence, ServerSetup, Setup};
+use xa_link::{ChildYard, Link, Source, StartRefused, Starter, Yard, put};
+use xa_types::{Generation, Name, Octets, Sequence, ServerSetup, Setup};
 
 // What a link is to do next.
 enum Step {
