@@ -26,14 +26,13 @@ pub(crate) fn request(number: u32) -> RequestId
 /// Notes that the queue accepts the request of the client's call `op`, by the first version of the board, and that the
 /// server takes it; `number` counts the client's requests.
 pub fn note_taken(
-    alloc: Global,
     history: &mut Vec<Event>,
     service: &Name,
     op: u32,
     number: u32,
-    payload: &Data,
+    payload: Data,
 ) -> Result<(), NoMemory>
-    ensures { OnOk result (history.new.items ≡ history.old.items ++ Accept (accept service.now op number payload.now) ∷ Take (take_of number) ∷ []) }
+    ensures { OnOk result (history.new.items ≡ history.old.items ++ Accept (accept service.now op number payload) ∷ Take (take_of number) ∷ []) }
 {
     history.push(Event::Accept(Accepted {
         by: CLIENT,
@@ -45,7 +44,7 @@ pub fn note_taken(
         routine: *service,
         priority: 50,
         mode: Mode::Reply,
-        payload: payload.copy(alloc)?,
+        payload,
     }))?;
     history.push(Event::Take(Taken {
         request: request(number),

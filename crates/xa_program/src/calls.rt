@@ -41,22 +41,15 @@ fn exchange<L: Link>(
     history: &mut Vec<Event>,
     op: u32,
     number: u32,
-    payload: &Data,
+    payload: Data,
 ) -> Result<Result<Return, StopCause>, NoMemory>
-    requires { is_sound (play_setup session.now.service) payload.now ≡ true }
-    ensures taken { OnOk result (history.new.items ≡ history.old.items ++ Accept (accept session.now.service op number payload.now) ∷ Take (take_of number) ∷ []) }
-    ensures heard { IfOk result (Exchanged session.now.service number payload.now pipe.old pipe.new) }
+    requires { is_sound (play_setup session.now.service) payload ≡ true }
+    ensures taken { OnOk result (history.new.items ≡ history.old.items ++ Accept (accept session.now.service op number payload) ∷ Take (take_of number) ∷ []) }
+    ensures heard { IfOk result (Exchanged session.now.service number payload pipe.old pipe.new) }
 {
-    let sent = pipe.send(&session.service, number, payload);
+    let sent = pipe.send(&session.service, number, &payload);
     // The server's program works while this is noted.
-    note_taken(
-        session.alloc,
-        history,
-        &session.service,
-        op,
-        number,
-        payload,
-    )?;
+    note_taken(history, &session.service, op, number, payload)?;
     match sent {
         Ok(()) => Ok(pipe.hear(number)),
         Err(cause) => Ok(Err(cause)),
@@ -147,23 +140,23 @@ fn call<L: Link>(
     account: &mut Account,
     sent: &mut u32,
     op: u32,
-    ask: &Ask,
+    ask: Ask,
 ) -> Result<bool, NoMemory>
-    requires built { IsBuiltOp (CallOp ask.now) }
+    requires built { IsBuiltOp (CallOp ask) }
     requires few { sent.old < op }
     ensures goes { IfOk result (λ up. (n : ℕ) (ops : List Op) → op ≡ n + 1
         → IsPlaying session.now.service session.now.client 1 n sent.old ops account.old.history.items account.old.lines.items
         → IsServing session.now.service sent.old (reverse account.old.history.items) pipe.old
-        → IsPlaying session.now.service session.now.client 1 (n + 1) sent.new (ops ++ CallOp ask.now ∷ []) account.new.history.items account.new.lines.items
+        → IsPlaying session.now.service session.now.client 1 (n + 1) sent.new (ops ++ CallOp ask ∷ []) account.new.history.items account.new.lines.items
         × IsLive up session.now.service sent.new (reverse account.new.history.items) pipe.new) }
     ensures few { IfOk result (λ up. sent.new ≤ op) }
 {
-    if let Some(refusal) = check(ask, &session.service, 1) {
+    if let Some(refusal) = check(&ask, &session.service, 1) {
         note_refused(account, &session.client, op, refusal)?;
         return Ok(true);
     }
     *sent += 1;
-    serve_call(session, pipe, account, op, *sent, &ask.payload)
+    serve_call(session, pipe, account, op, *sent, ask.payload)
 }
 
 // Carries a call that isn't refused to its answer.
@@ -173,10 +166,10 @@ fn serve_call<L: Link>(
     account: &mut Account,
     op: u32,
     number: u32,
-    payload: &Data,
+    payload: Data,
 ) -> Result<bool, NoMemory>
-    requires { is_sound (play_setup session.now.service) payload.now ≡ true }
-    ensures { IfOk result (λ up. IsCarried up session.now.service session.now.client op number payload.now account.old.history.items account.new.history.items
+    requires { is_sound (play_setup session.now.service) payload ≡ true }
+    ensures { IfOk result (λ up. IsCarried up session.now.service session.now.client op number payload account.old.history.items account.new.history.items
         account.old.lines.items account.new.lines.items pipe.old pipe.new) }
 {
     let heard = exchange(session, pipe, &mut account.history, op, number, payload)?;
@@ -195,19 +188,19 @@ fn refuse_call(
     service: &Name,
     name: &Name,
     op: u32,
-    ask: &Ask,
+    ask: Ask,
 ) -> Result<(), NoMemory>
-    ensures { OnOk result (IsTurnedDown service.now name.now 2 op ask.now account.old.history.items account.new.history.items account.old.lines.items account.new.lines.items) }
+    ensures { OnOk result (IsTurnedDown service.now name.now 2 op ask account.old.history.items account.new.history.items account.old.lines.items account.new.lines.items) }
 {
-    match check(ask, service, 2) {
+    match check(&ask, service, 2) {
         Some(refusal) => note_refused(account, name, op, refusal),
         None => unreachable!(),
     }
 }
 
-fn ask_of(op: &Op) -> &Ask
-    requires { IsBuiltOp op.now }
-    ensures ask { op.now ≡ CallOp result.now }
+fn ask_of(op: Op) -> Ask
+    requires { IsBuiltOp op }
+    ensures ask { op ≡ CallOp result }
 {
     match op {
         Op::Call(ask) => ask,
@@ -223,14 +216,14 @@ fn next_call<L: Link>(
     sent: &mut u32,
     op: u32,
     up: bool,
-    ask: &Ask,
+    ask: Ask,
 ) -> Result<bool, NoMemory>
-    requires built { IsBuiltOp (CallOp ask.now) }
+    requires built { IsBuiltOp (CallOp ask) }
     requires few { sent.old < op }
     ensures goes { IfOk result (λ now. (n : ℕ) (ops : List Op) → op ≡ n + 1
         → IsPlaying session.now.service session.now.client 1 n sent.old ops account.old.history.items account.old.lines.items
         → IsLive up session.now.service sent.old (reverse account.old.history.items) pipe.old
-        → IsPlaying session.now.service session.now.client 1 (n + 1) sent.new (ops ++ CallOp ask.now ∷ []) account.new.history.items account.new.lines.items
+        → IsPlaying session.now.service session.now.client 1 (n + 1) sent.new (ops ++ CallOp ask ∷ []) account.new.history.items account.new.lines.items
         × IsLive now session.now.service sent.new (reverse account.new.history.items) pipe.new) }
     ensures few { IfOk result (λ now. sent.new ≤ op) }
 {
@@ -247,13 +240,13 @@ pub fn make_calls<L: Link>(
     pipe: &mut Pipe<L>,
     account: &mut Account,
     up: bool,
-    ops: &[Op],
+    ops: Vec<Op>,
 ) -> Result<bool, NoMemory>
-    requires built { All IsBuiltOp ops.now }
-    requires few { length ops.now < 2 ^ 32 }
+    requires built { All IsBuiltOp ops.items }
+    requires few { length ops.items < 2 ^ 32 }
     ensures { IfOk result (λ now. IsPlaying session.now.service session.now.client 1 0 0 [] account.old.history.items account.old.lines.items
         → IsLive up session.now.service 0 (reverse account.old.history.items) pipe.old
-        → (m : ℕ) × IsPlaying session.now.service session.now.client 1 (length ops.now) m ops.now account.new.history.items account.new.lines.items
+        → (m : ℕ) × IsPlaying session.now.service session.now.client 1 (length ops.items) m ops.items account.new.history.items account.new.lines.items
         × IsLive now session.now.service m (reverse account.new.history.items) pipe.new) }
 {
     let mut up = up;
@@ -272,13 +265,13 @@ pub fn refuse_calls(
     account: &mut Account,
     service: &Name,
     name: &Name,
-    ops: &[Op],
+    ops: Vec<Op>,
 ) -> Result<(), NoMemory>
-    requires built { All IsBuiltOp ops.now }
-    requires few { length ops.now < 2 ^ 32 }
+    requires built { All IsBuiltOp ops.items }
+    requires few { length ops.items < 2 ^ 32 }
     ensures { OnOk result (IsPlaying service.now name.now 1 0 0 [] account.old.history.items account.old.lines.items
         → NeverStarted service.now (reverse account.old.history.items)
-        → IsPlaying service.now name.now 1 (length ops.now) 0 ops.now account.new.history.items account.new.lines.items
+        → IsPlaying service.now name.now 1 (length ops.items) 0 ops.items account.new.history.items account.new.lines.items
         × NeverStarted service.now (reverse account.new.history.items)) }
 {
     let mut number = 0u32;

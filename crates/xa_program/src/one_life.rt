@@ -39,11 +39,11 @@ fn greet<L: Link>(
 }
 
 // The client of the script, if it has one.
-fn only_client(script: &Script) -> Option<&Client>
-    requires { IsBuiltScript script.now.clients }
-    ensures { MatchOption result (script.now.clients ≡ []) (λ client. IsOnly client.now script.now.clients) }
+fn only_client(script: Script) -> Option<Client>
+    requires { IsBuiltScript script.clients }
+    ensures { MatchOption result (script.clients ≡ []) (λ client. IsOnly client script.clients) }
 {
-    script.clients.slice().first()
+    script.clients.into_vec().pop()
 }
 
 // The client makes its calls and leaves, if there is one. Answers whether the server is up.
@@ -52,24 +52,25 @@ fn make_all<L: Link>(
     pipe: &mut Pipe<L>,
     account: &mut Account,
     service: &Name,
-    script: &Script,
+    script: Script,
     up: bool,
 ) -> Result<bool, NoMemory>
-    requires { IsBuiltScript script.now.clients }
+    requires { IsBuiltScript script.clients }
     ensures { IfOk result (λ now. ((name : List ℕ) (clients : ℕ) → IsPlaying service.now name clients 0 0 [] account.old.history.items account.old.lines.items)
         → IsLive up service.now 0 (reverse account.old.history.items) pipe.old
-        → IsLeaving service.now script.now.clients account.new.history.items account.new.lines.items
+        → IsLeaving service.now script.clients account.new.history.items account.new.lines.items
         × ((m : ℕ) × IsLive now service.now m (reverse account.new.history.items) pipe.new)) }
 {
     let Some(client) = only_client(script) else {
         return Ok(up);
     };
+    let Client { name, ops } = client;
     let session = Session {
         alloc,
         service: *service,
-        client: client.name,
+        client: name,
     };
-    let up = make_calls(&session, pipe, account, up, client.ops.slice())?;
+    let up = make_calls(&session, pipe, account, up, ops.into_vec())?;
     note_left(&mut account.history)?;
     Ok(up)
 }
@@ -101,15 +102,15 @@ pub fn serve<L: Link>(
     account: &mut Account,
     service: &Name,
     server: &Name,
-    script: &Script,
+    script: Script,
 ) -> Result<(), NoMemory>
-    requires built { IsBuiltScript script.now.clients }
+    requires built { IsBuiltScript script.clients }
     requires server { server.now ≡ server_name }
     requires booted { account.old.history.items ≡ Advertise (advertise service.now) ∷ [] }
     requires silent { account.old.lines.items ≡ [] }
     requires wrote { Wrote pipe.old [] }
     requires read { HasRead pipe.old [] }
-    ensures { OnOk result (IsOver service.now script.now.clients account.new.history.items account.new.lines.items
+    ensures { OnOk result (IsOver service.now script.clients account.new.history.items account.new.lines.items
         × HasLived service.now (reverse account.new.history.items) pipe.new) }
 {
     note_started(&mut account.history)?;
@@ -119,25 +120,26 @@ pub fn serve<L: Link>(
 }
 
 // Each call of the client is refused, and it leaves, if there is one.
-fn refuse_all(account: &mut Account, service: &Name, script: &Script) -> Result<(), NoMemory>
-    requires { IsBuiltScript script.now.clients }
+fn refuse_all(account: &mut Account, service: &Name, script: Script) -> Result<(), NoMemory>
+    requires { IsBuiltScript script.clients }
     ensures { OnOk result (((name : List ℕ) (clients : ℕ) → IsPlaying service.now name clients 0 0 [] account.old.history.items account.old.lines.items)
         → NeverStarted service.now (reverse account.old.history.items)
-        → IsLeaving service.now script.now.clients account.new.history.items account.new.lines.items × NeverStarted service.now (reverse account.new.history.items)) }
+        → IsLeaving service.now script.clients account.new.history.items account.new.lines.items × NeverStarted service.now (reverse account.new.history.items)) }
 {
     let Some(client) = only_client(script) else {
         return Ok(());
     };
-    refuse_calls(account, service, &client.name, client.ops.slice())?;
+    let Client { name, ops } = client;
+    refuse_calls(account, service, &name, ops.into_vec())?;
     note_left(&mut account.history)
 }
 
 /// Serves the script where the server couldn't be started: the queue is down, and each call is refused.
-pub fn serve_none(account: &mut Account, service: &Name, script: &Script) -> Result<(), NoMemory>
-    requires built { IsBuiltScript script.now.clients }
+pub fn serve_none(account: &mut Account, service: &Name, script: Script) -> Result<(), NoMemory>
+    requires built { IsBuiltScript script.clients }
     requires booted { account.old.history.items ≡ Advertise (advertise service.now) ∷ [] }
     requires silent { account.old.lines.items ≡ [] }
-    ensures { OnOk result (IsOver service.now script.now.clients account.new.history.items account.new.lines.items
+    ensures { OnOk result (IsOver service.now script.clients account.new.history.items account.new.lines.items
         × HasNotLived (reverse account.new.history.items)) }
 {
     note_not_started(&mut account.history, service)?;

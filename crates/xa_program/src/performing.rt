@@ -59,16 +59,16 @@ fn account_for(alloc: Global, script: &Script) -> Result<Account, NoMemory>
 pub fn perform<O: Sink, L: Link, S: Starter<L>>(
     alloc: Global,
     service: &Name,
-    script: &Script,
+    script: Script,
     out: &mut O,
     starter: &mut S,
 ) -> Served<L>
-    requires { IsBuiltScript script.now.clients }
+    requires { IsBuiltScript script.clients }
     ensures { ServingEnds (record { took = L.took; gave = L.gave; left = L.left; reads = L.read_faults; writes = L.write_faults }) (O.took out.old) (O.took out.new) (O.write_faults out.old) (O.write_faults out.new)
         (record { faults = S.start_faults starter.old; asked = S.asked starter.old }) (record { faults = S.start_faults starter.new; asked = S.asked starter.new })
-        service.now script.now.clients result.status result.history.items result.lives.items }
+        service.now script.clients result.status result.history.items result.lives.items }
 {
-    let Ok(mut account) = account_for(alloc, script) else {
+    let Ok(mut account) = account_for(alloc, &script) else {
         return out_of_memory(Vec::new(alloc), Vec::new(alloc));
     };
     let Ok(lives) = Vec::with_capacity(alloc, 1) else {
@@ -99,13 +99,13 @@ fn out_of_memory<L>(history: Vec<Event>, lives: Vec<Life<L>>) -> Served<L>
 fn live<O: Sink, L: Link>(
     alloc: Global,
     service: &Name,
-    script: &Script,
+    script: Script,
     out: &mut O,
     mut account: Account,
     mut lives: Vec<Life<L>>,
     link: L,
 ) -> Served<L>
-    requires built { IsBuiltScript script.now.clients }
+    requires built { IsBuiltScript script.clients }
     requires booted { account.history.items ≡ Advertise (advertise service.now) ∷ [] }
     requires silent { account.lines.items ≡ [] }
     requires none { lives.items ≡ [] }
@@ -114,7 +114,7 @@ fn live<O: Sink, L: Link>(
     requires gave { Empty (L.gave link) }
     ensures { (starts starts_after : StarterShows) → IsAsked starts starts_after → ServingEnds (record { took = L.took; gave = L.gave; left = L.left; reads = L.read_faults; writes = L.write_faults })
         (O.took out.old) (O.took out.new) (O.write_faults out.old) (O.write_faults out.new) starts starts_after
-        service.now script.now.clients result.status result.history.items result.lives.items }
+        service.now script.clients result.status result.history.items result.lives.items }
 {
     let mut pipe = Pipe::new(alloc, link);
     let served = serve(
@@ -137,18 +137,18 @@ fn live<O: Sink, L: Link>(
 // The transcript where the server couldn't be started.
 fn never_live<O: Sink, L: Link>(
     service: &Name,
-    script: &Script,
+    script: Script,
     out: &mut O,
     mut account: Account,
     lives: Vec<Life<L>>,
 ) -> Served<L>
-    requires built { IsBuiltScript script.now.clients }
+    requires built { IsBuiltScript script.clients }
     requires booted { account.history.items ≡ Advertise (advertise service.now) ∷ [] }
     requires silent { account.lines.items ≡ [] }
     requires none { lives.items ≡ [] }
     ensures { (starts starts_after : StarterShows) → Rose starts.faults starts_after.faults → IsAsked starts starts_after → ServingEnds (record { took = L.took; gave = L.gave; left = L.left; reads = L.read_faults; writes = L.write_faults })
         (O.took out.old) (O.took out.new) (O.write_faults out.old) (O.write_faults out.new) starts starts_after
-        service.now script.now.clients result.status result.history.items result.lives.items }
+        service.now script.clients result.status result.history.items result.lives.items }
 {
     let served = serve_none(&mut account, service, script);
     let status = conclude(served, out, account.lines.as_slice());

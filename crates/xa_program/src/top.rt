@@ -177,7 +177,7 @@ fn play<I: Source, O: Sink, Y: Yard>(
                 status,
                 history,
                 lives,
-            } = perform(alloc, service, &script, out, &mut starters[0]);
+            } = perform(alloc, service, script, out, &mut starters[0]);
             Outcome {
                 status,
                 history,

@@ -5,7 +5,7 @@ use Rattle.xa_program.proofs.calls.call.Goals as goal
 
 pub returns-in-Some-clause-goes : goal.returns-in-Some-clause-goes
 returns-in-Some-clause-goes g c n ops first old serving =
-    turned_up c.args.session.now.service c.args.session.now.client n c.args.sent.now c.args.op ops c.args.ask.now c.args.account.now.history.items c.note_refused.new.account.history.items c.args.account.now.lines.items c.note_refused.new.account.lines.items
+    turned_up c.args.session.now.service c.args.session.now.client n c.args.sent.now c.args.op ops c.args.ask c.args.account.now.history.items c.note_refused.new.account.history.items c.args.account.now.lines.items c.note_refused.new.account.lines.items
     c.in-Some.refusal.fault c.in-Some.refusal.evidence c.args.pipe.now first old serving c.in-Some.ensures c.in_ok-note_refused.ensures.history c.in_ok-note_refused.ensures.lines
 
 pub returns-clause-goes : goal.returns-clause-goes
@@ -13,6 +13,6 @@ returns-clause-goes g c =
     ok_more c.serve_call.result _ _
     (λ up carried n ops first old serving.
     let small : c.args.sent.now + 1 < 2 ^ 32 = omega (arith, c.requires.few, c.ranges.op.fits) in
-    carried_at up c.args.session.now.service c.args.session.now.client n c.args.sent.now c.args.op ops c.args.ask.now c.args.account.now.history.items c.serve_call.new.account.history.items c.args.account.now.lines.items c.serve_call.new.account.lines.items
+    carried_at up c.args.session.now.service c.args.session.now.client n c.args.sent.now c.args.op ops c.args.ask c.args.account.now.history.items c.serve_call.new.account.history.items c.args.account.now.lines.items c.serve_call.new.account.lines.items
     c.args.pipe.now c.serve_call.new.pipe first small old serving c.in_default.ensures c.requires.built carried)
     c.serve_call.ensures

@@ -12,5 +12,5 @@ returns-then-up-clause-goes g c =
 
 pub returns-clause-goes : goal.returns-clause-goes
 returns-clause-goes g c n ops first old live =
-    turned_down c.args.session.now.service c.args.session.now.client n c.args.sent.now c.args.op ops c.args.ask.now c.args.account.now.history.items c.refuse_call.new.account.history.items c.args.account.now.lines.items c.refuse_call.new.account.lines.items
+    turned_down c.args.session.now.service c.args.session.now.client n c.args.sent.now c.args.op ops c.args.ask c.args.account.now.history.items c.refuse_call.new.account.history.items c.args.account.now.lines.items c.refuse_call.new.account.lines.items
     c.args.pipe.now first old (subst (λ (b : Bool). IsLive b c.args.session.now.service c.args.sent.now (reverse c.args.account.now.history.items) c.args.pipe.now) c.if-up.false live) c.in_ok-refuse_call.ensures

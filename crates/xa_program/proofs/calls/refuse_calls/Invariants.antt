@@ -1,10 +1,12 @@
-use Rattle.std.proofs.Common.{◌≡◌, [], take, reverse}
-use Rattle.xa_program.specs.Progress.{IsPlaying, NeverStarted}
+use Rattle.std.proofs.Common.{◌≡◌, ◌++◌, [], length, reverse, All}
+use Rattle.xa_program.specs.Progress.{IsPlaying, NeverStarted, IsBuiltOp}
 use Rattle.xa_program.proofs.calls.refuse_calls.Given as goal
 
 abbrev pub invariant-loop-op : goal.invariant-loop-op
 invariant-loop-op l = record {
-  counted : l.number ≡ l.op-index;
+  split : l.yielded ++ l.op-iterator.rest.items ≡ l.fn.ops.items;
+  built : All IsBuiltOp l.op-iterator.rest.items;
+  counted : l.number ≡ length l.yielded;
   played : IsPlaying l.service l.name 1 0 0 [] l.fn.account.history.items l.fn.account.lines.items → NeverStarted l.service (reverse l.fn.account.history.items)
-      → IsPlaying l.service l.name 1 l.op-index 0 (take l.op-index l.ops) l.account.history.items l.account.lines.items × NeverStarted l.service (reverse l.account.history.items);
+      → IsPlaying l.service l.name 1 (length l.yielded) 0 l.yielded l.account.history.items l.account.lines.items × NeverStarted l.service (reverse l.account.history.items);
 }

@@ -14,9 +14,9 @@ returns-in_default g c begun live = (
 pub returns : goal.returns
 returns g c begun live =
     let service = c.args.service.now in
-    let client = c.in-Some.client.now in
+    let client = c.in-Some.client in
     let made = c.in_ok-up.ensures (begun client.name 1) live in (
-      leaving_all service client c.args.script.now.clients made.0 c.slice.result.now c.make_calls.new.account.history.items c.note_left.new.history.items c.make_calls.new.account.lines.items c.in-Some.ensures.alone c.slice.ensures made.1
+      leaving_all service client c.args.script.clients made.0 c.into_vec.result.items c.make_calls.new.account.history.items c.note_left.new.history.items c.make_calls.new.account.lines.items c.in-Some.ensures.alone c.into_vec.ensures made.1
           (board_live c.in_ok-up.up service made.0 _ c.make_calls.new.pipe made.2) c.in_ok-note_left.ensures,
       (made.0, live_gone c.in_ok-up.up service made.0 c.make_calls.new.account.history.items c.note_left.new.history.items c.make_calls.new.pipe made.2 c.in_ok-note_left.ensures),
     )

@@ -17,9 +17,9 @@ returns c =
     done_more c.note_left.result _ _
     (λ noted begun never.
     let service = c.args.service.now in
-    let client = c.in-Some.client.now in
+    let client = c.in-Some.client in
     let made = c.in_ok-refuse_calls.ensures (begun client.name 1) never in (
-      leaving_all service client c.args.script.now.clients 0 c.slice.result.now c.refuse_calls.new.account.history.items c.note_left.new.history.items c.refuse_calls.new.account.lines.items c.in-Some.ensures.alone c.slice.ensures made.0
+      leaving_all service client c.args.script.clients 0 c.into_vec.result.items c.refuse_calls.new.account.history.items c.note_left.new.history.items c.refuse_calls.new.account.lines.items c.in-Some.ensures.alone c.into_vec.ensures made.0
           (board_never service _ made.1) noted,
       never_gone service c.refuse_calls.new.account.history.items c.note_left.new.history.items made.1 noted,
     ))
