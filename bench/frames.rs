@@ -1,220 +1,9 @@
 //! What crates/xa_frames does, with a codec written by hand. No word copies, `read` and `octets` count.
 use std::io::{self, Read, Write};
 
-const HEADER: usize = 12;
+mod codec;
 
-type Octets = Vec<u8>;
-
-#[derive(Clone, Copy)]
-struct Name {
-    octets: [u8; 31],
-    len: u8,
-}
-
-impl Name {
-    fn read(octets: &[u8]) -> Option<Name> {
-        let graphic = octets.iter().all(|octet| (0x21..=0x7e).contains(octet));
-        if octets.is_empty() || octets.len() > 31 || octets[0] == b'.' || !graphic {
-            return None;
-        }
-        let mut name = Name { octets: [0; 31], len: octets.len() as u8 };
-        name.octets[..octets.len()].copy_from_slice(octets);
-        Some(name)
-    }
-
-    fn octets(&self) -> &[u8] {
-        &self.octets[..usize::from(self.len)]
-    }
-}
-
-enum Data {
-    Absent,
-    Octet(Octets),
-    Struct(Name, Octets),
-}
-
-enum Body {
-    Ready(Name),
-    Next,
-    Return(u8, i32, Data),
-    Invoke(Name, Name, u8, Data),
-    Shutdown,
-}
-
-struct Frame {
-    tag: u32,
-    body: Body,
-}
-
-fn number_at(octets: &[u8], at: usize) -> Option<u32> {
-    Some(u32::from_be_bytes(octets.get(at..at + 4)?.try_into().ok()?))
-}
-
-fn name_at(octets: &[u8]) -> Option<(Name, &[u8])> {
-    let (len, rest) = octets.split_first()?;
-    let (name, rest) = rest.split_at_checked(usize::from(*len))?;
-    Some((Name::read(name)?, rest))
-}
-
-fn sized(octets: &[u8]) -> Option<Octets> {
-    let len = number_at(octets, 0)? as usize;
-    if len > 65_536 || octets.len() != 4 + len {
-        return None;
-    }
-    Some(octets[4..].to_vec())
-}
-
-fn data(octets: &[u8]) -> Option<Data> {
-    match octets {
-        [0] => Some(Data::Absent),
-        [1, rest @ ..] => Some(Data::Octet(sized(rest)?)),
-        [2, rest @ ..] => {
-            let (subtype, rest) = name_at(rest)?;
-            Some(Data::Struct(subtype, sized(rest)?))
-        }
-        _ => None,
-    }
-}
-
-fn body(kind: u8, octets: &[u8]) -> Option<Body> {
-    match kind {
-        0x01 => match name_at(octets)? {
-            (name, []) => Some(Body::Ready(name)),
-            _ => None,
-        },
-        0x02 => Some(Body::Next),
-        0x04 => {
-            let value = *octets.first().filter(|value| **value <= 2)?;
-            let code = number_at(octets, 1)? as i32;
-            Some(Body::Return(value, code, data(&octets[5..])?))
-        }
-        0x11 => {
-            let (service, rest) = name_at(octets)?;
-            let (routine, rest) = name_at(rest)?;
-            let (mode, rest) = rest.split_first()?;
-            if *mode > 3 {
-                return None;
-            }
-            Some(Body::Invoke(service, routine, *mode, data(rest)?))
-        }
-        _ => Some(Body::Shutdown),
-    }
-}
-
-/// The frame that stands first and how many octets it has.
-fn front(octets: &[u8]) -> Result<Option<(Frame, usize)>, ()> {
-    let Some((header, rest)) = octets.split_at_checked(HEADER) else {
-        return Ok(None);
-    };
-    let most = match header[3] {
-        0x01 | 0x04 | 0x11 => 66_000,
-        0x02 | 0x13 => 0,
-        _ => return Err(()),
-    };
-    let size = number_at(header, 4).ok_or(())?;
-    let tag = number_at(header, 8).ok_or(())?;
-    if header[..3] != [0x58, 0x41, 1] || size > most {
-        return Err(());
-    }
-    let size = size as usize;
-    let Some(octets) = rest.get(..size) else {
-        return Ok(None);
-    };
-    let body = body(header[3], octets).ok_or(())?;
-    Ok(Some((Frame { tag, body }, HEADER + size)))
-}
-
-struct Reader {
-    octets: Octets,
-    taken: usize,
-}
-
-impl Reader {
-    fn feed(&mut self, octets: &[u8]) {
-        if self.taken >= self.octets.len() - self.taken {
-            self.octets.drain(..self.taken);
-            self.taken = 0;
-        }
-        self.octets.extend_from_slice(octets);
-    }
-
-    fn next(&mut self) -> Result<Option<Frame>, ()> {
-        let Some((frame, size)) = front(&self.octets[self.taken..])? else {
-            return Ok(None);
-        };
-        self.taken += size;
-        Ok(Some(frame))
-    }
-}
-
-fn put_name(out: &mut Octets, name: &Name) {
-    out.push(name.len);
-    out.extend_from_slice(name.octets());
-}
-
-fn put_sized(out: &mut Octets, octets: &[u8]) {
-    out.extend_from_slice(&(octets.len() as u32).to_be_bytes());
-    out.extend_from_slice(octets);
-}
-
-fn put_data(out: &mut Octets, payload: &Data) {
-    match payload {
-        Data::Absent => out.push(0),
-        Data::Octet(octets) => {
-            out.push(1);
-            put_sized(out, octets);
-        }
-        Data::Struct(subtype, octets) => {
-            out.push(2);
-            put_name(out, subtype);
-            put_sized(out, octets);
-        }
-    }
-}
-
-fn put_body(out: &mut Octets, body: &Body) {
-    match body {
-        Body::Ready(name) => put_name(out, name),
-        Body::Next | Body::Shutdown => {}
-        Body::Return(value, code, payload) => {
-            out.push(*value);
-            out.extend_from_slice(&code.to_be_bytes());
-            put_data(out, payload);
-        }
-        Body::Invoke(service, routine, mode, payload) => {
-            put_name(out, service);
-            put_name(out, routine);
-            out.push(*mode);
-            put_data(out, payload);
-        }
-    }
-}
-
-fn data_len(payload: &Data) -> usize {
-    match payload {
-        Data::Absent => 1,
-        Data::Octet(octets) => 5 + octets.len(),
-        Data::Struct(subtype, octets) => 6 + subtype.octets().len() + octets.len(),
-    }
-}
-
-fn encode(frame: &Frame) -> Octets {
-    let (kind, size) = match &frame.body {
-        Body::Ready(name) => (0x01, 1 + name.octets().len()),
-        Body::Next => (0x02, 0),
-        Body::Return(_, _, payload) => (0x04, 5 + data_len(payload)),
-        Body::Invoke(service, routine, _, payload) => {
-            (0x11, 3 + service.octets().len() + routine.octets().len() + data_len(payload))
-        }
-        Body::Shutdown => (0x13, 0),
-    };
-    let mut out = Vec::with_capacity(HEADER + size);
-    out.extend_from_slice(&[0x58, 0x41, 1, kind]);
-    out.extend_from_slice(&(size as u32).to_be_bytes());
-    out.extend_from_slice(&frame.tag.to_be_bytes());
-    put_body(&mut out, &frame.body);
-    out
-}
+use codec::{Octets, Reader, encode};
 
 fn count(reader: &mut Reader) -> Result<u64, ()> {
     let mut frames = 0;
@@ -236,7 +25,7 @@ fn copy(reader: &mut Reader, out: &mut Octets) -> Result<u64, ()> {
 fn main() -> Result<(), ()> {
     let word = std::env::args().nth(1);
     let (mut input, mut output) = (io::stdin().lock(), io::stdout());
-    let mut reader = Reader { octets: Vec::new(), taken: 0 };
+    let mut reader = Reader::default();
     let mut piece = vec![0; 65_536];
     let mut out = Vec::new();
     let mut frames = 0;
@@ -257,7 +46,7 @@ fn main() -> Result<(), ()> {
         output.write_all(&out).map_err(|_| ())?;
         out.clear();
     }
-    if reader.taken < reader.octets.len() {
+    if !reader.is_empty() {
         return Err(());
     }
     if word.is_some() {

@@ -6,6 +6,7 @@ mod process_tests;
 #[cfg(test)]
 mod tests;
 
+use std::mem::forget;
 use std::process::ExitCode;
 use std::rt::Env;
 use std::{env, io};
@@ -34,7 +35,7 @@ fn run_command(rt: HostRuntime) -> Status {
     };
     let Outcome {
         status,
-        history: _,
+        history,
         lives,
         starters: _,
     } = run(
@@ -48,6 +49,8 @@ fn run_command(rt: HostRuntime) -> Status {
         &OpenGate,
     );
     drop(lives);
+    // The system takes back all memory at once as the program ends.
+    forget(history);
     status
 }
 

@@ -1,0 +1,386 @@
+//! What `xatmi play` does for ECHO, written by hand: the same script, frames, events and transcript, kept in the same
+//! types and as long. It starts itself as its server. Nothing of it is proved, and a server that dies ends the run.
+//! usage: play play SERVICE, and play server NAME
+use std::fs::File;
+use std::io::{self, Read, Write};
+use std::mem::forget;
+use std::os::fd::AsFd;
+use std::process::{Command, Stdio};
+
+#[allow(dead_code)]
+mod codec;
+
+use codec::{Body, Data, Frame, Name, Octets, Reader, append};
+
+const PIECE: usize = 8192;
+
+type Done<T> = Result<T, Box<dyn std::error::Error>>;
+
+// The types of calls and events have all their fields, since their size is part of what is measured.
+#[allow(dead_code)]
+enum Kind {
+    Octet,
+    Struct(Name),
+}
+
+#[allow(dead_code)]
+struct Ask {
+    service: Octets,
+    payload: Data,
+    flags: [bool; 5],
+    expect: Option<Kind>,
+    direction: u8,
+}
+
+#[allow(dead_code)]
+enum Op {
+    Call(Ask),
+    Cancel(u64),
+}
+
+#[allow(dead_code)]
+#[derive(Clone, Copy)]
+struct RequestId {
+    caller: u16,
+    number: u64,
+}
+
+#[allow(dead_code)]
+enum Outcome {
+    Returned(i32, Data),
+    Failed(i32, Data),
+    Died,
+}
+
+#[allow(dead_code)]
+enum Answer {
+    Success(i32, Data),
+    Failed(i32, Data),
+    Error(u8),
+}
+
+#[allow(dead_code)]
+struct Accepted {
+    by: u16,
+    op: u32,
+    request: RequestId,
+    version: u64,
+    service: Name,
+    queue: u16,
+    routine: Name,
+    priority: u8,
+    mode: u8,
+    payload: Data,
+}
+
+#[allow(dead_code)]
+enum Event {
+    Accept(Accepted),
+    Take { request: RequestId, server: u16, generation: u64, k: u64 },
+    End { request: RequestId, server: u16, generation: u64, outcome: Outcome },
+    Answer { by: u16, op: u32, request: RequestId, answer: Answer },
+    Refuse { by: u16, op: u32, fault: u8, version: u64 },
+    Leave(u16),
+}
+
+// ---- the script
+
+enum Line {
+    Skipped,
+    Client(Name),
+    Call(Op),
+}
+
+fn skip_spaces(octets: &[u8]) -> &[u8] {
+    &octets[octets.iter().position(|octet| *octet != b' ').unwrap_or(octets.len())..]
+}
+
+fn next_word(octets: &[u8]) -> (&[u8], &[u8]) {
+    let front = skip_spaces(octets);
+    front.split_at(front.iter().position(|octet| *octet == b' ').unwrap_or(front.len()))
+}
+
+fn text_in(octets: &[u8]) -> Option<Data> {
+    let mut rest = skip_spaces(octets).strip_prefix(b"\"")?;
+    let mut text = Vec::with_capacity(rest.len());
+    loop {
+        let plain = rest.iter().position(|octet| matches!(octet, b'"' | b'\\'))?;
+        text.extend_from_slice(&rest[..plain]);
+        match &rest[plain..] {
+            [b'"', behind @ ..] => return skip_spaces(behind).is_empty().then_some(Data::Octet(text)),
+            [_, octet @ (b'"' | b'\\'), behind @ ..] => {
+                text.push(*octet);
+                rest = behind;
+            }
+            _ => return None,
+        }
+    }
+}
+
+fn payload_in(octets: &[u8]) -> Option<Data> {
+    match next_word(octets) {
+        (b"text", rest) => text_in(rest),
+        (b"none", rest) => skip_spaces(rest).is_empty().then_some(Data::Absent),
+        _ => None,
+    }
+}
+
+fn line_in(line: &[u8]) -> Option<Line> {
+    if !line.iter().fold(true, |all, octet| all & (b' '..=b'~').contains(octet)) {
+        return None;
+    }
+    if line.starts_with(b"#") || skip_spaces(line).is_empty() {
+        return Some(Line::Skipped);
+    }
+    let (first, rest) = next_word(line);
+    let (second, rest) = next_word(rest);
+    match first {
+        b"client" if skip_spaces(rest).is_empty() => Some(Line::Client(Name::read(second)?)),
+        b"call" if (1..=255).contains(&second.len()) => Some(Line::Call(Op::Call(Ask {
+            service: second.to_vec(),
+            payload: payload_in(rest)?,
+            flags: [false; 5],
+            expect: None,
+            direction: 0,
+        }))),
+        _ => None,
+    }
+}
+
+fn script_in(octets: &[u8]) -> Option<(Option<Name>, Vec<Op>)> {
+    let (mut client, mut ops) = (None, Vec::new());
+    for line in octets.split(|octet| *octet == b'\n') {
+        match line_in(line.strip_suffix(b"\r").unwrap_or(line))? {
+            Line::Skipped => {}
+            Line::Client(name) if client.is_none() => client = Some(name),
+            Line::Call(op) if client.is_some() => ops.push(op),
+            _ => return None,
+        }
+    }
+    Some((client, ops))
+}
+
+fn read_all(input: &mut File) -> io::Result<Octets> {
+    let (mut all, mut piece) = (Vec::new(), [0; PIECE]);
+    loop {
+        match input.read(&mut piece)? {
+            0 => return Ok(all),
+            count => all.extend_from_slice(&piece[..count]),
+        }
+    }
+}
+
+// ---- the transcript
+
+fn put_hex(out: &mut Octets, octets: &[u8]) {
+    const DIGITS: &[u8; 16] = b"0123456789abcdef";
+    let at = out.len();
+    out.resize(at + 2 * octets.len(), 0);
+    for (pair, octet) in out[at..].chunks_exact_mut(2).zip(octets) {
+        pair[0] = DIGITS[usize::from(octet >> 4)];
+        pair[1] = DIGITS[usize::from(octet & 15)];
+    }
+}
+
+fn put_data(out: &mut Octets, payload: &Data) -> io::Result<()> {
+    match payload {
+        Data::Absent => out.write_all(b"none"),
+        Data::Octet(octets) if octets.is_empty() => out.write_all(b"octet -"),
+        Data::Octet(octets) => {
+            out.extend_from_slice(b"octet ");
+            put_hex(out, octets);
+            Ok(())
+        }
+        Data::Struct(..) => unreachable!(),
+    }
+}
+
+fn put_line(out: &mut Octets, client: &Name, op: u32, answer: &Answer) -> io::Result<()> {
+    out.extend_from_slice(client.octets());
+    write!(out, " {op} ")?;
+    match answer {
+        Answer::Success(code, payload) => {
+            write!(out, "OK {code} ")?;
+            put_data(out, payload)?;
+        }
+        Answer::Failed(code, payload) => {
+            write!(out, "TPESVCFAIL {code} ")?;
+            put_data(out, payload)?;
+        }
+        Answer::Error(_) => out.extend_from_slice(b"TPENOENT"),
+    }
+    out.push(b'\n');
+    Ok(())
+}
+
+// ---- the run
+
+struct Pipe<R, W> {
+    from: R,
+    to: W,
+    reader: Reader,
+    piece: [u8; PIECE],
+    due: Octets,
+}
+
+impl<R: Read, W: Write> Pipe<R, W> {
+    fn send(&mut self, frame: &Frame) -> io::Result<()> {
+        self.due.clear();
+        append(&mut self.due, frame);
+        self.to.write_all(&self.due)
+    }
+
+    fn read(&mut self) -> Done<Frame> {
+        loop {
+            if let Some(frame) = self.reader.next().map_err(|()| "no frame")? {
+                return Ok(frame);
+            }
+            match self.from.read(&mut self.piece)? {
+                0 => return Err("the server's output ended".into()),
+                count => self.reader.feed(&self.piece[..count]),
+            }
+        }
+    }
+
+    fn read_next(&mut self) -> Done<()> {
+        match self.read()? {
+            Frame { tag: 0, body: Body::Next } => Ok(()),
+            _ => Err("NEXT was to come".into()),
+        }
+    }
+}
+
+struct Account {
+    history: Vec<Event>,
+    lines: Octets,
+}
+
+impl Account {
+    fn call<R: Read, W: Write>(&mut self, pipe: &mut Pipe<R, W>, service: &Name, client: &Name, op: u32, ask: Ask) -> Done<()> {
+        if ask.service != service.octets() {
+            put_line(&mut self.lines, client, op, &Answer::Error(1))?;
+            self.history.push(Event::Refuse { by: 1, op, fault: 1, version: 1 });
+            return Ok(());
+        }
+        let request = RequestId { caller: 1, number: u64::from(op) };
+        let frame = Frame { tag: op, body: Body::Invoke(*service, *service, 0, ask.payload) };
+        pipe.send(&frame)?;
+        self.note_taken(service, request, op, frame);
+        let Frame { tag, body: Body::Return(value, code, payload) } = pipe.read()? else {
+            return Err("RETURN was to come".into());
+        };
+        if tag != op {
+            return Err("RETURN to another INVOKE".into());
+        }
+        self.note_ended(client, request, op, (value, code, payload))?;
+        pipe.read_next()
+    }
+
+    fn note_taken(&mut self, service: &Name, request: RequestId, op: u32, frame: Frame) {
+        let Body::Invoke(_, _, mode, payload) = frame.body else {
+            unreachable!();
+        };
+        self.history.push(Event::Accept(Accepted {
+            by: 1,
+            op,
+            request,
+            version: 1,
+            service: *service,
+            queue: 1,
+            routine: *service,
+            priority: 50,
+            mode,
+            payload,
+        }));
+        self.history.push(Event::Take { request, server: 1, generation: 1, k: request.number });
+    }
+
+    fn note_ended(&mut self, client: &Name, request: RequestId, op: u32, back: (u8, i32, Data)) -> io::Result<()> {
+        let (value, code, payload) = back;
+        let copy = payload.clone();
+        let (outcome, answer) = match value {
+            0 => (Outcome::Returned(code, payload), Answer::Success(code, copy)),
+            _ => (Outcome::Failed(code, payload), Answer::Failed(code, copy)),
+        };
+        self.history.push(Event::End { request, server: 1, generation: 1, outcome });
+        put_line(&mut self.lines, client, op, &answer)?;
+        self.history.push(Event::Answer { by: 1, op, request, answer });
+        Ok(())
+    }
+}
+
+fn play(service: &Name, mut input: File, mut output: File) -> Done<()> {
+    let (client, ops) = script_in(&read_all(&mut input)?).ok_or("the script is faulty")?;
+    let program = std::env::args_os().next().ok_or("no word")?;
+    let mut account = Account {
+        history: Vec::with_capacity(10 + 4 * ops.len()),
+        lines: Vec::with_capacity(248 * ops.len()),
+    };
+    let mut child = Command::new(program).args(["server", "S"]).stdin(Stdio::piped()).stdout(Stdio::piped()).spawn()?;
+    let (Some(from), Some(to)) = (child.stdout.take(), child.stdin.take()) else {
+        unreachable!();
+    };
+    let mut pipe = Pipe { from, to, reader: Reader::default(), piece: [0; PIECE], due: Vec::new() };
+    if !matches!(pipe.read()?, Frame { tag: 0, body: Body::Ready(name) } if name.octets() == b"S") {
+        return Err("READY was to come".into());
+    }
+    pipe.read_next()?;
+    if let Some(client) = client {
+        for (op, number) in ops.into_iter().zip(1..) {
+            match op {
+                Op::Call(ask) => account.call(&mut pipe, service, &client, number, ask)?,
+                Op::Cancel(_) => unreachable!(),
+            }
+        }
+        account.history.push(Event::Leave(1));
+    }
+    pipe.send(&Frame { tag: 0, body: Body::Shutdown })?;
+    output.write_all(&account.lines)?;
+    drop(pipe);
+    child.wait()?;
+    forget(account.history);
+    Ok(())
+}
+
+// ---- the server
+
+fn serve(name: Name, mut input: File, mut output: File) -> Done<()> {
+    let (mut reader, mut due, mut piece) = (Reader::default(), Vec::new(), [0; PIECE]);
+    append(&mut due, &Frame { tag: 0, body: Body::Ready(name) });
+    append(&mut due, &Frame { tag: 0, body: Body::Next });
+    output.write_all(&due)?;
+    loop {
+        match input.read(&mut piece)? {
+            0 => return Ok(()),
+            count => reader.feed(&piece[..count]),
+        }
+        due.clear();
+        while let Some(Frame { tag, body }) = reader.next().map_err(|()| "no frame")? {
+            match body {
+                Body::Invoke(_, routine, _, payload) if routine.octets() == b"ECHO" => {
+                    append(&mut due, &Frame { tag, body: Body::Return(0, 0, payload) });
+                    append(&mut due, &Frame { tag: 0, body: Body::Next });
+                }
+                Body::Shutdown => return Ok(()),
+                _ => return Err("ECHO alone is served".into()),
+            }
+        }
+        output.write_all(&due)?;
+    }
+}
+
+fn main() -> Done<()> {
+    let stream = |fd: io::Result<_>| fd.map(File::from);
+    let input = stream(io::stdin().as_fd().try_clone_to_owned())?;
+    let output = stream(io::stdout().as_fd().try_clone_to_owned())?;
+    let words: Vec<String> = std::env::args().skip(1).collect();
+    let [command, word] = &words[..] else {
+        return Err("usage: play play SERVICE, play server NAME".into());
+    };
+    let name = Name::read(word.as_bytes()).ok_or("no name")?;
+    match command.as_str() {
+        "play" => play(&name, input, output),
+        "server" => serve(name, input, output),
+        _ => Err("no command".into()),
+    }
+}
