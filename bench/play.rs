@@ -1,13 +1,15 @@
 //! What `xatmi play` does for ECHO, written by hand: the same script, frames, events and transcript, kept in the same
 //! types and as long. It starts itself as its server. Nothing of it is proved, and a server that dies ends the run.
 //! usage: play play SERVICE, and play server NAME
+// The types of calls and events have all their fields, since their size is part of what is measured.
+#![allow(dead_code)]
+
 use std::fs::File;
 use std::io::{self, Read, Write};
 use std::mem::forget;
 use std::os::fd::AsFd;
-use std::process::{Command, Stdio};
+use std::process::{Child, ChildStdin, ChildStdout, Command, Stdio};
 
-#[allow(dead_code)]
 mod codec;
 
 use codec::{Body, Data, Frame, Name, Octets, Reader, append};
@@ -16,14 +18,11 @@ const PIECE: usize = 8192;
 
 type Done<T> = Result<T, Box<dyn std::error::Error>>;
 
-// The types of calls and events have all their fields, since their size is part of what is measured.
-#[allow(dead_code)]
 enum Kind {
     Octet,
     Struct(Name),
 }
 
-#[allow(dead_code)]
 struct Ask {
     service: Octets,
     payload: Data,
@@ -32,34 +31,29 @@ struct Ask {
     direction: u8,
 }
 
-#[allow(dead_code)]
 enum Op {
     Call(Ask),
     Cancel(u64),
 }
 
-#[allow(dead_code)]
 #[derive(Clone, Copy)]
 struct RequestId {
     caller: u16,
     number: u64,
 }
 
-#[allow(dead_code)]
 enum Outcome {
     Returned(i32, Data),
     Failed(i32, Data),
     Died,
 }
 
-#[allow(dead_code)]
 enum Answer {
     Success(i32, Data),
     Failed(i32, Data),
     Error(u8),
 }
 
-#[allow(dead_code)]
 struct Accepted {
     by: u16,
     op: u32,
@@ -73,7 +67,6 @@ struct Accepted {
     payload: Data,
 }
 
-#[allow(dead_code)]
 enum Event {
     Accept(Accepted),
     Take { request: RequestId, server: u16, generation: u64, k: u64 },
@@ -83,7 +76,7 @@ enum Event {
     Leave(u16),
 }
 
-// ---- the script
+// The script.
 
 enum Line {
     Skipped,
@@ -170,7 +163,7 @@ fn read_all(input: &mut File) -> io::Result<Octets> {
     }
 }
 
-// ---- the transcript
+// The transcript.
 
 fn put_hex(out: &mut Octets, octets: &[u8]) {
     const DIGITS: &[u8; 16] = b"0123456789abcdef";
@@ -213,17 +206,34 @@ fn put_line(out: &mut Octets, client: &Name, op: u32, answer: &Answer) -> io::Re
     Ok(())
 }
 
-// ---- the run
+// The run.
 
-struct Pipe<R, W> {
-    from: R,
-    to: W,
+struct Pipe {
+    server: Child,
+    from: ChildStdout,
+    to: ChildStdin,
     reader: Reader,
     piece: [u8; PIECE],
     due: Octets,
 }
 
-impl<R: Read, W: Write> Pipe<R, W> {
+impl Pipe {
+    // Starts this program as the server, and hears its greeting.
+    fn start() -> Done<Pipe> {
+        let program = std::env::args_os().next().ok_or("no word")?;
+        let mut server = Command::new(program);
+        let mut server = server.args(["server", "S"]).stdin(Stdio::piped()).stdout(Stdio::piped()).spawn()?;
+        let (Some(from), Some(to)) = (server.stdout.take(), server.stdin.take()) else {
+            unreachable!();
+        };
+        let mut pipe = Pipe { server, from, to, reader: Reader::default(), piece: [0; PIECE], due: Vec::new() };
+        match pipe.read()? {
+            Frame { tag: 0, body: Body::Ready(name) } if name.octets() == b"S" => pipe.read_next()?,
+            _ => return Err("READY was to come".into()),
+        }
+        Ok(pipe)
+    }
+
     fn send(&mut self, frame: &Frame) -> io::Result<()> {
         self.due.clear();
         append(&mut self.due, frame);
@@ -248,6 +258,14 @@ impl<R: Read, W: Write> Pipe<R, W> {
             _ => Err("NEXT was to come".into()),
         }
     }
+
+    // Closes both pipes, and waits for the server.
+    fn end(self) -> io::Result<()> {
+        let Pipe { mut server, from, to, .. } = self;
+        drop((from, to));
+        server.wait()?;
+        Ok(())
+    }
 }
 
 struct Account {
@@ -256,7 +274,7 @@ struct Account {
 }
 
 impl Account {
-    fn call<R: Read, W: Write>(&mut self, pipe: &mut Pipe<R, W>, service: &Name, client: &Name, op: u32, ask: Ask) -> Done<()> {
+    fn call(&mut self, pipe: &mut Pipe, service: &Name, client: &Name, op: u32, ask: Ask) -> Done<()> {
         if ask.service != service.octets() {
             put_line(&mut self.lines, client, op, &Answer::Error(1))?;
             self.history.push(Event::Refuse { by: 1, op, fault: 1, version: 1 });
@@ -311,20 +329,9 @@ impl Account {
 
 fn play(service: &Name, mut input: File, mut output: File) -> Done<()> {
     let (client, ops) = script_in(&read_all(&mut input)?).ok_or("the script is faulty")?;
-    let program = std::env::args_os().next().ok_or("no word")?;
-    let mut account = Account {
-        history: Vec::with_capacity(10 + 4 * ops.len()),
-        lines: Vec::with_capacity(248 * ops.len()),
-    };
-    let mut child = Command::new(program).args(["server", "S"]).stdin(Stdio::piped()).stdout(Stdio::piped()).spawn()?;
-    let (Some(from), Some(to)) = (child.stdout.take(), child.stdin.take()) else {
-        unreachable!();
-    };
-    let mut pipe = Pipe { from, to, reader: Reader::default(), piece: [0; PIECE], due: Vec::new() };
-    if !matches!(pipe.read()?, Frame { tag: 0, body: Body::Ready(name) } if name.octets() == b"S") {
-        return Err("READY was to come".into());
-    }
-    pipe.read_next()?;
+    let history = Vec::with_capacity(10 + 4 * ops.len());
+    let mut account = Account { history, lines: Vec::with_capacity(248 * ops.len()) };
+    let mut pipe = Pipe::start()?;
     if let Some(client) = client {
         for (op, number) in ops.into_iter().zip(1..) {
             match op {
@@ -336,13 +343,12 @@ fn play(service: &Name, mut input: File, mut output: File) -> Done<()> {
     }
     pipe.send(&Frame { tag: 0, body: Body::Shutdown })?;
     output.write_all(&account.lines)?;
-    drop(pipe);
-    child.wait()?;
+    pipe.end()?;
     forget(account.history);
     Ok(())
 }
 
-// ---- the server
+// The server.
 
 fn serve(name: Name, mut input: File, mut output: File) -> Done<()> {
     let (mut reader, mut due, mut piece) = (Reader::default(), Vec::new(), [0; PIECE]);

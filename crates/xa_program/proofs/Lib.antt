@@ -8,3 +8,4 @@ pub mod Played
 pub mod Playing
 pub mod Served
 pub mod Turns
+pub mod Yielding

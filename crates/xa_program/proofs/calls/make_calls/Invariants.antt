@@ -9,5 +9,5 @@ invariant-loop-op g l = record {
   counted : l.number ≡ length l.yielded;
   few : l.sent ≤ l.number;
   played : IsPlaying l.session.service l.session.client 1 0 0 [] l.fn.account.history.items l.fn.account.lines.items → IsLive l.fn.up l.session.service 0 (reverse l.fn.account.history.items) l.fn.pipe
-      → IsPlaying l.session.service l.session.client 1 (length l.yielded) l.sent l.yielded l.account.history.items l.account.lines.items × IsLive l.up l.session.service l.sent (reverse l.account.history.items) l.pipe;
+      → IsPlaying l.session.service l.session.client 1 l.number l.sent l.yielded l.account.history.items l.account.lines.items × IsLive l.up l.session.service l.sent (reverse l.account.history.items) l.pipe;
 }

@@ -8,5 +8,5 @@ invariant-loop-op l = record {
   built : All IsBuiltOp l.op-iterator.rest.items;
   counted : l.number ≡ length l.yielded;
   played : IsPlaying l.service l.name 1 0 0 [] l.fn.account.history.items l.fn.account.lines.items → NeverStarted l.service (reverse l.fn.account.history.items)
-      → IsPlaying l.service l.name 1 (length l.yielded) 0 l.yielded l.account.history.items l.account.lines.items × NeverStarted l.service (reverse l.account.history.items);
+      → IsPlaying l.service l.name 1 l.number 0 l.yielded l.account.history.items l.account.lines.items × NeverStarted l.service (reverse l.account.history.items);
 }
