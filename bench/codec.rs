@@ -203,15 +203,8 @@ fn data_len(payload: &Data) -> usize {
     }
 }
 
-fn put_header(out: &mut Octets, kind: u8, size: usize, tag: u32) {
-    out.reserve(HEADER + size);
-    out.extend_from_slice(&[0x58, 0x41, 1, kind]);
-    out.extend_from_slice(&(size as u32).to_be_bytes());
-    out.extend_from_slice(&tag.to_be_bytes());
-}
-
-pub fn append(out: &mut Octets, frame: &Frame) {
-    let (kind, size) = match &frame.body {
+fn kind_and_size(body: &Body) -> (u8, usize) {
+    match body {
         Body::Ready(name) => (0x01, 1 + name.octets().len()),
         Body::Next => (0x02, 0),
         Body::Return(_, _, payload) => (0x04, 5 + data_len(payload)),
@@ -219,13 +212,25 @@ pub fn append(out: &mut Octets, frame: &Frame) {
             (0x11, 3 + service.octets().len() + routine.octets().len() + data_len(payload))
         }
         Body::Shutdown => (0x13, 0),
-    };
-    put_header(out, kind, size, frame.tag);
+    }
+}
+
+fn put_frame(out: &mut Octets, frame: &Frame, kind: u8, size: usize) {
+    out.extend_from_slice(&[0x58, 0x41, 1, kind]);
+    out.extend_from_slice(&(size as u32).to_be_bytes());
+    out.extend_from_slice(&frame.tag.to_be_bytes());
     put_body(out, &frame.body);
 }
 
+pub fn append(out: &mut Octets, frame: &Frame) {
+    let (kind, size) = kind_and_size(&frame.body);
+    out.reserve(HEADER + size);
+    put_frame(out, frame, kind, size);
+}
+
 pub fn encode(frame: &Frame) -> Octets {
-    let mut out = Vec::new();
-    append(&mut out, frame);
+    let (kind, size) = kind_and_size(&frame.body);
+    let mut out = Vec::with_capacity(HEADER + size);
+    put_frame(&mut out, frame, kind, size);
     out
 }

@@ -1,6 +1,8 @@
 //! What crates/xa_frames does, with a codec written by hand. No word copies, `read` and `octets` count.
 use std::io::{self, Read, Write};
 
+// Of the codec `append` serves bench/play.rs alone.
+#[allow(dead_code)]
 mod codec;
 
 use codec::{Octets, Reader, encode};
