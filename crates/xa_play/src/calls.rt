@@ -1,6 +1,5 @@
 // What is noted of a call, and what its client is told.
 ghost use Rattle.std.specs.Prelude.{◌≡◌, ◌++◌, ◌∷◌, [], OnOk, IfOk};
-ghost use Rattle.xa_types.specs.declared.reply.Answer.{Answer};
 ghost use Rattle.xa_types.specs.declared.reply.Reply.TheVariants.{Answered as AnsweredReply, Fault as FaultReply};
 ghost use Rattle.xa_events.specs.declared.event.Event.TheVariants.{Accept, Take, Answer as AnswerEvent, Refuse};
 ghost use Rattle.xa_events.specs.Answers.{reply_of};
@@ -11,7 +10,7 @@ use crate::account::{Account, CLIENT, LIFE, QUEUE, SERVER};
 use crate::refusal::Refusal;
 use std::alloc::Global;
 use xa_events::{Accepted, Answered, Event, Outcome, Refused, Taken};
-use xa_text::push_line;
+use xa_text::{push_answer_line, push_line};
 use xa_types::{Answer, Data, Fault, Mode, Name, NoMemory, Reply, RequestId};
 
 pub(crate) fn request(number: u32) -> RequestId
@@ -67,23 +66,6 @@ pub fn answer_to(alloc: Global, outcome: &Outcome) -> Result<Answer, NoMemory>
     }
 }
 
-// The answer that the reply of a tpcall has.
-fn answer_in(reply: Reply) -> Answer
-    requires { (answer : Answer) × (reply ≡ AnsweredReply 0 answer) }
-    ensures { reply ≡ AnsweredReply 0 result }
-{
-    match reply {
-        Reply::Answered(_, answer) => answer,
-        _ => unreachable!(),
-    }
-}
-
-fn answered(answer: Answer) -> Reply
-    ensures { result ≡ AnsweredReply 0 answer }
-{
-    Reply::Answered(0, answer)
-}
-
 /// Notes that the client was told that answer to its call `op`, and prints the line of the call.
 pub fn note_answered(
     account: &mut Account,
@@ -95,13 +77,12 @@ pub fn note_answered(
     ensures history { OnOk result (account.new.history.items ≡ account.old.history.items ++ AnswerEvent (answer_of op number answer) ∷ []) }
     ensures lines { OnOk result (account.new.lines.items ≡ account.old.lines.items ++ line_text name.now op (AnsweredReply 0 answer)) }
 {
-    let reply = answered(answer);
-    push_line(&mut account.lines, name, op, &reply)?;
+    push_answer_line(&mut account.lines, name, op, 0, &answer)?;
     account.history.push(Event::Answer(Answered {
         by: CLIENT,
         op,
         request: request(number),
-        answer: answer_in(reply),
+        answer,
     }))?;
     Ok(())
 }

@@ -1,6 +1,7 @@
 // When a tpcall is refused (XATMI, tpcall).
 ghost use Rattle.std.specs.Prelude.{◌≡◌, ◌⊎◌, ℕ, List, [], true, false, MatchOption};
 ghost use Rattle.xa_types.specs.Kind.{is_sound};
+ghost use Rattle.xa_types.specs.Name.{IsName, is_name};
 ghost use Rattle.xa_events.specs.Calls.{is_invalid_call};
 ghost use Rattle.xa_play.specs.PlaySetup.{play_setup};
 ghost use Rattle.xa_play.specs.Refusal.{IsRefused, IsAdmitted};
@@ -26,10 +27,25 @@ pub fn is_plain(payload: &Data) -> bool
     }
 }
 
-fn is_invalid(ask: &Ask) -> bool
-    ensures { (service : List ℕ) → result ≡ is_invalid_call (play_setup service) ask.now }
+// Whether the call is of the service. Then its word is a name.
+fn is_of(ask: &Ask, service: &Name) -> bool
+    ensures yes { result ≡ true → ask.now.service ≡ service.now }
+    ensures no { result ≡ false → ask.now.service ≡ service.now → ⊥ }
+    ensures named { result ≡ true → IsName ask.now.service }
 {
-    Name::read(ask.service.slice()).is_err() || !is_plain(&ask.payload) || ask.flags.no_reply
+    ask.service.slice() == service.octets()
+}
+
+fn has_name(ask: &Ask, service: &Name) -> bool
+    ensures { result ≡ is_name ask.now.service }
+{
+    is_of(ask, service) || Name::read(ask.service.slice()).is_ok()
+}
+
+fn is_invalid(ask: &Ask, service: &Name) -> bool
+    ensures { result ≡ is_invalid_call (play_setup service.now) ask.now }
+{
+    !has_name(ask, service) || !is_plain(&ask.payload) || ask.flags.no_reply
 }
 
 /// Why the tpcall is refused while `version` of the board stands, of which the first has a row of that service and the
@@ -38,13 +54,13 @@ pub fn check(ask: &Ask, service: &Name, version: u64) -> Option<Refusal>
     requires { (version ≡ 1) ⊎ (version ≡ 2) }
     ensures { MatchOption result (IsAdmitted service.now version ask.now) (λ r. IsRefused service.now version ask.now r.fault r.evidence) }
 {
-    if is_invalid(ask) {
+    if is_invalid(ask, service) {
         return Some(Refusal {
             fault: Fault::Inval,
             evidence: Evidence::Argument,
         });
     }
-    if version != 1 || ask.service.slice() != service.octets() {
+    if version != 1 || !is_of(ask, service) {
         return Some(Refusal {
             fault: Fault::NoEnt,
             evidence: Evidence::Version(version),

@@ -36,30 +36,34 @@ fn line_room(op: &Op) -> usize {
     octets.saturating_mul(2).saturating_add(48)
 }
 
-// Room for the events and the lines of a script, so that neither moves as it grows.
-fn account_for(alloc: Global, script: &Script) -> Result<Account, NoMemory>
+// Room for the events and the lines of a script, so that neither moves as it grows. The lines take the memory of the
+// script's octets, which were read.
+fn account_for(alloc: Global, script: &Script, mut octets: Vec<u8>) -> Result<Account, NoMemory>
     ensures history { IfOk result (λ account. account.history.items ≡ []) }
     ensures lines { IfOk result (λ account. account.lines.items ≡ []) }
 {
     let mut events = 10usize;
-    let mut octets = 0usize;
+    let mut room = 0usize;
     for client in script.clients.slice() {
         for op in client.ops.slice() {
             events = events.saturating_add(4);
-            octets = octets.saturating_add(line_room(op));
+            room = room.saturating_add(line_room(op));
         }
     }
+    octets.clear();
+    octets.reserve(room)?;
     Ok(Account {
         history: Vec::with_capacity(alloc, events)?,
-        lines: Vec::with_capacity(alloc, octets)?,
+        lines: octets,
     })
 }
 
-/// Starts the server, serves the script, and writes the transcript.
+/// Starts the server, serves the script, which had these octets, and writes the transcript.
 pub fn perform<O: Sink, L: Link, S: Starter<L>>(
     alloc: Global,
     service: &Name,
     script: Script,
+    octets: Vec<u8>,
     out: &mut O,
     starter: &mut S,
 ) -> Served<L>
@@ -68,7 +72,7 @@ pub fn perform<O: Sink, L: Link, S: Starter<L>>(
         (record { faults = S.start_faults starter.old; asked = S.asked starter.old }) (record { faults = S.start_faults starter.new; asked = S.asked starter.new })
         service.now script.clients result.status result.history.items result.lives.items }
 {
-    let Ok(mut account) = account_for(alloc, &script) else {
+    let Ok(mut account) = account_for(alloc, &script, octets) else {
         return out_of_memory(Vec::new(alloc), Vec::new(alloc));
     };
     let Ok(lives) = Vec::with_capacity(alloc, 1) else {

@@ -126,10 +126,10 @@ fn nothing<Y: Yard>(alloc: Global, status: Status) -> Outcome<Y>
     }
 }
 
-// The script that the input holds, to its end.
-fn script_of<I: Source>(alloc: Global, input: &mut I) -> Result<Script, Status>
-    ensures script { IfOk result (λ script. IsTheScript (I.left input.old) script.clients) }
-    ensures built { IfOk result (λ script. IsBuiltScript script.clients) }
+// The script that the input holds, to its end, and the octets that it had.
+fn script_of<I: Source>(alloc: Global, input: &mut I) -> Result<(Script, Vec<u8>), Status>
+    ensures script { IfOk result (λ read. IsTheScript (I.left input.old) read.0.clients) }
+    ensures built { IfOk result (λ read. IsBuiltScript read.0.clients) }
     ensures ended { OnOk result (Empty (I.left input.new)) }
     ensures refused { IfErr result (ScriptRefusedAs (I.left input.old) (I.read_faults input.old) (I.read_faults input.new)) }
 {
@@ -140,7 +140,7 @@ fn script_of<I: Source>(alloc: Global, input: &mut I) -> Result<Script, Status>
         Err(ShelfRefused::NoMemory) => return Err(Status::NoMemory),
     };
     match read_script(alloc, octets.as_slice()) {
-        Ok(script) => Ok(script),
+        Ok(script) => Ok((script, octets)),
         Err(ScriptRefused::BadLine { line, cause }) => Err(Status::BadLine { line, cause }),
         Err(ScriptRefused::NoMemory) => Err(Status::NoMemory),
     }
@@ -167,8 +167,8 @@ fn play<I: Source, O: Sink, Y: Yard>(
         service.now result.status result.history.items result.lives.items result.starters.items }
     ensures early { EndsEarly result.status result.history.items result.lives.items result.starters.items }
 {
-    let script = match script_of(alloc, input) {
-        Ok(script) => script,
+    let (script, octets) = match script_of(alloc, input) {
+        Ok(read) => read,
         Err(status) => return nothing(alloc, status),
     };
     match starters_of(alloc, service, yard) {
@@ -177,7 +177,7 @@ fn play<I: Source, O: Sink, Y: Yard>(
                 status,
                 history,
                 lives,
-            } = perform(alloc, service, script, out, &mut starters[0]);
+            } = perform(alloc, service, script, octets, out, &mut starters[0]);
             Outcome {
                 status,
                 history,

@@ -3,4 +3,4 @@
 
 mod line;
 
-pub use line::push_line;
+pub use line::{push_answer_line, push_line};

@@ -2,6 +2,7 @@ ghost use Rattle.std.specs.Prelude.{◌≡◌, ◌++◌, ◌+◌, ◌==◌, ◌<
 ghost use Rattle.std.specs.Fmt.{signed_decimal};
 ghost use Rattle.xa_types.specs.Fault.{fault_text, event_text};
 ghost use Rattle.std.specs.List.{flat_map};
+ghost use Rattle.xa_types.specs.declared.reply.Reply.TheVariants.{Answered};
 ghost use Rattle.xa_text.specs.Line.{hex_digit, hex_pair, hex, data_text, coded, answer_text, event_rest, reply_text, call_text, line_text};
 ghost use Rattle.std.specs.Io.{StartsWith};
 
@@ -110,6 +111,14 @@ fn push_descriptor(out: &mut Vec<u8>, descriptor: u64) -> Result<(), NoMemory>
     push_text(out, b" ")
 }
 
+fn push_answered(out: &mut Vec<u8>, descriptor: u64, answer: &Answer) -> Result<(), NoMemory>
+    ensures ok { OnOk result (out.new.items ≡ out.old.items ++ reply_text (Answered descriptor answer.now)) }
+    ensures err { OnErr result (StartsWith out.new.items out.old.items) }
+{
+    push_descriptor(out, descriptor)?;
+    push_answer(out, answer)
+}
+
 fn push_event_rest(
     out: &mut Vec<u8>,
     event: ConvEvent,
@@ -143,10 +152,7 @@ fn push_reply(out: &mut Vec<u8>, reply: &Reply) -> Result<(), NoMemory>
             push_text(out, b"NOW ")?;
             push_number(out, *tick)
         }
-        Reply::Answered(descriptor, answer) => {
-            push_descriptor(out, *descriptor)?;
-            push_answer(out, answer)
-        }
+        Reply::Answered(descriptor, answer) => push_answered(out, *descriptor, answer),
         Reply::Message(payload) => {
             push_text(out, b"DATA ")?;
             push_data(out, payload)
@@ -178,6 +184,22 @@ pub fn push_line(out: &mut Vec<u8>, name: &Name, op: u32, reply: &Reply) -> Resu
 {
     push_call(out, name, op)?;
     push_reply(out, reply)?;
+    push_text(out, b"\n")
+}
+
+/// The same of a call that was answered, whose answer stays with the caller. The descriptor is 0 for a tpcall.
+pub fn push_answer_line(
+    out: &mut Vec<u8>,
+    name: &Name,
+    op: u32,
+    descriptor: u64,
+    answer: &Answer,
+) -> Result<(), NoMemory>
+    ensures ok { OnOk result (out.new.items ≡ out.old.items ++ line_text name.now op (Answered descriptor answer.now)) }
+    ensures err { OnErr result (StartsWith out.new.items out.old.items) }
+{
+    push_call(out, name, op)?;
+    push_answered(out, descriptor, answer)?;
     push_text(out, b"\n")
 }
 
