@@ -1,3 +1,4 @@
+mod Partial
 pub mod Frames
 pub mod Ceasing
 pub mod Saying

@@ -1,5 +1,5 @@
 -- What the monitor's end of the pipes of a life has seen.
-use Rattle.std.specs.Prelude.{◌≡◌, ◌⊎◌, ℕ, ◌+◌, ◌-◌, ◌^◌, min, ◌<◌, List, [], ◌++◌, length, true, Option, Some, None, IfSome}
+use Rattle.std.specs.Prelude.{◌≡◌, ◌⊎◌, ℕ, ◌<◌, List, [], ◌++◌, length, true, Option, IfSome}
 use Rattle.std.specs.Io.{StartsWith}
 use Rattle.xa_types.specs.declared.setup.Setup.{Setup}
 use Rattle.xa_types.specs.declared.data.Data.{Data}
@@ -7,8 +7,10 @@ use Rattle.xa_types.specs.declared.call.Mode.TheVariants.{Reply}
 use Rattle.xa_link.specs.Told.{Empty}
 use Rattle.xa_frame.specs.declared.frame.Frame.{Frame}
 use Rattle.xa_frame.specs.declared.frame.Body.TheVariants.{Invoke}
+use Rattle.xa_frame.specs.declared.reader.NextRefused.{NextRefused}
+use Rattle.xa_frame.specs.declared.reader.NextRefused.TheVariants.{BadFrame, NoMemory}
 use Rattle.xa_frame.specs.Stream.{IsPartial, IsMalformed}
-use Rattle.xa_frame.specs.Spelling.{spelled, all_spelled, HasSpelling}
+use Rattle.xa_frame.specs.Spelling.{all_spelled}
 use Rattle.xa_events.specs.declared.event.Outcome.{Outcome}
 use Rattle.xa_events.specs.declared.event.StopCause.{StopCause}
 use Rattle.xa_events.specs.declared.event.StopCause.TheVariants.{EndOfInput, ReadFault, WriteFault, BadBytes, Starved}
@@ -38,10 +40,10 @@ pub record HasRead (pipe : Piped) (frames : List Frame) : Type 0 where
   pub told : IfSome pipe.gave (λ octets. octets ≡ all_spelled frames ++ pipe.rest)
   pub place : pipe.place ≡ place_behind frames
 
--- what stood first in the octets before: nothing whole, or that frame, with the octets after it
-abbrev pub Finds : Piped → Piped → Option Frame → Type 0
-Finds old new None = (new.rest ≡ old.rest) × (new.place ≡ old.place) × (length old.rest < 66_012) × IsPartial old.rest
-Finds old new (Some f) = HasSpelling f × (old.rest ≡ spelled f ++ new.rest) × (new.place ≡ min (old.place + length (spelled f)) (2 ^ 64 - 1))
+-- why a life ends where its reader gives no frame
+abbrev pub ended_by : NextRefused → StopCause
+ended_by (BadFrame place) = BadBytes place
+ended_by NoMemory = Starved
 
 -- why no frame was read behind these: where memory ran out, the link gave more than these
 abbrev pub ReadsNone : Piped → List Frame → StopCause → Type 0

@@ -5,7 +5,7 @@ ghost use Rattle.xa_frame.specs.Spelling.{spelled, HasSpelling, IsData};
 ghost use Rattle.xa_events.specs.declared.event.StopCause.TheVariants.{Starved};
 ghost use Rattle.xa_frame.specs.Stream.{IsPartial, IsMalformed, Begins};
 ghost use Rattle.xa_pipe.specs.Frames.{shutdown_frame};
-ghost use Rattle.xa_pipe.specs.Pipe.{invoke_frame, Wrote, HasRead, Finds, Keeps, ReadsNone, WritesNone};
+ghost use Rattle.xa_pipe.specs.Pipe.{invoke_frame, Wrote, HasRead, ended_by, Keeps, ReadsNone, WritesNone};
 
 use std::alloc::Global;
 use std::marker::Model;
@@ -51,6 +51,16 @@ fn write<L: Link>(link: &mut L, octets: &[u8]) -> Result<(), StopCause>
     ensures why { IfErr result (λ cause. (cause ≡ StopCause.WriteFault) × (0 < L.write_faults link.new)) }
 {
     put(link, octets).map_err(|_| StopCause::WriteFault)
+}
+
+// Why the life ends where the reader gives no frame.
+fn ended_by(refused: NextRefused) -> StopCause
+    ensures { result ≡ ended_by refused }
+{
+    match refused {
+        NextRefused::BadFrame(place) => StopCause::BadBytes(place),
+        NextRefused::NoMemory => StopCause::Starved,
+    }
 }
 
 impl<L: Link> Pipe<L> {
@@ -150,31 +160,13 @@ impl<L: Link> Pipe<L> {
         ensures why { IfErr result (λ cause. (frames : List Frame) → HasRead self.old frames → ReadsNone self.new frames cause) }
     {
         for _ in 0..u64::MAX {
-            if let Some(frame) = self.next()? {
-                return Ok(frame);
+            match self.reader.next() {
+                Ok(Some(frame)) => return Ok(frame),
+                Ok(None) => self.pull()?,
+                Err(refused) => return Err(ended_by(refused)),
             }
-            self.pull()?;
         }
         unreachable!()
-    }
-
-    // The frame that stands whole in what was read, if one does.
-    fn next(&mut self) -> Result<Option<Frame>, StopCause>
-        ensures took { self.new.took ≡ self.old.took }
-        ensures gave { self.new.gave ≡ self.old.gave }
-        ensures left { self.new.left ≡ self.old.left }
-        ensures reads { self.new.reads ≡ self.old.reads }
-        ensures writes { self.new.writes ≡ self.old.writes }
-        ensures found { IfOk result (Finds self.old self.new) }
-        ensures kept { OnErr result ((self.new.rest ≡ self.old.rest) × (self.new.place ≡ self.old.place)) }
-        ensures stands { result ≡ Err Starved → (f : Frame) × (more : List ℕ) × Begins self.old.rest f more }
-        ensures why { IfErr result (λ cause. (frames : List Frame) → HasRead self.old frames → ReadsNone self.new frames cause) }
-    {
-        match self.reader.next() {
-            Ok(found) => Ok(found),
-            Err(NextRefused::BadFrame(place)) => Err(StopCause::BadBytes(place)),
-            Err(NextRefused::NoMemory) => Err(StopCause::Starved),
-        }
     }
 
     // Reads a piece of the link.
