@@ -1,12 +1,15 @@
-ghost use Rattle.std.specs.Prelude.{◌≡◌, ◌≤◌, ◌++◌, length, IfOk, OnOk};
+ghost use Rattle.std.specs.Prelude.{◌≡◌, ◌≤◌, ◌+◌, ◌++◌, length, IfOk, OnOk};
 ghost use Rattle.xa_types.specs.declared.call.Mode.{Mode};
-ghost use Rattle.xa_frame.specs.declared.frame.Body.TheVariants.{Invoke};
+ghost use Rattle.xa_frame.specs.declared.frame.Body.TheVariants.{Return, Invoke};
 ghost use Rattle.xa_frame.specs.Spelling.{kind_octet, rval_octet, mode_octet, word, sized, data_octets, body_octets, header, spelled, IsData, IsBody, HasSpelling};
 
 use crate::frame::{Body, Frame};
 use crate::header::{HEADER, MARK};
 use std::alloc::Global;
 use xa_types::{Data, Mode, Name, NoMemory, Octets, Rval};
+
+// The kind of a RETURN.
+const RETURN: u8 = 0x04;
 
 // The kind of an INVOKE.
 const INVOKE: u8 = 0x11;
@@ -18,7 +21,7 @@ pub fn kind_octet(body: &Body) -> u8
     match body {
         Body::Ready(_) => 0x01,
         Body::Next => 0x02,
-        Body::Return(..) => 0x04,
+        Body::Return(..) => RETURN,
         Body::Invoke(..) => INVOKE,
         Body::Shutdown => 0x13,
     }
@@ -64,6 +67,14 @@ fn data_len(payload: &Data) -> usize
     }
 }
 
+fn return_len(payload: &Data) -> usize
+    requires { IsData payload.now }
+    ensures length { result ≡ 5 + length (data_octets payload.now) }
+    ensures few { result ≤ 66_000 }
+{
+    5 + data_len(payload)
+}
+
 fn invoke_len(service: &Name, routine: &Name, payload: &Data) -> usize
     requires { IsData payload.now }
     ensures length { (mode : Mode) → result ≡ length (body_octets (Invoke service.now routine.now mode payload.now)) }
@@ -79,7 +90,7 @@ fn body_len(body: &Body) -> usize
     match body {
         Body::Ready(name) => word_len(name),
         Body::Next | Body::Shutdown => 0,
-        Body::Return(_, _, payload) => 5 + data_len(payload),
+        Body::Return(_, _, payload) => return_len(payload),
         Body::Invoke(service, routine, _, payload) => invoke_len(service, routine, payload),
     }
 }
@@ -122,6 +133,15 @@ fn put_data(out: &mut Vec<u8>, payload: &Data) -> Result<(), NoMemory>
     Ok(())
 }
 
+fn put_return(out: &mut Vec<u8>, value: Rval, code: i32, payload: &Data) -> Result<(), NoMemory>
+    requires { IsData payload.now }
+    ensures { OnOk result (out.new.items ≡ out.old.items ++ body_octets (Return value code payload.now)) }
+{
+    out.push(rval_octet(value))?;
+    out.extend_from_slice(&code.to_be_bytes())?;
+    put_data(out, payload)
+}
+
 fn put_invoke(
     out: &mut Vec<u8>,
     service: &Name,
@@ -145,11 +165,7 @@ fn put_body(out: &mut Vec<u8>, body: &Body) -> Result<(), NoMemory>
     match body {
         Body::Ready(name) => put_word(out, name)?,
         Body::Next | Body::Shutdown => (),
-        Body::Return(value, code, payload) => {
-            out.push(rval_octet(*value))?;
-            out.extend_from_slice(&code.to_be_bytes())?;
-            put_data(out, payload)?;
-        }
+        Body::Return(value, code, payload) => put_return(out, *value, *code, payload)?,
         Body::Invoke(service, routine, mode, payload) => {
             put_invoke(out, service, routine, *mode, payload)?;
         }
@@ -178,6 +194,23 @@ pub fn append(out: &mut Vec<u8>, frame: &Frame) -> Result<(), NoMemory>
     put_header(out, kind_octet(&frame.body), size as u32, frame.tag)?;
     put_body(out, &frame.body)?;
     Ok(())
+}
+
+/// The same of a RETURN, whose data stays with the caller.
+pub fn append_return(
+    out: &mut Vec<u8>,
+    tag: u32,
+    value: Rval,
+    code: i32,
+    payload: &Data,
+) -> Result<(), NoMemory>
+    requires { IsData payload.now }
+    ensures { OnOk result (out.new.items ≡ out.old.items ++ spelled (record { tag = tag; body = Return value code payload.now })) }
+{
+    let size = return_len(payload);
+    out.reserve(HEADER + size)?;
+    put_header(out, RETURN, size as u32, tag)?;
+    put_return(out, value, code, payload)
 }
 
 /// The same of an INVOKE, whose data stays with the caller.
