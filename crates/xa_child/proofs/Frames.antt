@@ -1,9 +1,10 @@
 -- Lists of a child's frames, and their spellings.
-use Rattle.std.proofs.Common.{◌≡◌, ℕ, ◌+◌, ◌<◌, ◌^◌, ◌&&◌, Bool, true, false, if◌then◌else◌, pos, List, [], ◌∷◌, ◌++◌, append_assoc, append-nil, length, take, get_or, add-one, refl, sym, ◌∙◌, ap, arith, rules}
+use Rattle.std.proofs.Common.{◌≡◌, ℕ, ◌+◌, ◌<◌, ◌^◌, ◌&&◌, Bool, true, false, if◌then◌else◌, pos, List, [], ◌∷◌, ◌++◌, append_assoc, append-nil, length, take, get_or, add-one, Option, Some, None, Bor, refl, sym, ◌∙◌, ap, subst, arith, rules}
 use Rattle.std.proofs.Math.Bool.{and_assoc}
 use Rattle.std.proofs.Math.Seq.{take-suc}
-use Rattle.std.proofs.lemmas.List.Elements.{All-nil, All-cons}
+use Rattle.std.proofs.lemmas.List.Elements.{All-nil, All-cons, All-head}
 use Rattle.std.specs.List.{All}
+use Rattle.std.specs.Option.{unwrap_or}
 use Rattle.xa_types.specs.Name.{IsName}
 use Rattle.xa_types.specs.declared.data.Data.{Data}
 use Rattle.xa_types.specs.declared.data.Data.TheVariants.{Absent}
@@ -13,6 +14,8 @@ use Rattle.xa_frame.specs.declared.frame.Body.{Body}
 use Rattle.xa_frame.specs.declared.frame.Body.TheVariants.{Ready, Next, Return, Invoke, Shutdown}
 use Rattle.xa_frame.specs.Spelling.{spelled, all_spelled, HasSpelling, IsBody, IsData}
 use Rattle.xa_frame.proofs.FrameLemmas.{all_spelled-push}
+use Rattle.xa_child.specs.declared.child.Returned.{Returned}
+use Rattle.xa_child.specs.Returned.{data_of, frame_of, all_said}
 use Rattle.xa_child.specs.Child.{ChildState, admits, admits_all, after, after_all, answer, answer_body, said, greeting, returned, next, is_die, is_echo}
 
 pub admits_all-append : (s : ChildState) (xs ys : List Frame) → admits_all s (xs ++ ys) ≡ (admits_all s xs && admits_all (after_all s xs) ys)
@@ -68,6 +71,17 @@ answer_spelling tag Shutdown low h = All-nil HasSpelling
 
 pub spelling-answer : (f : Frame) → HasSpelling f → All HasSpelling (answer f)
 spelling-answer f h = answer_spelling f.tag f.body h.tag h.body
+
+-- a RETURN whose data stays where it is, and NEXT
+pub data_or_absent : (payload : Option (Bor Data)) (none : Bor Data) → none.now ≡ Absent → (unwrap_or payload none).now ≡ data_of payload
+data_or_absent None none h = h
+data_or_absent (Some payload) none h = refl
+
+pub said_data : (r : Returned) (f : Frame) → HasSpelling f → all_said (Some r) ≡ answer f → IsData (data_of r.payload)
+said_data r f h said = (All-head HasSpelling (frame_of r) (next ∷ []) (subst (All HasSpelling) (sym said) (spelling-answer f h))).body.1
+
+pub spelled-said : (due : List ℕ) (r : Returned) → (due ++ spelled (frame_of r)) ++ spelled next ≡ due ++ all_spelled (all_said (Some r))
+spelled-said due r = append_assoc due (spelled (frame_of r)) (spelled next) ∙ ap (λ z. due ++ (spelled (frame_of r) ++ z)) (sym (append-nil (spelled next)))
 
 pub ready_spelling : (name : List ℕ) → IsName name → HasSpelling (record { tag = 0; body = Ready name })
 ready_spelling name h = record { tag = omega arith; body = h }

@@ -1,6 +1,7 @@
 // A server's program, frame by frame.
 ghost use Rattle.std.specs.Prelude.{◌≡◌, ◌↔◌, true, false, IfOk, OnOk, OnErr, IsErr, IsErrOf};
-ghost use Rattle.xa_child.specs.Child.{begun, following, greeting, admits, answer, after, is_die, is_echo, returned, next, served};
+ghost use Rattle.xa_child.specs.Child.{begun, following, greeting, admits, answer, after, is_die, is_echo, returned, next};
+ghost use Rattle.xa_child.specs.Returned.{frame_of, all_said};
 ghost use Rattle.xa_child.specs.declared.child.ChildRefused.TheVariants as refusals;
 
 use std::alloc::Global;
@@ -42,7 +43,17 @@ impl From<NoMemory> for ChildRefused {
     }
 }
 
-fn next() -> Frame
+/// A RETURN, whose data stays where it is.
+#[derive(Clone, Copy, Debug)]
+pub struct Returned<'a> {
+    pub tag: u32,
+    pub value: Rval,
+    pub code: i32,
+    pub payload: Option<&'a Data>,
+}
+
+/// The frame behind each RETURN.
+pub fn next() -> Frame
     ensures { result ≡ next }
 {
     Frame {
@@ -63,34 +74,54 @@ fn is_die(routine: &Name) -> bool
     routine.octets() == b"DIE".as_slice()
 }
 
-fn returned(alloc: Global, routine: &Name, payload: &Data) -> Result<Body, NoMemory>
-    ensures { IfOk result (λ body. body ≡ returned routine.now payload.now) }
+// What a routine returns, other than DIE.
+fn return_of<'a>(tag: u32, routine: &Name, payload: &'a Data) -> Returned<'a>
+    ensures { frame_of result ≡ record { tag = tag; body = returned routine.now payload.now } }
 {
     if is_echo(routine) {
-        return Ok(Body::Return(Rval::Success, 0, payload.copy(alloc)?));
+        return Returned {
+            tag,
+            value: Rval::Success,
+            code: 0,
+            payload: Some(payload),
+        };
     }
-    Ok(Body::Return(Rval::Fail, UNKNOWN, Data::Absent))
+    Returned {
+        tag,
+        value: Rval::Fail,
+        code: UNKNOWN,
+        payload: None,
+    }
 }
 
-fn served(alloc: Global, tag: u32, routine: &Name, payload: &Data) -> Result<Vec<Frame>, NoMemory>
-    ensures { IfOk result (λ frames. frames.items ≡ served tag routine.now payload.now) }
+/// What is said to a frame that the program admits: nothing, or this RETURN and then NEXT.
+pub fn said_to(frame: &Frame) -> Option<Returned<'_>>
+    ensures { all_said result ≡ answer frame.now }
 {
-    let mut frames = Vec::new(alloc);
-    if !is_die(routine) {
-        let body = returned(alloc, routine, payload)?;
-        frames.push(Frame { tag, body })?;
-        frames.push(next())?;
+    match &frame.body {
+        Body::Invoke(_, routine, _, payload) if !is_die(routine) => {
+            Some(return_of(frame.tag, routine, payload))
+        }
+        Body::Invoke(..) | Body::Ready(_) | Body::Next | Body::Return(..) | Body::Shutdown => None,
     }
-    Ok(frames)
 }
 
 fn answer(alloc: Global, frame: &Frame) -> Result<Vec<Frame>, NoMemory>
     ensures { IfOk result (λ frames. frames.items ≡ answer frame.now) }
 {
-    match &frame.body {
-        Body::Invoke(_, routine, _, payload) => served(alloc, frame.tag, routine, payload),
-        Body::Ready(_) | Body::Next | Body::Return(..) | Body::Shutdown => Ok(Vec::new(alloc)),
+    let mut frames = Vec::new(alloc);
+    if let Some(said) = said_to(frame) {
+        let payload = match said.payload {
+            Some(payload) => payload.copy(alloc)?,
+            None => Data::Absent,
+        };
+        frames.push(Frame {
+            tag: said.tag,
+            body: Body::Return(said.value, said.code, payload),
+        })?;
+        frames.push(next())?;
     }
+    Ok(frames)
 }
 
 impl Child {
@@ -125,7 +156,7 @@ impl Child {
         self.invocations.wrapping_add(1)
     }
 
-    fn admits(&self, frame: &Frame) -> bool
+    pub(crate) fn admits(&self, frame: &Frame) -> bool
         ensures { result ≡ admits self.now frame.now }
     {
         if self.ended {
@@ -138,7 +169,7 @@ impl Child {
         }
     }
 
-    fn note(&mut self, frame: &Frame)
+    pub(crate) fn note(&mut self, frame: &Frame)
         ensures { self.new ≡ after self.old frame.now }
     {
         match &frame.body {

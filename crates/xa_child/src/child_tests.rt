@@ -1,8 +1,9 @@
-use crate::{LocalYard, work};
+use crate::{Child, LocalYard, child_step, work};
 use std::alloc::Global;
 use std::test::Fail;
+use xa_frame::{Body, Frame};
 use xa_link::{MemorySink, MemorySource, Source, Starter, Yard, put};
-use xa_types::{Generation, Name, Octets, Sequence, ServerSetup, Setup};
+use xa_types::{Data, Generation, Mode, Name, Octets, Rval, Sequence, ServerSetup, Setup};
 
 // INVOKE of the service and the routine ECHO with hello, and SHUTDOWN.
 const ASKED: &[u8] = b"\x58\x41\x01\x11\0\0\0\x15\0\0\0\x01\x04ECHO\x04ECHO\0\x01\0\0\0\x05hello\
@@ -22,6 +23,34 @@ fn an_echo_comes_in_single_octets(rt: HostRuntime) -> Result<(), Fail> {
     let worked = work(alloc, &Name::read(b"S")?, &mut input, &mut out);
     assert_eq!(rt; worked, Ok(()));
     assert_eq!(rt; out.taken(), SAID);
+    Ok(())
+}
+
+fn is_echoed(frames: &[Frame]) -> bool {
+    match frames {
+        [first, second] => match (&first.body, &second.body) {
+            (Body::Return(Rval::Success, 0, Data::Octet(octets)), Body::Next) => {
+                first.tag == 1 && second.tag == 0 && octets.slice() == b"hello".as_slice()
+            }
+            _ => false,
+        },
+        _ => false,
+    }
+}
+
+#[test]
+fn a_step_echoes(rt: HostRuntime) -> Result<(), Fail> {
+    let alloc = rt.alloc();
+    let echo = Name::read(b"ECHO")?;
+    let hello = Data::Octet(Octets::of(alloc, b"hello")?);
+    let invoke = Frame {
+        tag: 1,
+        body: Body::Invoke(echo, echo, Mode::Reply, hello),
+    };
+    let (mut child, _) = Child::start(alloc, &Name::read(b"S")?)?;
+    let said = child_step(alloc, &mut child, &invoke);
+    assert!(rt; said.is_ok_and(|frames| is_echoed(&frames)));
+    assert!(rt; child_step(alloc, &mut child, &invoke).is_err());
     Ok(())
 }
 

@@ -2,12 +2,13 @@
 ghost use Rattle.std.specs.Prelude.{◌≡◌, ◌<◌, ◌^◌, ◌++◌, IfOk, OnOk, true, false};
 ghost use Rattle.std.specs.List.{All};
 ghost use Rattle.xa_frame.specs.Spelling.{all_spelled, HasSpelling};
+ghost use Rattle.xa_child.specs.Child.{answer};
 ghost use Rattle.xa_child.specs.Serving.{StepsTo, TakesUpTo, Answers};
 
-use crate::child::{Child, ChildRefused, child_step};
+use crate::child::{Child, next, said_to};
 use std::alloc::Global;
-use xa_frame::{Frame, NextRefused, Reader, append};
-use xa_types::NoMemory;
+use xa_frame::{Frame, NextRefused, Reader, append, append_return};
+use xa_types::{Data, NoMemory};
 
 // How many octets the answers to one piece seldom pass.
 const MOST_ANSWERS: usize = 512;
@@ -38,6 +39,20 @@ pub fn spell(frames: &[Frame], due: &mut Vec<u8>) -> Result<(), NoMemory>
 {
     for frame in frames {
         append(due, frame)?;
+    }
+    Ok(())
+}
+
+// Adds what is said to a frame that the program admits.
+fn spell_answer(frame: &Frame, due: &mut Vec<u8>) -> Result<(), NoMemory>
+    requires { HasSpelling frame.now }
+    ensures { OnOk result (due.new.items ≡ due.old.items ++ all_spelled (answer frame.now)) }
+{
+    if let Some(said) = said_to(frame) {
+        let absent = Data::Absent;
+        let payload = said.payload.unwrap_or(&absent);
+        append_return(due, said.tag, said.value, said.code, payload)?;
+        append(due, &next())?;
     }
     Ok(())
 }
@@ -88,13 +103,11 @@ impl Serving {
         ensures said { IfOk result (λ turn. Answers self.old.child self.new.child due.old.items due.new.items place frame.now turn) }
         ensures same { self.new.reader ≡ self.old.reader }
     {
-        match child_step(self.alloc, &mut self.child, frame) {
-            Ok(frames) => {
-                spell(frames.as_slice(), due)?;
-                Ok(None)
-            }
-            Err(ChildRefused::OutOfTurn) => Ok(Some(Halt::Bad(place))),
-            Err(ChildRefused::NoMemory) => Err(NoMemory),
+        if !self.child.admits(frame) {
+            return Ok(Some(Halt::Bad(place)));
         }
+        spell_answer(frame, due)?;
+        self.child.note(frame);
+        Ok(None)
     }
 }
