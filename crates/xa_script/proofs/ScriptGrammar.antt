@@ -1,5 +1,5 @@
 -- What a line says is what its reading gives.
-use Rattle.std.proofs.Common.{◌≡◌, ℕ, zero, suc, ◌==◌, ◌||◌, ◌&&◌, nat_le, nat_lt, not, Bool, true, false, cond, ◌⊎◌, inl, inr, List, [], ◌∷◌, ◌++◌, length, Option, Some, None, option_map, codes, refl, ap, sym, ◌∙◌, subst, append_assoc, arith}
+use Rattle.std.proofs.Common.{◌≡◌, ℕ, zero, suc, ◌==◌, ◌||◌, ◌&&◌, nat_le, nat_lt, not, Bool, true, false, cond, if◌then◌else◌, ◌⊎◌, inl, inr, List, [], ◌∷◌, ◌++◌, length, Option, Some, None, option_map, codes, refl, ap, sym, ◌∙◌, subst, append_assoc, arith}
 use Rattle.std.proofs.lemmas.Bool.{eqb-true, eqb-false, ne_eqb, leb-true, le-leb, le-ltb, ltb-false}
 use Rattle.std.proofs.lemmas.Slice.Eq.{bytes_eq-Decides}
 use Rattle.std.specs.List.{list_all, flat_map}
@@ -8,12 +8,24 @@ use Rattle.xa_types.specs.Name.{IsName, is_name, is_graphic, begins_with_dot}
 use Rattle.xa_types.specs.declared.call.Op.{Op}
 use Rattle.xa_types.specs.declared.data.Data.{Data}
 use Rattle.xa_types.specs.declared.data.Data.TheVariants.{Absent, Octet, Struct}
-use Rattle.xa_script.specs.declared.script_line.Line.{Line}
-use Rattle.xa_script.specs.declared.script_line.Line.TheVariants.{Skipped, Client, Call}
 use Rattle.xa_script.specs.Script.{spaces, IsEnd, HasWords, is_printed, escaped, quoted, IsSkipped, IsClientLine, IsWritten, data_words, call_with, IsServiceWord, IsCallLine}
-use Rattle.xa_script.specs.ScriptLine.{skip_spaces, is_blank, is_skipped, next_word, text_in_front, ended, quoted_from, quoted_in, payload_in, call_in, client_in, line_of}
+use Rattle.xa_script.specs.ScriptLine.{skip_spaces, is_blank, is_skipped, next_word, strip_word, text_in_front, ended, quoted_from, quoted_in, payload_in, call_in, client_in, is_plain}
 use Rattle.xa_script.proofs.ScriptText.{some_is, or_false, written, text_again, text_takes, printed_text}
-use Rattle.xa_script.proofs.ScriptWords.{and_true, skips, skipped, plain, is_plain, IsWord, next_word_plain, next_word_takes, words_take, words_again, blank_takes, blank_again, skipped_takes, skipped_again, not_skipped, printed_words, printed_parts, printed-append}
+use Rattle.xa_script.proofs.ScriptWords.{and_true, skips, skipped, plain, IsWord, next_word_plain, next_word_takes, words_take, words_again, word_found, word_missed, blank_takes, blank_again, skipped_takes, skipped_again, not_skipped, printed_words, printed_parts, printed-append}
+
+pub data Line : Type 0 where
+  Skipped : Line
+  Client : List ℕ → Line
+  Call : Op → Line
+
+-- what the line says, as it is read
+unfoldable pub line_of : List ℕ → Option Line
+line_of line =
+    if not (list_all is_printed line) then None
+    else (if is_skipped line then Some Skipped
+    else (if bytes_eq (next_word line).0 (codes "client") then option_map (λ name. Client name) (client_in (next_word line).1)
+    else (if bytes_eq (next_word line).0 (codes "call") then option_map (λ op. Call op) (call_in (next_word line).1)
+    else None)))
 
 -- what the line says
 abbrev pub Says : List ℕ → Line → Type 0
@@ -138,6 +150,21 @@ payload_takes xs payload printed h = elim (chosen (bytes_eq (next_word xs).0 (co
       | inl p ↦ text_takes_data xs payload printed ((bytes_eq-Decides (next_word xs).0 (codes "text")).0 p.0) p.1
       | inr p ↦ none_takes_data xs payload p.1
     ]
+
+pub text_found : (xs rest : List ℕ) → Some rest ≡ strip_word (codes "text") (skip_spaces xs) → quoted_in rest ≡ payload_in xs
+unfolding payload_in
+text_found xs rest h = let found = word_found (codes "text") xs rest h in simp (found.0, found.1)
+
+pub none_found : (xs rest : List ℕ) → None ≡ strip_word (codes "text") (skip_spaces xs) → Some rest ≡ strip_word (codes "none") (skip_spaces xs) → cond (is_blank rest) (Some Absent) None ≡ payload_in xs
+unfolding payload_in
+none_found xs rest missed h =
+    let found = word_found (codes "none") xs rest h in
+    let other = word_missed (codes "text") xs missed in
+    simp (other, found.0, found.1)
+
+pub no_data : (xs : List ℕ) → None ≡ strip_word (codes "text") (skip_spaces xs) → None ≡ strip_word (codes "none") (skip_spaces xs) → None ≡ payload_in xs
+unfolding payload_in
+no_data xs missed h = let other = word_missed (codes "text") xs missed in let none = word_missed (codes "none") xs h in simp (other, none)
 
 pub payload_again : (xs : List ℕ) (payload : Data) → IsWritten payload → HasWords (data_words payload) xs → payload_in xs ≡ Some payload
 unfolding payload_in

@@ -1,12 +1,14 @@
 -- Words and the spaces between them: what reading the next word gives.
-use Rattle.std.proofs.Common.{◌≡◌, ℕ, zero, suc, ◌+◌, ◌<◌, ◌==◌, ◌&&◌, not, Bool, true, false, cond, ◌⊎◌, List, [], ◌∷◌, ◌++◌, length, take, drop, refl, ap, sym, ◌∙◌, subst, append_assoc, append-nil, inl, inr, codes, arith}
-use Rattle.std.proofs.lemmas.Bool.{eqb-true, eq-eqb, ne_eqb}
+use Rattle.std.proofs.Common.{◌≡◌, ℕ, zero, suc, ◌+◌, ◌<◌, ◌==◌, ◌&&◌, not, Bool, true, false, cond, ◌⊎◌, List, [], ◌∷◌, ◌++◌, length, take, drop, refl, ap, sym, ◌∙◌, subst, append_assoc, append-nil, inl, inr, codes, Some, None, arith}
+use Rattle.std.proofs.lemmas.Bool.{eqb-true, eqb-false, eq-eqb, ne_eqb}
 use Rattle.std.proofs.lemmas.List.{take-append-drop, nil_from_length}
 use Rattle.std.proofs.lemmas.List.Folds.{list_all-append}
+use Rattle.std.proofs.lemmas.Slice.Eq.{bytes_eq-Decides}
 use Rattle.std.proofs.Math.Seq.{take-append_seam, drop-append_seam}
 use Rattle.std.specs.List.{list_all, before_first, position_or_len}
+use Rattle.std.specs.Str.{bytes_eq}
 use Rattle.xa_script.specs.Script.{spaces, IsEnd, HasWords, is_printed}
-use Rattle.xa_script.specs.ScriptLine.{skip_spaces, is_space, is_blank, is_skipped, behind_word, next_word}
+use Rattle.xa_script.specs.ScriptLine.{skip_spaces, is_space, is_plain, is_blank, is_skipped, behind_word, next_word, is_end, strip_word}
 
 pub and_true : (a b : Bool) → (a && b) ≡ true → (a ≡ true) × (b ≡ true)
 and_true true b h = (refl, h)
@@ -23,9 +25,6 @@ skipped (x ∷ xs) = elim (x == 32) as (λ b. (x == 32) ≡ b → (n : ℕ) × (
   | true ↦ λ e. let more = skipped xs in (suc more.0, ap (λ y. y ∷ xs) (eqb-true x 32 e) ∙ ap (λ ys. 32 ∷ ys) more.1)
   | false ↦ λ e. (0, refl)
 ] refl
-
-abbrev pub is_plain : ℕ → Bool
-is_plain octet = not (is_space octet)
 
 -- an octet of a word, and one of the rest
 pub plain : (x : ℕ) → is_plain x ≡ true → (x == 32) ≡ false
@@ -99,6 +98,45 @@ words_take line words h = let taken = next_word_takes line in (taken.0, (next_wo
 pub words_again : (line word : List ℕ) (words : List (List ℕ)) → HasWords (word ∷ words) line → IsWord word
     → (rest : List ℕ) × (next_word line ≡ parted word rest) × HasWords words rest
 words_again line word words h is = (h.1, ap next_word h.2 ∙ next_word_again h.0 word h.1 is h.3, h.4)
+
+-- octets that begin with that word
+pub word_stripped : (word rest : List ℕ) → list_all is_plain word ≡ true → IsEnd rest → strip_word word (word ++ rest) ≡ Some rest
+word_stripped word rest unspaced end =
+    ap (λ (p : List ℕ × List ℕ). cond (bytes_eq p.0 word) (Some p.1) None) (split_at_word word rest unspaced end)
+    ∙ ap (λ b. cond b (Some rest) None) ((bytes_eq-Decides word word).1 refl)
+
+-- octets that don't
+pub no_word : (word octets : List ℕ) → ((rest : List ℕ) → octets ≡ word ++ rest → IsEnd rest → ⊥) → strip_word word octets ≡ None
+no_word word octets none = elim (bytes_eq (before_first is_space octets) word) as (λ b. bytes_eq (before_first is_space octets) word ≡ b → cond b (Some (behind_word octets)) None ≡ None) [
+  | true ↦ λ e.
+      let word_is = (bytes_eq-Decides (before_first is_space octets) word).0 e in
+      let whole = sym (take-append-drop (position_or_len is_space octets) octets) in
+      absurd (none (behind_word octets) (whole ∙ ap (λ w. w ++ behind_word octets) word_is) (ends octets))
+  | false ↦ λ e. refl
+] refl
+
+rest_same : (word rest other : List ℕ) → word ++ rest ≡ word ++ other → rest ≡ other
+rest_same word rest other h = sym (drop-append_seam word rest) ∙ ap (drop (length word)) h ∙ drop-append_seam word other
+
+-- a word in front, and what stands behind it
+pub front_stripped : (word rest : List ℕ) → list_all is_plain word ≡ true → strip_word word (word ++ rest) ≡ cond (is_end rest) (Some rest) None
+front_stripped word [] unspaced = word_stripped word [] unspaced tt
+front_stripped word (x ∷ rest) unspaced = elim (x == 32) as (λ b. (x == 32) ≡ b → strip_word word (word ++ x ∷ rest) ≡ cond b (Some (x ∷ rest)) None) [
+  | true ↦ λ e. word_stripped word (x ∷ rest) unspaced (eqb-true x 32 e)
+  | false ↦ λ e. no_word word (word ++ x ∷ rest) (λ other same end. eqb-false x 32 e (subst IsEnd (sym (rest_same word (x ∷ rest) other same)) end))
+] refl
+
+-- a word that is found is the next one
+pub word_found : (word octets rest : List ℕ) → Some rest ≡ strip_word word (skip_spaces octets) → (bytes_eq (next_word octets).0 word ≡ true) × ((next_word octets).1 ≡ rest)
+unfolding next_word
+word_found word octets rest h = elim (bytes_eq (next_word octets).0 word) as (λ b. Some rest ≡ cond b (Some (next_word octets).1) None → (b ≡ true) × ((next_word octets).1 ≡ rest)) [
+  | true ↦ λ e. (refl, cc)
+  | false ↦ λ e. absurd cc
+] h
+
+pub word_missed : (word octets : List ℕ) → None ≡ strip_word word (skip_spaces octets) → bytes_eq (next_word octets).0 word ≡ false
+unfolding next_word
+word_missed word octets h = elim (bytes_eq (next_word octets).0 word) as (λ b. None ≡ cond b (Some (next_word octets).1) None → b ≡ false) [ true ↦ λ e. absurd cc | false ↦ λ e. refl ] h
 
 -- blank is a line without words
 pub blank_takes : (xs : List ℕ) → is_blank xs ≡ true → HasWords [] xs

@@ -1,14 +1,12 @@
 -- How a line of a script is read: what the functions of the code compute. Each equals the relation of Script.antt.
 use Rattle.std.specs.Prelude.{ℕ, ◌==◌, ◌||◌, ◌&&◌, not, nat_lt, Bool, true, if◌then◌else◌, List, [], ◌∷◌, ◌++◌, length, drop, codes, Option, Some, None, option_map}
-use Rattle.std.specs.List.{list_all, before_first, position_or_len}
+use Rattle.std.specs.List.{before_first, position_or_len}
 use Rattle.std.specs.Str.{bytes_eq}
 use Rattle.xa_types.specs.Name.{is_name}
 use Rattle.xa_types.specs.declared.call.Op.{Op}
 use Rattle.xa_types.specs.declared.data.Data.{Data}
 use Rattle.xa_types.specs.declared.data.Data.TheVariants.{Absent, Octet}
-use Rattle.xa_script.specs.declared.script_line.Line.{Line}
-use Rattle.xa_script.specs.declared.script_line.Line.TheVariants.{Skipped, Client, Call}
-use Rattle.xa_script.specs.Script.{is_printed, call_with}
+use Rattle.xa_script.specs.Script.{call_with}
 
 abbrev pub skip_spaces : List ℕ → List ℕ
 skip_spaces [] = []
@@ -24,12 +22,23 @@ is_skipped (octet ∷ rest) = if octet == 35 then true else is_blank (octet ∷ 
 abbrev pub is_space : ℕ → Bool
 is_space octet = octet == 32
 
+abbrev pub is_plain : ℕ → Bool
+is_plain octet = not (is_space octet)
+
 abbrev pub behind_word : List ℕ → List ℕ
 behind_word octets = drop (position_or_len is_space octets) octets
 
 -- the word in front, and what stands behind it
 unfoldable pub next_word : List ℕ → List ℕ × List ℕ
 next_word octets = (before_first is_space (skip_spaces octets), behind_word (skip_spaces octets))
+
+abbrev pub is_end : List ℕ → Bool
+is_end [] = true
+is_end (octet ∷ rest) = octet == 32
+
+-- what stands behind that word, where the octets begin with it
+abbrev pub strip_word : List ℕ → List ℕ → Option (List ℕ)
+strip_word word octets = if bytes_eq (before_first is_space octets) word then Some (behind_word octets) else None
 
 abbrev pub is_marked : ℕ → Bool
 is_marked octet = octet == 34 || octet == 92
@@ -71,11 +80,3 @@ call_in octets = let word = next_word octets in
 unfoldable pub client_in : List ℕ → Option (List ℕ)
 client_in octets = let word = next_word octets in
     if is_blank word.1 && is_name word.0 then Some word.0 else None
-
-unfoldable pub line_of : List ℕ → Option Line
-line_of line =
-    if not (list_all is_printed line) then None
-    else (if is_skipped line then Some Skipped
-    else (if bytes_eq (next_word line).0 (codes "client") then option_map (λ name. Client name) (client_in (next_word line).1)
-    else (if bytes_eq (next_word line).0 (codes "call") then option_map (λ op. Call op) (call_in (next_word line).1)
-    else None)))

@@ -1,13 +1,13 @@
-ghost use Rattle.std.specs.Prelude.{◌≡◌, ◌∷◌, [], ◌<◌, ◌^◌, length, IfOk, IfErr, IfSome, MatchOption, Some};
+ghost use Rattle.std.specs.Prelude.{◌≡◌, ◌∷◌, [], ◌<◌, ◌^◌, length, IfOk, IfErr, IfSome, MatchOption, Some, option_and_then};
 ghost use Rattle.std.specs.List.{position};
 ghost use Rattle.std.specs.Str.Lines.{lines, strip_carriage_return};
 ghost use Rattle.xa_script.specs.Draft.{is_line_end};
 ghost use Rattle.xa_script.specs.Script.{IsScript};
 ghost use Rattle.xa_script.specs.Readings.{Tells, OneScript, NoFaultyScript, OneFirstFault};
-ghost use Rattle.xa_script.specs.ScriptLine.{line_of};
+ghost use Rattle.xa_script.specs.ScriptLine.{client_in, call_in};
 ghost use Rattle.xa_script.specs.Draft.{kept, begun, added, with_line, read_all};
 
-use crate::script_line::{Line, read_line};
+use crate::script_line::{all_printed, call_in, client_in, is_skipped, skip_spaces, strip_word};
 use memchr::memchr;
 use std::alloc::{AllocError, AllocFailed, Global};
 use std::marker::Model;
@@ -73,43 +73,50 @@ impl Draft {
         }
     }
 
-    fn begin(&mut self, name: Name) -> bool
-        ensures { kept result self.new ≡ begun self.old name }
+    fn begin(&mut self, octets: &[u8]) -> bool
+        ensures { kept result self.new ≡ option_and_then (begun self.old) (client_in octets.now) }
     {
         if self.name.is_some() {
             return false;
         }
+        let Some(name) = client_in(octets) else {
+            return false;
+        };
         self.name = Some(name);
         true
     }
 
-    fn add(&mut self, op: Op) -> Result<bool, NoMemory>
-        ensures { IfOk result (λ taken. kept taken self.new ≡ added self.old op) }
+    fn add(&mut self, alloc: Global, octets: &[u8]) -> Result<bool, NoMemory>
+        ensures { IfOk result (λ taken. kept taken self.new ≡ option_and_then (added self.old) (call_in octets.now)) }
     {
         if self.name.is_none() {
             return Ok(false);
         }
+        let Some(op) = call_in(alloc, octets)? else {
+            return Ok(false);
+        };
         self.ops.push(op)?;
         Ok(true)
     }
 
-    fn take(&mut self, said: Line) -> Result<bool, NoMemory>
-        ensures { IfOk result (λ taken. kept taken self.new ≡ with_line self.old (Some said)) }
-    {
-        match said {
-            Line::Skipped => Ok(true),
-            Line::Client(name) => Ok(self.begin(name)),
-            Line::Call(op) => self.add(op),
-        }
-    }
-
     // Whether the line goes on with the script.
+    #[tactic(auto, unfolding(crate::specs::Draft::with_line))]
     fn take_line(&mut self, alloc: Global, line: &[u8]) -> Result<bool, NoMemory>
-        ensures { IfOk result (λ taken. kept taken self.new ≡ with_line self.old (line_of line.now)) }
+        ensures { IfOk result (λ taken. kept taken self.new ≡ with_line self.old line.now) }
     {
-        match read_line(alloc, line)? {
+        if !all_printed(line) {
+            return Ok(false);
+        }
+        if is_skipped(line) {
+            return Ok(true);
+        }
+        let front = skip_spaces(line);
+        if let Some(rest) = strip_word(front, b"client") {
+            return Ok(self.begin(rest));
+        }
+        match strip_word(front, b"call") {
+            Some(rest) => self.add(alloc, rest),
             None => Ok(false),
-            Some(said) => self.take(said),
         }
     }
 

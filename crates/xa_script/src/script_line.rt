@@ -1,19 +1,11 @@
-ghost use Rattle.std.specs.Prelude.{◌≡◌, ◌==◌, ◌<◌, ◌≤◌, IfOk, MatchOption, Some, None, length, option_map};
+ghost use Rattle.std.specs.Prelude.{◌≡◌, ◌==◌, ◌<◌, ◌≤◌, IfOk, IsTrue, MatchOption, Some, None, length, option_map};
 ghost use Rattle.std.specs.List.{list_all, position, position_or_len};
 ghost use Rattle.xa_script.specs.Script.{is_printed};
-ghost use Rattle.xa_script.specs.ScriptLine.{skip_spaces, is_blank, is_space, next_word, is_skipped, next_octet, is_marked, put, text_in_front, quoted_in, payload_in, call_in, client_in, line_of};
+ghost use Rattle.xa_script.specs.ScriptLine.{skip_spaces, is_blank, is_space, is_plain, next_word, is_end, strip_word, is_skipped, next_octet, is_marked, put, text_in_front, quoted_in, payload_in, call_in, client_in};
 
 use memchr::memchr2;
 use std::alloc::Global;
 use xa_types::{Ask, CallFlags, Data, Direction, Name, NoMemory, Octets, Op};
-
-/// What a line of a script says.
-#[derive(Debug, Drop)]
-pub enum Line {
-    Skipped,
-    Client(Name),
-    Call(Op),
-}
 
 fn is_printed(octet: u8) -> bool
     ensures { result ≡ is_printed octet }
@@ -21,8 +13,8 @@ fn is_printed(octet: u8) -> bool
     octet >= b' ' && octet <= b'~'
 }
 
-// No octet ends the loop, so that many are tested at once.
-fn all_printed(octets: &[u8]) -> bool
+/// Whether each octet is printed. None ends the loop, so that many are tested at once.
+pub fn all_printed(octets: &[u8]) -> bool
     ensures { result ≡ list_all is_printed octets.now }
 {
     let mut all = true;
@@ -32,7 +24,8 @@ fn all_printed(octets: &[u8]) -> bool
     all
 }
 
-fn skip_spaces(octets: &[u8]) -> &[u8]
+/// What stands behind the spaces in front.
+pub fn skip_spaces(octets: &[u8]) -> &[u8]
     ensures { result.now ≡ skip_spaces octets.now }
 {
     let mut rest = octets;
@@ -48,7 +41,8 @@ fn is_blank(octets: &[u8]) -> bool
     skip_spaces(octets).is_empty()
 }
 
-fn is_skipped(line: &[u8]) -> bool
+/// Whether the line says nothing.
+pub fn is_skipped(line: &[u8]) -> bool
     ensures { result ≡ is_skipped line.now }
 {
     match line {
@@ -78,6 +72,22 @@ fn next_word(octets: &[u8]) -> (&[u8], &[u8])
 {
     let front = skip_spaces(octets);
     front.split_at(word_len(front))
+}
+
+// Whether nothing follows, or a space.
+fn is_end(octets: &[u8]) -> bool
+    ensures { result ≡ is_end octets.now }
+{
+    matches!(octets, [] | [b' ', ..])
+}
+
+/// What stands behind that word, where the octets begin with it.
+pub fn strip_word<'a>(octets: &'a [u8], word: &[u8]) -> Option<&'a [u8]>
+    requires { IsTrue (list_all is_plain word.now) }
+    ensures { option_map (λ rest. rest.now) result ≡ strip_word word.now octets.now }
+{
+    let rest = octets.strip_prefix(word)?;
+    is_end(rest).then_some(rest)
 }
 
 // An octet of a quoted text, and what stands behind it.
@@ -138,18 +148,19 @@ fn quoted_in(alloc: Global, octets: &[u8]) -> Result<Option<Data>, NoMemory>
 fn payload_in(alloc: Global, octets: &[u8]) -> Result<Option<Data>, NoMemory>
     ensures { IfOk result (λ found. found ≡ payload_in octets.now) }
 {
-    let (word, rest) = next_word(octets);
-    if word == b"text".as_slice() {
+    let front = skip_spaces(octets);
+    if let Some(rest) = strip_word(front, b"text") {
         return quoted_in(alloc, rest);
     }
-    if word == b"none".as_slice() && is_blank(rest) {
-        return Ok(Some(Data::Absent));
+    match strip_word(front, b"none") {
+        Some(rest) if is_blank(rest) => Ok(Some(Data::Absent)),
+        _ => Ok(None),
     }
-    Ok(None)
 }
 
+/// The call that the rest of a line behind `call` says.
 #[tactic(auto, unfolding(crate::specs::ScriptLine::call_in))]
-fn call_in(alloc: Global, octets: &[u8]) -> Result<Option<Op>, NoMemory>
+pub fn call_in(alloc: Global, octets: &[u8]) -> Result<Option<Op>, NoMemory>
     ensures { IfOk result (λ found. found ≡ call_in octets.now) }
 {
     let (word, rest) = next_word(octets);
@@ -168,8 +179,9 @@ fn call_in(alloc: Global, octets: &[u8]) -> Result<Option<Op>, NoMemory>
     })))
 }
 
+/// The name that the rest of a line behind `client` says.
 #[tactic(auto, unfolding(crate::specs::ScriptLine::client_in))]
-fn client_in(octets: &[u8]) -> Option<Name>
+pub fn client_in(octets: &[u8]) -> Option<Name>
     ensures { result ≡ client_in octets.now }
 {
     let (word, rest) = next_word(octets);
@@ -177,25 +189,4 @@ fn client_in(octets: &[u8]) -> Option<Name>
         return None;
     }
     Name::read(word).ok()
-}
-
-/// What a line says; nothing where it is no line of a script.
-#[tactic(auto, unfolding(crate::specs::ScriptLine::line_of))]
-pub fn read_line(alloc: Global, line: &[u8]) -> Result<Option<Line>, NoMemory>
-    ensures { IfOk result (λ read. read ≡ line_of line.now) }
-{
-    if !all_printed(line) {
-        return Ok(None);
-    }
-    if is_skipped(line) {
-        return Ok(Some(Line::Skipped));
-    }
-    let (word, rest) = next_word(line);
-    if word == b"client".as_slice() {
-        return Ok(client_in(rest).map(Line::Client));
-    }
-    if word == b"call".as_slice() {
-        return Ok(call_in(alloc, rest)?.map(Line::Call));
-    }
-    Ok(None)
 }
