@@ -3,6 +3,7 @@ use Rattle.std.proofs.Common.{◌≡◌, ℕ, ◌+◌, ◌-◌, ◌<◌, not, Bo
 use Rattle.std.proofs.Math.Seq.{take-add}
 use Rattle.std.proofs.lemmas.Bool.{cases_lt}
 use Rattle.std.proofs.lemmas.List.{drop-drop, take-append-drop}
+use Rattle.std.proofs.lemmas.Slice.Eq.{bytes_eq-Decides}
 use Rattle.std.specs.List.{list_all}
 use Rattle.std.specs.Str.{bytes_eq}
 use Rattle.std.specs.Str.Lines.{lines}
@@ -59,12 +60,12 @@ unfolding with_line
 client_line clients line rest printed skipped h = let found = word_found (codes "client") line rest h in simp (printed, skipped, found.0, found.1)
 
 pub call_line : (clients : List Client) (line rest : List ℕ) → list_all is_printed line ≡ true → is_skipped line ≡ false
-    → None ≡ strip_word (codes "client") (skip_spaces line) → Some rest ≡ strip_word (codes "call") (skip_spaces line)
-    → option_and_then (added clients) (call_in rest) ≡ with_line clients line
+    → Some rest ≡ strip_word (codes "call") (skip_spaces line) → option_and_then (added clients) (call_in rest) ≡ with_line clients line
 unfolding with_line
-call_line clients line rest printed skipped missed h =
-    let other = word_missed (codes "client") line missed in
+call_line clients line rest printed skipped h =
     let found = word_found (codes "call") line rest h in
+    let word = (bytes_eq-Decides (next_word line).0 (codes "call")).0 found.0 in
+    let other = ap (λ w. bytes_eq w (codes "client")) word in
     simp (printed, skipped, other, found.0, found.1)
 
 pub no_line : (clients : List Client) (line : List ℕ) → list_all is_printed line ≡ true → is_skipped line ≡ false

@@ -7,11 +7,11 @@ ghost use Rattle.xa_script.specs.Readings.{Tells, OneScript, NoFaultyScript, One
 ghost use Rattle.xa_script.specs.ScriptLine.{client_in, call_in};
 ghost use Rattle.xa_script.specs.Draft.{kept, begun, added, with_line, read_all};
 
-use crate::script_line::{all_printed, call_in, client_in, is_skipped, skip_spaces, strip_word};
+use crate::script_line::{all_printed, call_of, client_in, is_skipped, payload_in, service_in, skip_spaces, strip_word};
 use memchr::memchr;
 use std::alloc::{AllocError, AllocFailed, Global};
 use std::marker::Model;
-use xa_types::{Name, NoMemory, Op, Sequence};
+use xa_types::{Name, NoMemory, Octets, Op, Sequence};
 
 /// A client of a script: its name and its calls, in order.
 #[derive(Debug, Drop)]
@@ -92,10 +92,14 @@ impl Draft {
         if self.name.is_none() {
             return Ok(false);
         }
-        let Some(op) = call_in(alloc, octets)? else {
+        let Some((service, rest)) = service_in(octets) else {
             return Ok(false);
         };
-        self.ops.push(op)?;
+        let Some(payload) = payload_in(alloc, rest)? else {
+            return Ok(false);
+        };
+        let service = Octets::of(alloc, service)?;
+        self.ops.push(call_of(service, payload))?;
         Ok(true)
     }
 
@@ -111,11 +115,11 @@ impl Draft {
             return Ok(true);
         }
         let front = skip_spaces(line);
-        if let Some(rest) = strip_word(front, b"client") {
-            return Ok(self.begin(rest));
+        if let Some(rest) = strip_word(front, b"call") {
+            return self.add(alloc, rest);
         }
-        match strip_word(front, b"call") {
-            Some(rest) => self.add(alloc, rest),
+        match strip_word(front, b"client") {
+            Some(rest) => Ok(self.begin(rest)),
             None => Ok(false),
         }
     }

@@ -1,6 +1,6 @@
 ghost use Rattle.std.specs.Prelude.{◌≡◌, ◌==◌, ◌<◌, ◌≤◌, IfOk, IsTrue, MatchOption, Some, None, length, option_map};
 ghost use Rattle.std.specs.List.{list_all, position, position_or_len};
-ghost use Rattle.xa_script.specs.Script.{is_printed};
+ghost use Rattle.xa_script.specs.Script.{is_printed, call_with};
 ghost use Rattle.xa_script.specs.ScriptLine.{skip_spaces, is_blank, is_space, is_plain, next_word, is_end, strip_word, is_skipped, next_octet, is_marked, put, text_in_front, quoted_in, payload_in, call_in, client_in};
 
 use memchr::memchr2;
@@ -24,15 +24,18 @@ pub fn all_printed(octets: &[u8]) -> bool
     all
 }
 
+// Where the spaces in front end.
+fn place_of_word(octets: &[u8]) -> Option<usize>
+    ensures { result ≡ position is_plain octets.now }
+{
+    octets.iter().position(|octet| *octet != b' ')
+}
+
 /// What stands behind the spaces in front.
 pub fn skip_spaces(octets: &[u8]) -> &[u8]
     ensures { result.now ≡ skip_spaces octets.now }
 {
-    let mut rest = octets;
-    while let [b' ', after @ ..] = rest {
-        rest = after;
-    }
-    rest
+    &octets[place_of_word(octets).unwrap_or(octets.len())..]
 }
 
 fn is_blank(octets: &[u8]) -> bool
@@ -144,8 +147,8 @@ fn quoted_in(alloc: Global, octets: &[u8]) -> Result<Option<Data>, NoMemory>
     }
 }
 
-#[tactic(auto, unfolding(crate::specs::ScriptLine::payload_in))]
-fn payload_in(alloc: Global, octets: &[u8]) -> Result<Option<Data>, NoMemory>
+/// The data that the rest of a line behind the service says.
+pub fn payload_in(alloc: Global, octets: &[u8]) -> Result<Option<Data>, NoMemory>
     ensures { IfOk result (λ found. found ≡ payload_in octets.now) }
 {
     let front = skip_spaces(octets);
@@ -158,25 +161,30 @@ fn payload_in(alloc: Global, octets: &[u8]) -> Result<Option<Data>, NoMemory>
     }
 }
 
-/// The call that the rest of a line behind `call` says.
+/// The service of a call, and what stands behind it.
 #[tactic(auto, unfolding(crate::specs::ScriptLine::call_in))]
-pub fn call_in(alloc: Global, octets: &[u8]) -> Result<Option<Op>, NoMemory>
-    ensures { IfOk result (λ found. found ≡ call_in octets.now) }
+pub fn service_in(octets: &[u8]) -> Option<(&[u8], &[u8])>
+    ensures { MatchOption result (call_in octets.now ≡ None)
+        (λ x. call_in octets.now ≡ option_map (call_with x.0.now) (payload_in x.1.now)) }
 {
     let (word, rest) = next_word(octets);
     if word.is_empty() || word.len() > 255 {
-        return Ok(None);
+        return None;
     }
-    let Some(payload) = payload_in(alloc, rest)? else {
-        return Ok(None);
-    };
-    Ok(Some(Op::Call(Ask {
-        service: Octets::of(alloc, word)?,
+    Some((word, rest))
+}
+
+/// The call of a service with that data.
+pub fn call_of(service: Octets, payload: Data) -> Op
+    ensures { result ≡ call_with service payload }
+{
+    Op::Call(Ask {
+        service,
         payload,
         flags: CallFlags::default(),
         expect: None,
         direction: Direction::Neither,
-    })))
+    })
 }
 
 /// The name that the rest of a line behind `client` says.
