@@ -7,7 +7,9 @@ ghost use Rattle.xa_script.specs.Readings.{Tells, OneScript, NoFaultyScript, One
 ghost use Rattle.xa_script.specs.ScriptLine.{client_in, call_in};
 ghost use Rattle.xa_script.specs.Draft.{kept, begun, added, with_line, read_all};
 
-use crate::script_line::{all_printed, call_of, client_in, is_skipped, payload_in, service_in, skip_spaces, strip_word};
+use crate::script_line::{
+    all_printed, call_of, client_in, is_skipped, payload_in, service_in, skip_spaces, strip_word,
+};
 use memchr::memchr;
 use std::alloc::{AllocError, AllocFailed, Global};
 use std::marker::Model;

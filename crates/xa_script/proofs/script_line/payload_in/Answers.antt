@@ -1,4 +1,4 @@
-use Rattle.std.proofs.Common.{◌≡◌, IfOk, codes, Some, None, cond, subst, sym, ap, ◌∙◌}
+use Rattle.std.proofs.Common.{◌≡◌, IfOk, codes, Some, None, cond, subst, ap, ◌∙◌}
 use Rattle.xa_types.specs.declared.data.Data.TheVariants.{Absent}
 use Rattle.xa_script.specs.ScriptLine.{strip_word}
 use Rattle.xa_script.proofs.ScriptGrammar.{text_found, none_found, no_data}

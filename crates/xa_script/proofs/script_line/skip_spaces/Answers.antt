@@ -1,4 +1,4 @@
-use Rattle.std.proofs.Common.{◌≡◌, ◌≤◌, ◌∙◌, not, drop, length, unwrap_or, ap, sym, subst}
+use Rattle.std.proofs.Common.{◌∙◌, not, drop, length, unwrap_or, ap}
 use Rattle.std.specs.List.{position_or_len}
 use Rattle.std.proofs.lemmas.List.{take_rest}
 use Rattle.std.proofs.lemmas.List.Sums.{prefix_len-le-length}
