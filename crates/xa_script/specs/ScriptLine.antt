@@ -6,7 +6,11 @@ use Rattle.xa_types.specs.Name.{is_name}
 use Rattle.xa_types.specs.declared.call.Op.{Op}
 use Rattle.xa_types.specs.declared.data.Data.{Data}
 use Rattle.xa_types.specs.declared.data.Data.TheVariants.{Absent, Octet}
-use Rattle.xa_script.specs.Script.{call_with}
+use Rattle.xa_script.specs.Script.{is_printed, call_with}
+
+-- an octet of printed lines
+abbrev pub is_text : ℕ → Bool
+is_text octet = is_printed octet || octet == 10
 
 abbrev pub skip_spaces : List ℕ → List ℕ
 skip_spaces [] = []
