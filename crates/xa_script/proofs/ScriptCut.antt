@@ -8,7 +8,6 @@ use Rattle.std.specs.List.{list_all, position, position_or_len, slice_split, ont
 use Rattle.std.specs.Str.Lines.{lines, lines_of_parts, strip_carriage_return}
 use Rattle.xa_script.specs.Draft.{is_line_end}
 use Rattle.xa_script.specs.Script.{is_printed}
-use Rattle.xa_script.specs.ScriptLine.{is_text}
 use Rattle.xa_script.proofs.ScriptWords.{and_true, printed_parts}
 use Rattle.xa_script.proofs.ScriptText.{some_is}
 use Rattle.xa_script.proofs.ScriptGrammar.{chosen, some_of_none}
@@ -59,6 +58,9 @@ pub nothing_left : (octets : List ℕ) → take (length octets - length octets) 
 nothing_left octets = let none : length octets - length octets ≡ 0 = omega arith in ap (λ n. take n (drop (length octets) octets)) none
 
 -- lines of printed octets
+
+abbrev pub is_text : ℕ → Bool
+is_text octet = is_printed octet || is_line_end octet
 
 front_printed : (x : ℕ) (parts : List (List ℕ)) → is_printed x ≡ true → list_all (list_all is_printed) parts ≡ true → list_all (list_all is_printed) (onto_first x parts) ≡ true
 front_printed x [] h each = ap (λ b. (b && true) && true) h

@@ -1,6 +1,6 @@
 -- Words and the spaces between them: what reading the next word gives.
 use Rattle.std.proofs.Common.{◌≡◌, ℕ, zero, suc, ◌+◌, ◌<◌, ◌==◌, ◌&&◌, not, Bool, true, false, cond, ◌⊎◌, List, [], ◌∷◌, ◌++◌, length, take, drop, refl, ap, sym, ◌∙◌, subst, append_assoc, append-nil, inl, inr, codes, Some, None, arith}
-use Rattle.std.proofs.lemmas.Bool.{eqb-true, eqb-false, eq-eqb, ne_eqb}
+use Rattle.std.proofs.lemmas.Bool.{eqb-true, eq-eqb, ne_eqb}
 use Rattle.std.proofs.lemmas.List.{take-append-drop, nil_from_length}
 use Rattle.std.proofs.lemmas.List.Folds.{list_all-append}
 use Rattle.std.proofs.lemmas.Slice.Eq.{bytes_eq-Decides}
@@ -8,7 +8,7 @@ use Rattle.std.proofs.Math.Seq.{take-append_seam, drop-append_seam}
 use Rattle.std.specs.List.{list_all, before_first, position_or_len}
 use Rattle.std.specs.Str.{bytes_eq}
 use Rattle.xa_script.specs.Script.{spaces, IsEnd, HasWords, is_printed}
-use Rattle.xa_script.specs.ScriptLine.{skip_spaces, is_space, is_plain, is_blank, is_skipped, behind_word, next_word, is_end, strip_word}
+use Rattle.xa_script.specs.ScriptLine.{skip_spaces, is_space, is_plain, is_blank, is_skipped, behind_word, next_word, strip_word}
 
 pub and_true : (a b : Bool) → (a && b) ≡ true → (a ≡ true) × (b ≡ true)
 and_true true b h = (refl, h)
@@ -126,12 +126,10 @@ rest_same : (word rest other : List ℕ) → word ++ rest ≡ word ++ other → 
 rest_same word rest other h = sym (drop-append_seam word rest) ∙ ap (drop (length word)) h ∙ drop-append_seam word other
 
 -- a word in front, and what stands behind it
-pub front_stripped : (word rest : List ℕ) → list_all is_plain word ≡ true → strip_word word (word ++ rest) ≡ cond (is_end rest) (Some rest) None
-front_stripped word [] unspaced = word_stripped word [] unspaced tt
-front_stripped word (x ∷ rest) unspaced = elim (x == 32) as (λ b. (x == 32) ≡ b → strip_word word (word ++ x ∷ rest) ≡ cond b (Some (x ∷ rest)) None) [
-  | true ↦ λ e. word_stripped word (x ∷ rest) unspaced (eqb-true x 32 e)
-  | false ↦ λ e. no_word word (word ++ x ∷ rest) (λ other same end. eqb-false x 32 e (subst IsEnd (sym (rest_same word (x ∷ rest) other same)) end))
-] refl
+pub front_stripped : (word rest : List ℕ) (end : Bool) → list_all is_plain word ≡ true → (end ≡ true → IsEnd rest) → (IsEnd rest → end ≡ true)
+    → strip_word word (word ++ rest) ≡ cond end (Some rest) None
+front_stripped word rest true unspaced is ends = word_stripped word rest unspaced (is refl)
+front_stripped word rest false unspaced is ends = no_word word (word ++ rest) (λ other same end. let wrong = ends (subst IsEnd (sym (rest_same word rest other same)) end) in absurd cc)
 
 -- a word that is found is the next one
 pub word_found : (word octets rest : List ℕ) → Some rest ≡ strip_word word (skip_spaces octets) → (bytes_eq (next_word octets).0 word ≡ true) × ((next_word octets).1 ≡ rest)

@@ -6,11 +6,7 @@ use Rattle.xa_types.specs.Name.{is_name}
 use Rattle.xa_types.specs.declared.call.Op.{Op}
 use Rattle.xa_types.specs.declared.data.Data.{Data}
 use Rattle.xa_types.specs.declared.data.Data.TheVariants.{Absent, Octet}
-use Rattle.xa_script.specs.Script.{is_printed, call_with}
-
--- an octet of printed lines
-abbrev pub is_text : ℕ → Bool
-is_text octet = is_printed octet || octet == 10
+use Rattle.xa_script.specs.Script.{call_with}
 
 abbrev pub skip_spaces : List ℕ → List ℕ
 skip_spaces [] = []
@@ -35,10 +31,6 @@ behind_word octets = drop (position_or_len is_space octets) octets
 -- the word in front, and what stands behind it
 unfoldable pub next_word : List ℕ → List ℕ × List ℕ
 next_word octets = (before_first is_space (skip_spaces octets), behind_word (skip_spaces octets))
-
-abbrev pub is_end : List ℕ → Bool
-is_end [] = true
-is_end (octet ∷ rest) = octet == 32
 
 -- what stands behind that word, where the octets begin with it
 abbrev pub strip_word : List ℕ → List ℕ → Option (List ℕ)

@@ -1,7 +1,8 @@
-ghost use Rattle.std.specs.Prelude.{◌≡◌, ◌==◌, ◌<◌, ◌≤◌, IfOk, IsTrue, MatchOption, Some, None, length, option_map};
+ghost use Rattle.std.specs.Prelude.{◌≡◌, ◌==◌, ◌<◌, ◌≤◌, ◌||◌, ◌↔◌, IfOk, IsTrue, MatchOption, Some, None, length, option_map};
 ghost use Rattle.std.specs.List.{list_all, position, position_or_len};
-ghost use Rattle.xa_script.specs.Script.{is_printed, call_with};
-ghost use Rattle.xa_script.specs.ScriptLine.{is_text, skip_spaces, is_blank, is_space, is_plain, next_word, is_end, strip_word, is_skipped, next_octet, is_marked, put, text_in_front, quoted_in, payload_in, call_in, client_in};
+ghost use Rattle.xa_script.specs.Script.{is_printed, IsEnd, call_with};
+ghost use Rattle.xa_script.specs.Draft.{is_line_end};
+ghost use Rattle.xa_script.specs.ScriptLine.{skip_spaces, is_blank, is_space, is_plain, next_word, strip_word, is_skipped, next_octet, is_marked, put, text_in_front, quoted_in, payload_in, call_in, client_in};
 
 use memchr::memchr2;
 use std::alloc::Global;
@@ -26,7 +27,7 @@ pub fn all_printed(octets: &[u8]) -> bool
 
 /// Whether each octet is printed or ends a line.
 pub fn all_text(octets: &[u8]) -> bool
-    ensures { result ≡ list_all is_text octets.now }
+    ensures { result ≡ list_all (λ octet. is_printed octet || is_line_end octet) octets.now }
 {
     let mut all = true;
     for octet in octets {
@@ -90,7 +91,7 @@ fn next_word(octets: &[u8]) -> (&[u8], &[u8])
 
 // Whether nothing follows, or a space.
 fn is_end(octets: &[u8]) -> bool
-    ensures { result ≡ is_end octets.now }
+    ensures { IsTrue result ↔ IsEnd octets.now }
 {
     matches!(octets, [] | [b' ', ..])
 }

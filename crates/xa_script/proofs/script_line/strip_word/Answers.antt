@@ -18,5 +18,5 @@ returns c =
     let word = c.args.word.now in
     let rest = c.in_ok-rest.rest in
     let whole = strip_prefix_is Decides-eqb c.args.octets.now word (Some rest) c.in_ok-rest.ensures.cases in
-    ap (option_map now) c.then_some.ensures ∙ kept_end c.is_end.result rest ∙ ap (λ end. cond end (Some rest.now) None) c.is_end.ensures
-    ∙ sym (front_stripped word rest.now c.requires) ∙ ap (strip_word word) (sym whole)
+    ap (option_map now) c.then_some.ensures ∙ kept_end c.is_end.result rest
+    ∙ sym (front_stripped word rest.now c.is_end.result c.requires c.is_end.ensures.0 c.is_end.ensures.1) ∙ ap (strip_word word) (sym whole)
