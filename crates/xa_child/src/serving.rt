@@ -80,14 +80,11 @@ impl Serving {
         if self.child.has_ended() {
             return Ok(Some(Halt::Ended));
         }
-        match self.reader.next() {
+        let found = self.reader.next();
+        match &found {
             Ok(None) => Ok(Some(Halt::Waits)),
-            Ok(Some(frame)) => {
-                let turn = self.answer(place, &frame, due);
-                drop(frame);
-                turn
-            }
-            Err(NextRefused::BadFrame(place)) => Ok(Some(Halt::Bad(place))),
+            Ok(Some(frame)) => self.answer(place, frame, due),
+            Err(NextRefused::BadFrame(place)) => Ok(Some(Halt::Bad(*place))),
             Err(NextRefused::NoMemory) => Err(NoMemory),
         }
     }

@@ -14,8 +14,6 @@ use Rattle.xa_frame.specs.Spelling.{header, kind_octet, body_octets, spelled, Ha
 use Rattle.xa_frame.specs.Reading.{◌>>=◌, octet_at, number_at, kind_of, most_octets, after_mark, header_at, body_of, Front, Whole, Partial, Malformed, whole_of, front_after, front_at, IsWhole, Stands, StandsFirst, IsFirst}
 use Rattle.xa_frame.specs.Stream.{has_body, has_no_body, allows, LacksBody, IsPartial, Begins, IsMalformed}
 use Rattle.xa_frame.specs.Reader.{Incoming, Answered}
-use Rattle.xa_frame.specs.declared.reading.ReadError.{ReadError}
-use Rattle.xa_frame.specs.declared.reading.ReadError.TheVariants as errors
 use Rattle.xa_frame.specs.declared.reader.NextRefused.{NextRefused}
 use Rattle.xa_frame.specs.declared.reader.NextRefused.TheVariants.{BadFrame, NoMemory}
 use Rattle.std.specs.Prelude.{MatchResult}
@@ -281,11 +279,11 @@ malformed_is octets e = record {
   not_whole = λ f more b. let q = is_whole octets f more b in cc;
 }
 
-pub stands_first : (octets : List ℕ) (r : Result (Option (Frame × ℕ)) ReadError) → IsBytes octets → Stands r (front_at octets) → StandsFirst octets r
-stands_first octets (Ok None) fits h = partial_is octets fits h
-stands_first octets (Ok (Some found)) fits h = front_takes octets found.0 found.1 fits h
-stands_first octets (Err errors.NoFrame) fits h = malformed_is octets h
-stands_first octets (Err errors.NoMemory) fits h = by_front (front_at octets) refl h where
+pub stands_first : (octets : List ℕ) (place size : ℕ) (r : Result (Option Frame) NextRefused) → IsBytes octets → Stands place size r (front_at octets) → StandsFirst octets place size r
+stands_first octets place size (Ok None) fits h = (h.0, partial_is octets fits h.1)
+stands_first octets place size (Ok (Some f)) fits h = front_takes octets f size fits h
+stands_first octets place size (Err (BadFrame at)) fits h = (h.0, (h.1.0, malformed_is octets h.1.1))
+stands_first octets place size (Err NoMemory) fits h = (h.0, by_front (front_at octets) refl h.1) where
   by_front : (r : Front) → front_at octets ≡ r → IsWhole r → (f : Frame) × (more : List ℕ) × Begins octets f more
   by_front (Whole f n) e h = (f, drop n octets, (front_takes octets f n fits e).begins)
   by_front Partial e h = absurd h
@@ -318,11 +316,16 @@ whole_answer old new (Err (BadFrame place)) h f more b = absurd (h.2.not_whole f
 whole_answer old new (Err NoMemory) h f more b = refl
 
 -- a frame that stands first is within the octets
-pub within : (octets : List ℕ) (taken n : ℕ) (f : Frame) → taken ≤ length octets → IsFirst (drop taken octets) f n → taken + n ≤ length octets
-within octets taken n f le h =
+first_within : (octets : List ℕ) (taken n : ℕ) (f : Frame) → taken ≤ length octets → IsFirst (drop taken octets) f n → taken + n ≤ length octets
+first_within octets taken n f le h =
     let all = ap length h.begins.whole in
     let parts = length-append (spelled f) (drop n (drop taken octets)) in
     omega (arith, h.size, length-drop taken octets, all, parts)
+
+pub within : (octets : List ℕ) (taken place size : ℕ) (r : Result (Option Frame) NextRefused) → taken ≤ length octets → StandsFirst (drop taken octets) place size r → taken + size ≤ length octets
+within octets taken place size (Ok None) le h = omega (arith, le, h.0)
+within octets taken place size (Ok (Some f)) le h = first_within octets taken size f le h
+within octets taken place size (Err why) le h = omega (arith, le, h.0)
 
 -- ---- what follows changes nothing
 

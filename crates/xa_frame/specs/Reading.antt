@@ -17,6 +17,8 @@ use Rattle.xa_frame.specs.declared.header.Header.{Header}
 use Rattle.xa_frame.specs.declared.fields.NoFrame.{NoFrame}
 use Rattle.xa_frame.specs.declared.reading.ReadError.{ReadError}
 use Rattle.xa_frame.specs.declared.reading.ReadError.TheVariants as errors
+use Rattle.xa_frame.specs.declared.reader.NextRefused.{NextRefused}
+use Rattle.xa_frame.specs.declared.reader.NextRefused.TheVariants.{BadFrame, NoMemory}
 use Rattle.xa_frame.specs.Spelling.{spelled}
 use Rattle.xa_frame.specs.Stream.{Begins, IsPartial, IsMalformed}
 
@@ -175,18 +177,18 @@ IsWhole (Whole frame size) = Unit {0}
 IsWhole Partial = ⊥
 IsWhole Malformed = ⊥
 
--- what a function returned is what stands first; memory runs out only where a frame does
-abbrev pub FailsAt : ReadError → Front → Type 0
-FailsAt errors.NoFrame front = front ≡ Malformed
-FailsAt errors.NoMemory front = IsWhole front
+-- what a function returned is what stands first at that place, of so many octets; memory runs out only where a frame does
+abbrev pub FailsAt : ℕ → NextRefused → Front → Type 0
+FailsAt place (BadFrame at) front = (at ≡ place) × (front ≡ Malformed)
+FailsAt place NoMemory front = IsWhole front
 
-abbrev pub StandsAt : Option (Frame × ℕ) → Front → Type 0
-StandsAt None front = front ≡ Partial
-StandsAt (Some found) front = front ≡ Whole found.0 found.1
+abbrev pub StandsAt : ℕ → Option Frame → Front → Type 0
+StandsAt size None front = (size ≡ 0) × (front ≡ Partial)
+StandsAt size (Some f) front = front ≡ Whole f size
 
-abbrev pub Stands : Result (Option (Frame × ℕ)) ReadError → Front → Type 0
-Stands (Ok found) front = StandsAt found front
-Stands (Err e) front = FailsAt e front
+abbrev pub Stands : ℕ → ℕ → Result (Option Frame) NextRefused → Front → Type 0
+Stands place size (Ok found) front = StandsAt size found front
+Stands place size (Err e) front = (size ≡ 0) × FailsAt place e front
 
 -- the octets begin with that frame, which has so many of them
 pub record IsFirst (octets : List ℕ) (f : Frame) (n : ℕ) : Type 0 where
@@ -194,14 +196,14 @@ pub record IsFirst (octets : List ℕ) (f : Frame) (n : ℕ) : Type 0 where
   pub size : n ≡ length (spelled f)
 
 -- the same as Stands, in the words of Stream
-abbrev pub FailsFirst : List ℕ → ReadError → Type 0
-FailsFirst octets errors.NoFrame = IsMalformed octets
-FailsFirst octets errors.NoMemory = (f : Frame) × (more : List ℕ) × Begins octets f more
+abbrev pub FailsFirst : List ℕ → ℕ → NextRefused → Type 0
+FailsFirst octets place (BadFrame at) = (at ≡ place) × IsMalformed octets
+FailsFirst octets place NoMemory = (f : Frame) × (more : List ℕ) × Begins octets f more
 
-abbrev pub FoundFirst : List ℕ → Option (Frame × ℕ) → Type 0
-FoundFirst octets None = IsPartial octets
-FoundFirst octets (Some found) = IsFirst octets found.0 found.1
+abbrev pub FoundFirst : List ℕ → ℕ → Option Frame → Type 0
+FoundFirst octets size None = (size ≡ 0) × IsPartial octets
+FoundFirst octets size (Some f) = IsFirst octets f size
 
-abbrev pub StandsFirst : List ℕ → Result (Option (Frame × ℕ)) ReadError → Type 0
-StandsFirst octets (Ok found) = FoundFirst octets found
-StandsFirst octets (Err e) = FailsFirst octets e
+abbrev pub StandsFirst : List ℕ → ℕ → ℕ → Result (Option Frame) NextRefused → Type 0
+StandsFirst octets place size (Ok found) = FoundFirst octets size found
+StandsFirst octets place size (Err e) = (size ≡ 0) × FailsFirst octets place e

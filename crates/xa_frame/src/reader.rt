@@ -5,7 +5,7 @@ ghost use Rattle.xa_frame.specs.Stream.{IsPartial, IsMalformed, Begins};
 ghost use Rattle.xa_frame.specs.Reader.{Answered};
 
 use crate::frame::Frame;
-use crate::reading::{ReadError, frame_after};
+use crate::reading::frame_after;
 use std::alloc::Global;
 use std::marker::Model;
 use xa_types::NoMemory;
@@ -93,16 +93,11 @@ impl Reader {
     fn answer(&mut self) -> Result<Option<Frame>, NextRefused>
         ensures { Answered self.old self.new result }
     {
-        match frame_after(self.alloc, &self.octets, self.taken) {
-            Ok(None) => Ok(None),
-            Ok(Some((frame, size))) => {
-                self.taken += size;
-                self.place = self.place.saturating_add(size as u64);
-                Ok(Some(frame))
-            }
-            Err(ReadError::NoFrame) => Err(NextRefused::BadFrame(self.place)),
-            Err(ReadError::NoMemory) => Err(NextRefused::NoMemory),
-        }
+        let mut size = 0;
+        let found = frame_after(self.alloc, &self.octets, self.taken, self.place, &mut size);
+        self.taken += size;
+        self.place = self.place.saturating_add(size as u64);
+        found
     }
 
     /// The next frame, which is taken; `None` where it isn't whole, for which a look at the header is enough. `BadFrame`

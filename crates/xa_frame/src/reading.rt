@@ -1,6 +1,6 @@
 //! The body of a frame, and the frame that stands first.
 
-ghost use Rattle.std.specs.Prelude.{◌≡◌, ◌≤◌, length, drop};
+ghost use Rattle.std.specs.Prelude.{◌≡◌, ◌≤◌, ◌+◌, length, drop};
 ghost use Rattle.xa_frame.specs.declared.reading.ReadError.TheVariants as errors;
 ghost use Rattle.xa_frame.specs.declared.frame.Body.TheVariants.{Next, Shutdown};
 ghost use Rattle.xa_frame.specs.Reading.{Reads, Makes, Stands, StandsFirst, data_of, octet_data_of, struct_of, absent_of, ready_of, return_of, invoke_of, empty_of, body_of, front_at};
@@ -8,10 +8,11 @@ ghost use Rattle.xa_frame.specs.Reading.{Reads, Makes, Stands, StandsFirst, data
 use crate::fields::{NoFrame, mode_of, name_of, number_at, octet_at, rval_of, sized_of, word_at};
 use crate::frame::{Body, Frame};
 use crate::header::{FrameKind, HEADER, header_at};
+use crate::reader::NextRefused;
 use std::alloc::Global;
 use xa_types::{Data, NoMemory, Octets};
 
-/// Why no frame is read. Memory runs out only where the octets are one.
+/// Why no body is read. Memory runs out only where the octets are one.
 #[derive(Clone, Copy, Debug, PartialEq, Eq)]
 pub enum ReadError {
     NoFrame,
@@ -77,13 +78,13 @@ fn data_of(alloc: Global, octets: &[u8]) -> Result<Data, ReadError>
 
 #[tactic(auto, unfolding(crate::specs::Reading::ready_of))]
 #[inline(never)]
-fn ready_of(octets: &[u8]) -> Result<Body, NoFrame>
-    ensures { Reads (λ x. x) result (ready_of octets.now) }
+fn ready_of(octets: &[u8]) -> Result<Body, ReadError>
+    ensures { Makes (λ x. x) result (ready_of octets.now) }
 {
     let (word, rest) = word_at(octets)?;
     let name = name_of(word)?;
     if !rest.is_empty() {
-        return Err(NoFrame);
+        return Err(ReadError::NoFrame);
     }
     Ok(Body::Ready(name))
 }
@@ -115,72 +116,91 @@ fn invoke_of(alloc: Global, octets: &[u8]) -> Result<Body, ReadError>
     Ok(Body::Invoke(service, routine, mode, payload))
 }
 
-fn next_of(octets: &[u8]) -> Result<Body, NoFrame>
-    ensures { Reads (λ x. x) result (empty_of Next octets.now) }
+#[inline(never)]
+fn next_of(octets: &[u8]) -> Result<Body, ReadError>
+    ensures { Makes (λ x. x) result (empty_of Next octets.now) }
 {
     if octets.is_empty() {
         Ok(Body::Next)
     } else {
-        Err(NoFrame)
+        Err(ReadError::NoFrame)
     }
 }
 
-fn shutdown_of(octets: &[u8]) -> Result<Body, NoFrame>
-    ensures { Reads (λ x. x) result (empty_of Shutdown octets.now) }
+#[inline(never)]
+fn shutdown_of(octets: &[u8]) -> Result<Body, ReadError>
+    ensures { Makes (λ x. x) result (empty_of Shutdown octets.now) }
 {
     if octets.is_empty() {
         Ok(Body::Shutdown)
     } else {
-        Err(NoFrame)
+        Err(ReadError::NoFrame)
     }
 }
 
 /// The body of that kind that all of the octets are.
-#[inline(never)]
 fn body_of(alloc: Global, kind: FrameKind, octets: &[u8]) -> Result<Body, ReadError>
     ensures { Makes (λ x. x) result (body_of kind octets.now) }
 {
     match kind {
-        FrameKind::Ready => Ok(ready_of(octets)?),
-        FrameKind::Next => Ok(next_of(octets)?),
+        FrameKind::Ready => ready_of(octets),
+        FrameKind::Next => next_of(octets),
         FrameKind::Return => return_of(alloc, octets),
         FrameKind::Invoke => invoke_of(alloc, octets),
-        FrameKind::Shutdown => Ok(shutdown_of(octets)?),
+        FrameKind::Shutdown => shutdown_of(octets),
     }
 }
 
-/// The frame that stands first, and how many octets it has; `None` where more octets are to come.
+/// The frame that stands first, and in `size` how many octets it has; `None` where more octets are to come. What is no
+/// frame stands at that place. Each wrapping of a frame copies it, so its size comes beside it, and it is answered as
+/// the reader answers it.
 #[tactic(auto, unfolding(crate::specs::Reading::front_at))]
 #[inline(never)]
-fn front_at(alloc: Global, octets: &[u8]) -> Result<Option<(Frame, usize)>, ReadError>
-    ensures { Stands result (front_at octets.now) }
+fn front_at(
+    alloc: Global,
+    octets: &[u8],
+    place: u64,
+    size: &mut usize,
+) -> Result<Option<Frame>, NextRefused>
+    ensures { Stands place size.new result (front_at octets.now) }
 {
+    *size = 0;
     if octets.len() < HEADER {
         return Ok(None);
     }
-    let (header, rest) = header_at(octets)?;
-    let size = header.size as usize;
-    if rest.len() < size {
+    let Ok((header, rest)) = header_at(octets) else {
+        return Err(NextRefused::BadFrame(place));
+    };
+    let body_size = header.size as usize;
+    if rest.len() < body_size {
         return Ok(None);
     }
-    let (octets, _) = rest.split_at(size);
-    let body = body_of(alloc, header.kind, octets)?;
+    let (octets, _) = rest.split_at(body_size);
+    let body = match body_of(alloc, header.kind, octets) {
+        Ok(body) => body,
+        Err(ReadError::NoFrame) => return Err(NextRefused::BadFrame(place)),
+        Err(ReadError::NoMemory) => return Err(NextRefused::NoMemory),
+    };
+    *size = HEADER + body_size;
     let frame = Frame {
         tag: header.tag,
         body,
     };
-    Ok(Some((frame, HEADER + size)))
+    Ok(Some(frame))
 }
 
-/// The frame that stands first after so many octets.
+/// The same of the octets after so many.
 pub fn frame_after(
     alloc: Global,
     octets: &[u8],
     taken: usize,
-) -> Result<Option<(Frame, usize)>, ReadError>
+    place: u64,
+    size: &mut usize,
+) -> Result<Option<Frame>, NextRefused>
     requires { taken ≤ length octets.now }
-    ensures { StandsFirst (drop taken octets.now) result }
+    ensures first { StandsFirst (drop taken octets.now) place size.new result }
+    ensures within { taken + size.new ≤ length octets.now }
 {
     let (_, rest) = octets.split_at(taken);
-    front_at(alloc, rest)
+    front_at(alloc, rest, place, size)
 }

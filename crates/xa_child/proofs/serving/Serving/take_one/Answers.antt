@@ -1,8 +1,12 @@
-use Rattle.std.proofs.Common.{subst, rules, refl}
-use Rattle.xa_frame.specs.Reader.{Found}
+use Rattle.std.proofs.Common.{subst, rules, refl, ap, ◌≡◌, ◌∙◌, Ok, Some}
+use Rattle.xa_frame.specs.Reader.{Answered}
 use Rattle.xa_child.proofs.ServingSteps.{answers_step}
 use Rattle.xa_child.proofs.serving.Serving.take_one.Goals as goal
 
 pub returns-in-Ok-Some-clause-step : goal.returns-in-Ok-Some-clause-step
 returns-in-Ok-Some-clause-step c =
-    answers_step c.args.self.now (record c.args.self.now { reader = c.next.new.self }) c.answer-turn.new.self c.in-Ok-Some.frame c.args.due.now.items c.answer-turn.new.due.items c.answer-turn.result (search rules) (subst (Found c.args.self.now.reader c.next.new.self) c.in-Ok-Some.field-0-is c.in-Ok-Some.ensures.answered) refl c.answer-turn.ensures.same (search rules)
+    let some : c.in-Ok-Some.field-0 ≡ Some c.in-Ok-Some.frame = rw c.in-Ok-Some.is at c.in-Ok-Some.field-0-is in
+    let ok : c.next-found.result ≡ Ok c.in-Ok-Some.field-0 = c.in-Ok-Some.is in
+    let found : c.next-found.result ≡ Ok (Some c.in-Ok-Some.frame) = ok ∙ ap Ok some in
+    let took = subst (Answered c.args.self.now.reader c.next-found.new.self) found c.next-found.ensures.answered in
+    answers_step c.args.self.now (record c.args.self.now { reader = c.next-found.new.self }) c.answer.new.self c.in-Ok-Some.frame c.args.due.now.items c.answer.new.due.items c.answer.result (search rules) took refl c.answer.ensures.same (search rules)
