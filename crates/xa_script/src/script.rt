@@ -1,15 +1,14 @@
-ghost use Rattle.std.specs.Prelude.{◌≡◌, ◌∷◌, [], ◌<◌, ◌^◌, length, IfOk, IfErr, IfSome, IsTrue, MatchOption, Some, option_and_then};
+ghost use Rattle.std.specs.Prelude.{◌≡◌, ◌∷◌, [], ◌<◌, ◌^◌, length, IfOk, IfErr, IfSome, MatchOption, Some, option_and_then};
 ghost use Rattle.std.specs.List.{position};
 ghost use Rattle.std.specs.Str.Lines.{lines, strip_carriage_return};
 ghost use Rattle.xa_script.specs.Draft.{is_line_end};
-ghost use Rattle.xa_script.specs.Script.{IsScript, IsPrinted};
+ghost use Rattle.xa_script.specs.Script.{IsScript};
 ghost use Rattle.xa_script.specs.Readings.{Tells, OneScript, NoFaultyScript, OneFirstFault};
 ghost use Rattle.xa_script.specs.ScriptLine.{client_in, call_in};
 ghost use Rattle.xa_script.specs.Draft.{kept, begun, added, with_line, read_all};
 
 use crate::script_line::{
-    all_printed, all_text, call_of, client_in, is_skipped, payload_in, service_in, skip_spaces,
-    strip_word,
+    all_printed, call_of, client_in, is_skipped, payload_in, service_in, skip_spaces, strip_word,
 };
 use memchr::memchr;
 use std::alloc::{AllocError, AllocFailed, Global};
@@ -106,13 +105,12 @@ impl Draft {
         Ok(true)
     }
 
-    // Whether the line goes on with the script. That it is printed may be known.
+    // Whether the line goes on with the script.
     #[tactic(auto, unfolding(crate::specs::Draft::with_line))]
-    fn take_line(&mut self, alloc: Global, line: &[u8], printed: bool) -> Result<bool, NoMemory>
-        requires { IsTrue printed → IsPrinted line.now }
+    fn take_line(&mut self, alloc: Global, line: &[u8]) -> Result<bool, NoMemory>
         ensures { IfOk result (λ taken. kept taken self.new ≡ with_line self.old line.now) }
     {
-        if !printed && !all_printed(line) {
+        if !all_printed(line) {
             return Ok(false);
         }
         if is_skipped(line) {
@@ -177,13 +175,12 @@ fn read_lines(alloc: Global, octets: &[u8]) -> Result<Draft, ScriptRefused>
     ensures found { IfOk result (λ draft. read_all [] (lines octets.now) ≡ Some draft) }
     ensures refused { IfErr result (Tells octets.now) }
 {
-    let printed = all_text(octets);
     let mut draft = Draft::new(alloc);
     let mut rest = octets;
     let mut line = 0;
     while let Some((text, behind)) = next_line(rest) {
         line += 1;
-        if !draft.take_line(alloc, text, printed)? {
+        if !draft.take_line(alloc, text)? {
             return Err(ScriptRefused::BadLine { line, cause: 9 });
         }
         rest = behind;

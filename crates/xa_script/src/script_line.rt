@@ -1,7 +1,6 @@
-ghost use Rattle.std.specs.Prelude.{◌≡◌, ◌==◌, ◌<◌, ◌≤◌, ◌||◌, ◌↔◌, IfOk, IsTrue, MatchOption, Some, None, length, option_map};
+ghost use Rattle.std.specs.Prelude.{◌≡◌, ◌==◌, ◌<◌, ◌≤◌, ◌↔◌, IfOk, IsTrue, MatchOption, Some, None, length, option_map};
 ghost use Rattle.std.specs.List.{list_all, position, position_or_len};
 ghost use Rattle.xa_script.specs.Script.{is_printed, IsEnd, call_with};
-ghost use Rattle.xa_script.specs.Draft.{is_line_end};
 ghost use Rattle.xa_script.specs.ScriptLine.{skip_spaces, is_blank, is_space, is_plain, next_word, strip_word, is_skipped, next_octet, is_marked, put, text_in_front, quoted_in, payload_in, call_in, client_in};
 
 use memchr::memchr2;
@@ -21,17 +20,6 @@ pub fn all_printed(octets: &[u8]) -> bool
     let mut all = true;
     for octet in octets {
         all &= is_printed(*octet);
-    }
-    all
-}
-
-/// Whether each octet is printed or ends a line.
-pub fn all_text(octets: &[u8]) -> bool
-    ensures { result ≡ list_all (λ octet. is_printed octet || is_line_end octet) octets.now }
-{
-    let mut all = true;
-    for octet in octets {
-        all &= is_printed(*octet) || *octet == b'\n';
     }
     all
 }

@@ -1,17 +1,13 @@
 use Rattle.std.proofs.Common.{refl, ap, sym, ◌∙◌, subst, arith}
 use Rattle.std.specs.Str.Lines.{lines}
 use Rattle.xa_script.specs.Draft.{kept}
-use Rattle.xa_script.proofs.ScriptCut.{lines_printed, next_printed}
 use Rattle.xa_script.proofs.ScriptRead.{IsReadTo, reads_on, first_fault, nothing_read, all_read}
 use Rattle.xa_script.proofs.script.read_lines.Goals as goal
 
 pub loop-text-init : goal.loop-text-init
 loop-text-init c =
     let all = lines c.args.octets.now in
-    (subst (λ draft. IsReadTo all 0 draft all) (sym c.new-draft.ensures) (nothing_read all), omega arith, λ printed. lines_printed c.args.octets.now (sym c.all_text-printed.ensures ∙ printed))
-
-pub take_line-requires : goal.take_line-requires
-take_line-requires c = λ printed. (next_printed (lines c.loop-text.rest.now) (lines c.in-Some.behind.now) c.in-Some.text.now c.in-Some.ensures.line (c.loop-text.invariant.2 printed)).0
+    (subst (λ draft. IsReadTo all 0 draft all) (sym c.new-draft.ensures) (nothing_read all), omega arith)
 
 pub returns-then-not-branch-clause-refused : goal.returns-then-not-branch-clause-refused
 returns-then-not-branch-clause-refused c =
@@ -31,7 +27,6 @@ loop-text-preserved c =
     let shorter = c.in-Some.ensures.shorter in (
       reads_on (lines c.args.octets.now) (lines c.in-Some.behind.now) n draft c.take_line.new.self c.in-Some.text.now reached goes_on,
       omega (arith, room, shorter),
-      λ printed. (next_printed (lines c.loop-text.rest.now) (lines c.in-Some.behind.now) c.in-Some.text.now c.in-Some.ensures.line (c.loop-text.invariant.2 printed)).1,
     )
 
 pub returns-clause-found : goal.returns-clause-found

@@ -1,37 +1,23 @@
 use Rattle.std.proofs.Common.{◌≡◌, IfOk, codes, subst, sym, ap, ◌∙◌}
-use Rattle.xa_script.specs.Script.{IsPrinted}
 use Rattle.xa_script.specs.ScriptLine.{strip_word}
 use Rattle.xa_script.specs.Draft.{kept}
 use Rattle.xa_script.proofs.ScriptRead.{client_line, call_line, no_line}
 use Rattle.xa_script.proofs.script.Draft.take_line.Goals as goal
-use Rattle.xa_script.proofs.script.Draft.take_line.Goals.{else-not-printed-via-then-not-printed+else-not-all_printed, else-not-printed-via-else-not-printed}
 
 pub returns-in-Some : goal.returns-in-Some
 returns-in-Some c =
-    let printed : IsPrinted c.args.line.now = elim c.else-not-printed.branch [
-      | else-not-printed-via-then-not-printed+else-not-all_printed w ↦ sym w.if-not-all_printed.ensures
-      | else-not-printed-via-else-not-printed w ↦ c.requires w.if-not-printed.false
-    ] in
     let found = c.in-Some.ensures ∙ ap (strip_word (codes "call")) c.skip_spaces-front.ensures in
-    let follows = call_line c.args.self.now c.args.line.now c.in-Some.rest.now printed (sym c.if-is_skipped.ensures) found in
+    let follows = call_line c.args.self.now c.args.line.now c.in-Some.rest.now (sym c.if-not-all_printed.ensures) (sym c.if-is_skipped.ensures) found in
     subst (λ clients. IfOk c.add.result (λ taken. kept taken c.add.new.self ≡ clients)) follows c.add.ensures
 
 pub returns-in-Some-strip_word : goal.returns-in-Some-strip_word
 returns-in-Some-strip_word c =
-    let printed : IsPrinted c.args.line.now = elim c.else-not-printed.branch [
-      | else-not-printed-via-then-not-printed+else-not-all_printed w ↦ sym w.if-not-all_printed.ensures
-      | else-not-printed-via-else-not-printed w ↦ c.requires w.if-not-printed.false
-    ] in
     let found = c.in-Some-strip_word.ensures ∙ ap (strip_word (codes "client")) c.skip_spaces-front.ensures in
     c.begin.ensures
-    ∙ client_line c.args.self.now c.args.line.now c.in-Some-strip_word.rest.now printed (sym c.if-is_skipped.ensures) found
+    ∙ client_line c.args.self.now c.args.line.now c.in-Some-strip_word.rest.now (sym c.if-not-all_printed.ensures) (sym c.if-is_skipped.ensures) found
 
 pub returns-in-None : goal.returns-in-None
 returns-in-None c =
-    let printed : IsPrinted c.args.line.now = elim c.else-not-printed.branch [
-      | else-not-printed-via-then-not-printed+else-not-all_printed w ↦ sym w.if-not-all_printed.ensures
-      | else-not-printed-via-else-not-printed w ↦ c.requires w.if-not-printed.false
-    ] in
     let missed = c.in_default.ensures ∙ ap (strip_word (codes "call")) c.skip_spaces-front.ensures in
     let none = c.in-None.ensures ∙ ap (strip_word (codes "client")) c.skip_spaces-front.ensures in
-    no_line c.args.self.now c.args.line.now printed (sym c.if-is_skipped.ensures) none missed
+    no_line c.args.self.now c.args.line.now (sym c.if-not-all_printed.ensures) (sym c.if-is_skipped.ensures) none missed
