@@ -1,6 +1,6 @@
 //! The body of a frame, and the frame that stands first.
 
-ghost use Rattle.std.specs.Prelude.{◌≡◌, ◌≤◌, ◌+◌, length, drop};
+ghost use Rattle.std.specs.Prelude.{◌≡◌, ◌≤◌, ◌+◌, length, drop, IfErr};
 ghost use Rattle.xa_frame.specs.declared.reading.ReadError.TheVariants as errors;
 ghost use Rattle.xa_frame.specs.declared.frame.Body.TheVariants.{Next, Shutdown};
 ghost use Rattle.xa_frame.specs.Reading.{Reads, Makes, Stands, StandsFirst, data_of, octet_data_of, struct_of, absent_of, ready_of, return_of, invoke_of, empty_of, body_of, front_at};
@@ -79,7 +79,8 @@ fn data_of(alloc: Global, octets: &[u8]) -> Result<Data, ReadError>
 #[tactic(auto, unfolding(crate::specs::Reading::ready_of))]
 #[inline(never)]
 fn ready_of(octets: &[u8]) -> Result<Body, ReadError>
-    ensures { Makes (λ x. x) result (ready_of octets.now) }
+    ensures body { Makes (λ x. x) result (ready_of octets.now) }
+    ensures why { IfErr result (λ why. why ≡ errors.NoFrame) }
 {
     let (word, rest) = word_at(octets)?;
     let name = name_of(word)?;
@@ -118,7 +119,8 @@ fn invoke_of(alloc: Global, octets: &[u8]) -> Result<Body, ReadError>
 
 #[inline(never)]
 fn next_of(octets: &[u8]) -> Result<Body, ReadError>
-    ensures { Makes (λ x. x) result (empty_of Next octets.now) }
+    ensures body { Makes (λ x. x) result (empty_of Next octets.now) }
+    ensures why { IfErr result (λ why. why ≡ errors.NoFrame) }
 {
     if octets.is_empty() {
         Ok(Body::Next)
@@ -129,7 +131,8 @@ fn next_of(octets: &[u8]) -> Result<Body, ReadError>
 
 #[inline(never)]
 fn shutdown_of(octets: &[u8]) -> Result<Body, ReadError>
-    ensures { Makes (λ x. x) result (empty_of Shutdown octets.now) }
+    ensures body { Makes (λ x. x) result (empty_of Shutdown octets.now) }
+    ensures why { IfErr result (λ why. why ≡ errors.NoFrame) }
 {
     if octets.is_empty() {
         Ok(Body::Shutdown)

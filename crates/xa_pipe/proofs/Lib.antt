@@ -1,4 +1,4 @@
-mod Partial
+mod NoFrame
 pub mod Frames
 pub mod Ceasing
 pub mod Saying

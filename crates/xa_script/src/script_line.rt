@@ -1,4 +1,4 @@
-ghost use Rattle.std.specs.Prelude.{◌≡◌, ◌==◌, ◌<◌, ◌≤◌, ◌↔◌, IfOk, IsTrue, MatchOption, Some, None, length, option_map};
+ghost use Rattle.std.specs.Prelude.{◌≡◌, ◌==◌, ◌<◌, ◌≤◌, ◌↔◌, IfOk, IfSome, IsTrue, MatchOption, Some, None, length, option_map};
 ghost use Rattle.std.specs.List.{list_all, position, position_or_len};
 ghost use Rattle.xa_script.specs.Script.{is_printed, IsEnd, call_with};
 ghost use Rattle.xa_script.specs.ScriptLine.{skip_spaces, is_blank, is_space, is_plain, next_word, strip_word, is_skipped, next_octet, is_marked, put, text_in_front, quoted_in, payload_in, call_in, client_in};
@@ -164,7 +164,8 @@ pub fn payload_in(alloc: Global, octets: &[u8]) -> Result<Option<Data>, NoMemory
 /// The service of a call, and what stands behind it.
 #[tactic(auto, unfolding(crate::specs::ScriptLine::call_in))]
 pub fn service_in(octets: &[u8]) -> Option<(&[u8], &[u8])>
-    ensures { MatchOption result (call_in octets.now ≡ None)
+    ensures sized { IfSome result (λ x. (1 ≤ length x.0.now) × (length x.0.now ≤ 255)) }
+    ensures call { MatchOption result (call_in octets.now ≡ None)
         (λ x. call_in octets.now ≡ option_map (call_with x.0.now) (payload_in x.1.now)) }
 {
     let (word, rest) = next_word(octets);

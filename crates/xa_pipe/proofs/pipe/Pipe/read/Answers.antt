@@ -1,6 +1,6 @@
 use Rattle.std.proofs.Common.{rules, refl, subst, ◌<◌, length, arith}
 use Rattle.xa_pipe.proofs.Frames.{read_more}
-use Rattle.xa_pipe.proofs.Partial.{partial_few, refused_reads}
+use Rattle.xa_pipe.proofs.NoFrame.{partial_few, refused_reads}
 use Rattle.xa_pipe.proofs.pipe.Pipe.read.Goals as goal
 
 pub returns-in-Ok-Some-clause-frame : goal.returns-in-Ok-Some-clause-frame
