@@ -18,7 +18,7 @@ use Rattle.xa_events.specs.Caller.{accepts_for, accepted}
 use Rattle.xa_events.specs.Request.{is_accept_of, is_end_of}
 use Rattle.xa_events.specs.Cases.{Case}
 use Rattle.xa_events.specs.Run.{Run}
-use Rattle.xa_events.specs.Laws.{is_take_of, TakenAndEndedOnce, LawOfEnds}
+use Rattle.xa_events.specs.Laws.{is_take_of, OnceInTurn, LawOfEnds}
 use Rattle.xa_events.proofs.WordsLemmas.{if_some, some_is, same_request_is, same_request_of, latest_yes, latest_no, count_yes, count_no, count_grows, kept_before}
 
 pub data Stage : Type 0 where
@@ -264,7 +264,11 @@ agree_none setup = record {
 
 -- ---- the law
 
--- a take finds its request waiting, an end finds it held
+-- an accept finds its request unknown, a take finds it waiting, an end finds it held
+accept_finds : (s : State) (e : Event) (r : RequestId) → Case s e → Agree s.setup s.past → is_accept_of r e ≡ true → stage r s.past ≡ Unknown
+accept_finds s (Accept a) r case agree h = found s (Accept a) r case agree h
+accept_finds s _ r case agree h = cc h
+
 take_finds : (s : State) (e : Event) (r : RequestId) → Case s e → Agree s.setup s.past → is_take_of r e ≡ true → (queue : ℕ) × (stage r s.past ≡ Waits queue)
 take_finds s (Take t) r case agree h = (queue_of s.setup t.server.0, found s (Take t) r case agree h)
 take_finds s _ r case agree h = cc h
@@ -273,8 +277,9 @@ end_finds : (s : State) (e : Event) (r : RequestId) → Case s e → Agree s.set
 end_finds s (End e) r case agree h = (e.server.0, e.generation, found s (End e) r case agree h)
 end_finds s _ r case agree h = cc h
 
-pub ends_law : (s : State) (e : Event) → Case s e → Agree s.setup s.past → TakenAndEndedOnce e s.past
+pub ends_law : (s : State) (e : Event) → Case s e → Agree s.setup s.past → OnceInTurn e s.past
 ends_law s e case agree = record {
+  fresh = λ r h. agree.accepts r ∙ ap accepts_at (accept_finds s e r case agree h);
   sent = λ r h. agree.accepts r ∙ ap accepts_at (take_finds s e r case agree h).1;
   taken = λ r h. agree.takes r ∙ ap takes_at (take_finds s e r case agree h).1;
   first = λ r h. agree.ends r ∙ ap ends_at (take_finds s e r case agree h).1;

@@ -17,8 +17,10 @@ abbrev pub is_take_of : RequestId → Event → Bool
 is_take_of request (Take t) = same_request t.request request
 is_take_of request _ = false
 
--- a request is accepted once, then taken once, then ended once: a take finds it accepted, not taken and not ended, and an end finds it accepted, taken and not ended
-pub record TakenAndEndedOnce (e : Event) (before : List Event) : Type 0 where
+-- a request is accepted once, then taken once, then ended once: an accept finds it not accepted, a take finds it accepted, not taken and not
+-- ended, and an end finds it accepted, taken and not ended
+pub record OnceInTurn (e : Event) (before : List Event) : Type 0 where
+  pub fresh : (request : RequestId) → is_accept_of request e ≡ true → count (is_accept_of request) before ≡ 0
   pub sent : (request : RequestId) → is_take_of request e ≡ true → count (is_accept_of request) before ≡ 1
   pub taken : (request : RequestId) → is_take_of request e ≡ true → count (is_take_of request) before ≡ 0
   pub first : (request : RequestId) → is_take_of request e ≡ true → count (is_end_of request) before ≡ 0
@@ -27,7 +29,7 @@ pub record TakenAndEndedOnce (e : Event) (before : List Event) : Type 0 where
   pub served : (request : RequestId) → is_end_of request e ≡ true → count (is_take_of request) before ≡ 1
 
 abbrev pub LawOfEnds : List Event → Type 0
-LawOfEnds past = AtEach TakenAndEndedOnce past
+LawOfEnds past = AtEach OnceInTurn past
 
 abbrev pub is_answer_of : RequestId → Event → Bool
 is_answer_of request (Answer a) = same_request a.request request

@@ -6,8 +6,8 @@ ghost use Rattle.xa_events.specs.State.{State, opening};
 ghost use Rattle.xa_events.specs.Run.{Run};
 ghost use Rattle.xa_events.specs.Laws.{LawOfEnds, LawOfAnswers, LawOfVersions};
 
-/// Each request is accepted once at most, then taken once at most, then ended once at most: a take finds it accepted, not
-/// taken and not ended, and an end finds it accepted, taken and not ended.
+/// Each request is accepted once at most, then taken once at most, then ended once at most: an accept finds it not
+/// accepted, a take finds it accepted, not taken and not ended, and an end finds it accepted, taken and not ended.
 pub fn ends_once()
     ensures { (setup : Setup) (clients : ℕ) (events : List Event) (new : State) → Run (opening setup clients) events new → LawOfEnds new.past }
 {}
