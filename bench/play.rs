@@ -1,5 +1,6 @@
-//! What `xatmi play` does for ECHO, written by hand: the same script, frames, events and transcript, kept in the same
-//! types and as long. It starts itself as its server. Nothing of it is proved, and a server that dies ends the run.
+//! What `xatmi play` does for ECHO, written by hand: the same script, frames and transcript, and the same events of
+//! each call that is answered, in types of the same shape and kept as long. It starts itself as its server. Nothing of
+//! it is proved, and a server that dies ends the run.
 //! usage: play play SERVICE, and play server NAME
 // The types of calls and events have all their fields, since their size is part of what is measured.
 #![allow(dead_code)]

@@ -184,7 +184,7 @@ impl Child {
 }
 
 /// One frame that comes to a server's program, and what it says to it. `OutOfTurn` comes exactly where it doesn't
-/// admit the frame. Where it is refused, nothing changes.
+/// admit the frame. Where it is refused, the state is as it was.
 pub fn child_step(
     alloc: Global,
     state: &mut Child,

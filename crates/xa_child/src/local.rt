@@ -47,7 +47,7 @@ fn greet(alloc: Global, name: &Name, frames: &[Frame]) -> Result<Vec<u8>, NoMemo
     requires { frames.now ≡ greeting name.now }
     ensures { IfOk result (λ given. given.items ≡ all_spelled (greeting name.now)) }
 {
-    // A name's octets are a name.
+    // By its clause `named`, READY has a spelling.
     let _ = name.octets();
     let mut given = Vec::new(alloc);
     spell(frames, &mut given)?;
@@ -240,6 +240,7 @@ pub struct LocalYard {
 }
 
 impl LocalYard {
+    /// `alloc` is where the memory of the programs comes from.
     pub fn new(alloc: Global) -> LocalYard {
         LocalYard { alloc }
     }

@@ -72,7 +72,7 @@ fn greet<O: Sink>(alloc: Global, name: &Name, out: &mut O) -> Result<Serving, Wo
     ensures counts { Counts result 0 0 (O.write_faults out.old) (O.write_faults out.new) }
     ensures causes { IfErr result Unanswered }
 {
-    // A name's octets are a name.
+    // By its clause `named`, READY has a spelling.
     let _ = name.octets();
     let (child, frames) = Child::start(alloc, name)?;
     say(alloc, frames.as_slice(), out)?;

@@ -17,6 +17,7 @@ impl From<BadName> for NoFrame {
     }
 }
 
+/// The first octet, and what stands behind it.
 pub fn octet_at(octets: &[u8]) -> Result<(u8, &[u8]), NoFrame>
     ensures { Reads (λ x. (x.0, x.1.now)) result (octet_at octets.now) }
 {
@@ -26,6 +27,7 @@ pub fn octet_at(octets: &[u8]) -> Result<(u8, &[u8]), NoFrame>
     }
 }
 
+/// A u32, and what stands behind it.
 pub fn number_at(octets: &[u8]) -> Result<(u32, &[u8]), NoFrame>
     ensures { Reads (λ x. (x.0, x.1.now)) result (number_at octets.now) }
 {
@@ -37,6 +39,7 @@ pub fn number_at(octets: &[u8]) -> Result<(u32, &[u8]), NoFrame>
     Ok((number, rest))
 }
 
+/// A length of one octet and so many octets, and what stands behind them.
 #[tactic(auto, unfolding(crate::specs::Reading::word_at))]
 pub fn word_at(octets: &[u8]) -> Result<(&[u8], &[u8]), NoFrame>
     ensures { Reads (λ x. (x.0.now, x.1.now)) result (word_at octets.now) }
@@ -49,12 +52,14 @@ pub fn word_at(octets: &[u8]) -> Result<(&[u8], &[u8]), NoFrame>
     Ok(rest.split_at(len))
 }
 
+/// The name that these octets are.
 pub fn name_of(octets: &[u8]) -> Result<Name, NoFrame>
     ensures { Reads (λ x. x) result (name_of octets.now) }
 {
     Ok(Name::read(octets)?)
 }
 
+/// How a service returns, by the u8 of RETURN.
 pub fn rval_of(octet: u8) -> Result<Rval, NoFrame>
     ensures { Reads (λ x. x) result (rval_of octet) }
 {
@@ -66,6 +71,7 @@ pub fn rval_of(octet: u8) -> Result<Rval, NoFrame>
     }
 }
 
+/// What a service is invoked for, by the mode of INVOKE.
 pub fn mode_of(octet: u8) -> Result<Mode, NoFrame>
     ensures { Reads (λ x. x) result (mode_of octet) }
 {

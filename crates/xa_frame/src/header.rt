@@ -9,6 +9,7 @@ pub const HEADER: usize = 12;
 /// The octets with which each frame begins, of which the last is the version.
 pub const MARK: [u8; 3] = [0x58, 0x41, 0x01];
 
+/// The kind of a frame.
 #[derive(Clone, Copy, Debug, PartialEq, Eq)]
 pub enum FrameKind {
     Ready,
@@ -18,6 +19,7 @@ pub enum FrameKind {
     Shutdown,
 }
 
+/// A header: the kind, how many octets the body has, and the tag.
 #[derive(Clone, Copy, Debug, PartialEq, Eq)]
 pub struct Header {
     pub kind: FrameKind,

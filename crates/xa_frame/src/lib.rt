@@ -1,4 +1,4 @@
-//! Frames: what a worker and its server program say to one another, as octets on a pipe.
+//! Frames: what the monitor and a server's program say to one another, as octets on a pipe.
 //!
 //! A frame is a header of twelve octets and a body. The header is 0x58 0x41, the version 0x01, the kind, the body's
 //! length (u32) and the tag (u32). Numbers are big-endian, signed ones two's complement. A body has at most 66,000

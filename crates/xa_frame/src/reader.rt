@@ -49,6 +49,7 @@ fn forget(octets: &mut Vec<u8>, taken: usize)
 }
 
 impl Reader {
+    /// A reader to which nothing was fed.
     pub fn new(alloc: Global) -> Reader
         ensures { result ≡ record { place = 0; rest = [] } }
     {
@@ -60,14 +61,15 @@ impl Reader {
         }
     }
 
-    /// Takes the next piece of the stream. Fewer than 2^32 octets may be pending then.
+    /// Takes the next piece of the stream. Fewer than 2^32 octets may be pending then. Where memory runs out, the reader
+    /// is as it was.
     pub fn feed(&mut self, octets: &[u8]) -> Result<(), NoMemory>
         requires { length self.old.rest + length octets.now < 2 ^ 32 }
         ensures place { self.new.place ≡ self.old.place }
         ensures ok { OnOk result (self.new.rest ≡ self.old.rest ++ octets.now) }
         ensures err { OnErr result (self.new.rest ≡ self.old.rest) }
     {
-        // Each octet moved stands for one that was taken, so a stream is fed in linear time.
+        // No more octets are moved than were taken.
         if self.taken >= self.octets.len() - self.taken {
             forget(&mut self.octets, self.taken);
             self.taken = 0;

@@ -22,6 +22,7 @@ pub struct FileShelf<R: Files> {
 }
 
 impl<R: Files> FileShelf<R> {
+    /// The files of this system, of which no read has failed.
     pub fn new(rt: R, alloc: Global) -> FileShelf<R>
         ensures { ⟦<FileShelf<R> as Shelf>⟧.shelf_faults result ≡ 0 }
     {
@@ -46,7 +47,7 @@ impl<R: Files> FileShelf<R> {
     }
 }
 
-/// What a source holds, to its end. `TooLong` comes exactly where that is more octets than the limit.
+/// What a source holds, to its end. `TooLong` comes only where that is more octets than the limit.
 pub fn read_all<S: Source>(
     alloc: Global,
     source: &mut S,

@@ -1,5 +1,6 @@
-//! The outside as traits: files, streams, the processes of servers, and gates. Of each there is a form in memory, which
-//! tells all of its octets, and a real one, which tells none. A count of each says how often it failed.
+//! The outside as traits: files, streams, and the processes of servers. Of each there is a form in memory, which tells
+//! all of its octets, and a real one, which tells none; a count says how often it failed. Gates have one form and no
+//! count.
 #![tactic(auto)]
 
 mod child;

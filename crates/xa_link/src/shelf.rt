@@ -6,8 +6,8 @@ ghost use Rattle.xa_link.specs.Reads.{Holds, HoldsMore};
 use thiserror::Error;
 use xa_types::Octets;
 
-/// Why a file was not read. `Failed` raised the shelf's count; it comes also where there is no such file. `TooLong`
-/// comes where the file has more octets than the limit.
+/// Why a file, or a whole source, was not read. `Failed` raised the count; it comes also where there is no such file.
+/// `TooLong` comes only where there are more octets than the limit.
 #[derive(Clone, Copy, Debug, PartialEq, Eq, Error)]
 pub enum ShelfRefused {
     #[error("Failed")]

@@ -40,11 +40,13 @@ pub trait Starter<L: Link> {
 
 /// Where the starters of a domain come from.
 pub trait Yard {
+    /// The pipes of a life.
     type Line: Link + Send;
 
+    /// What starts the lives of one server.
     type Start: Starter<Self::Line> + Send;
 
-    /// One starter for each server of the setup, in its order. None of them was asked for a start yet.
+    /// One starter for each server of the setup, in its order. None of them was asked for a start.
     fn starters(&mut self, setup: &Setup) -> Result<Vec<Self::Start>, NoMemory>
         ensures each { IfOk result (λ all. length all.items ≡ length setup.now.servers) }
         ensures counts { IfOk result (λ all. All (λ s. Self.Start.start_faults s ≡ 0) all.items) }

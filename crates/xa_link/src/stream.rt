@@ -8,7 +8,7 @@ use crate::{Failed, Sink, Source};
 use std::io;
 use std::io::{ErrorKind, Read, Write};
 
-// How often a read or a write is tried again that a signal interrupted.
+// How often a read or a write is tried at most, where signals interrupt it.
 const TRIES: u32 = 1_000_000;
 
 /// A reader, such as standard input. It tells nothing of its octets: a read gives what the reader gives. A read that a
@@ -20,6 +20,7 @@ pub struct ReadSource<R: Read> {
 }
 
 impl<R: Read> ReadSource<R> {
+    /// The reader as a source, of which no read has failed.
     pub fn new(reader: R) -> ReadSource<R>
         ensures { ⟦<ReadSource<R> as Source>⟧.read_faults result ≡ 0 }
     {
@@ -73,6 +74,7 @@ pub struct WriteSink<W: Write> {
 }
 
 impl<W: Write> WriteSink<W> {
+    /// The writer as a sink, of which no write has failed.
     pub fn new(writer: W) -> WriteSink<W>
         ensures { ⟦<WriteSink<W> as Sink>⟧.write_faults result ≡ 0 }
     {

@@ -84,7 +84,8 @@ impl<L: Link> Pipe<L> {
         }
     }
 
-    /// Reads READY with that server's name, and NEXT.
+    /// Reads READY with that server's name, and NEXT. Else it answers why the life ended: EndOfInput, ReadFault,
+    /// BadBytes, OutOfTurn, or Starved, where memory ran out.
     pub fn greet(&mut self, server: &Name) -> Result<(), StopCause>
         ensures read { OnOk result (HasRead self.old [] → HasRead self.new (ready_frame server.now ∷ next_frame ∷ [])) }
         ensures took { self.new.took ≡ self.old.took }
@@ -96,7 +97,7 @@ impl<L: Link> Pipe<L> {
         self.read_next()
     }
 
-    /// Reads NEXT.
+    /// Reads NEXT. Else it answers why the life ended, as `greet` does.
     pub fn read_next(&mut self) -> Result<(), StopCause>
         ensures read { OnOk result ((frames : List Frame) → HasRead self.old frames → HasRead self.new (frames ++ next_frame ∷ [])) }
         ensures took { self.new.took ≡ self.old.took }
@@ -112,7 +113,7 @@ impl<L: Link> Pipe<L> {
         }
     }
 
-    /// Reads the RETURN to that invocation.
+    /// Reads the RETURN to that invocation. Else it answers why the life ended, as `greet` does.
     pub fn hear(&mut self, number: u32) -> Result<Return, StopCause>
         ensures read { IfOk result (λ back. (frames : List Frame) → HasRead self.old frames
             → HasRead self.new (frames ++ return_frame number back.value back.code back.payload ∷ [])) }

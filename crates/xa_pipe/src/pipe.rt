@@ -98,7 +98,9 @@ impl<L: Link> Pipe<L> {
         link
     }
 
-    /// Sends a request to the routine that has its service's name.
+    /// Sends a request to the routine that has its service's name, as the invocation of that number. Its data has at
+    /// most 65,536 octets. It fails by WriteFault, where the link took a front of the INVOKE, or by Starved, where
+    /// memory ran out and the link took nothing.
     pub fn send(&mut self, service: &Name, number: u32, payload: &Data) -> Result<(), StopCause>
         requires { IsData payload.now }
         ensures took { OnOk result (Grew self.old.took self.new.took (spelled (invoke_frame service.now number payload.now))) }
@@ -126,7 +128,7 @@ impl<L: Link> Pipe<L> {
         write(&mut self.link, &self.due)
     }
 
-    /// Sends SHUTDOWN.
+    /// Sends SHUTDOWN. It fails as `send` does.
     pub fn shut_down(&mut self) -> Result<(), StopCause>
         ensures took { OnOk result (Grew self.old.took self.new.took (spelled shutdown_frame)) }
         ensures part { OnErr result (GrewByPrefix self.old.took self.new.took (spelled shutdown_frame)) }

@@ -23,7 +23,7 @@ pub(crate) fn request(number: u32) -> RequestId
 }
 
 /// Notes that the queue accepts the request of the client's call `op`, by the first version of the board, and that the
-/// server takes it; `number` counts the client's requests.
+/// server takes it; `number` counts the client's requests. Where memory runs out, nothing is said of the events.
 pub fn note_taken(
     history: &mut Vec<Event>,
     service: &Name,
@@ -66,7 +66,8 @@ pub fn answer_to(alloc: Global, outcome: &Outcome) -> Result<Answer, NoMemory>
     }
 }
 
-/// Notes that the client was told that answer to its call `op`, and prints the line of the call.
+/// Notes that the client was told that answer to its call `op`, and puts the line of the call behind the lines. Where
+/// memory runs out, nothing is said of the events and the lines.
 pub fn note_answered(
     account: &mut Account,
     name: &Name,
@@ -87,7 +88,8 @@ pub fn note_answered(
     Ok(())
 }
 
-/// Notes that the client's call `op` was refused, and prints its line.
+/// Notes that the client's call `op` was refused, and puts its line behind the lines. Where memory runs out, nothing is
+/// said of the events and the lines.
 pub fn note_refused(
     account: &mut Account,
     name: &Name,

@@ -17,7 +17,7 @@ const STARTED: Started = Started {
     tick: 0,
 };
 
-/// Notes that the boot advertises the service.
+/// Notes that the boot advertises the service. Where memory runs out, nothing is said of the events.
 pub fn note_boot(history: &mut Vec<Event>, service: &Name) -> Result<(), NoMemory>
     ensures { OnOk result (history.new.items ≡ history.old.items ++ Advertise (advertise service.now) ∷ []) }
 {
@@ -32,7 +32,7 @@ pub fn note_boot(history: &mut Vec<Event>, service: &Name) -> Result<(), NoMemor
     Ok(())
 }
 
-/// Notes that the server was started.
+/// Notes that the server was started. Where memory runs out, nothing is said of the events.
 pub fn note_started(history: &mut Vec<Event>) -> Result<(), NoMemory>
     ensures { OnOk result (history.new.items ≡ history.old.items ++ Start start ∷ []) }
 {
@@ -40,7 +40,7 @@ pub fn note_started(history: &mut Vec<Event>) -> Result<(), NoMemory>
     Ok(())
 }
 
-/// Notes that a request ended at the server.
+/// Notes that a request ended at the server. Where memory runs out, nothing is said of the events.
 pub fn note_ended(history: &mut Vec<Event>, number: u32, outcome: Outcome) -> Result<(), NoMemory>
     ensures { OnOk result (history.new.items ≡ history.old.items ++ End (end_with number outcome) ∷ []) }
 {
@@ -69,7 +69,7 @@ fn note_gone(history: &mut Vec<Event>, service: &Name) -> Result<(), NoMemory>
     Ok(())
 }
 
-/// Notes that the server couldn't be started.
+/// Notes that the server couldn't be started. Where memory runs out, nothing is said of the events.
 pub fn note_not_started(history: &mut Vec<Event>, service: &Name) -> Result<(), NoMemory>
     ensures { OnOk result (history.new.items ≡ history.old.items ++ StartFailed start ∷ Gone (record { 0 = 1 }) ∷ Withdraw (withdraw service.now) ∷ Down (record { 0 = 1 }) ∷ []) }
 {
@@ -88,7 +88,8 @@ fn note_stopped(history: &mut Vec<Event>, cause: StopCause) -> Result<(), NoMemo
     Ok(())
 }
 
-/// Notes that the server's life ended by that cause, and that no other begins.
+/// Notes that the server's life ended by that cause, and that no other begins. Where memory runs out, nothing is said
+/// of the events.
 pub fn note_fallen(
     history: &mut Vec<Event>,
     service: &Name,
@@ -100,7 +101,7 @@ pub fn note_fallen(
     note_gone(history, service)
 }
 
-/// Notes that the client has left.
+/// Notes that the client has left. Where memory runs out, nothing is said of the events.
 pub fn note_left(history: &mut Vec<Event>) -> Result<(), NoMemory>
     ensures { OnOk result (history.new.items ≡ history.old.items ++ Leave (record { 0 = 1 }) ∷ []) }
 {
@@ -108,7 +109,7 @@ pub fn note_left(history: &mut Vec<Event>) -> Result<(), NoMemory>
     Ok(())
 }
 
-/// Notes that the queue is closed.
+/// Notes that the queue is closed. Where memory runs out, nothing is said of the events.
 pub fn note_closed(history: &mut Vec<Event>) -> Result<(), NoMemory>
     ensures { OnOk result (history.new.items ≡ history.old.items ++ Close (record { 0 = 1 }) ∷ []) }
 {
@@ -116,7 +117,7 @@ pub fn note_closed(history: &mut Vec<Event>) -> Result<(), NoMemory>
     Ok(())
 }
 
-/// Notes that the server was shut down.
+/// Notes that the server was shut down. Where memory runs out, nothing is said of the events.
 pub fn note_shut_down(history: &mut Vec<Event>) -> Result<(), NoMemory>
     ensures { OnOk result (history.new.items ≡ history.old.items ++ Stop (stop Shutdown) ∷ []) }
 {

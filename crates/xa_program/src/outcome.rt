@@ -12,7 +12,7 @@ pub struct Life<L> {
 }
 
 /// What a run hands back: how it ended, the events in the order in which they were made, the lives of the servers, and
-/// the starters that were used. Before a server starts there are none.
+/// their starters. There are none of these of `server`, and where the words, the input or the script were refused.
 pub struct Outcome<Y: Yard> {
     pub status: Status,
     pub history: Vec<Event>,

@@ -36,8 +36,8 @@ fn line_room(op: &Op) -> usize {
     octets.saturating_mul(2).saturating_add(48)
 }
 
-// Room for the events and the lines of a script, so that neither moves as it grows. The lines take the memory of the
-// script's octets, which were read.
+// Room for the events and the lines of a script, so that the events don't move as they grow, nor do the lines while
+// replies are about as long as what was sent. The lines take the memory of the script's octets, which were read.
 fn account_for(alloc: Global, script: &Script, mut octets: Vec<u8>) -> Result<Account, NoMemory>
     ensures history { IfOk result (λ account. account.history.items ≡ []) }
     ensures lines { IfOk result (λ account. account.lines.items ≡ []) }

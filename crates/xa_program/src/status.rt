@@ -13,7 +13,7 @@ pub enum Input {
 /// How a command ended.
 #[derive(Clone, Copy, Debug, PartialEq, Eq)]
 pub enum Status {
-    /// The input was read to its end, and all is written.
+    /// The script was played and all is written, or the work of a server has ended.
     Done,
     /// The words of the command line aren't those of a command.
     Usage,
@@ -21,7 +21,7 @@ pub enum Status {
     ScriptRead,
     /// The input has more octets than it may have.
     TooLong(Input),
-    /// The script isn't built: its first line at fault, counted from 1.
+    /// The script breaks the form: its first line at fault, counted from 1, and the cause.
     BadLine { line: u32, cause: u8 },
     /// The output failed.
     WriteFault,

@@ -41,7 +41,7 @@ pub fn run<R, S: Shelf, I: Source, O: Sink, Y: Yard, G: Gate>(
     // The words are no command's.
     ensures usage { (result.status ≡ Status.Usage) ↔ (command_in (map string_bytes words.now) ≡ None) }
 
-    // Then nothing is read or written.
+    // Then what the input tells that it holds, and what the output tells that it took, stay, and so do their counts.
     ensures untouched { command_in (map string_bytes words.now) ≡ None → (I.left input.new ≡ I.left input.old) × (I.read_faults input.new ≡ I.read_faults input.old)
         × (O.took out.new ≡ O.took out.old) × (O.write_faults out.new ≡ O.write_faults out.old) }
 

@@ -188,7 +188,8 @@ fn read_lines(alloc: Global, octets: &[u8]) -> Result<Draft, ScriptRefused>
     Ok(draft)
 }
 
-/// Reads a script. Each call becomes a tpcall without flags; whether its service is there is the matter of the call.
+/// Reads a script, of fewer than 2^32 octets. Each call becomes a tpcall without flags; whether its service is there is
+/// the matter of the call.
 ///
 /// A refusal is for want of memory, or names with cause 9 the first line that breaks the form.
 pub fn read_script(alloc: Global, octets: &[u8]) -> Result<Script, ScriptRefused>

@@ -11,7 +11,8 @@ pub enum Kind {
     Struct(Name),
 }
 
-/// Typed data: absent, X_OCTET, or X_C_TYPE with its subtype. It has at most 65,536 octets.
+/// Typed data: absent, X_OCTET, or X_C_TYPE with its subtype. X_OCTET that is sound has at most 65,536 octets, and
+/// X_C_TYPE the size of its shape.
 #[derive(Debug, Drop)]
 pub enum Data {
     Absent,

@@ -79,6 +79,7 @@ impl Name {
         })
     }
 
+    /// The octets of the name.
     pub fn octets(&self) -> &[u8]
         ensures value { result.now ≡ self.now }
         ensures named { IsName self.now }

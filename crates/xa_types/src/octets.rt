@@ -42,6 +42,7 @@ impl Octets {
         items
     }
 
+    /// The octets.
     pub fn slice(&self) -> &[u8]
         ensures { result.now ≡ self.now }
     {

@@ -32,6 +32,7 @@ impl<T> Sequence<T> {
         items
     }
 
+    /// The items.
     pub fn slice(&self) -> &[T]
         ensures { result.now ≡ self.now }
     {

@@ -10,6 +10,7 @@ pub enum FieldKind {
     Text(u32),
 }
 
+/// A field of X_C_TYPE.
 #[derive(Clone, Copy, Debug, PartialEq, Eq)]
 pub struct FieldSetup {
     pub name: Name,
@@ -23,6 +24,7 @@ pub struct ShapeSetup {
     pub fields: Sequence<FieldSetup>,
 }
 
+/// A queue, at which `capacity` requests may wait. Nothing reads `group`.
 #[derive(Clone, Copy, Debug, PartialEq, Eq)]
 pub struct QueueSetup {
     pub name: Name,
@@ -42,6 +44,8 @@ pub struct ServerSetup {
     pub grace: u32,
 }
 
+/// A service: its routine, the queues on which it is advertised, the priority of its requests, the kinds of data that
+/// it accepts, and whether it is for conversations.
 #[derive(Debug, Drop)]
 pub struct ServiceSetup {
     pub name: Name,
@@ -52,7 +56,7 @@ pub struct ServiceSetup {
     pub conversational: bool,
 }
 
-/// A domain as it is configured. Queues, servers and shapes are at most 64 each, services at most 256.
+/// A domain as it is configured. Nothing reads `block_time` and `blocks`.
 #[derive(Debug, Drop)]
 pub struct Setup {
     pub block_time: u32,

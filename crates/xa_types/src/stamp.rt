@@ -1,7 +1,6 @@
 ghost use Rattle.std.specs.Prelude.{◌≡◌, ◌≢◌, ◌+◌, ◌^◌, ◌≤◌, ◌<◌, max, MatchResult};
 
-/// When an event was made: greater than the stamps of all events that it depends on (Lamport's logical clocks).
-/// A stamp is at most 2^63.
+/// A number that grows along what depends on what.
 #[derive(Clone, Copy, Debug, PartialEq, Eq, PartialOrd, Ord)]
 pub struct Stamp(pub u64);
 
@@ -13,7 +12,7 @@ impl Stamp {
     /// The last stamp.
     pub const LAST: Stamp = Stamp(1 << 63);
 
-    /// The larger of both and 1. `Worn` comes exactly where the larger is 2^63.
+    /// One more than the larger of both, which are at most 2^63. `Worn` comes exactly where the larger is 2^63.
     pub fn after(a: Stamp, b: Stamp) -> Result<Stamp, Worn>
         requires first { a.0 ≤ 2 ^ 63 }
         requires second { b.0 ≤ 2 ^ 63 }

@@ -14,6 +14,7 @@ pub struct MemoryLink {
 impl MemoryLink {
     ghost use Rattle.xa_link.specs.Memory.{source_left, source_gave, source_faults, sink_took, sink_faults, link_source, link_sink};
 
+    /// What the server writes comes from the source, and what is written to it goes to the sink.
     pub fn new(source: MemorySource, sink: MemorySink) -> MemoryLink
         ensures source { link_source result ≡ source }
         ensures sink { link_sink result ≡ sink }
