@@ -10,9 +10,13 @@ Rose before now = (before < now) ⊎ (now ≡ 2 ^ 64 - 1)
 abbrev pub Grew : Option (List ℕ) → Option (List ℕ) → List ℕ → Type 0
 Grew before now more = now ≡ option_map (λ xs. xs ++ more) before
 
--- the octets that are told grew by the beginning of these
+-- the octets that are told grew by the beginning of these, which may be all of them
 abbrev pub GrewByPrefix : Option (List ℕ) → Option (List ℕ) → List ℕ → Type 0
 GrewByPrefix before now piece = (n : ℕ) × (n ≤ length piece) × Grew before now (take n piece)
+
+-- the octets that are told grew by the beginning of these, and not by all of them
+abbrev pub GrewByPart : Option (List ℕ) → Option (List ℕ) → List ℕ → Type 0
+GrewByPart before now piece = (n : ℕ) × (n < length piece) × Grew before now (take n piece)
 
 -- these came off the front of the octets that are told; what isn't told stays so
 abbrev pub Shrank : Option (List ℕ) → Option (List ℕ) → List ℕ → Type 0

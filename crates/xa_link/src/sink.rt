@@ -1,6 +1,6 @@
 // Where octets go.
 ghost use Rattle.std.specs.Prelude.{◌⊎◌, ◌≡◌, ◌≤◌, ◌<◌, ◌+◌, ℕ, List, [], take, drop, length, Option, IfOk, OnOk, OnErr, IsErr};
-ghost use Rattle.xa_link.specs.Told.{Rose, Grew, GrewByPrefix};
+ghost use Rattle.xa_link.specs.Told.{Rose, Grew, GrewByPart};
 
 use crate::Failed;
 
@@ -29,10 +29,10 @@ pub trait Sink {
 }
 
 /// Writes the whole piece, in as many writes as that takes. Where one of them fails or takes nothing, it fails, and
-/// the sink took a prefix of the piece.
+/// the sink took a prefix of the piece that is not all of it.
 pub fn put<K: Sink>(sink: &mut K, piece: &[u8]) -> Result<(), Failed>
     ensures whole { OnOk result (Grew (K.took sink.old) (K.took sink.new) piece.now) }
-    ensures part { OnErr result (GrewByPrefix (K.took sink.old) (K.took sink.new) piece.now) }
+    ensures part { OnErr result (GrewByPart (K.took sink.old) (K.took sink.new) piece.now) }
 
     ensures alone { K.beside_writes sink.new ≡ K.beside_writes sink.old }
     ensures later { K.write_faults sink.old ≤ K.write_faults sink.new }

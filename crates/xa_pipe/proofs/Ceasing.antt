@@ -67,10 +67,10 @@ starved_shows name tag Exited frames rest left reads some = tt
 module _ (name : List ℕ) (tag : ℕ) (turn : Turn) (frames : List Frame) (pipe : Piped) where
   -- no frame stands there
   pub ceases_none : (cause : StopCause) → is_reading turn ≡ true → Keeps pipe frames cause → ReadsNone pipe frames cause → Ceases name tag turn frames pipe cause
-  ceases_none EndOfInput reads read why = record { may = reads; counted = tt; gave = told_more pipe.gave _ _ (λ octets e. (pipe.rest, e, why)) read.told }
-  ceases_none ReadFault reads read why = record { may = reads; counted = why.0; gave = told_more pipe.gave _ _ (λ octets e. (pipe.rest, e, why.1)) read.told }
-  ceases_none (BadBytes place) reads read why = record { may = reads; counted = tt; gave = told_more pipe.gave _ _ (λ octets e. (pipe.rest, e, why)) read.told }
-  ceases_none Starved reads read why = record { may = starved_reading turn reads; counted = tt; gave = told_more pipe.gave _ _ (λ octets more. (more.0, more.1, starved_shows name tag turn frames more.0 pipe.left reads more.2)) why }
+  ceases_none EndOfInput reads read why = record { may = reads; gave = told_more pipe.gave _ _ (λ octets e. (pipe.rest, e, why)) read.told }
+  ceases_none ReadFault reads read why = record { may = reads; gave = told_more pipe.gave _ _ (λ octets e. (pipe.rest, e, why)) read.told }
+  ceases_none (BadBytes place) reads read why = record { may = reads; gave = told_more pipe.gave _ _ (λ octets e. (pipe.rest, e, why)) read.told }
+  ceases_none Starved reads read why = record { may = starved_reading turn reads; gave = told_more pipe.gave _ _ (λ octets more. (more.0, more.1, starved_shows name tag turn frames more.0 pipe.left reads more.2)) why }
   ceases_none Shutdown reads read why = absurd why
   ceases_none Exit reads read why = absurd why
   ceases_none WriteFault reads read why = absurd why
@@ -90,6 +90,6 @@ module _ (name : List ℕ) (tag : ℕ) (turn : Turn) (frames : List Frame) (pipe
   ceases_other cause f is reads spelling other read =
       subst (λ (why : StopCause). Ceases name tag turn frames pipe why) (sym is) (record {
         may = reads;
-        counted = tt;
+       
         gave = told_more pipe.gave _ _ (λ octets. other_gave octets f spelling other) read.told;
       })

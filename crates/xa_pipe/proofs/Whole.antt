@@ -48,8 +48,8 @@ module _ (setup : Setup) (name : List ℕ) (outcomes whole : List Outcome) (fs :
       let none : others ≡ [] = subst (λ (told : Option (List ℕ)). Empty told) held empty in
       let stands_so : rest ≡ spelled k ++ y = sym (append-nil rest) ∙ (ap (λ (xs : List ℕ). rest ++ xs) (sym none) ∙ stands) in
       absurd (cc (sym (is_partial rest partial) ∙ is_whole rest k y (record { spelling = spelling; whole = stands_so })))
-  whole_return k ks says spelling stands ReadFault may counted shows = absurd (omega (arith, counted))
-  whole_return k ks says spelling stands WriteFault may counted shows = absurd (omega (arith, counted))
+  whole_return k ks says spelling stands ReadFault may counted shows = absurd (omega (arith, counted.0))
+  whole_return k ks says spelling stands WriteFault may counted shows = absurd (omega (arith, counted.1))
   whole_return k ks says spelling stands (BadBytes place) may counted (at, malformed) =
       absurd ((still_malformed rest others malformed).not_whole k y (record { spelling = spelling; whole = stands }))
   whole_return k ks says spelling stands (OutOfTurn kind tag) may counted (f, more, begins, is_kind, is_tag, not) =

@@ -6,6 +6,7 @@ use Rattle.xa_types.specs.declared.setup.Setup.{Setup}
 use Rattle.xa_types.specs.declared.call.Rval.{Rval}
 use Rattle.xa_types.specs.declared.call.Rval.TheVariants.{Success, Exit as ExitValue}
 use Rattle.xa_types.specs.Kind.{is_sound}
+use Rattle.xa_types.specs.Setup.{queue_of}
 use Rattle.xa_link.specs.Told.{Empty}
 use Rattle.xa_frame.specs.declared.frame.Frame.{Frame}
 use Rattle.xa_frame.specs.Spelling.{spelled, all_spelled, kind_octet, HasSpelling}
@@ -16,7 +17,8 @@ use Rattle.xa_events.specs.declared.event.Outcome.{Outcome}
 use Rattle.xa_events.specs.declared.event.Outcome.TheVariants.{Returned, Failed, BadReturn, Died, Starved}
 use Rattle.xa_events.specs.declared.event.StopCause.{StopCause}
 use Rattle.xa_events.specs.declared.event.StopCause.TheVariants.{Shutdown, Exit, EndOfInput, ReadFault, WriteFault, BadBytes, OutOfTurn, Starved as StarvedStop}
-use Rattle.xa_events.specs.Words.{latest, from_each}
+use Rattle.xa_events.specs.Words.{latest, from_each, AtEach}
+use Rattle.xa_events.specs.Queue.{is_closed}
 use Rattle.xa_pipe.specs.Frames.{is_of_life, next_frame, ready_frame, shutdown_frame, return_frame, frames_out}
 
 -- ---- what the program says
@@ -90,11 +92,11 @@ may_end StarvedStop Exited = false
 may_end StarvedStop turn = true
 may_end cause turn = false
 
--- a pipe that failed was counted
+-- a read that failed was counted where that ended the life, and a write likewise, and no other was
 abbrev pub IsCounted : StopCause → ℕ → ℕ → Type 0
-IsCounted ReadFault reads writes = 0 < reads
-IsCounted WriteFault reads writes = 0 < writes
-IsCounted cause reads writes = Unit {0}
+IsCounted ReadFault reads writes = (0 < reads) × (writes ≡ 0)
+IsCounted WriteFault reads writes = (reads ≡ 0) × (0 < writes)
+IsCounted cause reads writes = (reads ≡ 0) × (writes ≡ 0)
 
 -- the place behind these frames; places end at 2 ^ 64 - 1
 abbrev pub place_behind : List Frame → ℕ
@@ -144,15 +146,19 @@ cause_in _ = None
 abbrev pub cause_of : ℕ → ℕ → List Event → Option StopCause
 cause_of server g past = cause_in (latest (stops_life server g) past)
 
--- all of these frames but the last, and a front of the last
+-- all of these frames but the last, and of the last a front that isn't all of it
 abbrev pub IsCut : List Frame → List ℕ → Type 0
-IsCut frames octets = (earlier : List Frame) × (last : Frame) × (n : ℕ) × (frames ≡ earlier ++ last ∷ []) × (octets ≡ all_spelled earlier ++ take n (spelled last))
+IsCut frames octets = (earlier : List Frame) × (last : Frame) × (n : ℕ) × (frames ≡ earlier ++ last ∷ []) × (n < length (spelled last)) × (octets ≡ all_spelled earlier ++ take n (spelled last))
+
+-- the queue of the server was closed when the life ended
+abbrev pub StopsClosed : Setup → ℕ → ℕ → Event → List Event → Type 0
+StopsClosed setup server g e before = stops_life server g e ≡ true → is_closed (queue_of setup server) before ≡ true
 
 -- all of these frames but the last
 abbrev pub LacksLast : List Frame → List ℕ → Type 0
 LacksLast frames octets = (earlier : List Frame) × (last : Frame) × (frames ≡ earlier ++ last ∷ []) × (octets ≡ all_spelled earlier)
 
--- the link took what the monitor wrote: all of it, but that the last frame, an INVOKE or SHUTDOWN, may be cut where the pipe failed, and that
+-- the link took what the monitor wrote: all of it, but that the last frame, an INVOKE or SHUTDOWN, is cut where a write failed, and that
 -- the last INVOKE may be left out where memory ran out
 abbrev pub TookBy : StopCause → Turn → List Frame → List ℕ → Type 0
 TookBy WriteFault Serving frames octets = IsCut frames octets
@@ -170,6 +176,7 @@ pub record IsLife (setup : Setup) (name : List ℕ) (server g : ℕ) (past : Lis
   pub ended : outcomes_in server g past ≡ all_outcomes cause turn outcomes
   pub says : Says setup name outcomes frames turn
   pub may : may_end cause turn ≡ true
+  pub closed : turn ≡ Idle → AtEach (StopsClosed setup server g) past
   pub counted : IsCounted cause reads writes
   pub took_frames : IfSome took (TookBy cause turn (frames_out server g past))
   pub gave_frames : IfSome gave (λ octets. (rest : List ℕ) × (octets ≡ all_spelled frames ++ rest) × Shows name (tag_after (length outcomes)) turn cause frames rest left)

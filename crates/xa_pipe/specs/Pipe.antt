@@ -15,7 +15,7 @@ use Rattle.xa_events.specs.declared.event.Outcome.{Outcome}
 use Rattle.xa_events.specs.declared.event.StopCause.{StopCause}
 use Rattle.xa_events.specs.declared.event.StopCause.TheVariants.{EndOfInput, ReadFault, WriteFault, BadBytes, Starved}
 use Rattle.xa_pipe.specs.Life.Turn.{AwaitsReady, AwaitsNext}
-use Rattle.xa_pipe.specs.Life.{Turn, Says, Shows, IsCounted, may_end, tag_after, place_behind}
+use Rattle.xa_pipe.specs.Life.{Turn, Says, Shows, may_end, tag_after, place_behind}
 
 -- the request to a routine that has its service's name
 abbrev pub invoke_frame : List ℕ → ℕ → Data → Frame
@@ -48,7 +48,7 @@ ended_by NoMemory = Starved
 -- why no frame was read behind these: where memory ran out, the link gave more than these
 abbrev pub ReadsNone : Piped → List Frame → StopCause → Type 0
 ReadsNone pipe frames EndOfInput = IsPartial pipe.rest × Empty pipe.left
-ReadsNone pipe frames ReadFault = (0 < pipe.reads) × IsPartial pipe.rest
+ReadsNone pipe frames ReadFault = IsPartial pipe.rest
 ReadsNone pipe frames (BadBytes place) = (place ≡ place_behind frames) × IsMalformed pipe.rest
 ReadsNone pipe frames Starved = IfSome pipe.gave (λ octets. (more : List ℕ) × (octets ≡ all_spelled frames ++ more) × (more ≡ [] → ⊥))
 ReadsNone pipe frames cause = ⊥
@@ -58,16 +58,21 @@ abbrev pub Keeps : Piped → List Frame → StopCause → Type 0
 Keeps pipe frames Starved = IfSome pipe.gave (λ octets. StartsWith octets (all_spelled frames))
 Keeps pipe frames cause = HasRead pipe frames
 
--- why a frame wasn't written
-abbrev pub WritesNone : Piped → StopCause → Type 0
-WritesNone pipe WriteFault = 0 < pipe.writes
-WritesNone pipe Starved = Unit {0}
-WritesNone pipe cause = ⊥
+-- why no frame was read or none that may come, by the count of failed reads before and after: a read that failed was counted, and no other
+abbrev pub CountsReads : StopCause → ℕ → ℕ → Type 0
+CountsReads ReadFault before after = 0 < after
+CountsReads WriteFault before after = ⊥
+CountsReads cause before after = after ≡ before
+
+-- why a frame wasn't written, by the count of failed writes before and after
+abbrev pub CountsWrites : StopCause → ℕ → ℕ → Type 0
+CountsWrites WriteFault before after = 0 < after
+CountsWrites Starved before after = after ≡ before
+CountsWrites cause before after = ⊥
 
 -- the life ended so behind these frames, where that was to come
 pub record Ceases (name : List ℕ) (tag : ℕ) (turn : Turn) (frames : List Frame) (pipe : Piped) (cause : StopCause) : Type 0 where
   pub may : may_end cause turn ≡ true
-  pub counted : IsCounted cause pipe.reads pipe.writes
   pub gave : IfSome pipe.gave (λ octets. (rest : List ℕ) × (octets ≡ all_spelled frames ++ rest) × Shows name tag turn cause frames rest pipe.left)
 
 -- the life ended so as the program was to greet, after requests that ended so

@@ -7,7 +7,7 @@ ghost use Rattle.xa_pipe.specs.Frames.{ready_frame, next_frame, return_frame};
 ghost use Rattle.xa_events.specs.declared.event.StopCause.TheVariants.{OutOfTurn};
 ghost use Rattle.xa_pipe.specs.Life.{MaySay};
 ghost use Rattle.xa_pipe.specs.Life.Turn.{AwaitsReady, AwaitsNext, Serving};
-ghost use Rattle.xa_pipe.specs.Pipe.{HasRead, Ceases, CutOff};
+ghost use Rattle.xa_pipe.specs.Pipe.{HasRead, Ceases, CutOff, CountsReads};
 
 use crate::pipe::Pipe;
 use xa_events::StopCause;
@@ -75,6 +75,7 @@ impl<L: Link> Pipe<L> {
         ensures writes { self.new.writes ≡ self.old.writes }
         ensures well { OnOk result (self.new.reads ≡ self.old.reads) }
         ensures why { IfErr result (λ cause. (tag : ℕ) (frames : List Frame) → HasRead self.old frames → Ceases server.now tag AwaitsReady frames self.new cause) }
+        ensures counts { IfErr result (λ cause. CountsReads cause self.old.reads self.new.reads) }
     {
         let frame = self.read()?;
         if is_ready(&frame, server) {
@@ -92,6 +93,7 @@ impl<L: Link> Pipe<L> {
         ensures writes { self.new.writes ≡ self.old.writes }
         ensures well { OnOk result (self.new.reads ≡ self.old.reads) }
         ensures why { IfErr result (λ cause. (setup : Setup) → HasRead self.old [] → CutOff setup server.now [] self.new cause) }
+        ensures counts { IfErr result (λ cause. CountsReads cause self.old.reads self.new.reads) }
     {
         self.read_ready(server)?;
         self.read_next()
@@ -104,6 +106,7 @@ impl<L: Link> Pipe<L> {
         ensures writes { self.new.writes ≡ self.old.writes }
         ensures well { OnOk result (self.new.reads ≡ self.old.reads) }
         ensures why { IfErr result (λ cause. (name : List ℕ) (tag : ℕ) (frames : List Frame) → HasRead self.old frames → Ceases name tag AwaitsNext frames self.new cause) }
+        ensures counts { IfErr result (λ cause. CountsReads cause self.old.reads self.new.reads) }
     {
         let frame = self.read()?;
         if is_next(&frame) {
@@ -122,6 +125,7 @@ impl<L: Link> Pipe<L> {
         ensures writes { self.new.writes ≡ self.old.writes }
         ensures well { OnOk result (self.new.reads ≡ self.old.reads) }
         ensures why { IfErr result (λ cause. (name : List ℕ) (frames : List Frame) → HasRead self.old frames → Ceases name number Serving frames self.new cause) }
+        ensures counts { IfErr result (λ cause. CountsReads cause self.old.reads self.new.reads) }
     {
         let frame = self.read()?;
         return_in(frame, number)

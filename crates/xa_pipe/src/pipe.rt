@@ -1,11 +1,11 @@
 ghost use Rattle.std.specs.Prelude.{◌≡◌, ◌++◌, ◌∷◌, ◌+◌, ◌<◌, ◌≤◌, [], ℕ, List, length, IfOk, IfErr, OnOk, OnErr};
-ghost use Rattle.xa_link.specs.Told.{Grew, GrewByPrefix, Empty};
+ghost use Rattle.xa_link.specs.Told.{Grew, GrewByPart, Empty};
 ghost use Rattle.xa_frame.specs.declared.frame.Frame.{Frame};
 ghost use Rattle.xa_frame.specs.Spelling.{spelled, HasSpelling, IsData};
-ghost use Rattle.xa_events.specs.declared.event.StopCause.TheVariants.{Starved};
+ghost use Rattle.xa_events.specs.declared.event.StopCause.TheVariants.{Starved, WriteFault};
 ghost use Rattle.xa_frame.specs.Stream.{IsPartial, IsMalformed, Begins};
 ghost use Rattle.xa_pipe.specs.Frames.{shutdown_frame};
-ghost use Rattle.xa_pipe.specs.Pipe.{invoke_frame, Wrote, HasRead, ended_by, Keeps, ReadsNone, WritesNone};
+ghost use Rattle.xa_pipe.specs.Pipe.{invoke_frame, Wrote, HasRead, ended_by, Keeps, ReadsNone, CountsReads, CountsWrites};
 
 use std::alloc::Global;
 use std::marker::Model;
@@ -44,7 +44,7 @@ impl<L: Link> Model for Pipe<L> {
 // Writes the octets: WriteFault where the link fails.
 fn write<L: Link>(link: &mut L, octets: &[u8]) -> Result<(), StopCause>
     ensures took { OnOk result (Grew (L.took link.old) (L.took link.new) octets.now) }
-    ensures part { OnErr result (GrewByPrefix (L.took link.old) (L.took link.new) octets.now) }
+    ensures part { OnErr result (GrewByPart (L.took link.old) (L.took link.new) octets.now) }
     ensures gave { L.gave link.new ≡ L.gave link.old }
     ensures reads { L.read_faults link.new ≡ L.read_faults link.old }
     ensures well { OnOk result (L.write_faults link.new ≡ L.write_faults link.old) }
@@ -104,14 +104,14 @@ impl<L: Link> Pipe<L> {
     pub fn send(&mut self, service: &Name, number: u32, payload: &Data) -> Result<(), StopCause>
         requires { IsData payload.now }
         ensures took { OnOk result (Grew self.old.took self.new.took (spelled (invoke_frame service.now number payload.now))) }
-        ensures part { OnErr result (GrewByPrefix self.old.took self.new.took (spelled (invoke_frame service.now number payload.now))) }
+        ensures part { result ≡ Err WriteFault → GrewByPart self.old.took self.new.took (spelled (invoke_frame service.now number payload.now)) }
         ensures starved { result ≡ Err Starved → self.new.took ≡ self.old.took }
         ensures gave { self.new.gave ≡ self.old.gave }
         ensures rest { self.new.rest ≡ self.old.rest }
         ensures place { self.new.place ≡ self.old.place }
         ensures reads { self.new.reads ≡ self.old.reads }
         ensures well { OnOk result (self.new.writes ≡ self.old.writes) }
-        ensures why { IfErr result (WritesNone self.new) }
+        ensures why { IfErr result (λ cause. CountsWrites cause self.old.writes self.new.writes) }
     {
         self.due.clear();
         let sent = append_invoke(
@@ -131,14 +131,14 @@ impl<L: Link> Pipe<L> {
     /// Sends SHUTDOWN. It fails as `send` does.
     pub fn shut_down(&mut self) -> Result<(), StopCause>
         ensures took { OnOk result (Grew self.old.took self.new.took (spelled shutdown_frame)) }
-        ensures part { OnErr result (GrewByPrefix self.old.took self.new.took (spelled shutdown_frame)) }
+        ensures part { result ≡ Err WriteFault → GrewByPart self.old.took self.new.took (spelled shutdown_frame) }
         ensures starved { result ≡ Err Starved → self.new.took ≡ self.old.took }
         ensures gave { self.new.gave ≡ self.old.gave }
         ensures rest { self.new.rest ≡ self.old.rest }
         ensures place { self.new.place ≡ self.old.place }
         ensures reads { self.new.reads ≡ self.old.reads }
         ensures well { OnOk result (self.new.writes ≡ self.old.writes) }
-        ensures why { IfErr result (WritesNone self.new) }
+        ensures why { IfErr result (λ cause. CountsWrites cause self.old.writes self.new.writes) }
     {
         let frame = Frame {
             tag: 0,
@@ -160,6 +160,7 @@ impl<L: Link> Pipe<L> {
         ensures well { OnOk result (self.new.reads ≡ self.old.reads) }
         ensures kept { IfErr result (λ cause. (frames : List Frame) → HasRead self.old frames → Keeps self.new frames cause) }
         ensures why { IfErr result (λ cause. (frames : List Frame) → HasRead self.old frames → ReadsNone self.new frames cause) }
+        ensures counts { IfErr result (λ cause. CountsReads cause self.old.reads self.new.reads) }
     {
         for _ in 0..u64::MAX {
             match self.reader.next() {
@@ -183,6 +184,7 @@ impl<L: Link> Pipe<L> {
         ensures well { OnOk result (self.new.reads ≡ self.old.reads) }
         ensures kept { IfErr result (λ cause. (frames : List Frame) → HasRead self.old frames → Keeps self.new frames cause) }
         ensures why { IfErr result (λ cause. (frames : List Frame) → HasRead self.old frames → ReadsNone self.new frames cause) }
+        ensures counts { IfErr result (λ cause. CountsReads cause self.old.reads self.new.reads) }
     {
         let count = self
             .link

@@ -1,7 +1,8 @@
 use Rattle.std.proofs.Common.{rules, ◌≡◌, List, ℕ, Option, subst}
-use Rattle.std.specs.Prelude.{OnOk, OnErr}
-use Rattle.xa_link.specs.Told.{Grew, GrewByPrefix}
+use Rattle.std.specs.Prelude.{Result, OnOk, OnErr}
+use Rattle.xa_link.specs.Told.{Grew, GrewByPart}
 use Rattle.xa_frame.specs.Spelling.{spelled}
+use Rattle.xa_events.specs.declared.event.StopCause.{StopCause}
 use Rattle.xa_pipe.specs.Pipe.{invoke_frame}
 use Rattle.xa_pipe.proofs.pipe.Pipe.send.Goals as goal
 
@@ -15,5 +16,7 @@ pub returns-clause-part : goal.returns-clause-part
 returns-clause-part g c =
     let due : c.deref.result.now ≡ spelled (invoke_frame c.args.service.now c.args.number c.args.payload.now) = search rules in
     let before : g.L.Sink.took c.self.inside.link ≡ c.args.self.now.took = search rules in
-    let part = subst (λ (told : Option (List ℕ)). OnErr c.write.result (GrewByPrefix told (g.L.Sink.took c.write.new.link) c.deref.result.now)) before c.write.ensures.part in
-    subst (λ (octets : List ℕ). OnErr c.write.result (GrewByPrefix c.args.self.now.took (g.L.Sink.took c.write.new.link) octets)) due part
+    λ failed.
+    let part = subst (λ (r : Result (Unit {0}) StopCause). OnErr r (GrewByPart (g.L.Sink.took c.self.inside.link) (g.L.Sink.took c.write.new.link) c.deref.result.now)) failed c.write.ensures.part in
+    subst (λ (octets : List ℕ). GrewByPart c.args.self.now.took (g.L.Sink.took c.write.new.link) octets) due
+    (subst (λ (told : Option (List ℕ)). GrewByPart told (g.L.Sink.took c.write.new.link) c.deref.result.now) before part)
