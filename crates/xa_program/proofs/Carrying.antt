@@ -33,7 +33,7 @@ use Rattle.xa_play.proofs.Newest.{gone, served}
 use Rattle.xa_play.specs.Refusal.{IsAdmitted, IsRefused}
 use Rattle.xa_play.proofs.After.{IsShown, up_served, up_refused, down_refused}
 use Rattle.xa_program.specs.Lives.{lives_of}
-use Rattle.xa_program.specs.Progress.{IsPlayingAt, IsPlaying, IsServing, HasFallen, NeverStarted, IsLive, Exchanged, CarriedTo, IsCarried, IsTurnedDown, outcome_heard, cause_heard, cause_by}
+use Rattle.xa_program.specs.Progress.{IsPlayingAt, IsPlaying, SameCounts, IsServing, HasFallen, NeverStarted, IsLive, Exchanged, CarriedTo, IsCarried, IsTurnedDown, outcome_heard, cause_heard, cause_by}
 use Rattle.xa_program.proofs.Pipes.{life_kept}
 use Rattle.xa_program.proofs.Turns.{sound_return, sound_lost, idle_return, ends_exit, ends_lost, awaited_ends, serving_on, fallen_behind, fallen_exit, fallen_lost}
 use Rattle.xa_program.proofs.Playing.{playing_fallen, playing_served, reverse_falls, reverse_refused, refused_while_up, refused_while_down, shown_by}
@@ -71,35 +71,35 @@ module _ (service name : List ℕ) (n m : ℕ) (ops : List Op) (ask : Ask) (hist
       (served service (n + 1) (m + 1) ask.payload (lost_by cause) (Some cause) (reply_of (lost_by cause)) past) now (lines ++ line_text name (n + 1) (AnsweredReply 0 (reply_of (lost_by cause)))) printed after
       (playing_served service name n m ops ask history past lines (lost_by cause) (Some cause) old serving.up admitted plain (sound_lost service past cause) ends)
       (subst (λ (p : Piped). HasFallen service (served service (n + 1) (m + 1) ask.payload (lost_by cause) (Some cause) (reply_of (lost_by cause)) past) p) (sym same)
-      (fallen_lost service n m ask.payload past before mid serving small cause (reply_of (lost_by cause)) exchanged.0 exchanged.1))
+      (fallen_lost service n m ask.payload past before mid serving small cause (reply_of (lost_by cause)) exchanged.0 exchanged.1 exchanged.2))
       (reverse_served service (n + 1) (m + 1) ask.payload (lost_by cause) (Some cause) history) noted told)
 
   -- it ended with a RETURN that has TPEXIT
   exited : (up : Bool) (now : List Event) (code : ℤ) (back : Data) → Grew before.took mid.took (spelled (invoke_frame service (m + 1) ask.payload))
-      → ((frames : List Frame) → HasRead before frames → HasRead mid (frames ++ return_frame (m + 1) ExitValue code back ∷ [])) → HasSpelling (return_frame (m + 1) ExitValue code back) → printed ≡ lines ++ line_text name (n + 1) (AnsweredReply 0 (reply_of (outcome_by (play_setup service) ExitValue code back)))
+      → ((frames : List Frame) → HasRead before frames → HasRead mid (frames ++ return_frame (m + 1) ExitValue code back ∷ [])) → HasSpelling (return_frame (m + 1) ExitValue code back) → SameCounts before mid → printed ≡ lines ++ line_text name (n + 1) (AnsweredReply 0 (reply_of (outcome_by (play_setup service) ExitValue code back)))
       → CarriedTo up service (n + 1) (m + 1) ask.payload (outcome_by (play_setup service) ExitValue code back) (Some Exit) history now mid after → Known up service name (n + 1) (m + 1) (ops ++ Call ask ∷ []) now printed after
-  exited up now code back grew reads spelling told (down, noted, same) =
+  exited up now code back grew reads spelling counts told (down, noted, same) =
       let o = outcome_by (play_setup service) ExitValue code back in
       subst (λ (b : Bool). Known b service name (n + 1) (m + 1) (ops ++ Call ask ∷ []) now printed after) (sym down)
       (known_at false service name (n + 1) (m + 1) (ops ++ Call ask ∷ []) (history ++ in_order service (n + 1) (m + 1) ask.payload o (Some Exit) (reply_of o))
       (served service (n + 1) (m + 1) ask.payload o (Some Exit) (reply_of o) past) now (lines ++ line_text name (n + 1) (AnsweredReply 0 (reply_of o))) printed after
       (playing_served service name n m ops ask history past lines o (Some Exit) old serving.up admitted plain (sound_return service past ExitValue code back) (ends_exit service code back))
       (subst (λ (p : Piped). HasFallen service (served service (n + 1) (m + 1) ask.payload o (Some Exit) (reply_of o) past) p) (sym same)
-      (fallen_exit service n m ask.payload past before mid serving small code back spelling (reply_of o) grew reads))
+      (fallen_exit service n m ask.payload past before mid serving small code back spelling (reply_of o) grew reads counts))
       (reverse_served service (n + 1) (m + 1) ask.payload o (Some Exit) history) noted told)
 
   -- the server's program went on, or its life ended behind the RETURN
   returned : (up : Bool) (now : List Event) (value : Rval) (code : ℤ) (back : Data) → turn_behind value ≡ AwaitsNext → Grew before.took mid.took (spelled (invoke_frame service (m + 1) ask.payload))
-      → ((frames : List Frame) → HasRead before frames → HasRead mid (frames ++ return_frame (m + 1) value code back ∷ [])) → HasSpelling (return_frame (m + 1) value code back) → printed ≡ lines ++ line_text name (n + 1) (AnsweredReply 0 (reply_of (outcome_by (play_setup service) value code back)))
+      → ((frames : List Frame) → HasRead before frames → HasRead mid (frames ++ return_frame (m + 1) value code back ∷ [])) → HasSpelling (return_frame (m + 1) value code back) → SameCounts before mid → printed ≡ lines ++ line_text name (n + 1) (AnsweredReply 0 (reply_of (outcome_by (play_setup service) value code back)))
       → CarriedTo up service (n + 1) (m + 1) ask.payload (outcome_by (play_setup service) value code back) None history now mid after → Known up service name (n + 1) (m + 1) (ops ++ Call ask ∷ []) now printed after
-  returned true now value code back turn grew reads spelling told (same, (noted, freed)) =
+  returned true now value code back turn grew reads spelling counts told (same, (noted, freed, kept)) =
       let o = outcome_by (play_setup service) value code back in
       known_at true service name (n + 1) (m + 1) (ops ++ Call ask ∷ []) (history ++ in_order service (n + 1) (m + 1) ask.payload o None (reply_of o))
       (served service (n + 1) (m + 1) ask.payload o None (reply_of o) past) now (lines ++ line_text name (n + 1) (AnsweredReply 0 (reply_of o))) printed after
       (playing_served service name n m ops ask history past lines o None old serving.up admitted plain (sound_return service past value code back) (idle_return service value code back))
-      (serving_on service n m ask.payload past before mid serving small value code back spelling (reply_of o) grew reads after turn same freed)
+      (serving_on service n m ask.payload past before mid serving small value code back spelling (reply_of o) grew reads counts after turn same freed kept)
       (reverse_served service (n + 1) (m + 1) ask.payload o None history) noted told
-  returned false now value code back turn grew reads spelling told (same, (cause, noted, ceased)) =
+  returned false now value code back turn grew reads spelling counts told (same, (cause, noted, ceased, fails)) =
       let o = outcome_by (play_setup service) value code back in
       let between = served service (n + 1) (m + 1) ask.payload o None (reply_of o) past in
       let ends = ceased server_name 0 (serving.frames ++ return_frame (m + 1) value code back ∷ []) (reads serving.frames serving.read) in
@@ -110,20 +110,20 @@ module _ (service name : List ℕ) (n m : ℕ) (ops : List Op) (ask : Ask) (hist
       (playing_fallen service name 1 (n + 1) (m + 1) (ops ++ Call ask ∷ []) so_far between (lines ++ line_text name (n + 1) (AnsweredReply 0 (reply_of o))) cause
       (playing_served service name n m ops ask history past lines o None old serving.up admitted plain (sound_return service past value code back) (idle_return service value code back))
       (up_served service n m ask.payload o (reply_of o) past (idle_return service value code back) serving.up) other.0 other.1)
-      (fallen_behind service n m ask.payload past before mid serving small value code back spelling (reply_of o) grew reads after cause turn same ceased)
+      (fallen_behind service n m ask.payload past before mid serving small value code back spelling (reply_of o) grew reads counts after cause turn same ceased fails)
       (reverse_falls so_far service cause ∙ ap (λ (es : List Event). gone service (Stop (stop cause) ∷ es)) (reverse_served service (n + 1) (m + 1) ask.payload o None history)) noted told
 
   by_value : (up : Bool) (now : List Event) (value : Rval) (code : ℤ) (back : Data) → Grew before.took mid.took (spelled (invoke_frame service (m + 1) ask.payload))
-      → ((frames : List Frame) → HasRead before frames → HasRead mid (frames ++ return_frame (m + 1) value code back ∷ [])) → HasSpelling (return_frame (m + 1) value code back) → printed ≡ lines ++ line_text name (n + 1) (AnsweredReply 0 (reply_of (outcome_by (play_setup service) value code back)))
+      → ((frames : List Frame) → HasRead before frames → HasRead mid (frames ++ return_frame (m + 1) value code back ∷ [])) → HasSpelling (return_frame (m + 1) value code back) → SameCounts before mid → printed ≡ lines ++ line_text name (n + 1) (AnsweredReply 0 (reply_of (outcome_by (play_setup service) value code back)))
       → CarriedTo up service (n + 1) (m + 1) ask.payload (outcome_by (play_setup service) value code back) (cause_by value) history now mid after → Known up service name (n + 1) (m + 1) (ops ++ Call ask ∷ []) now printed after
-  by_value up now Success code back grew reads spelling told carried = returned up now Success code back refl grew reads spelling told carried
-  by_value up now Fail code back grew reads spelling told carried = returned up now Fail code back refl grew reads spelling told carried
-  by_value up now ExitValue code back grew reads spelling told carried = exited up now code back grew reads spelling told carried
+  by_value up now Success code back grew reads spelling counts told carried = returned up now Success code back refl grew reads spelling counts told carried
+  by_value up now Fail code back grew reads spelling counts told carried = returned up now Fail code back refl grew reads spelling counts told carried
+  by_value up now ExitValue code back grew reads spelling counts told carried = exited up now code back grew reads spelling counts told carried
 
   pub carried_on : (up : Bool) (now : List Event) (heard : Result Return StopCause) → Exchanged service (m + 1) ask.payload before mid heard
       → printed ≡ lines ++ line_text name (n + 1) (AnsweredReply 0 (reply_of (outcome_heard service heard)))
       → CarriedTo up service (n + 1) (m + 1) ask.payload (outcome_heard service heard) (cause_heard heard) history now mid after → Known up service name (n + 1) (m + 1) (ops ++ Call ask ∷ []) now printed after
-  carried_on up now (Ok back) exchanged told carried = by_value up now back.value back.code back.payload exchanged.0 exchanged.1 exchanged.2 told carried
+  carried_on up now (Ok back) exchanged told carried = by_value up now back.value back.code back.payload exchanged.0 exchanged.1 exchanged.2 exchanged.3 told carried
   carried_on up now (Err cause) exchanged told carried = lost up now cause exchanged told carried
 
 pub carried_at : (up : Bool) (service name : List ℕ) (n m op : ℕ) (ops : List Op) (ask : Ask) (history now : List Event) (lines printed : List ℕ) (before after : Piped) → op ≡ n + 1 → m + 1 < 2 ^ 32
@@ -146,6 +146,8 @@ module _ (service : List ℕ) (n : ℕ) (fault : Fault) (evidence : Evidence) (p
     says = subst (λ (os : List Outcome). Says (play_setup service) server_name os old.frames IdleTurn) (sym (append-nil (outcomes_in 1 1 past))) old.says;
     wrote = subst (λ (fs : List Frame). Wrote pipe fs) (sym (append-nil (frames_out 1 1 past))) old.wrote;
     read = old.read;
+    well = old.well;
+    stops = ((λ h. cc h), old.stops);
     invoked = old.invoked;
     ended = ap length (append-nil (outcomes_in 1 1 past)) ∙ old.ended;
     lives = append-nil (lives_of past) ∙ old.lives;
@@ -155,7 +157,7 @@ module _ (service : List ℕ) (n : ℕ) (fault : Fault) (evidence : Evidence) (p
   fallen_turned : IsShown 2 fault evidence → HasFallen service past pipe → HasFallen service turned pipe
   fallen_turned shown old = record {
     down = down_refused service n fault evidence past old.down shown;
-    life = life_kept pipe.took pipe.gave pipe.left pipe.reads pipe.writes service past turned (append-nil (frames_out 1 1 past)) (append-nil (outcomes_in 1 1 past)) refl old.life;
+    life = life_kept pipe.took pipe.gave pipe.left pipe.reads pipe.writes service past turned (append-nil (frames_out 1 1 past)) (append-nil (outcomes_in 1 1 past)) refl (λ stops. ((λ h. cc h), stops)) old.life;
     lives = append-nil (lives_of past) ∙ old.lives;
     failed = old.failed;
   }

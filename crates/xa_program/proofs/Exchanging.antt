@@ -1,40 +1,70 @@
 -- What goes through the pipes at an exchange.
-use Rattle.std.proofs.Common.{◌≡◌, ℕ, List, [], ◌∷◌, ◌++◌, length, Option, Ok, Err, inr, sym, ◌∙◌, subst, arith, take_all}
-use Rattle.std.specs.Prelude.{Result, IfOk, IfErr}
+use Rattle.std.proofs.Common.{◌≡◌, ◌⊎◌, ℕ, List, [], ◌∷◌, ◌++◌, Option, Ok, Err, inl, inr, ◌∙◌, subst}
+use Rattle.std.specs.Prelude.{Result, IfOk, IfErr, OnOk}
 use Rattle.xa_types.specs.declared.data.Data.{Data}
-use Rattle.xa_link.specs.Told.{Grew, GrewByPrefix}
+use Rattle.xa_link.specs.Told.{Grew}
 use Rattle.xa_events.specs.declared.event.StopCause.{StopCause}
 use Rattle.xa_events.specs.declared.event.StopCause.TheVariants.{Shutdown, Exit, EndOfInput, ReadFault, WriteFault, BadBytes, OutOfTurn, Starved}
 use Rattle.xa_frame.specs.declared.frame.Frame.{Frame}
 use Rattle.xa_frame.specs.Spelling.{spelled, HasSpelling}
 use Rattle.xa_pipe.specs.Frames.{return_frame}
+use Rattle.xa_pipe.specs.Life.{IsCounted}
 use Rattle.xa_pipe.specs.Life.Turn.{Serving}
-use Rattle.xa_pipe.specs.Pipe.{invoke_frame, Piped, HasRead, Ceases}
+use Rattle.xa_pipe.specs.Pipe.{invoke_frame, Piped, HasRead, Ceases, CountsReads, CountsWrites}
 use Rattle.xa_pipe.specs.declared.hearing.Return.{Return}
 use Rattle.xa_pipe.proofs.Frames.{read_same}
-use Rattle.xa_program.specs.Progress.{Sends, Exchanged}
+use Rattle.xa_program.specs.Progress.{NoneFailed, SameCounts, FailsReading, FailsWriting, Sends, Exchanged}
 
-pub whole_prefix : (before after : Option (List ℕ)) (octets : List ℕ) → Grew before after octets → GrewByPrefix before after octets
-whole_prefix before after octets grew = (length octets, omega arith, subst (λ (piece : List ℕ). Grew before after piece) (sym (take_all (length octets) octets (omega arith))) grew)
+-- what the counts of a link are where reading failed
+pub counted_reading : (cause : StopCause) (reads reads_now writes writes_now : ℕ) → CountsReads cause reads reads_now → writes_now ≡ writes → reads ≡ 0 → writes ≡ 0 → IsCounted cause reads_now writes_now
+counted_reading ReadFault reads reads_now writes writes_now counts same no_reads no_writes = (counts, same ∙ no_writes)
+counted_reading WriteFault reads reads_now writes writes_now counts same no_reads no_writes = absurd counts
+counted_reading Shutdown reads reads_now writes writes_now counts same no_reads no_writes = (counts ∙ no_reads, same ∙ no_writes)
+counted_reading Exit reads reads_now writes writes_now counts same no_reads no_writes = (counts ∙ no_reads, same ∙ no_writes)
+counted_reading EndOfInput reads reads_now writes writes_now counts same no_reads no_writes = (counts ∙ no_reads, same ∙ no_writes)
+counted_reading (BadBytes place) reads reads_now writes writes_now counts same no_reads no_writes = (counts ∙ no_reads, same ∙ no_writes)
+counted_reading (OutOfTurn kind tag) reads reads_now writes writes_now counts same no_reads no_writes = (counts ∙ no_reads, same ∙ no_writes)
+counted_reading Starved reads reads_now writes writes_now counts same no_reads no_writes = (counts ∙ no_reads, same ∙ no_writes)
+
+-- and where writing failed
+pub counted_writing : (cause : StopCause) (reads reads_now writes writes_now : ℕ) → CountsWrites cause writes writes_now → reads_now ≡ reads → reads ≡ 0 → writes ≡ 0 → IsCounted cause reads_now writes_now
+counted_writing WriteFault reads reads_now writes writes_now counts same no_reads no_writes = (same ∙ no_reads, counts)
+counted_writing Starved reads reads_now writes writes_now counts same no_reads no_writes = (same ∙ no_reads, counts ∙ no_writes)
+counted_writing cause reads reads_now writes writes_now counts same no_reads no_writes = absurd counts
+
+pub counted_since : (cause : StopCause) (before after : Piped) → NoneFailed before → FailsReading cause before after → IsCounted cause after.reads after.writes
+counted_since cause before after none fails = counted_reading cause before.reads after.reads before.writes after.writes fails.0 fails.1 none.0 none.1
+
+pub counted_either : (cause : StopCause) (before after : Piped) → NoneFailed before → FailsReading cause before after ⊎ FailsWriting cause before after → IsCounted cause after.reads after.writes
+counted_either cause before after none (inl fails) = counted_since cause before after none fails
+counted_either cause before after none (inr fails) = counted_writing cause before.reads after.reads before.writes after.writes fails.0 fails.1 none.0 none.1
+
+pub none_since : (before after : Piped) → NoneFailed before → SameCounts before after → NoneFailed after
+none_since before after none same = (same.0 ∙ none.0, same.1 ∙ none.1)
 
 -- the whole request was sent, whatever came then
-pub sent_whole : (cause : StopCause) (before after : Option (List ℕ)) (octets : List ℕ) → Grew before after octets → Sends cause before after octets
-sent_whole WriteFault before after octets grew = whole_prefix before after octets grew
-sent_whole Starved before after octets grew = inr grew
-sent_whole Shutdown before after octets grew = grew
-sent_whole Exit before after octets grew = grew
-sent_whole EndOfInput before after octets grew = grew
-sent_whole ReadFault before after octets grew = grew
-sent_whole (BadBytes place) before after octets grew = grew
-sent_whole (OutOfTurn kind tag) before after octets grew = grew
+sent_whole : (cause : StopCause) (reads reads_now : ℕ) (before after : Option (List ℕ)) (octets : List ℕ) → CountsReads cause reads reads_now → Grew before after octets → Sends cause before after octets
+sent_whole WriteFault reads reads_now before after octets counts grew = absurd counts
+sent_whole Starved reads reads_now before after octets counts grew = inr grew
+sent_whole Shutdown reads reads_now before after octets counts grew = grew
+sent_whole Exit reads reads_now before after octets counts grew = grew
+sent_whole EndOfInput reads reads_now before after octets counts grew = grew
+sent_whole ReadFault reads reads_now before after octets counts grew = grew
+sent_whole (BadBytes place) reads reads_now before after octets counts grew = grew
+sent_whole (OutOfTurn kind tag) reads reads_now before after octets counts grew = grew
 
 pub heard_so : (service : List ℕ) (number : ℕ) (payload : Data) (before mid after : Piped) (heard : Result Return StopCause)
-    → Grew before.took mid.took (spelled (invoke_frame service number payload)) → mid.gave ≡ before.gave → mid.rest ≡ before.rest → mid.place ≡ before.place → after.took ≡ mid.took
+    → Grew before.took mid.took (spelled (invoke_frame service number payload)) → mid.gave ≡ before.gave → mid.rest ≡ before.rest → mid.place ≡ before.place → SameCounts before mid → after.took ≡ mid.took → after.writes ≡ mid.writes
     → IfOk heard (λ back. (frames : List Frame) → HasRead mid frames → HasRead after (frames ++ return_frame number back.value back.code back.payload ∷ []))
     → IfOk heard (λ back. HasSpelling (return_frame number back.value back.code back.payload))
+    → OnOk heard (after.reads ≡ mid.reads)
     → IfErr heard (λ cause. (name : List ℕ) (frames : List Frame) → HasRead mid frames → Ceases name number Serving frames after cause)
+    → IfErr heard (λ cause. CountsReads cause mid.reads after.reads)
     → Exchanged service number payload before after heard
-heard_so service number payload before mid after (Ok back) took gave rest place same read spelling why =
-    (same ∙ took, (λ frames old. read frames (read_same before mid frames gave rest place old)), spelling)
-heard_so service number payload before mid after (Err cause) took gave rest place same read spelling why =
-    (sent_whole cause before.took after.took (spelled (invoke_frame service number payload)) (same ∙ took), λ name frames old. why name frames (read_same before mid frames gave rest place old))
+heard_so service number payload before mid after (Ok back) took gave rest place counts same writes read spelling well why counted =
+    (same ∙ took, (λ frames old. read frames (read_same before mid frames gave rest place old)), spelling, (well ∙ counts.0, writes ∙ counts.1))
+heard_so service number payload before mid after (Err cause) took gave rest place counts same writes read spelling well why counted = (
+  sent_whole cause mid.reads after.reads before.took after.took (spelled (invoke_frame service number payload)) counted (same ∙ took),
+  (λ name frames old. why name frames (read_same before mid frames gave rest place old)),
+  inl (subst (λ (reads : ℕ). CountsReads cause reads after.reads) counts.0 counted, writes ∙ counts.1),
+)

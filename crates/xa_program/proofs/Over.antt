@@ -11,6 +11,8 @@ use Rattle.xa_events.specs.declared.event.StopCause.{StopCause}
 use Rattle.xa_events.specs.declared.event.StopCause.TheVariants.{Shutdown, Exit, WriteFault, Starved}
 use Rattle.xa_events.specs.declared.event.Doing.TheVariants.{Idle}
 use Rattle.xa_events.specs.Board.{changes}
+use Rattle.xa_events.specs.Queue.{is_closed}
+use Rattle.xa_types.specs.Setup.{queue_of}
 use Rattle.xa_events.specs.State.{opening}
 use Rattle.xa_events.specs.Caller.{last_op}
 use Rattle.xa_events.specs.Order.{TakesInOrder}
@@ -41,9 +43,10 @@ use Rattle.xa_play.proofs.Told.{Keeps, keeps_on, each_kept, lines_kept}
 use Rattle.xa_play.proofs.ToldCalls.{keeps_leave, keeps_closed, keeps_shut, keeps_fallen}
 use Rattle.xa_program.specs.Headline.{IsHistoryAt, EachMadeCalls, names_of}
 use Rattle.xa_program.specs.Lives.{lives_of}
-use Rattle.xa_program.specs.Progress.{IsPlaying, IsServing, HasFallen, NeverStarted, IsLive, HasMade, IsLeavingAt, IsLeaving, IsOver, HasLived, HasNotLived, ReadNothing, SendFails, IsDone, Greets}
+use Rattle.xa_program.specs.Progress.{IsPlaying, NoneFailed, IsServing, HasFallen, NeverStarted, IsLive, HasMade, IsLeavingAt, IsLeaving, IsOver, HasLived, HasNotLived, ReadNothing, SendFails, IsDone, Greets}
 use Rattle.xa_program.proofs.Pipes.{out_fallen, outcomes_fallen, lives_fallen, life_kept, wrote_more, not_written, took_all, took_no_shutdown}
 use Rattle.xa_program.proofs.Turns.{awaited_ends}
+use Rattle.xa_program.proofs.Exchanging.{counted_since, none_since}
 use Rattle.xa_program.proofs.Playing.{playing_fallen}
 
 -- ---- the beginning
@@ -72,13 +75,15 @@ playing_begun service name clients = record {
 ready_spelled : HasSpelling (ready_frame server_name)
 ready_spelled = record { tag = omega arith; body = refl }
 
-pub serving_begun : (service : List ℕ) (pipe : Piped) → Wrote pipe [] → HasRead pipe (ready_frame server_name ∷ next_frame ∷ []) → IsServing service 0 (begun service) pipe
-serving_begun service pipe wrote read = record {
+pub serving_begun : (service : List ℕ) (pipe : Piped) → Wrote pipe [] → HasRead pipe (ready_frame server_name ∷ next_frame ∷ []) → NoneFailed pipe → IsServing service 0 (begun service) pipe
+serving_begun service pipe wrote read well = record {
   up = up_begun service;
   frames = ready_frame server_name ∷ next_frame ∷ [];
   says = Free (Named ready_spelled);
   wrote = wrote;
   read = read;
+  well = well;
+  stops = ((λ h. cc h), ((λ h. cc h), tt));
   invoked = refl;
   ended = refl;
   lives = refl;
@@ -102,8 +107,8 @@ not_writing turn (inl is) = rw is refl
 not_writing turn (inr is) = rw is refl
 
 -- the server's life ended as it was to greet
-pub fallen_begun : (service : List ℕ) (pipe : Piped) (cause : StopCause) → Wrote pipe [] → CutOff (play_setup service) server_name [] pipe cause → HasFallen service (gone service (Stop (stop cause) ∷ begun service)) pipe
-fallen_begun service pipe cause wrote cut =
+pub fallen_begun : (service : List ℕ) (pipe : Piped) (cause : StopCause) → Wrote pipe [] → CutOff (play_setup service) server_name [] pipe cause → IsCounted cause pipe.reads pipe.writes → HasFallen service (gone service (Stop (stop cause) ∷ begun service)) pipe
+fallen_begun service pipe cause wrote cut counted =
     let other = awaited_ends cause cut.turn cut.ceases.may (not_idle cut.turn cut.greets) (not_exited cut.turn cut.greets) in
     record {
       down = down_fallen service cause (begun service) (Idle (record { 0 = 1 })) (up_begun service);
@@ -116,7 +121,8 @@ fallen_begun service pipe cause wrote cut =
         ended = outcomes_fallen service cause (begun service) other.0 ∙ none_lost cause cut.turn cut.greets;
         says = cut.says;
         may = cut.ceases.may;
-        counted = cut.ceases.counted;
+        closed = λ idle. absurd (not_idle cut.turn cut.greets idle);
+        counted = counted;
         took_frames = took_all pipe.took cause cut.turn (frames_out 1 1 (gone service (Stop (stop cause) ∷ begun service))) (not_written cause cut.turn cut.ceases.may (not_writing cut.turn cut.greets)) (subst (λ (fs : List Frame). Wrote pipe fs) (sym (out_fallen service cause (begun service) other.0)) wrote);
         gave_frames = cut.ceases.gave;
       };
@@ -203,6 +209,8 @@ live_left true service m past pipe old = record {
   says = subst (λ (os : List Outcome). Says (play_setup service) server_name os old.frames IdleTurn) (sym (append-nil (outcomes_in 1 1 past))) old.says;
   wrote = subst (λ (fs : List Frame). Wrote pipe fs) (sym (append-nil (frames_out 1 1 past))) old.wrote;
   read = old.read;
+  well = old.well;
+  stops = ((λ h. cc h), old.stops);
   invoked = old.invoked;
   ended = ap length (append-nil (outcomes_in 1 1 past)) ∙ old.ended;
   lives = append-nil (lives_of past) ∙ old.lives;
@@ -210,7 +218,7 @@ live_left true service m past pipe old = record {
 }
 live_left false service m past pipe old = record {
   down = down_left service past old.down;
-  life = life_kept pipe.took pipe.gave pipe.left pipe.reads pipe.writes service past (Leave (record { 0 = 1 }) ∷ past) (append-nil (frames_out 1 1 past)) (append-nil (outcomes_in 1 1 past)) refl old.life;
+  life = life_kept pipe.took pipe.gave pipe.left pipe.reads pipe.writes service past (Leave (record { 0 = 1 }) ∷ past) (append-nil (frames_out 1 1 past)) (append-nil (outcomes_in 1 1 past)) refl (λ stops. ((λ h. cc h), stops)) old.life;
   lives = append-nil (lives_of past) ∙ old.lives;
   failed = old.failed;
 }
@@ -313,13 +321,18 @@ module _ (service : List ℕ) (clients : List Client) (history : List Event) (li
 
 closed_none : (service : List ℕ) (past : List Event) (pipe : Piped) → HasFallen service past pipe → HasLived service (closed past) pipe
 closed_none service past pipe old = record {
-  life = life_kept pipe.took pipe.gave pipe.left pipe.reads pipe.writes service past (closed past) (append-nil (frames_out 1 1 past)) (append-nil (outcomes_in 1 1 past)) refl old.life;
+  life = life_kept pipe.took pipe.gave pipe.left pipe.reads pipe.writes service past (closed past) (append-nil (frames_out 1 1 past)) (append-nil (outcomes_in 1 1 past)) refl (λ stops. ((λ h. cc h), stops)) old.life;
   lives = append-nil (lives_of past) ∙ old.lives;
   failed = old.failed;
 }
 
-shut_lived : (service : List ℕ) (m : ℕ) (past : List Event) (before after : Piped) → IsServing service m past before → ReadNothing before after → (Wrote after (frames_out 1 1 past ++ shutdown_frame ∷ [])) → HasLived service (Stop (stop Shutdown) ∷ closed past) after
-shut_lived service m past before after old same wrote =
+-- behind its close the queue is closed
+closed_now : (service : List ℕ) (past : List Event) → is_closed (queue_of (play_setup service) 1) (closed past) ≡ true
+unfolding is_closed
+closed_now service past = refl
+
+shut_lived : (service : List ℕ) (m : ℕ) (past : List Event) (before after : Piped) → IsServing service m past before → ReadNothing before after → (Wrote after (frames_out 1 1 past ++ shutdown_frame ∷ [])) → after.writes ≡ before.writes → HasLived service (Stop (stop Shutdown) ∷ closed past) after
+shut_lived service m past before after old same wrote writes =
     let out : frames_out 1 1 (Stop (stop Shutdown) ∷ closed past) ≡ frames_out 1 1 past ++ shutdown_frame ∷ [] = ap (λ (fs : List Frame). fs ++ shutdown_frame ∷ []) (append-nil (frames_out 1 1 past)) in
     let outcomes : outcomes_in 1 1 (Stop (stop Shutdown) ∷ closed past) ≡ outcomes_in 1 1 past = append-nil _ ∙ append-nil _ in
     record {
@@ -332,7 +345,8 @@ shut_lived service m past before after old same wrote =
         ended = outcomes;
         says = old.says;
         may = refl;
-        counted = tt;
+        closed = λ idle. ((λ h. closed_now service past), ((λ h. cc h), old.stops));
+        counted = (same.reads ∙ old.well.0, writes ∙ old.well.1);
         took_frames = took_all after.took Shutdown IdleTurn (frames_out 1 1 (Stop (stop Shutdown) ∷ closed past)) (λ e. cc e) (subst (λ (fs : List Frame). Wrote after fs) (sym out) wrote);
         gave_frames = told_more after.gave _ _ (λ octets e. (after.rest, e, tt)) (read_same before after old.frames same.gave same.rest same.place old.read).told;
       };
@@ -364,6 +378,7 @@ dropped_so service m past before after cause old same fails other may counted sh
         ended = (outcomes_fallen service cause (closed past) other ∙ append-nil (outcomes_in 1 1 past)) ∙ sym (same_outcomes cause (outcomes_in 1 1 past));
         says = old.says;
         may = may;
+        closed = λ idle. ((λ h. cc h), ((λ h. cc h), ((λ h. cc h), ((λ h. closed_now service past), ((λ h. cc h), old.stops)))));
         counted = counted;
         took_frames = subst (λ (fs : List Frame). IfSome after.took (TookBy cause IdleTurn fs)) (sym out) (took_no_shutdown cause before after (frames_out 1 1 past) old.wrote fails);
         gave_frames = told_more after.gave _ _ (λ octets e. (after.rest, e, shows after.rest)) (read_same before after old.frames same.gave same.rest same.place old.read).told;
@@ -374,8 +389,8 @@ dropped_so service m past before after cause old same fails other may counted sh
 
 pub dropped_lived : (service : List ℕ) (m : ℕ) (past : List Event) (before after : Piped) (cause : StopCause) → IsServing service m past before → ReadNothing before after → SendFails cause before after (spelled shutdown_frame)
     → HasLived service (gone service (Stop (stop cause) ∷ closed past)) after
-dropped_lived service m past before after WriteFault old same fails = dropped_so service m past before after WriteFault old same fails refl refl fails.0 (λ rest. tt)
-dropped_lived service m past before after Starved old same fails = dropped_so service m past before after Starved old same fails refl refl tt (λ rest. tt)
+dropped_lived service m past before after WriteFault old same fails = dropped_so service m past before after WriteFault old same fails refl refl (same.reads ∙ old.well.0, fails.0) (λ rest. tt)
+dropped_lived service m past before after Starved old same fails = dropped_so service m past before after Starved old same fails refl refl (same.reads ∙ old.well.0, fails.0 ∙ old.well.1) (λ rest. tt)
 dropped_lived service m past before after cause old same fails = absurd fails
 
 -- ---- the run is over
@@ -389,11 +404,11 @@ done false service clients m history now lines before after left live (noted, sa
       subst (λ (es : List Event). HasLived service es after) (sym (reverse-append history (Close (record { 0 = 1 }) ∷ [])))
           (subst (λ (p : Piped). HasLived service (closed (reverse history)) p) (sym same) (closed_none service (reverse history) before live)),
     )
-done true service clients m history now lines before after left live (same, inl (noted, grew)) =
+done true service clients m history now lines before after left live (same, inl (noted, grew, writes)) =
     subst (λ (es : List Event). IsOver service clients es lines × HasLived service (reverse es) after) (sym noted) (
       over_shut service clients history lines left live.up,
       subst (λ (es : List Event). HasLived service es after) (sym (reverse-append history (Close (record { 0 = 1 }) ∷ Stop (stop Shutdown) ∷ [])))
-          (shut_lived service m (reverse history) before after live same (wrote_more before.took after.took (frames_out 1 1 (reverse history)) shutdown_frame live.wrote grew)),
+          (shut_lived service m (reverse history) before after live same (wrote_more before.took after.took (frames_out 1 1 (reverse history)) shutdown_frame live.wrote grew) writes),
     )
 done true service clients m history now lines before after left live (same, inr (cause, noted, fails)) =
     let other = send_fails cause before after (spelled shutdown_frame) fails in
@@ -433,15 +448,15 @@ pub board_never : (service : List ℕ) (past : List Event) → NeverStarted serv
 board_never service past never = omega (arith, ap length never.down.board)
 
 -- behind the greeting
-pub greeted : (up : Bool) (service : List ℕ) (history now : List Event) (lines : List ℕ) (before after : Piped) → history ≡ Advertise (advertise service) ∷ Start start ∷ [] → lines ≡ [] → Wrote before [] → HasRead before [] → after.took ≡ before.took
+pub greeted : (up : Bool) (service : List ℕ) (history now : List Event) (lines : List ℕ) (before after : Piped) → history ≡ Advertise (advertise service) ∷ Start start ∷ [] → lines ≡ [] → Wrote before [] → HasRead before [] → NoneFailed before → after.took ≡ before.took
     → Greets up service history now before after → ((name : List ℕ) (clients : ℕ) → IsPlaying service name clients 0 0 [] now lines) × IsLive up service 0 (reverse now) after
-greeted true service history now lines before after is silent wrote read took (same, greets) =
+greeted true service history now lines before after is silent wrote read well took (same, greets, kept) =
     let events : now ≡ Advertise (advertise service) ∷ Start start ∷ [] = same ∙ is in (
       λ name clients. subst (λ (es : List Event). IsPlaying service name clients 0 0 [] es lines) (sym events) (subst (λ (text : List ℕ). IsPlaying service name clients 0 0 [] (Advertise (advertise service) ∷ Start start ∷ []) text) (sym silent) (playing_begun service name clients)),
       subst (λ (es : List Event). IsServing service 0 (reverse es) after) (sym events)
-          (serving_begun service after (subst (λ (t : Option (List ℕ)). IfSome t (λ octets. octets ≡ [])) (sym took) wrote) (greets read)),
+          (serving_begun service after (subst (λ (t : Option (List ℕ)). IfSome t (λ octets. octets ≡ [])) (sym took) wrote) (greets read) (none_since before after well kept)),
     )
-greeted false service history now lines before after is silent wrote read took (cause, noted, cut) =
+greeted false service history now lines before after is silent wrote read well took (cause, noted, cut, fails) =
     let first = Advertise (advertise service) ∷ Start start ∷ [] in
     let events : now ≡ first ++ falls service (Some cause) = noted ∙ ap (λ (es : List Event). es ++ falls service (Some cause)) is in
     let ended = cut read in
@@ -450,7 +465,7 @@ greeted false service history now lines before after is silent wrote read took (
           (subst (λ (text : List ℕ). IsPlaying service name clients 0 0 [] (first ++ falls service (Some cause)) text) (sym silent)
           (playing_fallen service name clients 0 0 [] first (begun service) [] cause (playing_begun service name clients) (up_begun service) other.0 other.1)),
       subst (λ (es : List Event). HasFallen service (reverse es) after) (sym events)
-          (fallen_begun service after cause (subst (λ (t : Option (List ℕ)). IfSome t (λ octets. octets ≡ [])) (sym took) wrote) ended),
+          (fallen_begun service after cause (subst (λ (t : Option (List ℕ)). IfSome t (λ octets. octets ≡ [])) (sym took) wrote) ended (counted_since cause before after well fails)),
     )
 
 -- behind a start that failed

@@ -11,10 +11,11 @@ use Rattle.xa_events.specs.declared.event.Outcome.{Outcome}
 use Rattle.xa_events.specs.declared.event.StopCause.{StopCause}
 use Rattle.xa_events.specs.declared.event.StopCause.TheVariants.{Shutdown, Exit, EndOfInput, ReadFault, WriteFault, BadBytes, OutOfTurn, Starved}
 use Rattle.xa_events.specs.Server.{is_shutdown}
+use Rattle.xa_events.specs.Words.{AtEach}
 use Rattle.xa_frame.specs.declared.frame.Frame.{Frame}
 use Rattle.xa_frame.specs.Spelling.{spelled, all_spelled}
 use Rattle.xa_pipe.specs.Frames.{invocation, frames_out, shutdown_frame, farewell}
-use Rattle.xa_pipe.specs.Life.{IsLife, Turn, TookBy, outcomes_in, cause_of, is_writing, may_end}
+use Rattle.xa_pipe.specs.Life.{IsLife, StopsClosed, Turn, TookBy, outcomes_in, cause_of, is_writing, may_end}
 use Rattle.xa_pipe.specs.Life.Turn.{AwaitsReady, AwaitsNext, Idle, Serving, Exited}
 use Rattle.xa_pipe.specs.Pipe.{invoke_frame, Piped, Wrote}
 use Rattle.xa_frame.proofs.FrameLemmas.{all_spelled-push}
@@ -77,6 +78,10 @@ module _ (service : List ℕ) (n m : ℕ) (payload : Data) (outcome : Outcome) (
   pub cause_served : (cause : StopCause) → cause_of 1 1 (served service (n + 1) (m + 1) payload outcome (Some cause) answer past) ≡ Some cause
   cause_served cause = refl
 
+  -- no life ends in it, but by a cause that is named
+  pub stops_served : AtEach (StopsClosed (play_setup service) 1 1) past → AtEach (StopsClosed (play_setup service) 1 1) (served service (n + 1) (m + 1) payload outcome None answer past)
+  stops_served stops = ((λ h. cc h), ((λ h. cc h), ((λ h. cc h), ((λ h. cc h), stops))))
+
 -- ---- behind the end of the life
 
 module _ (service : List ℕ) (cause : StopCause) (past : List Event) (none : is_shutdown cause ≡ false) where
@@ -92,8 +97,9 @@ module _ (service : List ℕ) (cause : StopCause) (past : List Event) (none : is
 -- ---- behind an event that is none of the life's
 
 pub life_kept : (took gave left : Option (List ℕ)) (reads writes : ℕ) (service : List ℕ) (past now : List Event) → frames_out 1 1 now ≡ frames_out 1 1 past → outcomes_in 1 1 now ≡ outcomes_in 1 1 past → cause_of 1 1 now ≡ cause_of 1 1 past
+    → (AtEach (StopsClosed (play_setup service) 1 1) past → AtEach (StopsClosed (play_setup service) 1 1) now)
     → IsLife (play_setup service) server_name 1 1 past took gave left reads writes → IsLife (play_setup service) server_name 1 1 now took gave left reads writes
-life_kept took gave left reads writes service past now out outcomes cause life = record {
+life_kept took gave left reads writes service past now out outcomes cause stops life = record {
   cause = life.cause;
   turn = life.turn;
   outcomes = life.outcomes;
@@ -102,6 +108,7 @@ life_kept took gave left reads writes service past now out outcomes cause life =
   ended = outcomes ∙ life.ended;
   says = life.says;
   may = life.may;
+  closed = λ idle. stops (life.closed idle);
   counted = life.counted;
   took_frames = subst (λ (fs : List Frame). IfSome took (TookBy life.cause life.turn fs)) (sym out) life.took_frames;
   gave_frames = life.gave_frames;
@@ -142,7 +149,7 @@ took_grown (Some octets) now frames piece wrote grew = subst (λ o. IfSome o (λ
 
 -- the request was sent, as far as that cause lets it
 pub took_sent : (cause : StopCause) (took now : Option (List ℕ)) (frames : List Frame) (f : Frame) → IfSome took (λ octets. octets ≡ all_spelled frames) → Sends cause took now (spelled f) → IfSome now (TookBy cause Serving (frames ++ f ∷ []))
-took_sent WriteFault took now frames f wrote sent = told_more now _ _ (λ octets is. (frames, f, sent.0, refl, is)) (took_grown took now frames (take sent.0 (spelled f)) wrote sent.2)
+took_sent WriteFault took now frames f wrote sent = told_more now _ _ (λ octets is. (frames, f, sent.0, refl, sent.1, is)) (took_grown took now frames (take sent.0 (spelled f)) wrote sent.2)
 took_sent Starved took now frames f wrote (inl same) =
     subst (λ (o : Option (List ℕ)). IfSome o (TookBy Starved Serving (frames ++ f ∷ []))) (sym same) (told_more took _ _ (λ octets is. inr (frames, f, refl, is)) wrote)
 took_sent Starved took now frames f wrote (inr grew) = took_all now Starved Serving (frames ++ f ∷ []) (λ e. cc e) (wrote_more took now frames f wrote grew)
@@ -156,7 +163,7 @@ took_sent (OutOfTurn kind tag) took now frames f wrote grew = wrote_more took no
 -- SHUTDOWN was not sent
 pub took_no_shutdown : (cause : StopCause) (before after : Piped) (frames : List Frame) → Wrote before frames → SendFails cause before after (spelled shutdown_frame) → IfSome after.took (TookBy cause Idle frames)
 took_no_shutdown WriteFault before after frames wrote (failed, part) =
-    told_more after.took _ _ (λ octets is. (frames, shutdown_frame, part.0, refl, is)) (took_grown before.took after.took frames (take part.0 (spelled shutdown_frame)) wrote part.2)
-took_no_shutdown Starved before after frames wrote same =
+    told_more after.took _ _ (λ octets is. (frames, shutdown_frame, part.0, refl, part.1, is)) (took_grown before.took after.took frames (take part.0 (spelled shutdown_frame)) wrote part.2)
+took_no_shutdown Starved before after frames wrote (counts, same) =
     subst (λ (o : Option (List ℕ)). IfSome o (TookBy Starved Idle frames)) (sym same) (took_all before.took Starved Idle frames (λ e. cc e) wrote)
 took_no_shutdown cause before after frames wrote fails = absurd fails

@@ -1,7 +1,7 @@
 -- How a run of `play` ends, by how its script was served.
 use Rattle.std.proofs.Common.{◌≡◌, ◌⊎◌, ℕ, ◌≤◌, List, [], ◌∷◌, ◌++◌, length, reverse, Option, Some, None, Ok, Err, ap, inl, inr, refl, sym, subst, arith, slice_set, slice_index_or}
 use Rattle.std.specs.Prelude.{Result, IfSome, OnOk, MatchResult}
-use Rattle.xa_link.specs.Told.{Rose, Empty, Grew, GrewByPrefix}
+use Rattle.xa_link.specs.Told.{Rose, Empty, Grew, GrewByPart}
 use Rattle.xa_events.specs.declared.event.Event.{Event}
 use Rattle.xa_script.specs.declared.script.Client.{Client}
 use Rattle.xa_pipe.specs.Life.{IsLife}
@@ -69,7 +69,7 @@ printed_ends : {L : Type 0} (tells : LinkTells L) (before after : Option (List �
     → IsServed tells asks asks_after service clients history lives → lines ≡ transcript (names_of clients) (reverse history) → Printed before after faults faults_after lines status
     → ServingEnds tells before after faults faults_after asks asks_after service clients status history lives
 printed_ends tells before after faults faults_after asks asks_after service clients history lines lives Done served said printed = (served, subst (λ text. Grew before after text) said printed)
-printed_ends tells before after faults faults_after asks asks_after service clients history lines lives WriteFault served said printed = (served, subst (λ text. GrewByPrefix before after text) said printed.0, printed.1)
+printed_ends tells before after faults faults_after asks asks_after service clients history lines lives WriteFault served said printed = (served, subst (λ text. GrewByPart before after text) said printed.0, printed.1)
 printed_ends tells before after faults faults_after asks asks_after service clients history lines lives status served said printed = absurd printed
 
 no_memory : {L : Type 0} (tells : LinkTells L) (before after : Option (List ℕ)) (faults faults_after : ℕ) (asks asks_after : StarterShows) (service : List ℕ) (clients : List Client) (history : List Event) (lives : List (Life L)) (status : Status)

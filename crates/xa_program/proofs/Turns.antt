@@ -1,5 +1,5 @@
 -- The one life at a call of `play`: it goes on, or it ends.
-use Rattle.std.proofs.Common.{◌≡◌, ℕ, ℤ, ◌+◌, ◌<◌, ◌^◌, ◌%◌, Bool, true, false, List, [], ◌∷◌, ◌++◌, length, Some, None, inl, inr, refl, sym, ◌∙◌, ap, subst}
+use Rattle.std.proofs.Common.{◌≡◌, ◌⊎◌, ℕ, ℤ, ◌+◌, ◌<◌, ◌^◌, ◌%◌, Bool, true, false, List, [], ◌∷◌, ◌++◌, length, Some, None, inl, inr, refl, sym, ◌∙◌, ap, subst}
 use Rattle.std.proofs.lemmas.List.{length_push}
 use Rattle.std.proofs.Math.Nat.{mod-eq_of_lt}
 use Rattle.std.specs.Prelude.{IfSome}
@@ -30,8 +30,9 @@ use Rattle.xa_play.proofs.Newest.{gone, served}
 use Rattle.xa_play.specs.Between.{at}
 use Rattle.xa_play.proofs.Machine.{EndsSo}
 use Rattle.xa_play.proofs.After.{up_served, down_served, down_fallen}
-use Rattle.xa_program.specs.Progress.{IsServing, HasFallen, Sends}
-use Rattle.xa_program.proofs.Pipes.{out_served, outcomes_served, invoked_served, lives_served, failed_served, out_fallen, outcomes_fallen, lives_fallen, wrote_more, not_written, took_all, took_sent}
+use Rattle.xa_program.specs.Progress.{SameCounts, FailsReading, FailsWriting, IsServing, HasFallen, Sends}
+use Rattle.xa_program.proofs.Exchanging.{counted_since, counted_either, none_since}
+use Rattle.xa_program.proofs.Pipes.{out_served, outcomes_served, invoked_served, stops_served, lives_served, failed_served, out_fallen, outcomes_fallen, lives_fallen, wrote_more, not_written, took_all, took_sent}
 
 -- ---- how requests end
 
@@ -121,7 +122,7 @@ module _ (service : List ℕ) (n m : ℕ) (payload : Data) (past : List Event) (
     says_return = subst (λ (tag : ℕ). Says (play_setup service) server_name (outcomes_in 1 1 past ++ outcome ∷ []) (old.frames ++ return_frame tag value code back ∷ []) (turn_behind value)) tag_is
         (Answers value code back (Invoked old.says) (subst (λ (tag : ℕ). HasSpelling (return_frame tag value code back)) (sym tag_is) spelling))
 
-    module _ (answer : Answer) (grew : Grew before.took mid.took (spelled (invoke_frame service (m + 1) payload))) (reads : (frames : List Frame) → HasRead before frames → HasRead mid (frames ++ return_frame (m + 1) value code back ∷ [])) where
+    module _ (answer : Answer) (grew : Grew before.took mid.took (spelled (invoke_frame service (m + 1) payload))) (reads : (frames : List Frame) → HasRead before frames → HasRead mid (frames ++ return_frame (m + 1) value code back ∷ [])) (counts : SameCounts before mid) where
       abbrev now : List Event
       now = served service (n + 1) (m + 1) payload outcome None answer past
 
@@ -129,14 +130,16 @@ module _ (service : List ℕ) (n m : ℕ) (payload : Data) (past : List Event) (
       wrote_now after same = wrote_more before.took after.took (frames_out 1 1 past) (invoke_frame service (m + 1) payload) old.wrote (same ∙ grew)
 
       -- the life goes on
-      pub serving_on : (after : Piped) → turn_behind value ≡ AwaitsNext → after.took ≡ mid.took → ((frames : List Frame) → HasRead mid frames → HasRead after (frames ++ next_frame ∷ [])) → IsServing service (m + 1) now after
-      serving_on after turn same freed = record {
+      pub serving_on : (after : Piped) → turn_behind value ≡ AwaitsNext → after.took ≡ mid.took → ((frames : List Frame) → HasRead mid frames → HasRead after (frames ++ next_frame ∷ [])) → SameCounts mid after → IsServing service (m + 1) now after
+      serving_on after turn same freed kept = record {
         up = up_served service n m payload outcome answer past (idle_return service value code back) old.up;
         frames = answered ++ next_frame ∷ [];
         says = subst (λ (os : List Outcome). Says (play_setup service) server_name os (answered ++ next_frame ∷ []) IdleTurn) (sym (outcomes_served service n m payload outcome answer past None))
             (Free (subst (λ (t : Turn). Says (play_setup service) server_name (outcomes_in 1 1 past ++ outcome ∷ []) answered t) turn says_return));
         wrote = subst (λ (fs : List Frame). Wrote after fs) (sym (out_served service n m payload outcome answer past None tt old.invoked small)) (wrote_now after same);
         read = freed answered (reads old.frames old.read);
+        well = none_since mid after (none_since before mid old.well counts) kept;
+        stops = stops_served service n m payload outcome answer past old.stops;
         invoked = invoked_served service n m payload outcome answer past None ∙ ap (λ k. k + 1) old.invoked;
         ended = ap length (outcomes_served service n m payload outcome answer past None) ∙ (length_push (outcomes_in 1 1 past) outcome ∙ ap (λ k. k + 1) old.ended);
         lives = lives_served service n m payload outcome answer past None ∙ old.lives;
@@ -145,8 +148,8 @@ module _ (service : List ℕ) (n m : ℕ) (payload : Data) (past : List Event) (
 
       -- the life ends behind the RETURN
       pub fallen_behind : (after : Piped) (cause : StopCause) → turn_behind value ≡ AwaitsNext → after.took ≡ mid.took
-          → ((name : List ℕ) (tag : ℕ) (frames : List Frame) → HasRead mid frames → Ceases name tag AwaitsNext frames after cause) → HasFallen service (gone service (Stop (stop cause) ∷ now)) after
-      fallen_behind after cause turn same ceased =
+          → ((name : List ℕ) (tag : ℕ) (frames : List Frame) → HasRead mid frames → Ceases name tag AwaitsNext frames after cause) → FailsReading cause mid after → HasFallen service (gone service (Stop (stop cause) ∷ now)) after
+      fallen_behind after cause turn same ceased fails =
           let ends = ceased server_name (tag_after (length (outcomes_in 1 1 past ++ outcome ∷ []))) answered (reads old.frames old.read) in
           let other = awaited_ends cause AwaitsNext ends.may (λ e. cc e) (λ e. cc e) in
           record {
@@ -160,7 +163,8 @@ module _ (service : List ℕ) (n m : ℕ) (payload : Data) (past : List Event) (
               ended = outcomes_fallen service cause now other.0 ∙ outcomes_served service n m payload outcome answer past None;
               says = subst (λ (t : Turn). Says (play_setup service) server_name (outcomes_in 1 1 past ++ outcome ∷ []) answered t) turn says_return;
               may = ends.may;
-              counted = ends.counted;
+              closed = λ idle. absurd (cc idle);
+              counted = counted_since cause mid after (none_since before mid old.well counts) fails;
               took_frames = took_all after.took cause AwaitsNext (frames_out 1 1 (gone service (Stop (stop cause) ∷ now))) (not_written cause AwaitsNext ends.may refl)
                   (subst (λ (fs : List Frame). Wrote after fs) (sym (out_fallen service cause now other.0 ∙ out_served service n m payload outcome answer past None tt old.invoked small)) (wrote_now after same));
               gave_frames = ends.gave;
@@ -171,9 +175,9 @@ module _ (service : List ℕ) (n m : ℕ) (payload : Data) (past : List Event) (
 
   -- the life ends with a RETURN that has TPEXIT
   pub fallen_exit : (code : ℤ) (back : Data) → HasSpelling (return_frame (m + 1) ExitValue code back) → (answer : Answer) → Grew before.took mid.took (spelled (invoke_frame service (m + 1) payload))
-      → ((frames : List Frame) → HasRead before frames → HasRead mid (frames ++ return_frame (m + 1) ExitValue code back ∷ []))
+      → ((frames : List Frame) → HasRead before frames → HasRead mid (frames ++ return_frame (m + 1) ExitValue code back ∷ [])) → SameCounts before mid
       → HasFallen service (served service (n + 1) (m + 1) payload (outcome_by (play_setup service) ExitValue code back) (Some Exit) answer past) mid
-  fallen_exit code back spelling answer grew reads =
+  fallen_exit code back spelling answer grew reads counts =
       let o = outcome_by (play_setup service) ExitValue code back in
       record {
         down = down_served service n m payload o answer past Exit old.up;
@@ -186,7 +190,8 @@ module _ (service : List ℕ) (n m : ℕ) (payload : Data) (past : List Event) (
           ended = outcomes_served service n m payload o answer past (Some Exit);
           says = says_return ExitValue code back spelling;
           may = refl;
-          counted = tt;
+          closed = λ idle. absurd (cc idle);
+          counted = none_since before mid old.well counts;
           took_frames = took_all mid.took Exit Exited (frames_out 1 1 (served service (n + 1) (m + 1) payload o (Some Exit) answer past)) (λ e. cc e)
               (subst (λ (fs : List Frame). Wrote mid fs) (sym (out_served service n m payload o answer past (Some Exit) refl old.invoked small)) (wrote_more before.took mid.took (frames_out 1 1 past) (invoke_frame service (m + 1) payload) old.wrote grew));
           gave_frames = told_more mid.gave _ _ (λ octets e. (mid.rest, e, tt)) (reads old.frames old.read).told;
@@ -198,8 +203,9 @@ module _ (service : List ℕ) (n m : ℕ) (payload : Data) (past : List Event) (
   -- the life ends with the request in hand
   pub fallen_lost : (cause : StopCause) (answer : Answer) → Sends cause before.took mid.took (spelled (invoke_frame service (m + 1) payload))
       → ((name : List ℕ) (frames : List Frame) → HasRead before frames → Ceases name (m + 1) Serving frames mid cause)
+      → FailsReading cause before mid ⊎ FailsWriting cause before mid
       → HasFallen service (served service (n + 1) (m + 1) payload (lost_by cause) (Some cause) answer past) mid
-  fallen_lost cause answer sent ceased =
+  fallen_lost cause answer sent ceased fails =
       let ends = ceased server_name old.frames old.read in
       let other = awaited_ends cause Serving ends.may (λ e. cc e) (λ e. cc e) in
       record {
@@ -213,7 +219,8 @@ module _ (service : List ℕ) (n m : ℕ) (payload : Data) (past : List Event) (
           ended = outcomes_served service n m payload (lost_by cause) answer past (Some cause);
           says = Invoked old.says;
           may = ends.may;
-          counted = ends.counted;
+          closed = λ idle. absurd (cc idle);
+          counted = counted_either cause before mid old.well fails;
           took_frames = subst (λ (fs : List Frame). IfSome mid.took (TookBy cause Serving fs)) (sym (out_served service n m payload (lost_by cause) answer past (Some cause) other.0 old.invoked small))
               (took_sent cause before.took mid.took (frames_out 1 1 past) (invoke_frame service (m + 1) payload) old.wrote sent);
           gave_frames = subst (λ (tag : ℕ). IfSome mid.gave (λ octets. (rest : List ℕ) × (octets ≡ all_spelled old.frames ++ rest) × Shows server_name tag Serving cause old.frames rest mid.left)) (sym tag_is) ends.gave;

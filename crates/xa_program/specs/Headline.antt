@@ -2,7 +2,7 @@
 use Rattle.std.specs.Prelude.{◌≡◌, ◌≤◌, ◌<◌, ℕ, zero, suc, List, [], ◌∷◌, ◌++◌, length, reverse, map, Option, IfSome, All, ⊤}
 use Rattle.xa_types.specs.declared.setup.Setup.{Setup}
 use Rattle.xa_types.specs.Setup.{numbered}
-use Rattle.xa_link.specs.Told.{Rose, Empty, Grew, GrewByPrefix}
+use Rattle.xa_link.specs.Told.{Rose, Empty, Grew, GrewByPart}
 use Rattle.xa_events.specs.declared.event.Event.{Event}
 use Rattle.xa_types.specs.declared.ids.Generation.{Generation}
 use Rattle.xa_events.specs.Server.{starts}
@@ -128,7 +128,7 @@ PlayEnds tells shows streams service Done history lives starters =
     × Grew streams.took_before streams.took_after (transcript (names_of clients) (reverse history))
 PlayEnds tells shows streams service WriteFault history lives starters =
     (clients : List Client) × IsPlayed tells shows streams.told service clients history lives starters × Empty streams.left_after
-    × GrewByPrefix streams.took_before streams.took_after (transcript (names_of clients) (reverse history))
+    × GrewByPart streams.took_before streams.took_after (transcript (names_of clients) (reverse history))
     × Rose streams.writes_before streams.writes_after
 PlayEnds tells shows streams service ScriptRead history lives starters = Rose streams.reads_before streams.reads_after × IsSilent streams
 PlayEnds tells shows streams service (TooLong inputs.Script) history lives starters = IfSome streams.told (λ octets. longest_script < length octets) × IsSilent streams

@@ -7,7 +7,7 @@ use Rattle.xa_types.specs.declared.call.Op.TheVariants.{Call}
 use Rattle.xa_types.specs.declared.call.Ask.{Ask}
 use Rattle.xa_types.specs.declared.call.Rval.{Rval}
 use Rattle.xa_types.specs.declared.call.Rval.TheVariants.{Exit as ExitValue}
-use Rattle.xa_link.specs.Told.{Rose, Grew, GrewByPrefix}
+use Rattle.xa_link.specs.Told.{Rose, Grew, GrewByPart}
 use Rattle.xa_types.specs.declared.fault.Fault.{Fault}
 use Rattle.xa_types.specs.declared.reply.Reply.TheVariants.{Answered as AnsweredReply, Fault as FaultReply}
 use Rattle.xa_events.specs.declared.event.Event.{Event}
@@ -19,7 +19,7 @@ use Rattle.xa_events.specs.declared.event.Outcome.{Outcome}
 use Rattle.xa_events.specs.declared.event.StopCause.{StopCause}
 use Rattle.xa_events.specs.declared.event.StopCause.TheVariants.{Shutdown, Exit, WriteFault as WriteFaultStop, Starved as StarvedStop}
 use Rattle.xa_events.specs.declared.event.Doing.TheVariants.{Idle}
-use Rattle.xa_events.specs.Words.{count}
+use Rattle.xa_events.specs.Words.{count, AtEach}
 use Rattle.xa_events.specs.State.{opening}
 use Rattle.xa_events.specs.Run.{Run}
 use Rattle.xa_events.specs.Order.{TakesInOrder}
@@ -31,9 +31,9 @@ use Rattle.xa_frame.specs.declared.frame.Frame.{Frame}
 use Rattle.xa_frame.specs.Spelling.{spelled, HasSpelling}
 use Rattle.xa_script.specs.declared.script.Client.{Client}
 use Rattle.xa_pipe.specs.Frames.{is_take_in, frames_out, ready_frame, next_frame, shutdown_frame, return_frame}
-use Rattle.xa_pipe.specs.Life.{Says, IsLife, outcomes_in, outcome_by, lost_by}
+use Rattle.xa_pipe.specs.Life.{Says, IsLife, StopsClosed, outcomes_in, outcome_by, lost_by}
 use Rattle.xa_pipe.specs.Life.Turn.{Idle as IdleTurn, AwaitsNext, Serving}
-use Rattle.xa_pipe.specs.Pipe.{invoke_frame, Piped, Wrote, HasRead, Ceases, CutOff}
+use Rattle.xa_pipe.specs.Pipe.{invoke_frame, Piped, Wrote, HasRead, Ceases, CutOff, CountsReads, CountsWrites}
 use Rattle.xa_pipe.specs.declared.hearing.Return.{Return}
 use Rattle.xa_play.specs.PlaySetup.{play_setup, server_name}
 use Rattle.xa_play.specs.Transcript.{lines_up_to, transcript}
@@ -70,6 +70,22 @@ IsPlaying service name clients n m ops history lines = IsPlayingAt service name 
 abbrev pub invocations : List Event → ℕ
 invocations past = count (is_take_in 1 1) past
 
+-- no read and no write of the link has failed
+abbrev pub NoneFailed : Piped → Type 0
+NoneFailed pipe = (pipe.reads ≡ 0) × (pipe.writes ≡ 0)
+
+-- no failure was counted since
+abbrev pub SameCounts : Piped → Piped → Type 0
+SameCounts before after = (after.reads ≡ before.reads) × (after.writes ≡ before.writes)
+
+-- reading came to that, and nothing was written
+abbrev pub FailsReading : StopCause → Piped → Piped → Type 0
+FailsReading cause before after = CountsReads cause before.reads after.reads × (after.writes ≡ before.writes)
+
+-- writing came to that, and nothing was read
+abbrev pub FailsWriting : StopCause → Piped → Piped → Type 0
+FailsWriting cause before after = CountsWrites cause before.writes after.writes × (after.reads ≡ before.reads)
+
 -- the server waits for a request, after m of them
 pub record IsServing (service : List ℕ) (m : ℕ) (past : List Event) (pipe : Piped) : Type 0 where
   pub up : IsUp service (Idle (record { 0 = 1 })) past
@@ -77,6 +93,8 @@ pub record IsServing (service : List ℕ) (m : ℕ) (past : List Event) (pipe : 
   pub says : Says (play_setup service) server_name (outcomes_in 1 1 past) frames IdleTurn
   pub wrote : Wrote pipe (frames_out 1 1 past)
   pub read : HasRead pipe frames
+  pub well : NoneFailed pipe
+  pub stops : AtEach (StopsClosed (play_setup service) 1 1) past
   pub invoked : invocations past ≡ m
   pub ended : length (outcomes_in 1 1 past) ≡ m
   pub lives : lives_of past ≡ (1, 1) ∷ []
@@ -109,7 +127,7 @@ IsBuiltOp op = ⊥
 
 -- what the link took of the request: all of it, but where the pipe failed or memory ran out
 abbrev pub Sends : StopCause → Option (List ℕ) → Option (List ℕ) → List ℕ → Type 0
-Sends WriteFaultStop before after octets = GrewByPrefix before after octets
+Sends WriteFaultStop before after octets = GrewByPart before after octets
 Sends StarvedStop before after octets = (after ≡ before) ⊎ Grew before after octets
 Sends cause before after octets = Grew before after octets
 
@@ -119,9 +137,11 @@ Exchanged service number payload before after (Ok back) =
     Grew before.took after.took (spelled (invoke_frame service number payload))
     × ((frames : List Frame) → HasRead before frames → HasRead after (frames ++ return_frame number back.value back.code back.payload ∷ []))
     × HasSpelling (return_frame number back.value back.code back.payload)
+    × SameCounts before after
 Exchanged service number payload before after (Err cause) =
     Sends cause before.took after.took (spelled (invoke_frame service number payload))
     × ((name : List ℕ) (frames : List Frame) → HasRead before frames → Ceases name number Serving frames after cause)
+    × (FailsReading cause before after ⊎ FailsWriting cause before after)
 
 -- how the request ends by what was heard
 abbrev pub outcome_heard : List ℕ → Result Return StopCause → Outcome
@@ -139,9 +159,10 @@ cause_heard (Err cause) = Some cause
 
 -- the server's program became free, or its life ended
 abbrev pub Freed : Bool → List ℕ → List Event → List Event → Piped → Piped → Type 0
-Freed true service history now before after = (now ≡ history) × ((frames : List Frame) → HasRead before frames → HasRead after (frames ++ next_frame ∷ []))
+Freed true service history now before after = (now ≡ history) × ((frames : List Frame) → HasRead before frames → HasRead after (frames ++ next_frame ∷ [])) × SameCounts before after
 Freed false service history now before after = (cause : StopCause) × (now ≡ history ++ falls service (Some cause))
     × ((name : List ℕ) (tag : ℕ) (frames : List Frame) → HasRead before frames → Ceases name tag AwaitsNext frames after cause)
+    × FailsReading cause before after
 
 -- the call came to its answer; then the life ended with it, or the server's program became free, or its life ended behind it
 abbrev pub CarriedTo : Bool → List ℕ → ℕ → ℕ → Data → Outcome → Option StopCause → List Event → List Event → Piped → Piped → Type 0
@@ -230,21 +251,22 @@ pub record ReadNothing (before after : Piped) : Type 0 where
 
 -- the server's program greeted, or its life ended
 abbrev pub Greets : Bool → List ℕ → List Event → List Event → Piped → Piped → Type 0
-Greets true service history now before after = (now ≡ history) × (HasRead before [] → HasRead after (ready_frame server_name ∷ next_frame ∷ []))
+Greets true service history now before after = (now ≡ history) × (HasRead before [] → HasRead after (ready_frame server_name ∷ next_frame ∷ [])) × SameCounts before after
 Greets false service history now before after = (cause : StopCause) × (now ≡ history ++ falls service (Some cause))
     × (HasRead before [] → CutOff (play_setup service) server_name [] after cause)
+    × FailsReading cause before after
 
 -- why SHUTDOWN wasn't written, and what the link took of it
 abbrev pub SendFails : StopCause → Piped → Piped → List ℕ → Type 0
-SendFails WriteFaultStop before after octets = (0 < after.writes) × GrewByPrefix before.took after.took octets
-SendFails StarvedStop before after octets = after.took ≡ before.took
+SendFails WriteFaultStop before after octets = (0 < after.writes) × GrewByPart before.took after.took octets
+SendFails StarvedStop before after octets = (after.writes ≡ before.writes) × (after.took ≡ before.took)
 SendFails cause before after octets = ⊥
 
 -- the queue was closed; then the server was shut down, or its life ended as SHUTDOWN was written, or it had ended before
 abbrev pub IsDone : Bool → List ℕ → List Event → List Event → Piped → Piped → Type 0
 IsDone false service history now before after = (now ≡ history ++ Close (record { 0 = 1 }) ∷ []) × (after ≡ before)
 IsDone true service history now before after = ReadNothing before after
-    × (((now ≡ history ++ Close (record { 0 = 1 }) ∷ Stop (stop Shutdown) ∷ []) × Grew before.took after.took (spelled shutdown_frame))
+    × (((now ≡ history ++ Close (record { 0 = 1 }) ∷ Stop (stop Shutdown) ∷ []) × Grew before.took after.took (spelled shutdown_frame) × (after.writes ≡ before.writes))
     ⊎ ((cause : StopCause) × (now ≡ history ++ Close (record { 0 = 1 }) ∷ falls service (Some cause)) × SendFails cause before after (spelled shutdown_frame)))
 
 -- the history, its lives and their links, and the starts that failed
@@ -261,14 +283,14 @@ abbrev pub ServingEnds : {L : Type 0} → LinkTells L → Option (List ℕ) → 
 ServingEnds tells before after faults faults_after asks asks_after service clients Done history lives =
     IsServed tells asks asks_after service clients history lives × Grew before after (transcript (names_of clients) (reverse history))
 ServingEnds tells before after faults faults_after asks asks_after service clients WriteFault history lives =
-    IsServed tells asks asks_after service clients history lives × GrewByPrefix before after (transcript (names_of clients) (reverse history)) × Rose faults faults_after
+    IsServed tells asks asks_after service clients history lives × GrewByPart before after (transcript (names_of clients) (reverse history)) × Rose faults faults_after
 ServingEnds tells before after faults faults_after asks asks_after service clients NoMemory history lives = (after ≡ before) × (faults_after ≡ faults)
 ServingEnds tells before after faults faults_after asks asks_after service clients status history lives = ⊥
 
 -- the lines were written whole, or in part and the output failed
 abbrev pub Printed : Option (List ℕ) → Option (List ℕ) → ℕ → ℕ → List ℕ → Status → Type 0
 Printed before after writes writes_after lines Done = Grew before after lines
-Printed before after writes writes_after lines WriteFault = GrewByPrefix before after lines × Rose writes writes_after
+Printed before after writes writes_after lines WriteFault = GrewByPart before after lines × Rose writes writes_after
 Printed before after writes writes_after lines status = ⊥
 
 -- memory had run out, and the output was left alone

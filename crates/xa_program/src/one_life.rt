@@ -5,7 +5,7 @@ ghost use Rattle.xa_events.specs.declared.event.Event.TheVariants.{Advertise, St
 ghost use Rattle.xa_pipe.specs.Pipe.{Wrote, HasRead};
 ghost use Rattle.xa_play.specs.History.{advertise, start};
 ghost use Rattle.xa_play.specs.PlaySetup.{server_name};
-ghost use Rattle.xa_program.specs.Progress.{IsPlaying, IsLive, IsLeaving, IsServing, NeverStarted, IsOver, HasLived, HasNotLived, IsBuiltScript, IsOnly, Greets, IsDone};
+ghost use Rattle.xa_program.specs.Progress.{IsPlaying, NoneFailed, IsLive, IsLeaving, IsServing, NeverStarted, IsOver, HasLived, HasNotLived, IsBuiltScript, IsOnly, Greets, IsDone};
 
 use crate::calls::{Session, make_calls, refuse_calls};
 use std::alloc::Global;
@@ -110,6 +110,7 @@ pub fn serve<L: Link>(
     requires silent { account.old.lines.items ≡ [] }
     requires wrote { Wrote pipe.old [] }
     requires read { HasRead pipe.old [] }
+    requires well { NoneFailed pipe.old }
     ensures { OnOk result (IsOver service.now script.clients account.new.history.items account.new.lines.items
         × HasLived service.now (reverse account.new.history.items) pipe.new) }
 {
