@@ -24,7 +24,7 @@ pub struct ShapeSetup {
     pub fields: Sequence<FieldSetup>,
 }
 
-/// A queue, at which `capacity` requests may wait. Nothing reads `group`.
+/// A queue, at which `capacity` requests may wait, and the group that it is of.
 #[derive(Clone, Copy, Debug, PartialEq, Eq)]
 pub struct QueueSetup {
     pub name: Name,
@@ -56,7 +56,7 @@ pub struct ServiceSetup {
     pub conversational: bool,
 }
 
-/// A domain as it is configured. Nothing reads `block_time` and `blocks`.
+/// A domain as it is configured. `block_time` is in ticks, and `blocks` is a number of blocks; `play` needs neither.
 #[derive(Debug, Drop)]
 pub struct Setup {
     pub block_time: u32,
