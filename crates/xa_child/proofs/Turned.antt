@@ -8,13 +8,13 @@ use Rattle.xa_frame.specs.declared.frame.Frame.{Frame}
 use Rattle.xa_frame.specs.Spelling.{all_spelled, HasSpelling}
 use Rattle.xa_frame.specs.Stream.{IsPartial}
 use Rattle.xa_frame.specs.Reader.{Incoming}
-use Rattle.xa_link.specs.Told.{Grew, GrewByPrefix, Shrank, Empty}
+use Rattle.xa_link.specs.Told.{Grew, GrewByPart, Shrank, Empty}
 use Rattle.xa_child.specs.declared.working.WorkRefused.{WorkRefused}
 use Rattle.xa_child.specs.declared.working.WorkRefused.TheVariants.{ReadFault, WriteFault, BadFrame, NoMemory}
 use Rattle.xa_child.specs.declared.serving.Serving.{Serving}
 use Rattle.xa_child.specs.declared.serving.Halt.TheVariants.{Bad}
 use Rattle.xa_child.specs.Child.{ChildState, begun, admits_all, after_all, said, greeting, child_run}
-use Rattle.xa_child.specs.Work.{IsBad, place_after, IsBegun, CameTo, Worked}
+use Rattle.xa_child.specs.Work.{IsBad, place_after, IsBegun, IsPart, CameTo, Worked}
 use Rattle.xa_child.specs.Turns.{TurnsTo, Hears, Turns, AtEnd, Unanswered, SoFar}
 use Rattle.xa_child.specs.Serving.{TakesUpTo}
 use Rattle.xa_frame.proofs.FrameLemmas.{all_spelled-append}
@@ -57,10 +57,14 @@ begun_behind : (first written due : List ℕ) → IsBegun written due → IsBegu
 begun_behind first written due h =
     (length first + h.0, omega (arith, h.1, length-append first due), ap (λ z. first ++ z) h.2 ∙ sym (take-append-add first due h.0))
 
+part_behind : (first written due : List ℕ) → IsPart written due → IsPart (first ++ written) (first ++ due)
+part_behind first written due h =
+    (length first + h.0, omega (arith, h.1, length-append first due), ap (λ z. first ++ z) h.2 ∙ sym (take-append-add first due h.0))
+
 came_behind : (s : ChildState) (place : ℕ) (rest written due first : List ℕ) (A : Type 0) → (r : Result (Unit {0}) WorkRefused) → CameTo s place rest A written due r → CameTo s place rest A (first ++ written) (first ++ due) r
 came_behind s place rest written due first A (Ok x) h = (ap (λ z. first ++ z) h.0, h.1)
 came_behind s place rest written due first A (Err ReadFault) h = (ap (λ z. first ++ z) h.0, h.1, h.2)
-came_behind s place rest written due first A (Err WriteFault) h = begun_behind first written due h
+came_behind s place rest written due first A (Err WriteFault) h = part_behind first written due h
 came_behind s place rest written due first A (Err (BadFrame at)) h = (ap (λ z. first ++ z) h.0, h.1, h.2, h.3)
 came_behind s place rest written due first A (Err NoMemory) h = begun_behind first written due h
 
@@ -265,22 +269,31 @@ worked_spent name left left_now gave gave_now took took_now now s = record {
   came = (length (all_spelled (child_run name s.frames)), omega arith, sym (take_all (length (all_spelled (child_run name s.frames))) (all_spelled (child_run name s.frames)) (omega arith)));
 }
 
-unanswered : (s : ChildState) (place : ℕ) (rest : List ℕ) (end : Type 0) (written due : List ℕ) (refused : WorkRefused) → Unanswered refused → IsBegun written due → CameTo s place rest end written due (Err refused)
-unanswered s place rest end written due WriteFault h part = part
-unanswered s place rest end written due NoMemory h part = part
-unanswered s place rest end written due ReadFault h part = absurd h
-unanswered s place rest end written due (BadFrame at) h part = absurd h
-
 -- nothing was read
-pub worked_unbegun : (name : List ℕ) (left gave took took_now : Option (List ℕ)) (refused : WorkRefused) → Unanswered refused → GrewByPrefix took took_now (all_spelled (greeting name)) → Worked name left left gave gave took took_now (Err refused)
-worked_unbegun name left gave took took_now refused h grew = record {
+pub worked_unbegun : (name : List ℕ) (left gave took took_now : Option (List ℕ)) (refused : WorkRefused) → Unanswered refused
+    → (refused ≡ WriteFault → GrewByPart took took_now (all_spelled (greeting name))) → (refused ≡ NoMemory → took_now ≡ took) → Worked name left left gave gave took took_now (Err refused)
+worked_unbegun name left gave took took_now WriteFault h part starved =
+    let grew = part refl in record {
+      frames = [];
+      rest = [];
+      written = take grew.0 (all_spelled (greeting name));
+      spelling = All-nil HasSpelling;
+      admitted = refl;
+      off = shrank_none left left refl;
+      given = grew_none gave gave refl;
+      grew = grew.2;
+      came = (grew.0, grew.1, refl);
+    }
+worked_unbegun name left gave took took_now NoMemory h part starved = record {
   frames = [];
   rest = [];
-  written = take grew.0 (all_spelled (greeting name));
+  written = [];
   spelling = All-nil HasSpelling;
   admitted = refl;
   off = shrank_none left left refl;
   given = grew_none gave gave refl;
-  grew = grew.2;
-  came = unanswered (after_all begun []) (place_after 0 (all_spelled [])) [] (Empty left) (take grew.0 (all_spelled (greeting name))) (all_spelled (greeting name)) refused h (grew.0, grew.1, refl);
+  grew = grew_none took took_now (starved refl);
+  came = (0, omega arith, refl);
 }
+worked_unbegun name left gave took took_now ReadFault h part starved = absurd h
+worked_unbegun name left gave took took_now (BadFrame at) h part starved = absurd h

@@ -1,5 +1,5 @@
 -- What a server's program reads and writes.
-use Rattle.std.specs.Prelude.{ℕ, ◌≡◌, ◌≤◌, ◌+◌, ◌-◌, ◌^◌, min, ◌⊎◌, true, false, List, [], ◌++◌, length, take, Option, Result, Ok, Err}
+use Rattle.std.specs.Prelude.{ℕ, ◌≡◌, ◌≤◌, ◌<◌, ◌+◌, ◌-◌, ◌^◌, min, ◌⊎◌, true, false, List, [], ◌++◌, length, take, Option, Result, Ok, Err}
 use Rattle.std.specs.List.{All}
 use Rattle.xa_frame.specs.declared.frame.Frame.{Frame}
 use Rattle.xa_frame.specs.Spelling.{all_spelled, HasSpelling}
@@ -17,16 +17,20 @@ IsBad s rest = IsMalformed rest ⊎ ((f : Frame) × (more : List ℕ) × Begins 
 abbrev pub place_after : ℕ → List ℕ → ℕ
 place_after place octets = min (place + length octets) (2 ^ 64 - 1)
 
--- so much of what was due was written, from its front on
+-- so much of what was due was written, from its front on: all of it, or less
 abbrev pub IsBegun : List ℕ → List ℕ → Type 0
 IsBegun written due = (n : ℕ) × (n ≤ length due) × (written ≡ take n due)
+
+-- so much of what was due was written, from its front on, and not all of it
+abbrev pub IsPart : List ℕ → List ℕ → Type 0
+IsPart written due = (n : ℕ) × (n < length due) × (written ≡ take n due)
 
 -- How the child ended that is in that state at that place, where the rest stands, and which wrote that of what was due:
 -- it ended of itself, or its input ended; the input failed; the output failed; what stands there is bad, or the input ended within it; memory ran out.
 abbrev pub CameTo : ChildState → ℕ → List ℕ → Type 0 → List ℕ → List ℕ → Result (Unit {0}) WorkRefused → Type 0
 CameTo s place rest end written due (Ok x) = (written ≡ due) × ((s.ended ≡ true) ⊎ ((rest ≡ []) × end))
 CameTo s place rest end written due (Err ReadFault) = (written ≡ due) × (s.ended ≡ false) × IsPartial rest
-CameTo s place rest end written due (Err WriteFault) = IsBegun written due
+CameTo s place rest end written due (Err WriteFault) = IsPart written due
 CameTo s place rest end written due (Err (BadFrame at)) =
     (written ≡ due) × (s.ended ≡ false) × (at ≡ place) × (IsBad s rest ⊎ (IsPartial rest × (rest ≡ [] → ⊥) × end))
 CameTo s place rest end written due (Err NoMemory) = IsBegun written due

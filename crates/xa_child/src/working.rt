@@ -3,7 +3,7 @@ ghost use Rattle.std.specs.Prelude.{◌≡◌, ◌≤◌, ◌<◌, ◌+◌, ◌^
 ghost use Rattle.std.specs.List.{All};
 ghost use Rattle.xa_frame.specs.Spelling.{all_spelled, HasSpelling};
 ghost use Rattle.xa_frame.specs.Stream.{IsPartial};
-ghost use Rattle.xa_link.specs.Told.{Grew, GrewByPrefix};
+ghost use Rattle.xa_link.specs.Told.{Grew, GrewByPart};
 ghost use Rattle.xa_child.specs.Child.{begun, greeting};
 ghost use Rattle.xa_child.specs.Work.{Worked, Counts};
 ghost use Rattle.xa_child.specs.Turns.{Hears, Turns, AtEnd, Unanswered};
@@ -68,7 +68,8 @@ fn greet<O: Sink>(alloc: Global, name: &Name, out: &mut O) -> Result<Serving, Wo
     ensures child { IfOk result (λ s. s.child ≡ begun) }
     ensures reader { IfOk result (λ s. s.reader ≡ record { place = 0; rest = [] }) }
     ensures whole { OnOk result (Grew (O.took out.old) (O.took out.new) (all_spelled (greeting name.now))) }
-    ensures part { OnErr result (GrewByPrefix (O.took out.old) (O.took out.new) (all_spelled (greeting name.now))) }
+    ensures part { result ≡ Err WorkRefused.WriteFault → GrewByPart (O.took out.old) (O.took out.new) (all_spelled (greeting name.now)) }
+    ensures starved { result ≡ Err WorkRefused.NoMemory → O.took out.new ≡ O.took out.old }
     ensures counts { Counts result 0 0 (O.write_faults out.old) (O.write_faults out.new) }
     ensures causes { IfErr result Unanswered }
 {
@@ -86,7 +87,8 @@ fn greet<O: Sink>(alloc: Global, name: &Name, out: &mut O) -> Result<Serving, Wo
 fn say<O: Sink>(alloc: Global, frames: &[Frame], out: &mut O) -> Result<(), WorkRefused>
     requires { All HasSpelling frames.now }
     ensures whole { OnOk result (Grew (O.took out.old) (O.took out.new) (all_spelled frames.now)) }
-    ensures part { OnErr result (GrewByPrefix (O.took out.old) (O.took out.new) (all_spelled frames.now)) }
+    ensures part { result ≡ Err WorkRefused.WriteFault → GrewByPart (O.took out.old) (O.took out.new) (all_spelled frames.now) }
+    ensures starved { result ≡ Err WorkRefused.NoMemory → O.took out.new ≡ O.took out.old }
     ensures counts { Counts result 0 0 (O.write_faults out.old) (O.write_faults out.new) }
     ensures causes { IfErr result Unanswered }
 {

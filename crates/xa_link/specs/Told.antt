@@ -1,6 +1,6 @@
 -- What the objects of the outside tell of their octets, and how their counts of failures rise (this project's own). An object that tells nothing
 -- of its octets satisfies what is said of them.
-use Rattle.std.specs.Prelude.{◌≡◌, ◌⊎◌, ◌≤◌, ◌<◌, ◌^◌, ◌-◌, ℕ, List, [], ◌++◌, take, length, Option, IfSome, option_map}
+use Rattle.std.specs.Prelude.{◌≡◌, ◌⊎◌, ◌<◌, ◌^◌, ◌-◌, ℕ, List, [], ◌++◌, take, length, Option, IfSome, option_map}
 
 -- the count rose, or stands at 2^64 - 1
 abbrev pub Rose : ℕ → ℕ → Type 0
@@ -9,10 +9,6 @@ Rose before now = (before < now) ⊎ (now ≡ 2 ^ 64 - 1)
 -- the octets that are told grew by these; what isn't told stays so
 abbrev pub Grew : Option (List ℕ) → Option (List ℕ) → List ℕ → Type 0
 Grew before now more = now ≡ option_map (λ xs. xs ++ more) before
-
--- the octets that are told grew by the beginning of these, which may be all of them
-abbrev pub GrewByPrefix : Option (List ℕ) → Option (List ℕ) → List ℕ → Type 0
-GrewByPrefix before now piece = (n : ℕ) × (n ≤ length piece) × Grew before now (take n piece)
 
 -- the octets that are told grew by the beginning of these, and not by all of them
 abbrev pub GrewByPart : Option (List ℕ) → Option (List ℕ) → List ℕ → Type 0

@@ -1,4 +1,4 @@
-use Rattle.std.proofs.Common.{rules, ◌≡◌, sym, subst, Ok, Err}
+use Rattle.std.proofs.Common.{rules, ◌≡◌, sym, subst, ap, Ok, Err}
 use Rattle.xa_child.specs.Work.{Worked}
 use Rattle.xa_child.specs.Turns.{Turns, Unanswered}
 use Rattle.xa_child.proofs.Turned.{joined, so_far_more, worked_done, worked_refused, worked_spent, worked_unbegun}
@@ -9,7 +9,7 @@ returns-in_err-serving-clause-worked g c =
     let same : c.from_residual.result ≡ Err c.in_err-serving.field-0.0 = search rules in
     let cause : Unanswered c.in_err-serving.field-0.0 = c.in_err-serving.ensures.causes in
     subst (λ r. Worked c.args.name.now (g.I.Source.left c.args.input.now) (g.I.Source.left c.args.input.now) (g.I.Source.gave c.args.input.now) (g.I.Source.gave c.args.input.now) (g.O.Sink.took c.args.out.now) (g.O.Sink.took c.greet.new.out) r) (sym same)
-    (worked_unbegun c.args.name.now (g.I.Source.left c.args.input.now) (g.I.Source.gave c.args.input.now) (g.O.Sink.took c.args.out.now) (g.O.Sink.took c.greet.new.out) c.in_err-serving.field-0.0 cause c.in_err-serving.ensures.part)
+    (worked_unbegun c.args.name.now (g.I.Source.left c.args.input.now) (g.I.Source.gave c.args.input.now) (g.O.Sink.took c.args.out.now) (g.O.Sink.took c.greet.new.out) c.in_err-serving.field-0.0 cause (λ is. c.in_err-serving.ensures.part (ap Err is)) (λ is. c.in_err-serving.ensures.starved (ap Err is)))
 
 pub returns-in_err-turn-clause-worked : goal.returns-in_err-turn-clause-worked
 returns-in_err-turn-clause-worked g c =
