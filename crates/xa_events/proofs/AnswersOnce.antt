@@ -10,7 +10,8 @@ use Rattle.xa_events.specs.State.{State, noted}
 use Rattle.xa_events.specs.Server.{outcome_in}
 use Rattle.xa_events.specs.Caller.{wants_reply, opens, settles, opened}
 use Rattle.xa_events.specs.Request.{is_end_of, ended}
-use Rattle.xa_events.specs.Cases.{Case, Tells}
+use Rattle.xa_events.specs.Answers.{Tells}
+use Rattle.xa_events.specs.Cases.{Case}
 use Rattle.xa_events.specs.Run.{Run}
 use Rattle.xa_events.specs.Laws.{is_answer_of, IsEndFor, HasEnd, IsAnsweredOnce, LawOfAnswers}
 use Rattle.xa_events.proofs.WordsLemmas.{if_some, some_is, same_request_is, same_request_of, latest_yes, latest_no, count_no, kept_before}
@@ -112,18 +113,18 @@ unanswered_none = record { own = λ caller r h. cc h; known = λ caller r h unkn
 
 -- ---- the law
 
-end_for : (a : Answered) (e : Event) → is_end_of a.request e ≡ true → IsSomeAnd (outcome_in (Some e)) (Tells a) → IsEndFor a e
+end_for : (a : Answered) (e : Event) → is_end_of a.request e ≡ true → IsSomeAnd (outcome_in (Some e)) (Tells a.answer) → IsEndFor a e
 end_for a (End e) y t = (y, t)
 end_for a _ y t = cc y
 
 -- what a request ended as, an end says
-has_end : (a : Answered) (past : List Event) → IsSomeAnd (ended a.request past) (Tells a) → HasEnd a past
+has_end : (a : Answered) (past : List Event) → IsSomeAnd (ended a.request past) (Tells a.answer) → HasEnd a past
 unfolding ended
 has_end a [] t = t
 has_end a (e ∷ past) t =
     elim (cases_Bool (is_end_of a.request e)) [
-      | inl y ↦ inl (end_for a e y (subst (λ o. IsSomeAnd (outcome_in o) (Tells a)) (latest_yes (is_end_of a.request) e past y) t))
-      | inr n ↦ inr (has_end a past (subst (λ o. IsSomeAnd (outcome_in o) (Tells a)) (latest_no (is_end_of a.request) e past n) t))
+      | inl y ↦ inl (end_for a e y (subst (λ o. IsSomeAnd (outcome_in o) (Tells a.answer)) (latest_yes (is_end_of a.request) e past y) t))
+      | inr n ↦ inr (has_end a past (subst (λ o. IsSomeAnd (outcome_in o) (Tells a.answer)) (latest_no (is_end_of a.request) e past n) t))
     ]
 
 accepted_once : (stage : Stage) → (stage ≡ Unknown → ⊥) → accepts_at stage ≡ 1

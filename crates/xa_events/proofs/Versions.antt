@@ -12,7 +12,7 @@ use Rattle.xa_events.specs.Words.{count, greatest}
 use Rattle.xa_events.specs.State.{State, noted}
 use Rattle.xa_events.specs.Board.{change_in, changes, published, boot}
 use Rattle.xa_events.specs.Caller.{reads, least_version, version_in}
-use Rattle.xa_events.specs.Cases.{Case, IsFresh, Shows}
+use Rattle.xa_events.specs.Cases.{Case, IsFresh, IsEvidenceFor}
 use Rattle.xa_events.specs.Run.{Run}
 use Rattle.xa_events.specs.Laws.{is_change, ReadsForward, LawOfVersions}
 use Rattle.xa_events.proofs.WordsLemmas.{if_some, some_is, count_yes, count_grows, greatest_rises, greatest_one_more}
@@ -39,7 +39,7 @@ fresh_version : (s : State) (caller : ℕ) (e : Evidence) (version : ℕ) → Is
 fresh_version s caller Argument version h e = cc e
 fresh_version s caller (Version v) version h e = subst (λ n. least_version s.setup caller s.past ≤ n) (some_is v version e) h
 
-shown_version : (s : State) (fault : Fault) (e : Evidence) (version : ℕ) → Shows s fault e → version_in e ≡ Some version → version ≤ published s.past
+shown_version : (s : State) (fault : Fault) (e : Evidence) (version : ℕ) → IsEvidenceFor s fault e → version_in e ≡ Some version → version ≤ published s.past
 shown_version s fault Argument version h e = cc e
 shown_version s NoEnt (Version v) version h e = subst (λ n. n ≤ published s.past) (some_is v version e) h
 shown_version s _ (Version v) version h e = absurd h

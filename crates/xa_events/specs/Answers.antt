@@ -1,6 +1,6 @@
--- How a request ended, and what its caller is told (XATMI, tpgetrply and tpreturn; TPEXIT after Tuxedo; that a death is TPESVCERR, and NOMEM,
--- are this project's own).
-use Rattle.std.specs.Prelude.{Bool, true, false, Option, Some, None, if◌then◌else◌}
+-- How a request ended, and what its caller is told (XATMI, tpcall, tpgetrply and tpreturn; that a death is TPESVCERR, and NOMEM, are this
+-- project's own).
+use Rattle.std.specs.Prelude.{◌≡◌, ◌⊎◌, Bool, true, false, Option, Some, None, if◌then◌else◌}
 use Rattle.xa_types.specs.declared.data.Data.{Data}
 use Rattle.xa_types.specs.declared.data.Kind.{Kind}
 use Rattle.xa_types.specs.declared.data.Kind.TheVariants.{Octet as OctetKind, Struct as StructKind}
@@ -47,3 +47,7 @@ abbrev pub has_payload : Outcome → Bool
 has_payload (Returned code payload) = has_kind (kind_of payload)
 has_payload (Failed code payload) = has_kind (kind_of payload)
 has_payload _ = false
+
+-- the answer is the outcome's, or TPEOTYPE where data came back
+abbrev pub Tells : Answer → Outcome → Type 0
+Tells answer outcome = (answer ≡ reply_of outcome) ⊎ ((answer ≡ Error OType) × (has_payload outcome ≡ true))

@@ -105,5 +105,5 @@ abbrev pub AllLeft : ℕ → List Event → Type 0
 AllLeft clients past = (client : ℕ) → 0 < client → client < clients + 1 → has_left client past ≡ true
 
 -- how many descriptors a caller may have open: a client 50, a server 16
-abbrev pub descriptors : ℕ → ℕ → ℕ
-descriptors clients caller = if is_client clients caller then 50 else 16
+abbrev pub descriptor_limit : ℕ → ℕ → ℕ
+descriptor_limit clients caller = if is_client clients caller then 50 else 16

@@ -1,12 +1,11 @@
--- When an event may come next. A case has up to three parts: what is asked of the events of its own place, which is the board, a queue or the
--- clock (Home); what is asked of those of its own worker, a client or a server (Worker); and which events of other places stand before (Before).
+-- When an event may come next. A case has up to three parts: what is asked of the events of its own place, which is the board or a queue
+-- (Home); what is asked of those of its own worker, a client or a server (Worker); and which events of other places stand before (Before).
 -- Where a case names no other source its rule is this project's own.
 use Rattle.std.specs.Prelude.{◌≡◌, ℕ, ◌+◌, ◌<◌, ◌≤◌, ◌⊎◌, Bool, true, false, List, [], length, Option, Some, None, IsSome, IsSomeAnd, slice_get}
 use Rattle.xa_types.specs.declared.row.Row.{Row}
 use Rattle.xa_types.specs.declared.call.Mode.TheVariants.{Reply}
 use Rattle.xa_types.specs.declared.fault.Fault.{Fault}
-use Rattle.xa_types.specs.declared.fault.Fault.TheVariants.{Inval, NoEnt, OType}
-use Rattle.xa_types.specs.declared.reply.Answer.TheVariants.{Error}
+use Rattle.xa_types.specs.declared.fault.Fault.TheVariants.{Inval, NoEnt}
 use Rattle.xa_types.specs.Kind.{kind_of, is_sound, is_accepted}
 use Rattle.xa_types.specs.Priority.{priority_of}
 use Rattle.xa_types.specs.Rows.{Put, configured, row_of}
@@ -34,12 +33,13 @@ use Rattle.xa_events.specs.State.{State}
 use Rattle.xa_events.specs.Board.{published, boot, rows_of_version}
 use Rattle.xa_events.specs.Queue.{waiting, takes, is_down, is_closed}
 use Rattle.xa_events.specs.Server.{doing, starts, is_gone, was_shut_down, last_outcome, may_start, AllGone}
-use Rattle.xa_events.specs.Caller.{last_op, just_accepted, accepted, opened, least_version, has_left, is_client, AllLeft, descriptors}
+use Rattle.xa_events.specs.Caller.{last_op, just_accepted, accepted, opened, least_version, has_left, is_client, AllLeft, descriptor_limit}
 use Rattle.xa_events.specs.Request.{ended}
 use Rattle.xa_events.specs.Clock.{is_shown}
-use Rattle.xa_events.specs.Answers.{reply_of, has_payload}
+use Rattle.xa_events.specs.Answers.{Tells}
 
--- ---- Advertise: the boot advertises the configured services in order (XATMI, tpadvertise)
+-- ---- Advertise: the boot advertises the configured services in order (in the form of XATMI's tpadvertise; that the boot does it is this
+-- project's own)
 
 pub record AdvertiseHome (s : State) (a : Advertised) : Type 0 where
   pub booting : slice_get (configured s.setup) (published s.past) ≡ Some (Put a.service a.queue.0 a.routine)
@@ -53,7 +53,8 @@ pub record AdvertiseCase (s : State) (a : Advertised) : Type 0 where
   pub home : AdvertiseHome s a
   pub worker : AdvertiseWorker s a
 
--- ---- Withdraw: by the domain, where all servers of the queue are gone (XATMI, tpunadvertise)
+-- ---- Withdraw: by the domain, where all servers of the queue are gone (in the form of XATMI's tpunadvertise; that the domain does it is this
+-- project's own)
 
 pub record WithdrawHome (s : State) (w : Withdrawn) : Type 0 where
   pub stands : IsSome (row_of w.service w.queue.0 (rows_of_version s.setup s.past (published s.past)))
@@ -75,14 +76,14 @@ pub record WithdrawCase (s : State) (w : Withdrawn) : Type 0 where
 
 pub record IsNextCall (s : State) (caller op : ℕ) : Type 0 where
   pub client : is_client s.clients caller ≡ true
-  pub stays : has_left caller s.past ≡ false
+  pub not_left : has_left caller s.past ≡ false
   pub next : op ≡ last_op caller s.past + 1
 
 -- ---- Accept: a queue accepts the request of a call (XATMI, tpcall)
 
 pub record AcceptHome (s : State) (a : Accepted) : Type 0 where
-  pub up : is_down a.queue.0 s.past ≡ false
-  pub still : is_closed a.queue.0 s.past ≡ false
+  pub not_down : is_down a.queue.0 s.past ≡ false
+  pub not_closed : is_closed a.queue.0 s.past ≡ false
   pub room : length (waiting s.setup a.queue.0 s.past) < capacity_of s.setup a.queue.0
 
 pub record AcceptWorker (s : State) (a : Accepted) : Type 0 where
@@ -90,7 +91,7 @@ pub record AcceptWorker (s : State) (a : Accepted) : Type 0 where
   pub caller : a.request.caller ≡ a.by
   pub number : a.request.number ≡ accepted a.by.0 s.past + 1
   pub mode : a.mode ≡ Reply
-  pub few : length (opened a.by.0 s.past) < descriptors s.clients a.by.0
+  pub few : length (opened a.by.0 s.past) < descriptor_limit s.clients a.by.0
   pub sound : is_sound s.setup a.payload ≡ true
   pub fresh : least_version s.setup a.by.0 s.past ≤ a.version
 
@@ -113,7 +114,7 @@ pub record AcceptCase (s : State) (a : Accepted) : Type 0 where
 -- ---- Take: a server is given a request that waits (XATMI, tpservice)
 
 pub record TakeHome (s : State) (t : Taken) : Type 0 where
-  pub up : is_down (queue_of s.setup t.server.0) s.past ≡ false
+  pub not_down : is_down (queue_of s.setup t.server.0) s.past ≡ false
   pub waits : has t.request (waiting s.setup (queue_of s.setup t.server.0) s.past) ≡ true
   pub count : t.k ≡ takes s.setup (queue_of s.setup t.server.0) s.past + 1
 
@@ -130,8 +131,8 @@ pub record TakeCase (s : State) (t : Taken) : Type 0 where
 pub record GoneWorker (s : State) (server : ℕ) : Type 0 where
   pub known : 0 < queue_of s.setup server
   pub off : doing server s.past ≡ Off
-  pub still : is_gone server s.past ≡ false
-  pub kept : was_shut_down server s.past ≡ false
+  pub not_gone : is_gone server s.past ≡ false
+  pub not_shut_down : was_shut_down server s.past ≡ false
   pub spent : may_start s.setup server (starts server s.past) 0 ≡ false
 
 pub record GoneCase (s : State) (server : ℕ) : Type 0 where
@@ -141,7 +142,7 @@ pub record GoneCase (s : State) (server : ℕ) : Type 0 where
 
 pub record DownHome (s : State) (queue : ℕ) : Type 0 where
   pub known : 0 < capacity_of s.setup queue
-  pub still : is_down queue s.past ≡ false
+  pub not_down : is_down queue s.past ≡ false
   pub gone : AllGone s.setup queue s.past
 
 pub record DownBefore (s : State) (queue : ℕ) : Type 0 where
@@ -155,7 +156,7 @@ pub record DownCase (s : State) (queue : ℕ) : Type 0 where
 
 pub record CloseHome (s : State) (queue : ℕ) : Type 0 where
   pub known : 0 < capacity_of s.setup queue
-  pub still : is_closed queue s.past ≡ false
+  pub not_closed : is_closed queue s.past ≡ false
 
 pub record CloseBefore (s : State) (queue : ℕ) : Type 0 where
   pub left : AllLeft s.clients s.past
@@ -168,8 +169,8 @@ pub record CloseCase (s : State) (queue : ℕ) : Type 0 where
 
 pub record StartWorker (s : State) (b : Started) : Type 0 where
   pub off : doing b.server.0 s.past ≡ Off
-  pub still : is_gone b.server.0 s.past ≡ false
-  pub kept : was_shut_down b.server.0 s.past ≡ false
+  pub not_gone : is_gone b.server.0 s.past ≡ false
+  pub not_shut_down : was_shut_down b.server.0 s.past ≡ false
   pub count : b.generation.0 ≡ length (starts b.server.0 s.past) + 1
   pub may : may_start s.setup b.server.0 (starts b.server.0 s.past) b.tick ≡ true
 
@@ -241,17 +242,13 @@ pub record StopCase (s : State) (x : Stopped) : Type 0 where
 
 pub record AnswerWorker (s : State) (a : Answered) : Type 0 where
   pub client : is_client s.clients a.by.0 ≡ true
-  pub stays : has_left a.by.0 s.past ≡ false
+  pub not_left : has_left a.by.0 s.past ≡ false
   pub op : (a.op ≡ last_op a.by.0 s.past + 1) ⊎ ((a.op ≡ last_op a.by.0 s.past) × (just_accepted a.by.0 s.past ≡ Some a.request))
   pub caller : a.request.caller ≡ a.by
   pub is_open : has a.request (opened a.by.0 s.past) ≡ true
 
--- the answer is the outcome's, or TPEOTYPE where data came back
-abbrev pub Tells : Answered → Outcome → Type 0
-Tells a outcome = (a.answer ≡ reply_of outcome) ⊎ ((a.answer ≡ Error OType) × (has_payload outcome ≡ true))
-
 pub record AnswerBefore (s : State) (a : Answered) : Type 0 where
-  pub told : IsSomeAnd (ended a.request s.past) (Tells a)
+  pub told : IsSomeAnd (ended a.request s.past) (Tells a.answer)
 
 pub record AnswerCase (s : State) (a : Answered) : Type 0 where
   pub worker : AnswerWorker s a
@@ -259,10 +256,13 @@ pub record AnswerCase (s : State) (a : Answered) : Type 0 where
 
 -- ---- Leave: a client has made its last call, and has no descriptor open
 
-pub record LeaveCase (s : State) (client : ℕ) : Type 0 where
+pub record LeaveWorker (s : State) (client : ℕ) : Type 0 where
   pub known : is_client s.clients client ≡ true
-  pub stays : has_left client s.past ≡ false
+  pub not_left : has_left client s.past ≡ false
   pub none : opened client s.past ≡ []
+
+pub record LeaveCase (s : State) (client : ℕ) : Type 0 where
+  pub worker : LeaveWorker s client
 
 -- ---- Refuse: a call is refused (XATMI, tpcall), with what shows that it is right: a version that was looked up is no older than what the
 -- caller has seen, and stands
@@ -275,13 +275,13 @@ pub record RefuseWorker (s : State) (r : Refused) : Type 0 where
   pub call : IsNextCall s r.by.0 r.op
   pub fresh : IsFresh s r.by.0 r.evidence
 
-abbrev pub Shows : State → Fault → Evidence → Type 0
-Shows s Inval Argument = Unit {0}
-Shows s NoEnt (Version v) = v ≤ published s.past
-Shows s fault evidence = ⊥
+abbrev pub IsEvidenceFor : State → Fault → Evidence → Type 0
+IsEvidenceFor s Inval Argument = Unit {0}
+IsEvidenceFor s NoEnt (Version v) = v ≤ published s.past
+IsEvidenceFor s fault evidence = ⊥
 
 pub record RefuseBefore (s : State) (r : Refused) : Type 0 where
-  pub shown : Shows s r.fault r.evidence
+  pub shown : IsEvidenceFor s r.fault r.evidence
 
 pub record RefuseCase (s : State) (r : Refused) : Type 0 where
   pub worker : RefuseWorker s r

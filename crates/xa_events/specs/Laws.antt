@@ -1,15 +1,13 @@
 -- Laws of every run, by counts in the list of events (this project's own). They rest on no case: of the words that the cases use
--- they have the events' readings alone.
+-- they have the events' readings, and what an answer may be for an outcome.
 use Rattle.std.specs.Prelude.{◌≡◌, ℕ, ◌≤◌, Bool, true, false, List, [], ◌∷◌, ◌⊎◌, Some}
 use Rattle.std.specs.List.{filter_map}
 use Rattle.xa_types.specs.declared.ids.RequestId.{RequestId}
-use Rattle.xa_types.specs.declared.fault.Fault.TheVariants.{OType}
-use Rattle.xa_types.specs.declared.reply.Answer.TheVariants.{Error}
 use Rattle.xa_events.specs.declared.event.Event.{Event}
 use Rattle.xa_events.specs.declared.event.Event.TheVariants.{Advertise, Withdraw, Take, End, Answer}
 use Rattle.xa_events.specs.declared.event.Answered.{Answered}
 use Rattle.xa_events.specs.Words.{count, same_request, greatest, AtEach}
-use Rattle.xa_events.specs.Answers.{reply_of, has_payload}
+use Rattle.xa_events.specs.Answers.{Tells}
 use Rattle.xa_events.specs.Caller.{reads}
 use Rattle.xa_events.specs.Request.{is_accept_of, is_end_of}
 
@@ -37,7 +35,7 @@ is_answer_of request _ = false
 
 -- the event is an end of that request, and the answer is its reply, or TPEOTYPE where data came back
 abbrev pub IsEndFor : Answered → Event → Type 0
-IsEndFor a (End e) = (same_request e.request a.request ≡ true) × ((a.answer ≡ reply_of e.outcome) ⊎ ((a.answer ≡ Error OType) × (has_payload e.outcome ≡ true)))
+IsEndFor a (End e) = (same_request e.request a.request ≡ true) × Tells a.answer e.outcome
 IsEndFor a _ = ⊥
 
 -- the end that the answer names is among these events

@@ -1,4 +1,4 @@
--- The order in which a queue is taken (this project's own; the use of priorities is after Tuxedo, tpsprio).
+-- The order in which a queue is taken (after Tuxedo, tpsprio and PRIO of UBBCONFIG, by which every tenth request is taken first in, first out).
 use Rattle.std.specs.Prelude.{◌≡◌, ℕ, ◌%◌, ◌==◌, nat_le, List, Option, Some, if◌then◌else◌}
 use Rattle.std.specs.List.{find, list_all, slice_get}
 use Rattle.xa_types.specs.declared.ids.RequestId.{RequestId}

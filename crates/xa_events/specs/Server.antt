@@ -76,17 +76,13 @@ is_shutdown_stop _ = false
 unfoldable pub was_shut_down : ℕ → List Event → Bool
 was_shut_down server past = is_shutdown_stop (latest (stops_server server) past)
 
-abbrev pub ends_at : ℕ → Event → Bool
-ends_at server (End e) = e.server.0 == server
-ends_at server _ = false
-
 abbrev pub outcome_in : Option Event → Option Outcome
 outcome_in (Some (End e)) = Some e.outcome
 outcome_in _ = None
 
--- how the last request that ended at this server ended
+-- how the request ended that the server ended last, where it has done nothing since
 unfoldable pub last_outcome : ℕ → List Event → Option Outcome
-last_outcome server past = outcome_in (latest (ends_at server) past)
+last_outcome server past = outcome_in (latest (moves_server server) past)
 
 abbrev pub may_start_as : Option ServerSetup → List ℕ → ℕ → Bool
 may_start_as None made now = false

@@ -96,12 +96,12 @@ refuse_case : (service : List ℕ) (n version : ℕ) (past : List Event) → has
 unfolding published
 refuse_case service n version past stays op seen board some Inval Argument shown = record {
   boot = omega (arith, board, some);
-  kind = record { worker = record { call = record { client = refl; stays = stays; next = ap (λ k. k + 1) (sym op) }; fresh = tt }; before = record { shown = tt } };
+  kind = record { worker = record { call = record { client = refl; not_left = stays; next = ap (λ k. k + 1) (sym op) }; fresh = tt }; before = record { shown = tt } };
 }
 refuse_case service n version past stays op seen board some NoEnt (Version v) shown = record {
   boot = omega (arith, board, some);
   kind = record {
-    worker = record { call = record { client = refl; stays = stays; next = ap (λ k. k + 1) (sym op) }; fresh = omega (arith, seen, shown) };
+    worker = record { call = record { client = refl; not_left = stays; next = ap (λ k. k + 1) (sym op) }; fresh = omega (arith, seen, shown) };
     before = record { shown = omega (arith, board, shown) };
   };
 }

@@ -31,7 +31,7 @@ start_case : (service : List ℕ) (clients : ℕ) → Case (at service clients (
 unfolding published changes doing is_gone was_shut_down starts is_shown
 start_case service clients = record {
   boot = omega arith;
-  kind = record { worker = record { off = refl; still = refl; kept = refl; count = refl; may = refl }; before = record { shown = refl } };
+  kind = record { worker = record { off = refl; not_gone = refl; not_shut_down = refl; count = refl; may = refl }; before = record { shown = refl } };
 }
 
 pub run_begun : (service : List ℕ) (clients : ℕ) → Run (opening (play_setup service) clients) (Advertise (advertise service) ∷ Start start ∷ []) (at service clients (begun service))
@@ -55,12 +55,12 @@ failed_case : (service : List ℕ) (clients : ℕ) → Case (at service clients 
 unfolding published changes doing is_gone was_shut_down starts is_shown
 failed_case service clients = record {
   boot = omega arith;
-  kind = record { worker = record { off = refl; still = refl; kept = refl; count = refl; may = refl }; before = record { shown = refl } };
+  kind = record { worker = record { off = refl; not_gone = refl; not_shut_down = refl; count = refl; may = refl }; before = record { shown = refl } };
 }
 
 gone_case : (service : List ℕ) (clients : ℕ) → Case (at service clients (StartFailed start ∷ Advertise (advertise service) ∷ [])) (Gone (record { 0 = 1 }))
 unfolding published changes doing is_gone was_shut_down starts
-gone_case service clients = record { boot = omega arith; kind = record { worker = record { known = omega arith; off = refl; still = refl; kept = refl; spent = refl } } }
+gone_case service clients = record { boot = omega arith; kind = record { worker = record { known = omega arith; off = refl; not_gone = refl; not_shut_down = refl; spent = refl } } }
 
 withdraw_case : (service : List ℕ) (clients : ℕ) → Case (at service clients (Gone (record { 0 = 1 }) ∷ StartFailed start ∷ Advertise (advertise service) ∷ [])) (Withdraw (withdraw service))
 unfolding published changes is_gone rows_of_version
@@ -78,7 +78,7 @@ unfolding published changes is_gone is_down rows_of_version
 down_case service clients = record {
   boot = omega arith;
   kind = record {
-    home = record { known = omega arith; still = refl; gone = only_gone service (Withdraw (withdraw service) ∷ Gone (record { 0 = 1 }) ∷ StartFailed start ∷ Advertise (advertise service) ∷ []) refl };
+    home = record { known = omega arith; not_down = refl; gone = only_gone service (Withdraw (withdraw service) ∷ Gone (record { 0 = 1 }) ∷ StartFailed start ∷ Advertise (advertise service) ∷ []) refl };
     before = record { withdrawn = λ name. rw (bytes_eq-self service) (rw (bytes_eq-self service) refl) };
   };
 }
@@ -118,14 +118,14 @@ down_left service past down = record { board = down.board; server = down.server;
 
 pub leave_case : (service : List ℕ) (n m : ℕ) (past : List Event) → IsQuiet service 1 n m past → IsOpen past → 0 < length (changes past) → Case (at service 1 past) (Leave (record { 0 = 1 }))
 unfolding published
-leave_case service n m past quiet opens some = record { boot = omega (arith, some); kind = record { known = refl; stays = opens.stays; none = quiet.open_client } }
+leave_case service n m past quiet opens some = record { boot = omega (arith, some); kind = record { worker = record { known = refl; not_left = opens.stays; none = quiet.open_client } } }
 
 -- ---- the queue is closed, and the server is shut down or has ended
 
 module _ (service : List ℕ) (clients : ℕ) (past : List Event) (left : IsLeft service clients past) where
   close_case : 0 < length (changes past) → Case (at service clients past) (Close (record { 0 = 1 }))
   unfolding published
-  close_case some = record { boot = omega (arith, some); kind = record { home = record { known = omega arith; still = left.still }; before = record { left = left.left } } }
+  close_case some = record { boot = omega (arith, some); kind = record { home = record { known = omega arith; not_closed = left.still }; before = record { left = left.left } } }
 
   shut_case : IsUp service (Idle (record { 0 = 1 })) past → Case (at service clients (closed past)) (Stop (stop Shutdown))
   unfolding published changes doing waiting is_closed opened last_outcome

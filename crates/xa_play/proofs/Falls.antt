@@ -64,7 +64,7 @@ gone_case : (service : List ℕ) (clients : ℕ) (cause : StopCause) (past : Lis
 unfolding published changes doing is_gone was_shut_down starts
 gone_case service clients cause past may = record {
   boot = omega (arith, ap length may.board);
-  kind = record { worker = record { known = omega arith; off = refl; still = may.stays; kept = may.kind; spent = rw may.made refl } };
+  kind = record { worker = record { known = omega arith; off = refl; not_gone = may.stays; not_shut_down = may.kind; spent = rw may.made refl } };
 }
 
 withdraw_case : (service : List ℕ) (clients : ℕ) (cause : StopCause) (past : List Event) → MayFall service clients cause past
@@ -85,7 +85,7 @@ unfolding published changes is_gone is_down rows_of_version
 down_case service clients cause past may = record {
   boot = omega (arith, ap length may.board);
   kind = record {
-    home = record { known = omega arith; still = may.up; gone = only_gone service (Withdraw (withdraw service) ∷ Gone (record { 0 = 1 }) ∷ Stop (stop cause) ∷ past) refl };
+    home = record { known = omega arith; not_down = may.up; gone = only_gone service (Withdraw (withdraw service) ∷ Gone (record { 0 = 1 }) ∷ Stop (stop cause) ∷ past) refl };
     before = record { withdrawn = λ name. rw may.board (rw (bytes_eq-self service) (rw (bytes_eq-self service) refl)) };
   };
 }

@@ -63,9 +63,9 @@ module _ (service : List ℕ) (n m : ℕ) (payload : Data) (past : List Event) (
   accept_case = record {
     boot = omega (arith, ap length up.board);
     kind = record {
-      home = record { up = up.up; still = opens.still; room = none_below (waiting (play_setup service) 1 past) 100 quiet.waits (lit< tt) };
+      home = record { not_down = up.up; not_closed = opens.still; room = none_below (waiting (play_setup service) 1 past) 100 quiet.waits (lit< tt) };
       worker = record {
-        call = record { client = refl; stays = opens.stays; next = ap (λ k. k + 1) (sym quiet.op) };
+        call = record { client = refl; not_left = opens.stays; next = ap (λ k. k + 1) (sym quiet.op) };
         caller = refl;
         number = ap (λ k. k + 1) (sym quiet.sent);
         mode = refl;
@@ -86,7 +86,7 @@ module _ (service : List ℕ) (n m : ℕ) (payload : Data) (past : List Event) (
   take_case = record {
     boot = omega (arith, ap length up.board);
     kind = record {
-      home = record { up = up.up; waits = rw waits_one (has_one (m + 1)); count = ap (λ k. k + 1) (sym quiet.taken) };
+      home = record { not_down = up.up; waits = rw waits_one (has_one (m + 1)); count = ap (λ k. k + 1) (sym quiet.taken) };
       worker = record { idle = up.server; none = quiet.open_server };
     };
   }
@@ -110,14 +110,14 @@ module _ (service : List ℕ) (n m : ℕ) (payload : Data) (past : List Event) (
     answer_case None answer told = record {
       boot = omega (arith, ap length up.board);
       kind = record {
-        worker = record { client = refl; stays = opens.stays; op = inr (refl, refl); caller = refl; is_open = rw quiet.open_client (has_one (m + 1)) };
+        worker = record { client = refl; not_left = opens.stays; op = inr (refl, refl); caller = refl; is_open = rw quiet.open_client (has_one (m + 1)) };
         before = record { told = rw (same_request-self (m + 1)) (inl told) };
       };
     }
     answer_case (Some cause) answer told = record {
       boot = omega (arith, ap length up.board);
       kind = record {
-        worker = record { client = refl; stays = opens.stays; op = inr (refl, refl); caller = refl; is_open = rw quiet.open_client (has_one (m + 1)) };
+        worker = record { client = refl; not_left = opens.stays; op = inr (refl, refl); caller = refl; is_open = rw quiet.open_client (has_one (m + 1)) };
         before = record { told = rw (same_request-self (m + 1)) (inl told) };
       };
     }

@@ -1,5 +1,5 @@
 -- Typed data: its kind, when it is sound, and which kinds a service accepts (XATMI, typed buffers, X_OCTET and X_C_TYPE; the limit of 65,536
--- octets and the word sound are this project's own).
+-- octets, the sizes of fields, without padding, and the word sound are this project's own).
 use Rattle.std.specs.Prelude.{ℕ, suc, zero, ◌/◌, ◌%◌, ◌^◌, ◌==◌, nat_le, Bool, true, false, List, length, Option, Some, None}
 use Rattle.std.specs.List.{sum_by}
 use Rattle.xa_types.specs.declared.data.Kind.{Kind}

@@ -1,4 +1,4 @@
--- Priorities (after Tuxedo, tpsprio): from 1 to 100. That what lies outside is taken into that range is this project's own.
+-- Priorities: from 1 to 100 (after Tuxedo, tpsprio; that an absolute priority out of range is taken into the range is this project's own).
 use Rattle.std.specs.Prelude.{ℕ, ℤ, pos, negsuc, ◌+ℤ◌, Bool, true, false, Option, Some, None, min, max}
 
 abbrev pub clamped : ℤ → ℕ

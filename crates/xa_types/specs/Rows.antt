@@ -1,5 +1,5 @@
--- The board: the rows that are advertised, read off the list of its changes (XATMI, tpadvertise and tpunadvertise; versions are this project's
--- own).
+-- The board: the rows that are advertised, read off the list of its changes (XATMI, tpadvertise and tpunadvertise; that a priority is 50 where
+-- none is configured is after Tuxedo, PRIO of UBBCONFIG; versions are this project's own).
 use Rattle.std.specs.Prelude.{ℕ, ◌-◌, ◌==◌, ◌&&◌, not, Bool, true, false, List, [], ◌∷◌, ◌++◌, length, drop, map, Option, Some, None}
 use Rattle.std.specs.List.{filter, find, flat_map}
 use Rattle.xa_types.specs.declared.row.Row.{Row}
