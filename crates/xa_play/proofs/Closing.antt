@@ -18,7 +18,7 @@ use Rattle.xa_play.specs.PlaySetup.{play_setup}
 use Rattle.xa_play.specs.History.{advertise, withdraw, start, stop}
 use Rattle.xa_play.proofs.Newest.{gone, begun, not_begun, closed}
 use Rattle.xa_play.specs.Between.{at, IsQuiet, IsOpen, IsUp, IsDown, IsLeft}
-use Rattle.xa_play.proofs.Falls.{MayFall, bytes_eq-self, only_gone, falls_run}
+use Rattle.xa_play.proofs.Falls.{MayFall, bytes_eq-self, only_gone, after_stop_run}
 use Rattle.xa_play.proofs.After.{idle_any}
 
 -- ---- the beginning
@@ -151,7 +151,7 @@ module _ (service : List ℕ) (clients : ℕ) (past : List Event) (left : IsLeft
 
   pub run_dropped : (cause : StopCause) → IsUp service (Idle (record { 0 = 1 })) past → is_shutdown cause ≡ false → (cause ≡ Exit → ⊥)
       → Run (at service clients past) (Close (record { 0 = 1 }) ∷ Stop (stop cause) ∷ Gone (record { 0 = 1 }) ∷ Withdraw (withdraw service) ∷ Down (record { 0 = 1 }) ∷ []) (at service clients (gone service (Stop (stop cause) ∷ closed past)))
-  run_dropped cause up kind other = (close_case (omega (arith, ap length up.board)), falls_run service clients cause (closed past) (may_fall_closed cause up kind other))
+  run_dropped cause up kind other = (close_case (omega (arith, ap length up.board)), after_stop_run service clients cause (closed past) (may_fall_closed cause up kind other))
 
   pub run_closed : IsDown service past → Run (at service clients past) (Close (record { 0 = 1 }) ∷ []) (at service clients (closed past))
   run_closed down = (close_case (omega (arith, ap length down.board)), refl)

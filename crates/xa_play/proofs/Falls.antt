@@ -91,7 +91,7 @@ down_case service clients cause past may = record {
 }
 
 -- its four events may come next
-pub falls_run : (service : List ℕ) (clients : ℕ) (cause : StopCause) (past : List Event) → MayFall service clients cause past
+pub after_stop_run : (service : List ℕ) (clients : ℕ) (cause : StopCause) (past : List Event) → MayFall service clients cause past
     → Run (at service clients past) (Stop (stop cause) ∷ Gone (record { 0 = 1 }) ∷ Withdraw (withdraw service) ∷ Down (record { 0 = 1 }) ∷ []) (at service clients (gone service (Stop (stop cause) ∷ past)))
-falls_run service clients cause past may =
+after_stop_run service clients cause past may =
     (stop_case service clients cause past may, (gone_case service clients cause past may, (withdraw_case service clients cause past may, (down_case service clients cause past may, refl))))

@@ -22,10 +22,10 @@ use Rattle.xa_events.specs.Cases.{Case, is_sound_outcome, idle_stops, dying_stop
 use Rattle.xa_events.specs.State.{State, noted}
 use Rattle.xa_events.specs.Run.{Run}
 use Rattle.xa_play.specs.PlaySetup.{play_setup}
-use Rattle.xa_play.specs.History.{request, accept, take_of, end_with, answer_of, falls, in_order}
+use Rattle.xa_play.specs.History.{request, accept, take_of, end_with, answer_of, after_stop, in_order}
 use Rattle.xa_play.proofs.Newest.{ended_call, served}
 use Rattle.xa_play.specs.Between.{at, IsQuiet, IsOpen, IsUp}
-use Rattle.xa_play.proofs.Falls.{MayFall, the_row, falls_run}
+use Rattle.xa_play.proofs.Falls.{MayFall, the_row, after_stop_run}
 
 pub same_request-self : (m : ℕ) → same_request (request m) (request m) ≡ true
 same_request-self m = eq-eqb m m refl
@@ -101,9 +101,9 @@ module _ (service : List ℕ) (n m : ℕ) (payload : Data) (past : List Event) (
     may_fall cause so = record { made = quiet.made; board = up.board; stays = up.stays; up = up.up; open_server = quiet.open_server; alive = so.1; kind = so.0 }
 
     run_ended : (cause : Option StopCause) → EndsSo outcome cause
-        → Run (at service 1 (End (end_with (m + 1) outcome) ∷ Take (take_of (m + 1)) ∷ Accept (accept service (n + 1) (m + 1) payload) ∷ past)) (falls service cause) (at service 1 (ended_call service (n + 1) (m + 1) payload outcome cause past))
+        → Run (at service 1 (End (end_with (m + 1) outcome) ∷ Take (take_of (m + 1)) ∷ Accept (accept service (n + 1) (m + 1) payload) ∷ past)) (after_stop service cause) (at service 1 (ended_call service (n + 1) (m + 1) payload outcome cause past))
     run_ended None so = refl
-    run_ended (Some cause) so = falls_run service 1 cause _ (may_fall cause so)
+    run_ended (Some cause) so = after_stop_run service 1 cause _ (may_fall cause so)
 
     answer_case : (cause : Option StopCause) (answer : Answer) → answer ≡ reply_of outcome → Case (at service 1 (ended_call service (n + 1) (m + 1) payload outcome cause past)) (Answers (answer_of (n + 1) (m + 1) answer))
     unfolding published changes last_op just_accepted opened has_left ended
@@ -126,4 +126,4 @@ module _ (service : List ℕ) (n m : ℕ) (payload : Data) (past : List Event) (
     pub run_served : (cause : Option StopCause) (answer : Answer) → EndsSo outcome cause → answer ≡ reply_of outcome
         → Run (at service 1 past) (in_order service (n + 1) (m + 1) payload outcome cause answer) (at service 1 (served service (n + 1) (m + 1) payload outcome cause answer past))
     run_served cause answer so told =
-        (accept_case, (take_case, (end_case, run_append (falls service cause) (Answers (answer_of (n + 1) (m + 1) answer) ∷ []) _ _ _ (run_ended cause so) (answer_case cause answer told, refl))))
+        (accept_case, (take_case, (end_case, run_append (after_stop service cause) (Answers (answer_of (n + 1) (m + 1) answer) ∷ []) _ _ _ (run_ended cause so) (answer_case cause answer told, refl))))

@@ -35,7 +35,7 @@ use Rattle.xa_play.specs.PlaySetup.{play_setup}
 use Rattle.xa_play.specs.Transcript.{lines_up_to}
 use Rattle.xa_play.specs.History.{request, accept, answer_of, refuse, stop}
 use Rattle.xa_play.proofs.Newest.{gone, served, closed}
-use Rattle.xa_play.specs.Between.{IsFresh, KnowsAnswers}
+use Rattle.xa_play.specs.Between.{HasNoMore, KnowsAnswers}
 use Rattle.xa_play.proofs.Falls.{bytes_eq-self}
 use Rattle.xa_play.proofs.Machine.{same_request-self}
 use Rattle.xa_play.proofs.Told.{Keeps, lines_kept, each_kept, each_more}
@@ -93,9 +93,9 @@ module _ (service : List ℕ) (n m : ℕ) (past : List Event) where
     listed = λ v name none. listed_later service v name (changes past) (Remove service 1 ∷ changes past) board (ap (λ (cs : List Change). Remove service 1 ∷ cs) board) none;
   }
 
-  pub fresh_fallen : (cause : StopCause) → IsFresh n m past → IsFresh n m (gone service (Stop (stop cause) ∷ past))
+  pub no_more_fallen : (cause : StopCause) → HasNoMore n m past → HasNoMore n m (gone service (Stop (stop cause) ∷ past))
   unfolding events_of_op ended
-  fresh_fallen cause fresh = record { events = fresh.events; over = fresh.over }
+  no_more_fallen cause fresh = record { events = fresh.events; over = fresh.over }
 
   pub knows_fallen : (cause : StopCause) → KnowsAnswers m past → KnowsAnswers m (gone service (Stop (stop cause) ∷ past))
   knows_fallen cause known = known
@@ -165,9 +165,9 @@ module _ (service : List ℕ) (n m : ℕ) (fault : Fault) (evidence : Evidence) 
     listed = λ v name none. none;
   }
 
-  pub fresh_refused : IsFresh n m past → IsFresh (n + 1) m refused
+  pub no_more_refused : HasNoMore n m past → HasNoMore (n + 1) m refused
   unfolding ended
-  fresh_refused fresh = record { events = λ k high. refused_other k (later k n high) ∙ fresh.events k (omega arith); over = fresh.over }
+  no_more_refused fresh = record { events = λ k high. refused_other k (later k n high) ∙ fresh.events k (omega arith); over = fresh.over }
 
   refused_now : latest (is_op 1 (n + 1)) refused ≡ Some (Refuse (refuse (n + 1) fault evidence))
   refused_now = rw (eq-eqb (n + 1) (n + 1) refl) refl
@@ -196,7 +196,7 @@ module _ (service : List ℕ) (n m : ℕ) (fault : Fault) (evidence : Evidence) 
   unfolding events_of_op
   refused_events none = rw (eq-eqb (n + 1) (n + 1) refl) (ap (λ es. Refuse (refuse (n + 1) fault evidence) ∷ es) none)
 
-  pub calls_refused : (ops : List Op) (ask : Ask) → length ops ≡ n → IsFresh n m past → CallRefused (play_setup service) ask refused fault evidence
+  pub calls_refused : (ops : List Op) (ask : Ask) → length ops ≡ n → HasNoMore n m past → CallRefused (play_setup service) ask refused fault evidence
       → EachBecame (play_setup service) 1 1 ops past → EachBecame (play_setup service) 1 1 (ops ++ Call ask ∷ []) refused
   calls_refused ops ask many fresh so each =
       each_more (play_setup service) 1 ops (Call ask) refused
@@ -259,7 +259,7 @@ module _ (service : List ℕ) (n m : ℕ) (payload : Data) (outcome : Outcome) (
   listed_served (Some cause) board v name none =
       listed_later service v name (changes past) (Remove service 1 ∷ changes past) board (ap (λ (cs : List Change). Remove service 1 ∷ cs) board) none
 
-  pub keeps_served : (cause : Option StopCause) → changes past ≡ Put service 1 service ∷ [] → IsFresh n m past → Keeps (play_setup service) n m past (served service (n + 1) (m + 1) payload outcome cause answer past)
+  pub keeps_served : (cause : Option StopCause) → changes past ≡ Put service 1 service ∷ [] → HasNoMore n m past → Keeps (play_setup service) n m past (served service (n + 1) (m + 1) payload outcome cause answer past)
   keeps_served cause board fresh = record {
     events = λ k low. events_other cause k (other k n low);
     newest = λ k low. newest_other cause k (other k n low);
@@ -271,8 +271,8 @@ module _ (service : List ℕ) (n m : ℕ) (payload : Data) (outcome : Outcome) (
     listed = listed_served cause board;
   }
 
-  pub fresh_served : (cause : Option StopCause) → IsFresh n m past → IsFresh (n + 1) (m + 1) (served service (n + 1) (m + 1) payload outcome cause answer past)
-  fresh_served cause fresh = record {
+  pub no_more_served : (cause : Option StopCause) → HasNoMore n m past → HasNoMore (n + 1) (m + 1) (served service (n + 1) (m + 1) payload outcome cause answer past)
+  no_more_served cause fresh = record {
     events = λ k high. events_other cause k (later k n high) ∙ fresh.events k (omega arith);
     over = λ k high. ended_other cause (request k) (later k m high) ∙ fresh.over k (omega arith);
   }
@@ -294,7 +294,7 @@ module _ (service : List ℕ) (n m : ℕ) (payload : Data) (outcome : Outcome) (
       ∙ (ap (λ op. AnsweredReply (if op == (n + 1) then 0 else (m + 1)) answer) (sent_now cause) ∙ ap (λ b. AnsweredReply (if b then 0 else (m + 1)) answer) (eq-eqb (n + 1) (n + 1) refl))
 
   -- the lines go on by this call's
-  pub lines_served : (cause : Option StopCause) (name : List ℕ) → changes past ≡ Put service 1 service ∷ [] → IsFresh n m past → KnowsAnswers m past
+  pub lines_served : (cause : Option StopCause) (name : List ℕ) → changes past ≡ Put service 1 service ∷ [] → HasNoMore n m past → KnowsAnswers m past
       → lines_up_to name 1 (served service (n + 1) (m + 1) payload outcome cause answer past) (n + 1) ≡ lines_up_to name 1 past n ++ line_text name (n + 1) (AnsweredReply 0 answer)
   lines_served cause name board fresh known =
       let now = served service (n + 1) (m + 1) payload outcome cause answer past in
@@ -303,7 +303,7 @@ module _ (service : List ℕ) (n m : ℕ) (payload : Data) (outcome : Outcome) (
       ∙ ap (λ reply. lines_up_to name 1 past n ++ line_text name (n + 1) reply) (reply_now cause))
 
   -- the calls go on by this one
-  pub calls_served : (cause : Option StopCause) (ops : List Op) (ask : Ask) → changes past ≡ Put service 1 service ∷ [] → length ops ≡ n → IsFresh n m past
+  pub calls_served : (cause : Option StopCause) (ops : List Op) (ask : Ask) → changes past ≡ Put service 1 service ∷ [] → length ops ≡ n → HasNoMore n m past
       → is_invalid_call (play_setup service) ask ≡ false → ask.service ≡ service → ask.payload ≡ payload
       → answer ≡ answer_to ask.expect outcome → EachBecame (play_setup service) 1 1 ops past → EachBecame (play_setup service) 1 1 (ops ++ Call ask ∷ []) (served service (n + 1) (m + 1) payload outcome cause answer past)
   calls_served cause ops ask board many fresh valid named carried told each =

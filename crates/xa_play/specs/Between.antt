@@ -58,7 +58,7 @@ abbrev pub KnowsAnswers : ℕ → List Event → Type 0
 KnowsAnswers m past = (k : ℕ) (a : Answered) → latest (is_op 1 k) past ≡ Some (Answers a) → a.request.number ≤ m
 
 -- nothing is there of the calls after the n-th, and of the requests after the m-th
-pub record IsFresh (n m : ℕ) (past : List Event) : Type 0 where
+pub record HasNoMore (n m : ℕ) (past : List Event) : Type 0 where
   pub events : (k : ℕ) → n < k → events_of_op 1 k past ≡ []
   pub over : (k : ℕ) → m < k → ended (request k) past ≡ None
 

@@ -65,10 +65,10 @@ abbrev pub refuse : ℕ → Fault → Evidence → Refused
 refuse n fault evidence = record { by = record { 0 = 1 }; op = n; fault = fault; evidence = evidence }
 
 -- the events of the end of the life, the oldest first
-abbrev pub falls : List ℕ → Option StopCause → List Event
-falls service None = []
-falls service (Some cause) = Stop (stop cause) ∷ Gone (record { 0 = 1 }) ∷ Withdraw (withdraw service) ∷ Down (record { 0 = 1 }) ∷ []
+abbrev pub after_stop : List ℕ → Option StopCause → List Event
+after_stop service None = []
+after_stop service (Some cause) = Stop (stop cause) ∷ Gone (record { 0 = 1 }) ∷ Withdraw (withdraw service) ∷ Down (record { 0 = 1 }) ∷ []
 
 -- the events of the call, the oldest first
 abbrev pub in_order : List ℕ → ℕ → ℕ → Data → Outcome → Option StopCause → Answer → List Event
-in_order service n m payload outcome cause answer = Accept (accept service n m payload) ∷ Take (take_of m) ∷ End (end_with m outcome) ∷ (falls service cause ++ Answers (answer_of n m answer) ∷ [])
+in_order service n m payload outcome cause answer = Accept (accept service n m payload) ∷ Take (take_of m) ∷ End (end_with m outcome) ∷ (after_stop service cause ++ Answers (answer_of n m answer) ∷ [])

@@ -28,7 +28,7 @@ use Rattle.xa_pipe.specs.Life.Turn.{AwaitsNext, Idle as IdleTurn}
 use Rattle.xa_pipe.specs.Pipe.{invoke_frame, Piped, Wrote, HasRead}
 use Rattle.xa_pipe.specs.declared.hearing.Return.{Return}
 use Rattle.xa_play.specs.PlaySetup.{play_setup, server_name}
-use Rattle.xa_play.specs.History.{refuse, stop, falls, in_order}
+use Rattle.xa_play.specs.History.{refuse, stop, after_stop, in_order}
 use Rattle.xa_play.proofs.Newest.{gone, served}
 use Rattle.xa_play.specs.Refusal.{IsAdmitted, IsRefused}
 use Rattle.xa_play.proofs.After.{IsShown, up_served, up_refused, down_refused}
@@ -36,7 +36,7 @@ use Rattle.xa_program.specs.Lives.{lives_of}
 use Rattle.xa_program.specs.Progress.{IsPlayingAt, IsPlaying, SameCounts, IsServing, HasFallen, NeverStarted, IsLive, Exchanged, CarriedTo, IsCarried, IsTurnedDown, outcome_heard, cause_heard, cause_by}
 use Rattle.xa_program.proofs.Pipes.{life_kept}
 use Rattle.xa_program.proofs.Turns.{sound_return, sound_lost, idle_return, ends_exit, ends_lost, awaited_ends, serving_on, fallen_behind, fallen_exit, fallen_lost}
-use Rattle.xa_program.proofs.Playing.{playing_fallen, playing_served, reverse_falls, reverse_refused, refused_while_up, refused_while_down, shown_by}
+use Rattle.xa_program.proofs.Playing.{playing_fallen, playing_served, reverse_after_stop, reverse_refused, refused_while_up, refused_while_down, shown_by}
 
 -- ---- the histories, the newest event first
 
@@ -105,13 +105,13 @@ module _ (service name : List ℕ) (n m : ℕ) (ops : List Op) (ask : Ask) (hist
       let ends = ceased server_name 0 (serving.frames ++ return_frame (m + 1) value code back ∷ []) (reads serving.frames serving.read) in
       let other = awaited_ends cause AwaitsNext ends.may (λ e. cc e) (λ e. cc e) in
       let so_far = history ++ in_order service (n + 1) (m + 1) ask.payload o None (reply_of o) in
-      known_at false service name (n + 1) (m + 1) (ops ++ Call ask ∷ []) (so_far ++ falls service (Some cause))
+      known_at false service name (n + 1) (m + 1) (ops ++ Call ask ∷ []) (so_far ++ after_stop service (Some cause))
       (gone service (Stop (stop cause) ∷ between)) now (lines ++ line_text name (n + 1) (AnsweredReply 0 (reply_of o))) printed after
       (playing_fallen service name 1 (n + 1) (m + 1) (ops ++ Call ask ∷ []) so_far between (lines ++ line_text name (n + 1) (AnsweredReply 0 (reply_of o))) cause
       (playing_served service name n m ops ask history past lines o None old serving.up admitted plain (sound_return service past value code back) (idle_return service value code back))
       (up_served service n m ask.payload o (reply_of o) past (idle_return service value code back) serving.up) other.0 other.1)
       (fallen_behind service n m ask.payload past before mid serving small value code back spelling (reply_of o) grew reads counts after cause turn same ceased fails)
-      (reverse_falls so_far service cause ∙ ap (λ (es : List Event). gone service (Stop (stop cause) ∷ es)) (reverse_served service (n + 1) (m + 1) ask.payload o None history)) noted told
+      (reverse_after_stop so_far service cause ∙ ap (λ (es : List Event). gone service (Stop (stop cause) ∷ es)) (reverse_served service (n + 1) (m + 1) ask.payload o None history)) noted told
 
   by_value : (up : Bool) (now : List Event) (value : Rval) (code : ℤ) (back : Data) → Grew before.took mid.took (spelled (invoke_frame service (m + 1) ask.payload))
       → ((frames : List Frame) → HasRead before frames → HasRead mid (frames ++ return_frame (m + 1) value code back ∷ [])) → HasSpelling (return_frame (m + 1) value code back) → SameCounts before mid → printed ≡ lines ++ line_text name (n + 1) (AnsweredReply 0 (reply_of (outcome_by (play_setup service) value code back)))

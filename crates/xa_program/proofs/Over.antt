@@ -33,9 +33,9 @@ use Rattle.xa_pipe.specs.Pipe.{Piped, Wrote, HasRead, CutOff}
 use Rattle.xa_pipe.proofs.Frames.{read_same, told_more}
 use Rattle.xa_play.specs.PlaySetup.{play_setup, server_name}
 use Rattle.xa_play.specs.Transcript.{transcript, lines_up_to}
-use Rattle.xa_play.specs.History.{advertise, withdraw, start, stop, falls}
+use Rattle.xa_play.specs.History.{advertise, withdraw, start, stop, after_stop}
 use Rattle.xa_play.proofs.Newest.{gone, begun, not_begun, closed}
-use Rattle.xa_play.specs.Between.{at, IsUp, IsDown, IsFresh, KnowsAnswers}
+use Rattle.xa_play.specs.Between.{at, IsUp, IsDown, HasNoMore, KnowsAnswers}
 use Rattle.xa_play.proofs.Machine.{run_append}
 use Rattle.xa_play.proofs.After.{down_fallen}
 use Rattle.xa_play.proofs.Closing.{run_begun, quiet_begun, open_begun, up_begun, run_not_begun, quiet_not_begun, open_not_begun, down_not_begun, left_none, left_one, up_left, down_left, leave_case, run_shut, run_dropped, run_closed, final_shut, final_dropped, final_down}
@@ -51,9 +51,9 @@ use Rattle.xa_program.proofs.Playing.{playing_fallen}
 
 -- ---- the beginning
 
-fresh_begun : (service : List ℕ) → IsFresh 0 0 (begun service)
+no_more_begun : (service : List ℕ) → HasNoMore 0 0 (begun service)
 unfolding events_of_op ended
-fresh_begun service = record { events = λ k high. refl; over = λ k high. refl }
+no_more_begun service = record { events = λ k high. refl; over = λ k high. refl }
 
 knows_begun : (service : List ℕ) → KnowsAnswers 0 (begun service)
 knows_begun service k a newest = cc newest
@@ -64,7 +64,7 @@ playing_begun service name clients = record {
   run = run_begun service clients;
   quiet = quiet_begun service clients;
   opens = open_begun service;
-  fresh = fresh_begun service;
+  no_more = no_more_begun service;
   knows = knows_begun service;
   order = (tt, (tt, tt));
   each = tt;
@@ -135,9 +135,9 @@ greeted_ends setup_of pipe cause cut = awaited_ends cause cut.turn cut.ceases.ma
 
 -- ---- the beginning where the server can't be started
 
-fresh_not_begun : (service : List ℕ) → IsFresh 0 0 (not_begun service)
+no_more_not_begun : (service : List ℕ) → HasNoMore 0 0 (not_begun service)
 unfolding events_of_op ended
-fresh_not_begun service = record { events = λ k high. refl; over = λ k high. refl }
+no_more_not_begun service = record { events = λ k high. refl; over = λ k high. refl }
 
 knows_not_begun : (service : List ℕ) → KnowsAnswers 0 (not_begun service)
 knows_not_begun service k a newest = cc newest
@@ -148,7 +148,7 @@ playing_not_begun service name clients = record {
   run = run_not_begun service clients;
   quiet = quiet_not_begun service clients;
   opens = open_not_begun service;
-  fresh = fresh_not_begun service;
+  no_more = no_more_not_begun service;
   knows = knows_not_begun service;
   order = (tt, (tt, (tt, (tt, (tt, tt)))));
   each = tt;
@@ -305,12 +305,12 @@ module _ (service : List ℕ) (clients : List Client) (history : List Event) (li
       (λ n m. keeps_on (play_setup service) n m so_far (closed so_far) (Stop (stop Shutdown) ∷ closed so_far) (keeps_closed service n m so_far) (keeps_shut service n m (closed so_far))) op_shut starts_shut
       (reverse-append history (Close (record { 0 = 1 }) ∷ Stop (stop Shutdown) ∷ []))
 
-  pub over_dropped : (cause : StopCause) → IsUp service (Idle (record { 0 = 1 })) so_far → is_shutdown cause ≡ false → (cause ≡ Exit → ⊥) → IsOver service clients (history ++ Close (record { 0 = 1 }) ∷ falls service (Some cause)) lines
+  pub over_dropped : (cause : StopCause) → IsUp service (Idle (record { 0 = 1 })) so_far → is_shutdown cause ≡ false → (cause ≡ Exit → ⊥) → IsOver service clients (history ++ Close (record { 0 = 1 }) ∷ after_stop service (Some cause)) lines
   over_dropped cause up other no_exit =
-      over_by service clients history so_far (Close (record { 0 = 1 }) ∷ falls service (Some cause)) (gone service (Stop (stop cause) ∷ closed so_far)) lines old (run_dropped service (length clients) so_far old.left cause up other no_exit)
+      over_by service clients history so_far (Close (record { 0 = 1 }) ∷ after_stop service (Some cause)) (gone service (Stop (stop cause) ∷ closed so_far)) lines old (run_dropped service (length clients) so_far old.left cause up other no_exit)
       (final_dropped service (length clients) cause so_far old.left) (tt, (tt, (tt, (tt, (tt, old.order)))))
       (λ n m. keeps_on (play_setup service) n m so_far (closed so_far) (gone service (Stop (stop cause) ∷ closed so_far)) (keeps_closed service n m so_far) (keeps_fallen service n m (closed so_far) cause (board_closed _ up.board))) (op_dropped cause) (starts_dropped cause)
-      (reverse-append history (Close (record { 0 = 1 }) ∷ falls service (Some cause)))
+      (reverse-append history (Close (record { 0 = 1 }) ∷ after_stop service (Some cause)))
 
   pub over_closed : IsDown service so_far → IsOver service clients (history ++ Close (record { 0 = 1 }) ∷ []) lines
   over_closed down =
@@ -414,7 +414,7 @@ done true service clients m history now lines before after left live (same, inr 
     let other = send_fails cause before after (spelled shutdown_frame) fails in
     subst (λ (es : List Event). IsOver service clients es lines × HasLived service (reverse es) after) (sym noted) (
       over_dropped service clients history lines left cause live.up other.0 other.1,
-      subst (λ (es : List Event). HasLived service es after) (sym (reverse-append history (Close (record { 0 = 1 }) ∷ falls service (Some cause))))
+      subst (λ (es : List Event). HasLived service es after) (sym (reverse-append history (Close (record { 0 = 1 }) ∷ after_stop service (Some cause))))
           (dropped_lived service m (reverse history) before after cause live same fails),
     )
 
@@ -458,11 +458,11 @@ greeted true service history now lines before after is silent wrote read well to
     )
 greeted false service history now lines before after is silent wrote read well took (cause, noted, cut, fails) =
     let first = Advertise (advertise service) ∷ Start start ∷ [] in
-    let events : now ≡ first ++ falls service (Some cause) = noted ∙ ap (λ (es : List Event). es ++ falls service (Some cause)) is in
+    let events : now ≡ first ++ after_stop service (Some cause) = noted ∙ ap (λ (es : List Event). es ++ after_stop service (Some cause)) is in
     let ended = cut read in
     let other = greeted_ends service after cause ended in (
       λ name clients. subst (λ (es : List Event). IsPlaying service name clients 0 0 [] es lines) (sym events)
-          (subst (λ (text : List ℕ). IsPlaying service name clients 0 0 [] (first ++ falls service (Some cause)) text) (sym silent)
+          (subst (λ (text : List ℕ). IsPlaying service name clients 0 0 [] (first ++ after_stop service (Some cause)) text) (sym silent)
           (playing_fallen service name clients 0 0 [] first (begun service) [] cause (playing_begun service name clients) (up_begun service) other.0 other.1)),
       subst (λ (es : List Event). HasFallen service (reverse es) after) (sym events)
           (fallen_begun service after cause (subst (λ (t : Option (List ℕ)). IfSome t (λ octets. octets ≡ [])) (sym took) wrote) ended (counted_since cause before after well fails)),

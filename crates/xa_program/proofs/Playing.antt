@@ -29,34 +29,34 @@ use Rattle.xa_events.specs.Cases.{Case, is_sound_outcome}
 use Rattle.xa_events.specs.State.{opening}
 use Rattle.xa_text.specs.Line.{line_text}
 use Rattle.xa_play.specs.PlaySetup.{play_setup}
-use Rattle.xa_play.specs.History.{refuse, stop, falls, in_order}
+use Rattle.xa_play.specs.History.{refuse, stop, after_stop, in_order}
 use Rattle.xa_play.proofs.Newest.{gone, served}
 use Rattle.xa_play.specs.Refusal.{IsAdmitted, IsRefused}
 use Rattle.xa_play.specs.Between.{at, IsUp, IsDown}
-use Rattle.xa_play.proofs.Falls.{falls_run, bytes_eq-self}
+use Rattle.xa_play.proofs.Falls.{after_stop_run, bytes_eq-self}
 use Rattle.xa_play.proofs.Machine.{EndsSo, run_append, run_served}
 use Rattle.xa_play.proofs.After.{IsShown, quiet_served, open_served, refuse_up, refuse_down, quiet_refused, open_refused, may_fall_idle, quiet_fallen, open_fallen}
 use Rattle.xa_play.proofs.Told.{lines_kept, each_kept}
-use Rattle.xa_play.proofs.ToldCalls.{keeps_fallen, fresh_fallen, knows_fallen, order_fallen, fresh_refused, knows_refused, order_refused, lines_refused, calls_refused, fresh_served, knows_served, order_served, lines_served, calls_served}
+use Rattle.xa_play.proofs.ToldCalls.{keeps_fallen, no_more_fallen, knows_fallen, order_fallen, no_more_refused, knows_refused, order_refused, lines_refused, calls_refused, no_more_served, knows_served, order_served, lines_served, calls_served}
 use Rattle.xa_program.specs.Progress.{IsPlayingAt}
 
 -- ---- the life ends between two calls
 
-pub reverse_falls : (history : List Event) (service : List ℕ) (cause : StopCause) → reverse (history ++ falls service (Some cause)) ≡ gone service (Stop (stop cause) ∷ reverse history)
-reverse_falls history service cause = reverse-append history (falls service (Some cause))
+pub reverse_after_stop : (history : List Event) (service : List ℕ) (cause : StopCause) → reverse (history ++ after_stop service (Some cause)) ≡ gone service (Stop (stop cause) ∷ reverse history)
+reverse_after_stop history service cause = reverse-append history (after_stop service (Some cause))
 
 pub playing_fallen : (service name : List ℕ) (clients n m : ℕ) (ops : List Op) (history past : List Event) (lines : List ℕ) (cause : StopCause) → IsPlayingAt service name clients n m ops history past lines
     → IsUp service (Idle (record { 0 = 1 })) past → is_shutdown cause ≡ false → (cause ≡ Exit → ⊥)
-    → IsPlayingAt service name clients n m ops (history ++ falls service (Some cause)) (gone service (Stop (stop cause) ∷ past)) lines
+    → IsPlayingAt service name clients n m ops (history ++ after_stop service (Some cause)) (gone service (Stop (stop cause) ∷ past)) lines
 playing_fallen service name clients n m ops history past lines cause old up other no_exit =
     let now = gone service (Stop (stop cause) ∷ past) in
     let kept = keeps_fallen service n m past cause up.board in
     record {
-      run = run_append history (falls service (Some cause)) (opening (play_setup service) clients) (at service clients past) (at service clients now) old.run
-          (falls_run service clients cause past (may_fall_idle service clients n m cause past old.quiet up other no_exit));
+      run = run_append history (after_stop service (Some cause)) (opening (play_setup service) clients) (at service clients past) (at service clients now) old.run
+          (after_stop_run service clients cause past (may_fall_idle service clients n m cause past old.quiet up other no_exit));
       quiet = quiet_fallen service clients n m cause past old.quiet;
       opens = open_fallen service cause past old.opens;
-      fresh = fresh_fallen service n m past cause old.fresh;
+      no_more = no_more_fallen service n m past cause old.no_more;
       knows = knows_fallen service n m past cause old.knows;
       order = order_fallen service n m past cause old.order;
       each = each_kept (play_setup service) n m 1 ops past now kept (omega (arith, old.many)) old.each;
@@ -114,10 +114,10 @@ module _ (service name : List ℕ) (n m : ℕ) (ops : List Op) (ask : Ask) (hist
     run = run_append history (Refuse (refuse (n + 1) fault evidence) ∷ []) (opening (play_setup service) 1) (at service 1 past) (at service 1 turned) old.run (case, refl);
     quiet = quiet_refused service n m fault evidence past old.quiet old.opens;
     opens = open_refused service n m fault evidence past old.quiet old.opens;
-    fresh = fresh_refused service n m fault evidence past old.fresh;
+    no_more = no_more_refused service n m fault evidence past old.no_more;
     knows = knows_refused service n m fault evidence past old.knows;
     order = order_refused service n m fault evidence past old.order;
-    each = calls_refused service n m fault evidence past ops ask old.many old.fresh so old.each;
+    each = calls_refused service n m fault evidence past ops ask old.many old.no_more so old.each;
     many = length_push ops (Call ask) ∙ ap (λ k. k + 1) old.many;
     said = ap (λ front. front ++ line_text name (n + 1) (FaultReply fault)) old.said ∙ sym (lines_refused service n m fault evidence past name old.knows);
   }
@@ -163,10 +163,10 @@ playing_served service name n m ops ask history past lines outcome cause old up 
           (run_served service n m ask.payload past old.quiet old.opens up (admitted_sound service ask admitted.valid) outcome sound cause answer so refl);
       quiet = quiet_served service n m ask.payload outcome answer past old.quiet cause;
       opens = open_served service n m ask.payload outcome answer past cause old.opens;
-      fresh = fresh_served service n m ask.payload outcome answer past cause old.fresh;
+      no_more = no_more_served service n m ask.payload outcome answer past cause old.no_more;
       knows = knows_served service n m ask.payload outcome answer past cause old.knows;
       order = order_served service n m ask.payload outcome answer past cause old.quiet.waits old.order;
-      each = calls_served service n m ask.payload outcome answer past cause ops ask up.board old.many old.fresh admitted.valid admitted.named refl (answer_plain ask.expect outcome plain) old.each;
+      each = calls_served service n m ask.payload outcome answer past cause ops ask up.board old.many old.no_more admitted.valid admitted.named refl (answer_plain ask.expect outcome plain) old.each;
       many = length_push ops (Call ask) ∙ ap (λ k. k + 1) old.many;
-      said = ap (λ front. front ++ line_text name (n + 1) (AnsweredReply 0 answer)) old.said ∙ sym (lines_served service n m ask.payload outcome answer past cause name up.board old.fresh old.knows);
+      said = ap (λ front. front ++ line_text name (n + 1) (AnsweredReply 0 answer)) old.said ∙ sym (lines_served service n m ask.payload outcome answer past cause name up.board old.no_more old.knows);
     }

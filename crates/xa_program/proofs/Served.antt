@@ -8,7 +8,7 @@ use Rattle.xa_events.specs.declared.event.Outcome.{Outcome}
 use Rattle.xa_events.specs.declared.event.StopCause.{StopCause}
 use Rattle.xa_events.specs.Answers.{reply_of}
 use Rattle.xa_pipe.specs.Pipe.{Piped}
-use Rattle.xa_play.specs.History.{accept, take_of, end_with, answer_of, falls, in_order}
+use Rattle.xa_play.specs.History.{accept, take_of, end_with, answer_of, after_stop, in_order}
 use Rattle.xa_text.specs.Line.{line_text}
 use Rattle.xa_types.specs.declared.reply.Reply.TheVariants.{Answered as AnsweredReply}
 use Rattle.xa_pipe.specs.declared.hearing.Return.{Return}
@@ -22,10 +22,10 @@ ok_more (Err e) is so follows h = tt
 -- the events of the call, from those of its two halves
 pub in_order_of : (service : List ℕ) (op number : ℕ) (payload : Data) (outcome : Outcome) (cause : Option StopCause) (history taken now : List Event)
     → taken ≡ history ++ Accept (accept service op number payload) ∷ Take (take_of number) ∷ []
-    → now ≡ taken ++ End (end_with number outcome) ∷ (falls service cause ++ Answers (answer_of op number (reply_of outcome)) ∷ [])
+    → now ≡ taken ++ End (end_with number outcome) ∷ (after_stop service cause ++ Answers (answer_of op number (reply_of outcome)) ∷ [])
     → now ≡ history ++ in_order service op number payload outcome cause (reply_of outcome)
 in_order_of service op number payload outcome cause history taken now first second =
-    let more = End (end_with number outcome) ∷ (falls service cause ++ Answers (answer_of op number (reply_of outcome)) ∷ []) in
+    let more = End (end_with number outcome) ∷ (after_stop service cause ++ Answers (answer_of op number (reply_of outcome)) ∷ []) in
     second ∙ (ap (λ (es : List Event). es ++ more) first ∙ append_assoc history (Accept (accept service op number payload) ∷ Take (take_of number) ∷ []) more)
 
 pub carried_some : (service : List ℕ) (op number : ℕ) (payload : Data) (outcome : Outcome) (cause : Option StopCause) (history now : List Event) (mid : Piped)

@@ -37,9 +37,9 @@ use Rattle.xa_pipe.specs.Pipe.{invoke_frame, Piped, Wrote, HasRead, Ceases, CutO
 use Rattle.xa_pipe.specs.declared.hearing.Return.{Return}
 use Rattle.xa_play.specs.PlaySetup.{play_setup, server_name}
 use Rattle.xa_play.specs.Transcript.{lines_up_to, transcript}
-use Rattle.xa_play.specs.History.{refuse, stop, falls, in_order}
+use Rattle.xa_play.specs.History.{refuse, stop, after_stop, in_order}
 use Rattle.xa_play.specs.Refusal.{IsRefused}
-use Rattle.xa_play.specs.Between.{at, IsQuiet, IsOpen, IsUp, IsDown, IsLeft, IsFresh, KnowsAnswers}
+use Rattle.xa_play.specs.Between.{at, IsQuiet, IsOpen, IsUp, IsDown, IsLeft, HasNoMore, KnowsAnswers}
 use Rattle.xa_program.specs.Lives.{lives_of, failed_starts}
 use Rattle.xa_program.specs.Headline.{IsHistory, StarterShows, LinkTells, IsLifeOf, HasFirstFault, longest_script, names_of}
 use Rattle.xa_program.specs.declared.outcome.Life.{Life}
@@ -54,7 +54,7 @@ pub record IsPlayingAt (service name : List ℕ) (clients n m : ℕ) (ops : List
   pub run : Run (opening (play_setup service) clients) history (at service clients past)
   pub quiet : IsQuiet service clients n m past
   pub opens : IsOpen past
-  pub fresh : IsFresh n m past
+  pub no_more : HasNoMore n m past
   pub knows : KnowsAnswers m past
   pub order : TakesInOrder (play_setup service) past
   pub each : EachBecame (play_setup service) 1 1 ops past
@@ -160,7 +160,7 @@ cause_heard (Err cause) = Some cause
 -- the server's program became free, or its life ended
 abbrev pub Freed : Bool → List ℕ → List Event → List Event → Piped → Piped → Type 0
 Freed true service history now before after = (now ≡ history) × ((frames : List Frame) → HasRead before frames → HasRead after (frames ++ next_frame ∷ [])) × SameCounts before after
-Freed false service history now before after = (cause : StopCause) × (now ≡ history ++ falls service (Some cause))
+Freed false service history now before after = (cause : StopCause) × (now ≡ history ++ after_stop service (Some cause))
     × ((name : List ℕ) (tag : ℕ) (frames : List Frame) → HasRead before frames → Ceases name tag AwaitsNext frames after cause)
     × FailsReading cause before after
 
@@ -252,7 +252,7 @@ pub record ReadNothing (before after : Piped) : Type 0 where
 -- the server's program greeted, or its life ended
 abbrev pub Greets : Bool → List ℕ → List Event → List Event → Piped → Piped → Type 0
 Greets true service history now before after = (now ≡ history) × (HasRead before [] → HasRead after (ready_frame server_name ∷ next_frame ∷ [])) × SameCounts before after
-Greets false service history now before after = (cause : StopCause) × (now ≡ history ++ falls service (Some cause))
+Greets false service history now before after = (cause : StopCause) × (now ≡ history ++ after_stop service (Some cause))
     × (HasRead before [] → CutOff (play_setup service) server_name [] after cause)
     × FailsReading cause before after
 
@@ -267,7 +267,7 @@ abbrev pub IsDone : Bool → List ℕ → List Event → List Event → Piped �
 IsDone false service history now before after = (now ≡ history ++ Close (record { 0 = 1 }) ∷ []) × (after ≡ before)
 IsDone true service history now before after = ReadNothing before after
     × (((now ≡ history ++ Close (record { 0 = 1 }) ∷ Stop (stop Shutdown) ∷ []) × Grew before.took after.took (spelled shutdown_frame) × (after.writes ≡ before.writes))
-    ⊎ ((cause : StopCause) × (now ≡ history ++ Close (record { 0 = 1 }) ∷ falls service (Some cause)) × SendFails cause before after (spelled shutdown_frame)))
+    ⊎ ((cause : StopCause) × (now ≡ history ++ Close (record { 0 = 1 }) ∷ after_stop service (Some cause)) × SendFails cause before after (spelled shutdown_frame)))
 
 -- the history, its lives and their links, and the starts that failed
 pub record IsServed {L : Type 0} (tells : LinkTells L) (before after : StarterShows) (service : List ℕ) (clients : List Client) (history : List Event) (lives : List (Life L)) : Type 0 where

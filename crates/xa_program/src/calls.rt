@@ -11,7 +11,7 @@ ghost use Rattle.xa_events.specs.Answers.{reply_of};
 ghost use Rattle.xa_text.specs.Line.{line_text};
 ghost use Rattle.xa_pipe.specs.Life.{outcome_by};
 ghost use Rattle.xa_frame.specs.Spelling.{IsData};
-ghost use Rattle.xa_play.specs.History.{accept, take_of, end_with, answer_of, refuse, falls};
+ghost use Rattle.xa_play.specs.History.{accept, take_of, end_with, answer_of, refuse, after_stop};
 ghost use Rattle.xa_play.specs.PlaySetup.{play_setup};
 ghost use Rattle.xa_play.specs.Refusal.{IsRefused};
 ghost use Rattle.xa_program.specs.Progress.{IsPlaying, IsServing, HasFallen, NeverStarted, IsLive, IsBuiltOp, Exchanged, outcome_heard, cause_heard, Freed, IsCarried, IsTurnedDown};
@@ -104,7 +104,7 @@ fn note_call(
     outcome: Outcome,
     cause: Option<StopCause>,
 ) -> Result<(), NoMemory>
-    ensures history { OnOk result (account.new.history.items ≡ account.old.history.items ++ End (end_with number outcome) ∷ (falls session.now.service cause ++ AnswerEvent (answer_of op number (reply_of outcome)) ∷ [])) }
+    ensures history { OnOk result (account.new.history.items ≡ account.old.history.items ++ End (end_with number outcome) ∷ (after_stop session.now.service cause ++ AnswerEvent (answer_of op number (reply_of outcome)) ∷ [])) }
     ensures lines { OnOk result (account.new.lines.items ≡ account.old.lines.items ++ line_text session.now.client op (AnsweredReply 0 (reply_of outcome))) }
 {
     let answer = answer_to(session.alloc, &outcome)?;

@@ -6,9 +6,9 @@ use Rattle.xa_script.specs.declared.script.ScriptRefused.TheVariants.{BadLine, N
 use Rattle.xa_script.specs.Script.{IsScript, IsFirstFault}
 
 -- a refusal other than for want of memory has cause 9, and names the first line that breaks the form
-abbrev pub Tells : List ℕ → ScriptRefused → Type 0
-Tells octets (BadLine line cause) = (cause ≡ 9) × IsFirstFault octets line
-Tells octets NoMemory = ⊤
+abbrev pub NamesFirstFault : List ℕ → ScriptRefused → Type 0
+NamesFirstFault octets (BadLine line cause) = (cause ≡ 9) × IsFirstFault octets line
+NamesFirstFault octets NoMemory = ⊤
 
 -- the octets are one script at most
 abbrev pub OneScript : Type 0

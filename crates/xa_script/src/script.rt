@@ -3,7 +3,7 @@ ghost use Rattle.std.specs.List.{position};
 ghost use Rattle.std.specs.Str.Lines.{lines, strip_carriage_return};
 ghost use Rattle.xa_script.specs.Draft.{is_line_end};
 ghost use Rattle.xa_script.specs.Script.{IsScript};
-ghost use Rattle.xa_script.specs.Readings.{Tells, OneScript, NoFaultyScript, OneFirstFault};
+ghost use Rattle.xa_script.specs.Readings.{NamesFirstFault, OneScript, NoFaultyScript, OneFirstFault};
 ghost use Rattle.xa_script.specs.ScriptLine.{client_in, call_in};
 ghost use Rattle.xa_script.specs.Draft.{kept, begun, added, with_line, read_all};
 
@@ -173,7 +173,7 @@ fn next_line(octets: &[u8]) -> Option<(&[u8], &[u8])>
 fn read_lines(alloc: Global, octets: &[u8]) -> Result<Draft, ScriptRefused>
     requires { length octets.now < 2 ^ 32 }
     ensures found { IfOk result (λ draft. read_all [] (lines octets.now) ≡ Some draft) }
-    ensures refused { IfErr result (Tells octets.now) }
+    ensures refused { IfErr result (NamesFirstFault octets.now) }
 {
     let mut draft = Draft::new(alloc);
     let mut rest = octets;
@@ -195,7 +195,7 @@ fn read_lines(alloc: Global, octets: &[u8]) -> Result<Draft, ScriptRefused>
 pub fn read_script(alloc: Global, octets: &[u8]) -> Result<Script, ScriptRefused>
     requires { length octets.now < 2 ^ 32 }
     ensures found { IfOk result (λ script. IsScript octets.now script) }
-    ensures refused { IfErr result (Tells octets.now) }
+    ensures refused { IfErr result (NamesFirstFault octets.now) }
 {
     let draft = read_lines(alloc, octets)?;
     Ok(draft.finish(alloc)?)
