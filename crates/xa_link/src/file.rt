@@ -60,7 +60,7 @@ pub fn read_all<S: Source>(
     ensures alone { S.beside_reads source.new ≡ S.beside_reads source.old }
     ensures later { S.read_faults source.old ≤ S.read_faults source.new }
     ensures cause { IsErrOf result ShelfRefused.Failed → Rose (S.read_faults source.old) (S.read_faults source.new) }
-    ensures quiet { OnOk result (S.read_faults source.new ≡ S.read_faults source.old) }
+    ensures quiet { (IsErrOf result ShelfRefused.Failed → ⊥) → S.read_faults source.new ≡ S.read_faults source.old }
 {
     let mut all = Vec::new(alloc);
     let mut piece = [0u8; PIECE];
