@@ -1,5 +1,5 @@
 -- How a run of `play` ends, by how its script was served.
-use Rattle.std.proofs.Common.{◌≡◌, ◌⊎◌, ℕ, ◌≤◌, List, [], ◌∷◌, ◌++◌, length, reverse, Option, Some, None, Ok, Err, ap, inl, inr, refl, sym, subst, arith, slice_set, slice_index_or}
+use Rattle.std.proofs.Common.{◌≡◌, ◌⊎◌, ℕ, ◌≤◌, ◌<◌, List, [], ◌∷◌, ◌++◌, length, reverse, Option, Some, None, Ok, Err, ap, inl, inr, refl, sym, subst, arith, slice_set, slice_index_or}
 use Rattle.std.specs.Prelude.{Result, IfSome, OnOk, MatchResult}
 use Rattle.xa_link.specs.Told.{Rose, Empty, Grew, GrewByPart}
 use Rattle.xa_events.specs.declared.event.Event.{Event}
@@ -16,7 +16,7 @@ use Rattle.xa_types.specs.declared.memory.NoMemory.{NoMemory as NoMemoryError}
 use Rattle.xa_types.specs.declared.ids.Generation.{Generation}
 use Rattle.xa_link.specs.Starts.{AsksFor}
 use Rattle.xa_events.specs.Server.{starts}
-use Rattle.xa_program.specs.Headline.{Streams, IsSilent, LinkTells, IsLifeOf, IsTheScript, IsPlayed, StarterShows, starts_of, IsStarterOf, EachStarter, PlayEnds, names_of}
+use Rattle.xa_program.specs.Headline.{Streams, ReadsWell, IsSilent, LinkTells, IsLifeOf, IsTheScript, IsPlayed, StarterShows, starts_of, IsStarterOf, EachStarter, PlayEnds, names_of}
 use Rattle.xa_program.specs.Lives.{failed_starts}
 use Rattle.xa_program.specs.Progress.{IsOver, HasLived, HasNotLived, StartsCount, IsAsked, IsServed, ServingEnds, Printed, Unprinted, ScriptRefusedAs}
 
@@ -38,8 +38,8 @@ life_shown : {L : Type 0} (tells : LinkTells L) (link : L) (pipe : Piped) (servi
 life_shown tells link pipe service past shows life = rw (shows.took_is, shows.gave_is, shows.left_is, shows.reads_is, shows.writes_is) life
 
 served_life : {L : Type 0} (tells : LinkTells L) (link : L) (pipe : Piped) (asks asks_after : StarterShows) (service : List ℕ) (clients : List Client) (history : List Event) (lines : List ℕ) (lives : List (Life L))
-    → lives ≡ the_life link ∷ [] → ShowsPipe tells link pipe → IsAsked asks asks_after → IsOver service clients history lines → HasLived service (reverse history) pipe → IsServed tells asks asks_after service clients history lives
-served_life {L} tells link pipe asks asks_after service clients history lines lives is shows asked over lived =
+    → lives ≡ the_life link ∷ [] → ShowsPipe tells link pipe → asks_after.faults ≡ asks.faults → IsAsked asks asks_after → IsOver service clients history lines → HasLived service (reverse history) pipe → IsServed tells asks asks_after service clients history lives
+served_life {L} tells link pipe asks asks_after service clients history lines lives is shows quiet asked over lived =
     subst (λ (all : List (Life L)). IsServed tells asks asks_after service clients history all) (sym is) (record {
       machine = over.machine;
       lives_are = sym lived.lives;
@@ -47,7 +47,7 @@ served_life {L} tells link pipe asks asks_after service clients history lines li
           let first : 0 ≡ k = omega arith in
           subst (λ (j : ℕ). IsLifeOf tells (play_setup service) (reverse history) (slice_index_or (the_life link ∷ []) j d)) first (life_shown tells link pipe service (reverse history) shows lived.life);
       made = over.made;
-      failed = inl lived.failed;
+      failed = inl (lived.failed, quiet);
       asked = asked;
     })
 
@@ -68,7 +68,7 @@ served_none {L} tells asks asks_after service clients history lines lives is ros
 printed_ends : {L : Type 0} (tells : LinkTells L) (before after : Option (List ℕ)) (faults faults_after : ℕ) (asks asks_after : StarterShows) (service : List ℕ) (clients : List Client) (history : List Event) (lines : List ℕ) (lives : List (Life L)) (status : Status)
     → IsServed tells asks asks_after service clients history lives → lines ≡ transcript (names_of clients) (reverse history) → Printed before after faults faults_after lines status
     → ServingEnds tells before after faults faults_after asks asks_after service clients status history lives
-printed_ends tells before after faults faults_after asks asks_after service clients history lines lives Done served said printed = (served, subst (λ text. Grew before after text) said printed)
+printed_ends tells before after faults faults_after asks asks_after service clients history lines lives Done served said printed = (served, subst (λ text. Grew before after text) said printed.0, printed.1)
 printed_ends tells before after faults faults_after asks asks_after service clients history lines lives WriteFault served said printed = (served, subst (λ text. GrewByPart before after text) said printed.0, printed.1)
 printed_ends tells before after faults faults_after asks asks_after service clients history lines lives status served said printed = absurd printed
 
@@ -80,12 +80,12 @@ no_memory tells before after faults faults_after asks asks_after service clients
 -- how a life and its transcript end
 pub life_ends : {L : Type 0} (tells : LinkTells L) (link : L) (pipe : Piped) (before after : Option (List ℕ)) (faults faults_after : ℕ) (asks asks_after : StarterShows) (service : List ℕ) (clients : List Client) (history : List Event) (lines : List ℕ) (lives : List (Life L))
     (served : Result (Unit {0}) NoMemoryError) (status : Status)
-    → lives ≡ the_life link ∷ [] → ShowsPipe tells link pipe → IsAsked asks asks_after → OnOk served (IsOver service clients history lines × HasLived service (reverse history) pipe)
+    → lives ≡ the_life link ∷ [] → ShowsPipe tells link pipe → asks_after.faults ≡ asks.faults → IsAsked asks asks_after → OnOk served (IsOver service clients history lines × HasLived service (reverse history) pipe)
     → MatchResult served (λ _. Printed before after faults faults_after lines status) (λ _. Unprinted before after faults faults_after status)
     → ServingEnds tells before after faults faults_after asks asks_after service clients status history lives
-life_ends tells link pipe before after faults faults_after asks asks_after service clients history lines lives (Ok u) status is shows asked over printed =
-    printed_ends tells before after faults faults_after asks asks_after service clients history lines lives status (served_life tells link pipe asks asks_after service clients history lines lives is shows asked over.0 over.1) over.0.said printed
-life_ends tells link pipe before after faults faults_after asks asks_after service clients history lines lives (Err e) status is shows asked over printed =
+life_ends tells link pipe before after faults faults_after asks asks_after service clients history lines lives (Ok u) status is shows quiet asked over printed =
+    printed_ends tells before after faults faults_after asks asks_after service clients history lines lives status (served_life tells link pipe asks asks_after service clients history lines lives is shows quiet asked over.0 over.1) over.0.said printed
+life_ends tells link pipe before after faults faults_after asks asks_after service clients history lines lives (Err e) status is shows quiet asked over printed =
     no_memory tells before after faults faults_after asks asks_after service clients history lives status printed
 
 -- how the transcript ends where no life began
@@ -101,10 +101,14 @@ none_ends tells before after faults faults_after asks asks_after service clients
 
 -- ---- the run
 
-at_least : (failed old now : ℕ) → old ≡ 0 → (failed ≡ 0) ⊎ ((failed ≡ 1) × Rose old now) → failed ≤ now
-at_least failed old now none (inl zero_failed) = omega (arith, zero_failed)
+at_least : (failed old now : ℕ) → old ≡ 0 → ((failed ≡ 0) × (now ≡ old)) ⊎ ((failed ≡ 1) × Rose old now) → failed ≤ now
+at_least failed old now none (inl (zero_failed, same)) = omega (arith, zero_failed)
 at_least failed old now none (inr (one, inl rose)) = omega (arith, one, rose)
 at_least failed old now none (inr (one, inr stands)) = omega (arith, one, stands)
+
+failed_some : (failed old now : ℕ) → old ≡ 0 → ((failed ≡ 0) × (now ≡ old)) ⊎ ((failed ≡ 1) × Rose old now) → 0 < now → 0 < failed
+failed_some failed old now none (inl (zero_failed, same)) some = omega (arith, none, same, some)
+failed_some failed old now none (inr (one, rose)) some = omega (arith, one)
 
 -- a starter that was asked for nothing before was asked for the one start
 asked_once : (before after : Option (List (List ℕ × Generation))) → IfSome before (λ all. all ≡ []) → AsksFor before after server_name (record { 0 = 1 }) → IfSome after (λ all. all ≡ starts_of server_name 1)
@@ -116,6 +120,7 @@ the_starter : (service : List ℕ) (before after : StarterShows) (past : List Ev
     → IsStarterOf (play_setup service) 1 after past
 the_starter service before after past none unasked made count asked = record {
   counts = at_least (failed_starts 1 past) before.faults after.faults none count;
+  caused = failed_some (failed_starts 1 past) before.faults after.faults none count;
   each = subst (λ (n : ℕ). IfSome after.asked (λ all. all ≡ starts_of server_name n)) (sym (ap length made)) (asked_once before.asked after.asked unasked asked);
 }
 
@@ -132,7 +137,7 @@ still_one (starter ∷ other ∷ starters) now one = absurd (omega (arith, one))
 
 module _ {L S : Type 0} (tells : LinkTells L) (shows : S → StarterShows) (streams : Streams) (service : List ℕ) (clients : List Client)
     (history : List Event) (lives : List (Life L)) (starters : List S) (old now : S)
-    (one : length starters ≡ 1) (none : (shows old).faults ≡ 0) (unasked : IfSome (shows old).asked (λ all. all ≡ [])) (script : IsTheScript streams.told clients) (ended : Empty streams.left_after) where
+    (one : length starters ≡ 1) (none : (shows old).faults ≡ 0) (unasked : IfSome (shows old).asked (λ all. all ≡ [])) (script : IsTheScript streams.told clients) (ended : Empty streams.left_after) (quiet : ReadsWell streams) where
   played : IsServed tells (shows old) (shows now) service clients history lives → IsPlayed tells shows streams.told service clients history lives (slice_set starters 0 now)
   played served = record {
     script = script;
@@ -148,16 +153,16 @@ module _ {L S : Type 0} (tells : LinkTells L) (shows : S → StarterShows) (stre
   pub play_ends : (status : Status)
       → ServingEnds tells streams.took_before streams.took_after streams.writes_before streams.writes_after (shows old) (shows now) service clients status history lives
       → PlayEnds tells shows streams service status history lives (slice_set starters 0 now)
-  play_ends Done ends = (clients, played ends.0, ended, ends.1)
-  play_ends WriteFault ends = (clients, played ends.0, ended, ends.1, ends.2)
-  play_ends NoMemory ends = record { took = ends.0; writes = ends.1 }
+  play_ends Done ends = (clients, played ends.0, ended, ends.1, quiet, ends.2)
+  play_ends WriteFault ends = (clients, played ends.0, ended, ends.1, quiet, ends.2)
+  play_ends NoMemory ends = (quiet, record { took = ends.0; writes = ends.1 })
   play_ends status ends = absurd ends
 
 -- a run whose script was refused, and that left the output alone
 pub refused_ends : {L S : Type 0} (tells : LinkTells L) (shows : S → StarterShows) (streams : Streams) (service : List ℕ) (status : Status) (history : List Event) (lives : List (Life L)) (starters : List S)
     → ScriptRefusedAs streams.told streams.reads_before streams.reads_after status → IsSilent streams → PlayEnds tells shows streams service status history lives starters
 refused_ends tells shows streams service ScriptRead history lives starters why silent = (why, silent)
-refused_ends tells shows streams service (TooLong inputs.Script) history lives starters why silent = (why, silent)
-refused_ends tells shows streams service (BadLine line cause) history lives starters why silent = (why.0, why.1, silent)
-refused_ends tells shows streams service NoMemory history lives starters why silent = silent
+refused_ends tells shows streams service (TooLong inputs.Script) history lives starters why silent = (why.0, why.1, silent)
+refused_ends tells shows streams service (BadLine line cause) history lives starters why silent = (why.0, why.1, why.2, silent)
+refused_ends tells shows streams service NoMemory history lives starters why silent = (why, silent)
 refused_ends tells shows streams service status history lives starters why silent = absurd why

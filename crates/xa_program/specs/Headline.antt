@@ -52,9 +52,11 @@ abbrev pub starts_of : List ℕ → ℕ → List (List ℕ × Generation)
 starts_of name zero = []
 starts_of name (suc n) = starts_of name n ++ (name, record { 0 = suc n }) ∷ []
 
--- the starter of the server with that number counts at least the server's failed starts, and was asked for its starts, and for no others
+-- the starter of the server with that number counts at least the server's failed starts, counts something only where one failed, and was asked
+-- for its starts, and for no others
 pub record IsStarterOf (setup : Setup) (server : ℕ) (shown : StarterShows) (past : List Event) : Type 0 where
   pub counts : failed_starts server past ≤ shown.faults
+  pub caused : 0 < shown.faults → 0 < failed_starts server past
   pub each : IfSome shown.asked (λ all. all ≡ starts_of (server_name_in (numbered server setup.servers)) (length (starts server past)))
 
 -- each starter, of which the first is of the server with that number, is that of its server
@@ -116,24 +118,33 @@ pub record Streams : Type 0 where
 abbrev pub names_of : List Client → List (List ℕ)
 names_of clients = map (λ client. client.name) clients
 
+-- no failed read of the input was counted
+abbrev pub ReadsWell : Streams → Type 0
+ReadsWell streams = streams.reads_after ≡ streams.reads_before
+
+-- no failed write to the output was counted
+abbrev pub WritesWell : Streams → Type 0
+WritesWell streams = streams.writes_after ≡ streams.writes_before
+
 -- the output was left alone
 pub record IsSilent (streams : Streams) : Type 0 where
   pub took : streams.took_after ≡ streams.took_before
-  pub writes : streams.writes_after ≡ streams.writes_before
+  pub writes : WritesWell streams
 
 -- how `play SERVICE` ends, and what that shows
 abbrev pub PlayEnds : {L S : Type 0} → LinkTells L → (S → StarterShows) → Streams → List ℕ → Status → List Event → List (Life L) → List S → Type 0
 PlayEnds tells shows streams service Done history lives starters =
     (clients : List Client) × IsPlayed tells shows streams.told service clients history lives starters × Empty streams.left_after
     × Grew streams.took_before streams.took_after (transcript (names_of clients) (reverse history))
+    × ReadsWell streams × WritesWell streams
 PlayEnds tells shows streams service WriteFault history lives starters =
     (clients : List Client) × IsPlayed tells shows streams.told service clients history lives starters × Empty streams.left_after
     × GrewByPart streams.took_before streams.took_after (transcript (names_of clients) (reverse history))
-    × Rose streams.writes_before streams.writes_after
+    × ReadsWell streams × Rose streams.writes_before streams.writes_after
 PlayEnds tells shows streams service ScriptRead history lives starters = Rose streams.reads_before streams.reads_after × IsSilent streams
-PlayEnds tells shows streams service (TooLong inputs.Script) history lives starters = IfSome streams.told (λ octets. longest_script < length octets) × IsSilent streams
-PlayEnds tells shows streams service (BadLine line cause) history lives starters = (cause ≡ 9) × HasFirstFault streams.told line × IsSilent streams
-PlayEnds tells shows streams service NoMemory history lives starters = IsSilent streams
+PlayEnds tells shows streams service (TooLong inputs.Script) history lives starters = IfSome streams.told (λ octets. longest_script < length octets) × ReadsWell streams × IsSilent streams
+PlayEnds tells shows streams service (BadLine line cause) history lives starters = (cause ≡ 9) × HasFirstFault streams.told line × ReadsWell streams × IsSilent streams
+PlayEnds tells shows streams service NoMemory history lives starters = ReadsWell streams × IsSilent streams
 PlayEnds tells shows streams service status history lives starters = ⊥
 
 -- nothing is handed back

@@ -229,9 +229,9 @@ pub record HasLived (service : List ℕ) (past : List Event) (pipe : Piped) : Ty
   pub lives : lives_of past ≡ (1, 1) ∷ []
   pub failed : failed_starts 1 past ≡ 0
 
--- no start failed, or one that its starter counted
+-- no start failed and its starter counted none, or one failed that its starter counted
 abbrev pub StartsCount : List Event → StarterShows → StarterShows → Type 0
-StartsCount past before after = (failed_starts 1 past ≡ 0) ⊎ ((failed_starts 1 past ≡ 1) × Rose before.faults after.faults)
+StartsCount past before after = ((failed_starts 1 past ≡ 0) × (after.faults ≡ before.faults)) ⊎ ((failed_starts 1 past ≡ 1) × Rose before.faults after.faults)
 
 -- the starter was asked for the one start
 abbrev pub IsAsked : StarterShows → StarterShows → Type 0
@@ -281,7 +281,7 @@ pub record IsServed {L : Type 0} (tells : LinkTells L) (before after : StarterSh
 -- how serving a script ends, and what that shows; the output and the starter are seen before and after
 abbrev pub ServingEnds : {L : Type 0} → LinkTells L → Option (List ℕ) → Option (List ℕ) → ℕ → ℕ → StarterShows → StarterShows → List ℕ → List Client → Status → List Event → List (Life L) → Type 0
 ServingEnds tells before after faults faults_after asks asks_after service clients Done history lives =
-    IsServed tells asks asks_after service clients history lives × Grew before after (transcript (names_of clients) (reverse history))
+    IsServed tells asks asks_after service clients history lives × Grew before after (transcript (names_of clients) (reverse history)) × (faults_after ≡ faults)
 ServingEnds tells before after faults faults_after asks asks_after service clients WriteFault history lives =
     IsServed tells asks asks_after service clients history lives × GrewByPart before after (transcript (names_of clients) (reverse history)) × Rose faults faults_after
 ServingEnds tells before after faults faults_after asks asks_after service clients NoMemory history lives = (after ≡ before) × (faults_after ≡ faults)
@@ -289,7 +289,7 @@ ServingEnds tells before after faults faults_after asks asks_after service clien
 
 -- the lines were written whole, or in part and the output failed
 abbrev pub Printed : Option (List ℕ) → Option (List ℕ) → ℕ → ℕ → List ℕ → Status → Type 0
-Printed before after writes writes_after lines Done = Grew before after lines
+Printed before after writes writes_after lines Done = Grew before after lines × (writes_after ≡ writes)
 Printed before after writes writes_after lines WriteFault = GrewByPart before after lines × Rose writes writes_after
 Printed before after writes writes_after lines status = ⊥
 
@@ -302,7 +302,7 @@ pub record Unprinted (before after : Option (List ℕ)) (faults faults_after : �
 -- why there is no script
 abbrev pub ScriptRefusedAs : Option (List ℕ) → ℕ → ℕ → Status → Type 0
 ScriptRefusedAs told reads reads_after ScriptRead = Rose reads reads_after
-ScriptRefusedAs told reads reads_after (TooLong inputs.Script) = IfSome told (λ octets. longest_script < length octets)
-ScriptRefusedAs told reads reads_after (BadLine line cause) = (cause ≡ 9) × HasFirstFault told line
-ScriptRefusedAs told reads reads_after NoMemory = ⊤
+ScriptRefusedAs told reads reads_after (TooLong inputs.Script) = IfSome told (λ octets. longest_script < length octets) × (reads_after ≡ reads)
+ScriptRefusedAs told reads reads_after (BadLine line cause) = (cause ≡ 9) × HasFirstFault told line × (reads_after ≡ reads)
+ScriptRefusedAs told reads reads_after NoMemory = reads_after ≡ reads
 ScriptRefusedAs told reads reads_after status = ⊥

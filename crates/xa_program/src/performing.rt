@@ -117,7 +117,7 @@ fn live<O: Sink, L: Link>(
     requires took { Empty (L.took link) }
     requires gave { Empty (L.gave link) }
     requires well { (L.read_faults link ≡ 0) × (L.write_faults link ≡ 0) }
-    ensures { (starts starts_after : StarterShows) → IsAsked starts starts_after → ServingEnds (record { took = L.took; gave = L.gave; left = L.left; reads = L.read_faults; writes = L.write_faults })
+    ensures { (starts starts_after : StarterShows) → starts_after.faults ≡ starts.faults → IsAsked starts starts_after → ServingEnds (record { took = L.took; gave = L.gave; left = L.left; reads = L.read_faults; writes = L.write_faults })
         (O.took out.old) (O.took out.new) (O.write_faults out.old) (O.write_faults out.new) starts starts_after
         service.now script.clients result.status result.history.items result.lives.items }
 {

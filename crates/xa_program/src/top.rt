@@ -131,6 +131,7 @@ fn script_of<I: Source>(alloc: Global, input: &mut I) -> Result<(Script, Vec<u8>
     ensures script { IfOk result (λ read. IsTheScript (I.left input.old) read.0.clients) }
     ensures built { IfOk result (λ read. IsBuiltScript read.0.clients) }
     ensures ended { OnOk result (Empty (I.left input.new)) }
+    ensures quiet { OnOk result (I.read_faults input.new ≡ I.read_faults input.old) }
     ensures refused { IfErr result (ScriptRefusedAs (I.left input.old) (I.read_faults input.old) (I.read_faults input.new)) }
 {
     let octets = match read_all(alloc, input, LONGEST_SCRIPT) {

@@ -10,5 +10,5 @@ returns-in-Ok-starters_of-clause-play g c =
     let unasked = subst (λ s. IfSome (g.Y.Start.Starter.asked s) (λ starts. starts ≡ [])) (sym c.index_mut.ensures.value) (c.in-Ok-starters_of.ensures.none 0 c.index_mut.result.now (omega (arith, one))) in
     play_ends _ (λ s. record { faults = g.Y.Start.Starter.start_faults s; asked = g.Y.Start.Starter.asked s }) _ c.args.service.now c.in-Ok.read.0.clients
     c.perform-status.result.history.items c.perform-status.result.lives.items c.in-Ok-starters_of.starters.items c.index_mut.result.now c.perform-status.new.starter
-    one none unasked c.in-Ok.ensures.script c.in-Ok.ensures.ended
+    one none unasked c.in-Ok.ensures.script c.in-Ok.ensures.ended c.in-Ok.ensures.quiet
     c.perform-status.result.status c.perform-status.ensures
