@@ -1,12 +1,11 @@
--- Words that read a list of events, the newest first (this project's own). Each reading of the machine is made of these.
+-- Words that read a list of events, the newest first (this project's own). The readings of the machine are made of these and the kit's.
 use Rattle.std.specs.Prelude.{ℕ, ◌+◌, ◌==◌, ◌&&◌, max, not, Bool, cond, List, [], ◌∷◌, ◌++◌, Option, Some, None}
-use Rattle.std.specs.List.{filter, list_any}
+use Rattle.std.specs.List.{find, filter, list_any}
 use Rattle.xa_types.specs.declared.ids.RequestId.{RequestId}
 
--- the newest that passes
+-- the newest that passes, which stands first
 abbrev pub latest : {X : Type 0} → (X → Bool) → List X → Option X
-latest p [] = None
-latest p (e ∷ past) = cond (p e) (Some e) (latest p past)
+latest p past = find p past
 
 -- how many pass
 abbrev pub count : {X : Type 0} → (X → Bool) → List X → ℕ

@@ -1,5 +1,5 @@
 // Named files.
-ghost use Rattle.std.specs.Prelude.{◌≡◌, ◌≤◌, ◌<◌, ℕ, List, length, Option, IfOk, OnOk, IsErrOf};
+ghost use Rattle.std.specs.Prelude.{◌≡◌, ◌≤◌, ◌<◌, ℕ, List, length, Option, IfOk, IsErrOf};
 ghost use Rattle.xa_link.specs.Told.{Rose};
 ghost use Rattle.xa_link.specs.Reads.{Holds, HoldsMore};
 
@@ -35,5 +35,5 @@ pub trait Shelf {
 
         ensures later { shelf_faults self.old ≤ shelf_faults self.new }
         ensures cause { IsErrOf result ShelfRefused.Failed → Rose (shelf_faults self.old) (shelf_faults self.new) }
-        ensures quiet { OnOk result (shelf_faults self.new ≡ shelf_faults self.old) };
+        ensures quiet { (IsErrOf result ShelfRefused.Failed → ⊥) → shelf_faults self.new ≡ shelf_faults self.old };
 }

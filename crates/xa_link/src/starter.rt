@@ -35,7 +35,7 @@ pub trait Starter<L: Link> {
 
         ensures later { start_faults self.old ≤ start_faults self.new }
         ensures cause { IsErrOf result StartRefused.Failed → Rose (start_faults self.old) (start_faults self.new) }
-        ensures quiet { OnOk result (start_faults self.new ≡ start_faults self.old) };
+        ensures quiet { (IsErrOf result StartRefused.Failed → ⊥) → start_faults self.new ≡ start_faults self.old };
 }
 
 /// Where the starters of a domain come from.
