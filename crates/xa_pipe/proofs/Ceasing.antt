@@ -90,6 +90,5 @@ module _ (name : List ℕ) (tag : ℕ) (turn : Turn) (frames : List Frame) (pipe
   ceases_other cause f is reads spelling other read =
       subst (λ (why : StopCause). Ceases name tag turn frames pipe why) (sym is) (record {
         may = reads;
-       
         gave = told_more pipe.gave _ _ (λ octets. other_gave octets f spelling other) read.told;
       })
