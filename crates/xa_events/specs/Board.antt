@@ -21,7 +21,7 @@ changes past = filter_map change_in past
 unfoldable pub published : List Event → ℕ
 published past = length (changes past)
 
--- how many changes the boot makes
+-- how many changes the boot makes, which is what the domain advertises before anything else
 abbrev pub boot : Setup → ℕ
 boot setup = length (configured setup)
 

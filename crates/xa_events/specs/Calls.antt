@@ -29,7 +29,8 @@ is_op caller op e = is_call_of caller e && (op_in e == op)
 unfoldable pub events_of_op : ℕ → ℕ → List Event → List Event
 events_of_op caller op past = filter (is_op caller op) past
 
--- a tpcall that TPEINVAL refuses: its service is no name, its data isn't sound, or it has TPNOREPLY
+-- a tpcall that TPEINVAL refuses: its service is no name, its data isn't sound, or it has TPNOREPLY (XATMI, TPEINVAL of tpcall; that the first
+-- two are invalid arguments is this project's own)
 abbrev pub is_invalid_call : Setup → Ask → Bool
 is_invalid_call setup ask = (not (is_name ask.service) || not (is_sound setup ask.payload)) || ask.flags.no_reply
 

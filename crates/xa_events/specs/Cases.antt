@@ -126,7 +126,8 @@ pub record TakeCase (s : State) (t : Taken) : Type 0 where
   pub home : TakeHome s t
   pub worker : TakeWorker s t
 
--- ---- Gone: a server that is off and may not start again is given up (after Tuxedo, RESTART and MAXGEN of UBBCONFIG)
+-- ---- Gone: a server that is off and may not start again at tick 0, which alone the clock shows, is given up (after Tuxedo, RESTART and MAXGEN
+-- of UBBCONFIG)
 
 pub record GoneWorker (s : State) (server : ℕ) : Type 0 where
   pub known : 0 < queue_of s.setup server
@@ -198,7 +199,7 @@ pub record EndCase (s : State) (e : Ended) : Type 0 where
 
 -- ---- Stop: a life of a server ends (TPEXIT after Tuxedo)
 
--- the life failed: its input ended, a pipe failed, or it wrote what it may not
+-- the life failed: what its program writes ended, a read or a write of its link failed, or the program wrote what it may not
 abbrev pub is_failure : StopCause → Bool
 is_failure EndOfInput = true
 is_failure ReadFault = true
@@ -217,7 +218,7 @@ dying_stops cause (Some Died) = is_failure cause
 dying_stops cause (Some Starved) = is_starved cause
 dying_stops cause _ = false
 
--- with which cause a server that is idle may stop: TPEXIT follows a request that failed
+-- with which cause a server that is idle may stop: by TPEXIT only behind a request that failed or was a bad return, and by any other
 abbrev pub idle_stops : StopCause → Option Outcome → Bool
 idle_stops Exit (Some (Failed code payload)) = true
 idle_stops Exit (Some BadReturn) = true
@@ -254,7 +255,7 @@ pub record AnswerCase (s : State) (a : Answered) : Type 0 where
   pub worker : AnswerWorker s a
   pub before : AnswerBefore s a
 
--- ---- Leave: a client has made its last call, and has no descriptor open
+-- ---- Leave: a client that has no descriptor open leaves; that it has made all its calls is said by `MadeCalls`
 
 pub record LeaveWorker (s : State) (client : ℕ) : Type 0 where
   pub known : is_client s.clients client ≡ true
@@ -265,7 +266,7 @@ pub record LeaveCase (s : State) (client : ℕ) : Type 0 where
   pub worker : LeaveWorker s client
 
 -- ---- Refuse: a call is refused (XATMI, tpcall), with what shows that it is right: a version that was looked up is no older than what the
--- caller has seen, and stands
+-- caller has seen, and was published
 
 abbrev pub IsFresh : State → ℕ → Evidence → Type 0
 IsFresh s caller Argument = Unit {0}

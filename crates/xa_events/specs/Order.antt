@@ -22,6 +22,6 @@ abbrev pub TakesNext : Setup → Event → List Event → Type 0
 TakesNext setup (Take t) before = next_of (priority_at before) (waiting setup (queue_of setup t.server.0) before) t.k ≡ Some t.request
 TakesNext setup _ before = Unit {0}
 
--- each take gives the next
+-- each take gives the request that `next_of` says
 abbrev pub TakesInOrder : Setup → List Event → Type 0
 TakesInOrder setup past = AtEach (TakesNext setup) past

@@ -10,7 +10,7 @@ use Rattle.xa_events.specs.Caller.{wants_reply}
 use Rattle.xa_events.specs.Calls.{is_op}
 use Rattle.xa_events.specs.Request.{sent_by_op}
 
--- the descriptor that an answer tells: 0 for the reply of a tpcall, which the same call sent
+-- the descriptor that an answer tells: 0 where the call that is answered also sent the request, as tpcall does, and else the request's number
 abbrev pub descriptor_of : Answered → List Event → ℕ
 descriptor_of a past = if sent_by_op a.request past == a.op then 0 else a.request.number
 

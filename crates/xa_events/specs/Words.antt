@@ -3,7 +3,7 @@ use Rattle.std.specs.Prelude.{ℕ, ◌+◌, ◌==◌, ◌&&◌, max, not, Bool, 
 use Rattle.std.specs.List.{find, filter, list_any}
 use Rattle.xa_types.specs.declared.ids.RequestId.{RequestId}
 
--- the newest that passes, which stands first
+-- the first that passes, which is the newest
 abbrev pub latest : {X : Type 0} → (X → Bool) → List X → Option X
 latest p past = find p past
 
@@ -12,7 +12,7 @@ abbrev pub count : {X : Type 0} → (X → Bool) → List X → ℕ
 count p [] = 0
 count p (e ∷ past) = cond (p e) (count p past + 1) (count p past)
 
--- the greatest of the numbers, or this one
+-- the greatest of the numbers and of `least`
 abbrev pub greatest : ℕ → List ℕ → ℕ
 greatest least [] = least
 greatest least (n ∷ rest) = max n (greatest least rest)
@@ -20,16 +20,17 @@ greatest least (n ∷ rest) = max n (greatest least rest)
 abbrev pub same_request : RequestId → RequestId → Bool
 same_request a b = (a.caller.0 == b.caller.0) && (a.number == b.number)
 
--- the list with one more at its end
+-- the list with one more at its end, where there is one
 abbrev pub added : Option RequestId → List RequestId → List RequestId
 added None requests = requests
 added (Some request) requests = requests ++ request ∷ []
 
--- the list without that one
+-- the list without that one, where there is one
 abbrev pub without : Option RequestId → List RequestId → List RequestId
 without None requests = requests
 without (Some out) requests = filter (λ request. not (same_request request out)) requests
 
+-- the request is among these
 abbrev pub has : RequestId → List RequestId → Bool
 has request requests = list_any (same_request request) requests
 
@@ -43,7 +44,7 @@ abbrev pub from_each : {X Y : Type 0} → (X → List X → List Y) → List X �
 from_each gives [] = []
 from_each gives (e ∷ past) = from_each gives past ++ gives e past
 
--- P holds of each with its number, of which the first has this one
+-- P holds of each with its number; the first has number n
 abbrev pub EachNumbered : {X : Type 0} → (ℕ → X → Type 0) → ℕ → List X → Type 0
 EachNumbered P n [] = Unit {0}
 EachNumbered P n (x ∷ xs) = P n x × EachNumbered P (n + 1) xs

@@ -102,8 +102,8 @@ IsCounted cause reads writes = (reads ≡ 0) × (writes ≡ 0)
 abbrev pub place_behind : List Frame → ℕ
 place_behind frames = min (length (all_spelled frames)) (2 ^ 64 - 1)
 
--- what stands behind the frames: no whole frame, and at the end of the input nothing more in the link; no frame at all; a frame that the program
--- may not say; or where memory ran out, any octets
+-- what stands behind the frames: less than a frame, and with EndOfInput nothing more in the link; with BadBytes no frame; with OutOfTurn a frame
+-- that the program may not say; with Starved some octet, where READY or NEXT was to come; else nothing is said
 abbrev pub Shows : List ℕ → ℕ → Turn → StopCause → List Frame → List ℕ → Option (List ℕ) → Type 0
 Shows name tag turn EndOfInput frames rest left = IsPartial rest × Empty left
 Shows name tag turn ReadFault frames rest left = IsPartial rest
@@ -114,7 +114,7 @@ Shows name tag AwaitsReady StarvedStop frames rest left = rest ≡ [] → ⊥
 Shows name tag AwaitsNext StarvedStop frames rest left = rest ≡ [] → ⊥
 Shows name tag turn cause frames rest left = Unit {0}
 
--- a request in hand has died with the life, or starved
+-- how the request in hand ends with the life
 abbrev pub lost_by : StopCause → Outcome
 lost_by StarvedStop = Starved
 lost_by cause = Died

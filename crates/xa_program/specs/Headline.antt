@@ -59,7 +59,7 @@ pub record IsStarterOf (setup : Setup) (server : ℕ) (shown : StarterShows) (pa
   pub caused : 0 < shown.faults → 0 < failed_starts server past
   pub each : IfSome shown.asked (λ all. all ≡ starts_of (server_name_in (numbered server setup.servers)) (length (starts server past)))
 
--- each starter, of which the first is of the server with that number, is that of its server
+-- each starter is that of its server; the first is that of the server with that number
 abbrev pub EachStarter : {S : Type 0} → Setup → (S → StarterShows) → ℕ → List S → List Event → Type 0
 EachStarter setup shows server starters past = EachNumbered (λ k starter. IsStarterOf setup k (shows starter) past) server starters
 
@@ -76,8 +76,8 @@ abbrev pub IsLifeOf : {L : Type 0} → LinkTells L → Setup → List Event → 
 IsLifeOf tells setup past life = IsLife setup (server_name_in (numbered life.server.0 setup.servers)) life.server.0 life.generation.0 past
     (tells.took life.link) (tells.gave life.link) (tells.left life.link) (tells.reads life.link) (tells.writes life.link)
 
--- what went through the pipes is the history's: each server has its starter, which was asked for the server's starts, the lives are those that
--- didn't fail, and each link's octets are those of its events
+-- what went through the pipes is the history's: each server has its starter, which was asked for the server's starts, the lives are the
+-- starts that succeeded, and each link's octets are those of its events
 pub record IsCarried {L S : Type 0} (tells : LinkTells L) (shows : S → StarterShows) (setup : Setup) (past : List Event) (lives : List (Life L)) (starters : List S) : Type 0 where
   pub all : length starters ≡ length setup.servers
   pub lives_are : map (λ life. (life.server.0, life.generation.0)) lives ≡ lives_of past

@@ -1,5 +1,5 @@
 -- What a script says: its lines, and the calls that they make (this project's own). `lines` cuts the octets at each 0x0A and drops a 0x0D before
--- it; the last line may lack its end, and nothing behind a last 0x0A is no line.
+-- it; the last line may lack its end, and where nothing stands behind the last 0x0A no line begins there.
 use Rattle.std.specs.Prelude.{ℕ, ◌-◌, ◌≤◌, ◌==◌, ◌≡◌, ◌⊎◌, ◌&&◌, nat_le, Bool, false, IsTrue, if◌then◌else◌, List, [], ◌∷◌, ◌++◌, length, take, replicate, codes, None, ⊤}
 use Rattle.std.specs.List.{list_all, flat_map}
 use Rattle.std.specs.Str.Lines.{lines}

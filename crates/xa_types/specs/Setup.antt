@@ -37,7 +37,7 @@ abbrev pub capacity_in : Option QueueSetup → ℕ
 capacity_in None = 0
 capacity_in (Some queue) = queue.capacity
 
--- how many requests may wait at a queue; none at a queue that isn't there
+-- how many requests may wait at a queue, which is this project's own; none at a queue that isn't there
 abbrev pub capacity_of : Setup → ℕ → ℕ
 capacity_of setup queue = capacity_in (numbered queue setup.queues)
 
