@@ -1,10 +1,10 @@
 -- What the objects of the outside tell of their octets, and how their counts of failures rise (this project's own). An object that tells nothing
--- of its octets satisfies what is said of them.
-use Rattle.std.specs.Prelude.{◌≡◌, ◌⊎◌, ◌<◌, ◌^◌, ◌-◌, ℕ, List, [], ◌++◌, take, length, Option, IfSome, option_map}
+-- of its octets satisfies what is said of them, but that a part of a piece is of one that isn't empty.
+use Rattle.std.specs.Prelude.{◌≡◌, ◌<◌, ◌+◌, ◌^◌, ◌-◌, min, ℕ, List, [], ◌++◌, take, length, Option, IfSome, option_map}
 
--- the count rose, or stands at 2^64 - 1
+-- the count is one more, or stands at its end, 2^64 - 1
 abbrev pub Rose : ℕ → ℕ → Type 0
-Rose before now = (before < now) ⊎ (now ≡ 2 ^ 64 - 1)
+Rose before now = now ≡ min (before + 1) (2 ^ 64 - 1)
 
 -- the octets that are told grew by these; what isn't told stays so
 abbrev pub Grew : Option (List ℕ) → Option (List ℕ) → List ℕ → Type 0

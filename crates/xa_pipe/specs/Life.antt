@@ -92,10 +92,10 @@ may_end StarvedStop Exited = false
 may_end StarvedStop turn = true
 may_end cause turn = false
 
--- a read that failed was counted where that ended the life, and a write likewise, and no other was
+-- one read failed where that ended the life, or one write, and no other did
 abbrev pub IsCounted : StopCause → ℕ → ℕ → Type 0
-IsCounted ReadFault reads writes = (0 < reads) × (writes ≡ 0)
-IsCounted WriteFault reads writes = (reads ≡ 0) × (0 < writes)
+IsCounted ReadFault reads writes = (reads ≡ 1) × (writes ≡ 0)
+IsCounted WriteFault reads writes = (reads ≡ 0) × (writes ≡ 1)
 IsCounted cause reads writes = (reads ≡ 0) × (writes ≡ 0)
 
 -- the place behind these frames; places end at 2 ^ 64 - 1

@@ -4,7 +4,7 @@ use Rattle.std.specs.Io.{StartsWith}
 use Rattle.xa_types.specs.declared.setup.Setup.{Setup}
 use Rattle.xa_types.specs.declared.data.Data.{Data}
 use Rattle.xa_types.specs.declared.call.Mode.TheVariants.{Reply}
-use Rattle.xa_link.specs.Told.{Empty}
+use Rattle.xa_link.specs.Told.{Rose, Empty}
 use Rattle.xa_frame.specs.declared.frame.Frame.{Frame}
 use Rattle.xa_frame.specs.declared.frame.Body.TheVariants.{Invoke}
 use Rattle.xa_frame.specs.declared.reader.NextRefused.{NextRefused}
@@ -58,15 +58,15 @@ abbrev pub Keeps : Piped → List Frame → StopCause → Type 0
 Keeps pipe frames Starved = IfSome pipe.gave (λ octets. StartsWith octets (all_spelled frames))
 Keeps pipe frames cause = HasRead pipe frames
 
--- why no frame was read or none that may come, by the count of failed reads before and after: a read that failed was counted, and no other
+-- the count of failed reads before and after, where the life ended by that cause as a frame was to come: one read failed, or none
 abbrev pub CountsReads : StopCause → ℕ → ℕ → Type 0
-CountsReads ReadFault before after = 0 < after
+CountsReads ReadFault before after = Rose before after
 CountsReads WriteFault before after = ⊥
 CountsReads cause before after = after ≡ before
 
--- why a frame wasn't written, by the count of failed writes before and after
+-- the count of failed writes before and after, where a frame wasn't written by that cause
 abbrev pub CountsWrites : StopCause → ℕ → ℕ → Type 0
-CountsWrites WriteFault before after = 0 < after
+CountsWrites WriteFault before after = Rose before after
 CountsWrites Starved before after = after ≡ before
 CountsWrites cause before after = ⊥
 

@@ -1,5 +1,5 @@
 ghost use Rattle.std.specs.Prelude.{◌≡◌, ◌++◌, ◌∷◌, ◌+◌, ◌<◌, ◌≤◌, [], ℕ, List, length, IfOk, IfErr, OnOk, OnErr};
-ghost use Rattle.xa_link.specs.Told.{Grew, GrewByPart, Empty};
+ghost use Rattle.xa_link.specs.Told.{Rose, Grew, GrewByPart, Empty};
 ghost use Rattle.xa_frame.specs.declared.frame.Frame.{Frame};
 ghost use Rattle.xa_frame.specs.Spelling.{spelled, HasSpelling, IsData};
 ghost use Rattle.xa_events.specs.declared.event.StopCause.TheVariants.{Starved, WriteFault};
@@ -48,7 +48,7 @@ fn write<L: Link>(link: &mut L, octets: &[u8]) -> Result<(), StopCause>
     ensures gave { L.gave link.new ≡ L.gave link.old }
     ensures reads { L.read_faults link.new ≡ L.read_faults link.old }
     ensures well { OnOk result (L.write_faults link.new ≡ L.write_faults link.old) }
-    ensures why { IfErr result (λ cause. (cause ≡ StopCause.WriteFault) × (0 < L.write_faults link.new)) }
+    ensures why { IfErr result (λ cause. (cause ≡ StopCause.WriteFault) × Rose (L.write_faults link.old) (L.write_faults link.new)) }
 {
     put(link, octets).map_err(|_| StopCause::WriteFault)
 }

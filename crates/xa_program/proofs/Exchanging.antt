@@ -1,8 +1,8 @@
 -- What goes through the pipes at an exchange.
-use Rattle.std.proofs.Common.{◌≡◌, ◌⊎◌, ℕ, List, [], ◌∷◌, ◌++◌, Option, Ok, Err, inl, inr, ◌∙◌, subst}
+use Rattle.std.proofs.Common.{◌≡◌, ◌⊎◌, ℕ, ◌+◌, ◌-◌, ◌^◌, min, List, [], ◌∷◌, ◌++◌, Option, Ok, Err, inl, inr, ◌∙◌, subst}
 use Rattle.std.specs.Prelude.{Result, IfOk, IfErr, OnOk}
 use Rattle.xa_types.specs.declared.data.Data.{Data}
-use Rattle.xa_link.specs.Told.{Grew}
+use Rattle.xa_link.specs.Told.{Rose, Grew}
 use Rattle.xa_events.specs.declared.event.StopCause.{StopCause}
 use Rattle.xa_events.specs.declared.event.StopCause.TheVariants.{Shutdown, Exit, EndOfInput, ReadFault, WriteFault, BadBytes, OutOfTurn, Starved}
 use Rattle.xa_frame.specs.declared.frame.Frame.{Frame}
@@ -15,9 +15,13 @@ use Rattle.xa_pipe.specs.declared.hearing.Return.{Return}
 use Rattle.xa_pipe.proofs.Frames.{read_same}
 use Rattle.xa_program.specs.Progress.{NoneFailed, SameCounts, FailsReading, FailsWriting, Sends, Exchanged}
 
+-- a count that was 0 and rose is 1
+pub once : (before now : ℕ) → Rose before now → before ≡ 0 → now ≡ 1
+once before now rose none = subst (λ (n : ℕ). now ≡ min (n + 1) (2 ^ 64 - 1)) none rose
+
 -- what the counts of a link are where reading failed
 pub counted_reading : (cause : StopCause) (reads reads_now writes writes_now : ℕ) → CountsReads cause reads reads_now → writes_now ≡ writes → reads ≡ 0 → writes ≡ 0 → IsCounted cause reads_now writes_now
-counted_reading ReadFault reads reads_now writes writes_now counts same no_reads no_writes = (counts, same ∙ no_writes)
+counted_reading ReadFault reads reads_now writes writes_now counts same no_reads no_writes = (once reads reads_now counts no_reads, same ∙ no_writes)
 counted_reading WriteFault reads reads_now writes writes_now counts same no_reads no_writes = absurd counts
 counted_reading Shutdown reads reads_now writes writes_now counts same no_reads no_writes = (counts ∙ no_reads, same ∙ no_writes)
 counted_reading Exit reads reads_now writes writes_now counts same no_reads no_writes = (counts ∙ no_reads, same ∙ no_writes)
@@ -28,7 +32,7 @@ counted_reading Starved reads reads_now writes writes_now counts same no_reads n
 
 -- and where writing failed
 pub counted_writing : (cause : StopCause) (reads reads_now writes writes_now : ℕ) → CountsWrites cause writes writes_now → reads_now ≡ reads → reads ≡ 0 → writes ≡ 0 → IsCounted cause reads_now writes_now
-counted_writing WriteFault reads reads_now writes writes_now counts same no_reads no_writes = (same ∙ no_reads, counts)
+counted_writing WriteFault reads reads_now writes writes_now counts same no_reads no_writes = (same ∙ no_reads, once writes writes_now counts no_writes)
 counted_writing Starved reads reads_now writes writes_now counts same no_reads no_writes = (same ∙ no_reads, counts ∙ no_writes)
 counted_writing cause reads reads_now writes writes_now counts same no_reads no_writes = absurd counts
 

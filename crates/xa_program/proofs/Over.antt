@@ -46,7 +46,7 @@ use Rattle.xa_program.specs.Lives.{lives_of}
 use Rattle.xa_program.specs.Progress.{IsPlaying, NoneFailed, IsServing, HasFallen, NeverStarted, IsLive, HasMade, IsLeavingAt, IsLeaving, IsOver, HasLived, HasNotLived, ReadNothing, SendFails, IsDone, Greets}
 use Rattle.xa_program.proofs.Pipes.{out_fallen, outcomes_fallen, lives_fallen, life_kept, wrote_more, not_written, took_all, took_no_shutdown}
 use Rattle.xa_program.proofs.Turns.{awaited_ends}
-use Rattle.xa_program.proofs.Exchanging.{counted_since, none_since}
+use Rattle.xa_program.proofs.Exchanging.{once, counted_since, none_since}
 use Rattle.xa_program.proofs.Playing.{playing_fallen}
 
 -- ---- the beginning
@@ -389,7 +389,7 @@ dropped_so service m past before after cause old same fails other may counted sh
 
 pub dropped_lived : (service : List ℕ) (m : ℕ) (past : List Event) (before after : Piped) (cause : StopCause) → IsServing service m past before → ReadNothing before after → SendFails cause before after (spelled shutdown_frame)
     → HasLived service (gone service (Stop (stop cause) ∷ closed past)) after
-dropped_lived service m past before after WriteFault old same fails = dropped_so service m past before after WriteFault old same fails refl refl (same.reads ∙ old.well.0, fails.0) (λ rest. tt)
+dropped_lived service m past before after WriteFault old same fails = dropped_so service m past before after WriteFault old same fails refl refl (same.reads ∙ old.well.0, once before.writes after.writes fails.0 old.well.1) (λ rest. tt)
 dropped_lived service m past before after Starved old same fails = dropped_so service m past before after Starved old same fails refl refl (same.reads ∙ old.well.0, fails.0 ∙ old.well.1) (λ rest. tt)
 dropped_lived service m past before after cause old same fails = absurd fails
 

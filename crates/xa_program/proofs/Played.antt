@@ -1,5 +1,5 @@
 -- How a run of `play` ends, by how its script was served.
-use Rattle.std.proofs.Common.{◌≡◌, ◌⊎◌, ℕ, ◌≤◌, ◌<◌, List, [], ◌∷◌, ◌++◌, length, reverse, Option, Some, None, Ok, Err, ap, inl, inr, refl, sym, subst, arith, slice_set, slice_index_or}
+use Rattle.std.proofs.Common.{◌≡◌, ◌⊎◌, ℕ, ◌+◌, ◌-◌, ◌^◌, min, List, [], ◌∷◌, ◌++◌, length, reverse, Option, Some, None, Ok, Err, ap, inl, inr, refl, sym, ◌∙◌, subst, arith, slice_set, slice_index_or}
 use Rattle.std.specs.Prelude.{Result, IfSome, OnOk, MatchResult}
 use Rattle.xa_link.specs.Told.{Rose, Empty, Grew, GrewByPart}
 use Rattle.xa_events.specs.declared.event.Event.{Event}
@@ -101,14 +101,9 @@ none_ends tells before after faults faults_after asks asks_after service clients
 
 -- ---- the run
 
-at_least : (failed old now : ℕ) → old ≡ 0 → ((failed ≡ 0) × (now ≡ old)) ⊎ ((failed ≡ 1) × Rose old now) → failed ≤ now
-at_least failed old now none (inl (zero_failed, same)) = omega (arith, zero_failed)
-at_least failed old now none (inr (one, inl rose)) = omega (arith, one, rose)
-at_least failed old now none (inr (one, inr stands)) = omega (arith, one, stands)
-
-failed_some : (failed old now : ℕ) → old ≡ 0 → ((failed ≡ 0) × (now ≡ old)) ⊎ ((failed ≡ 1) × Rose old now) → 0 < now → 0 < failed
-failed_some failed old now none (inl (zero_failed, same)) some = omega (arith, none, same, some)
-failed_some failed old now none (inr (one, rose)) some = omega (arith, one)
+counts_exactly : (failed old now : ℕ) → old ≡ 0 → ((failed ≡ 0) × (now ≡ old)) ⊎ ((failed ≡ 1) × Rose old now) → now ≡ min failed (2 ^ 64 - 1)
+counts_exactly failed old now none (inl (zero_failed, same)) = subst (λ (n : ℕ). now ≡ min n (2 ^ 64 - 1)) (sym zero_failed) (same ∙ none)
+counts_exactly failed old now none (inr (one, rose)) = subst (λ (n : ℕ). now ≡ min n (2 ^ 64 - 1)) (sym one) (subst (λ (n : ℕ). now ≡ min (n + 1) (2 ^ 64 - 1)) none rose)
 
 -- a starter that was asked for nothing before was asked for the one start
 asked_once : (before after : Option (List (List ℕ × Generation))) → IfSome before (λ all. all ≡ []) → AsksFor before after server_name (record { 0 = 1 }) → IfSome after (λ all. all ≡ starts_of server_name 1)
@@ -119,8 +114,7 @@ asked_once (Some all) after none asks =
 the_starter : (service : List ℕ) (before after : StarterShows) (past : List Event) → before.faults ≡ 0 → IfSome before.asked (λ all. all ≡ []) → starts 1 past ≡ 0 ∷ [] → StartsCount past before after → IsAsked before after
     → IsStarterOf (play_setup service) 1 after past
 the_starter service before after past none unasked made count asked = record {
-  counts = at_least (failed_starts 1 past) before.faults after.faults none count;
-  caused = failed_some (failed_starts 1 past) before.faults after.faults none count;
+  counts = counts_exactly (failed_starts 1 past) before.faults after.faults none count;
   each = subst (λ (n : ℕ). IfSome after.asked (λ all. all ≡ starts_of server_name n)) (sym (ap length made)) (asked_once before.asked after.asked unasked asked);
 }
 

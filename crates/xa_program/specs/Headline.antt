@@ -1,5 +1,5 @@
 -- What a run of `play` comes to (this project's own).
-use Rattle.std.specs.Prelude.{◌≡◌, ◌≤◌, ◌<◌, ℕ, zero, suc, List, [], ◌∷◌, ◌++◌, length, reverse, map, Option, IfSome, All, ⊤}
+use Rattle.std.specs.Prelude.{◌≡◌, ◌≤◌, ◌<◌, ◌^◌, ◌-◌, min, ℕ, zero, suc, List, [], ◌∷◌, ◌++◌, length, reverse, map, Option, IfSome, All, ⊤}
 use Rattle.xa_types.specs.declared.setup.Setup.{Setup}
 use Rattle.xa_types.specs.Setup.{numbered}
 use Rattle.xa_link.specs.Told.{Rose, Empty, Grew, GrewByPart}
@@ -52,11 +52,9 @@ abbrev pub starts_of : List ℕ → ℕ → List (List ℕ × Generation)
 starts_of name zero = []
 starts_of name (suc n) = starts_of name n ++ (name, record { 0 = suc n }) ∷ []
 
--- the starter of the server with that number counts at least the server's failed starts, counts something only where one failed, and was asked
--- for its starts, and for no others
+-- the starter of the server with that number counts the server's failed starts, up to 2^64 - 1, and was asked for its starts, and for no others
 pub record IsStarterOf (setup : Setup) (server : ℕ) (shown : StarterShows) (past : List Event) : Type 0 where
-  pub counts : failed_starts server past ≤ shown.faults
-  pub caused : 0 < shown.faults → 0 < failed_starts server past
+  pub counts : shown.faults ≡ min (failed_starts server past) (2 ^ 64 - 1)
   pub each : IfSome shown.asked (λ all. all ≡ starts_of (server_name_in (numbered server setup.servers)) (length (starts server past)))
 
 -- each starter is that of its server; the first is that of the server with that number

@@ -258,7 +258,7 @@ Greets false service history now before after = (cause : StopCause) × (now ≡ 
 
 -- why SHUTDOWN wasn't written, and what the link took of it
 abbrev pub SendFails : StopCause → Piped → Piped → List ℕ → Type 0
-SendFails WriteFaultStop before after octets = (0 < after.writes) × GrewByPart before.took after.took octets
+SendFails WriteFaultStop before after octets = Rose before.writes after.writes × GrewByPart before.took after.took octets
 SendFails StarvedStop before after octets = (after.writes ≡ before.writes) × (after.took ≡ before.took)
 SendFails cause before after octets = ⊥
 
