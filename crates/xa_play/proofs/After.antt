@@ -80,8 +80,8 @@ module _ (service : List ℕ) (n m : ℕ) (payload : Data) (outcome : Outcome) (
   up_served so up = record { board = up.board; server = so; stays = up.stays; up = up.up; seen = omega (arith, up.seen) }
 
   pub down_served : (cause : StopCause) → IsUp service (Idle (record { 0 = 1 })) past → IsDown service (served service (n + 1) (m + 1) payload outcome (Some cause) answer past)
-  unfolding changes doing is_gone least_version
-  down_served cause up = record { board = ap (λ (cs : List Change). Remove service 1 ∷ cs) up.board; server = refl; gone = refl; seen = omega (arith, up.seen) }
+  unfolding changes doing is_gone is_down least_version
+  down_served cause up = record { board = ap (λ (cs : List Change). Remove service 1 ∷ cs) up.board; server = refl; gone = refl; down = refl; seen = omega (arith, up.seen) }
 
 -- ---- behind a refusal
 
@@ -145,8 +145,8 @@ up_refused service n does fault evidence past up shown =
     record { board = up.board; server = up.server; stays = up.stays; up = up.up; seen = seen_refused service (n + 1) 1 past up.seen fault evidence shown }
 
 pub down_refused : (service : List ℕ) (n : ℕ) (fault : Fault) (evidence : Evidence) (past : List Event) → IsDown service past → IsShown 2 fault evidence → IsDown service (Refuse (refuse (n + 1) fault evidence) ∷ past)
-unfolding changes doing is_gone
-down_refused service n fault evidence past down shown = record { board = down.board; server = down.server; gone = down.gone; seen = seen_refused service (n + 1) 2 past down.seen fault evidence shown }
+unfolding changes doing is_gone is_down
+down_refused service n fault evidence past down shown = record { board = down.board; server = down.server; gone = down.gone; down = down.down; seen = seen_refused service (n + 1) 2 past down.seen fault evidence shown }
 
 -- ---- behind the end of the server's life
 
@@ -193,5 +193,5 @@ module _ (service : List ℕ) (cause : StopCause) (past : List Event) where
   open_fallen opens = record { stays = opens.stays; still = opens.still }
 
   pub down_fallen : (does : Doing) → IsUp service does past → IsDown service (gone service (Stop (stop cause) ∷ past))
-  unfolding changes doing is_gone least_version
-  down_fallen does up = record { board = ap (λ (cs : List Change). Remove service 1 ∷ cs) up.board; server = refl; gone = refl; seen = omega (arith, up.seen) }
+  unfolding changes doing is_gone is_down least_version
+  down_fallen does up = record { board = ap (λ (cs : List Change). Remove service 1 ∷ cs) up.board; server = refl; gone = refl; down = refl; seen = omega (arith, up.seen) }

@@ -1,5 +1,5 @@
 -- How a run of `play` begins, and how it ends.
-use Rattle.std.proofs.Common.{◌≡◌, ℕ, ◌<◌, true, false, List, [], ◌∷◌, length, inl, refl, ap, subst, arith, inr}
+use Rattle.std.proofs.Common.{sym, ◌∙◌, ◌≡◌, ℕ, ◌<◌, true, false, List, [], ◌∷◌, length, inl, refl, ap, subst, arith, inr}
 use Rattle.xa_events.specs.declared.event.Event.{Event}
 use Rattle.xa_events.specs.declared.event.Event.TheVariants.{Advertise, Gone, Withdraw, Down, Close, Start, StartFailed, Stop, Leave}
 use Rattle.xa_events.specs.declared.event.StopCause.{StopCause}
@@ -96,8 +96,8 @@ unfolding has_left is_closed
 open_not_begun service = record { stays = refl; still = refl }
 
 pub down_not_begun : (service : List ℕ) → IsDown service (not_begun service)
-unfolding changes doing is_gone least_version
-down_not_begun service = record { board = refl; server = refl; gone = refl; seen = omega arith }
+unfolding changes doing is_gone is_down least_version
+down_not_begun service = record { board = refl; server = refl; gone = refl; down = refl; seen = omega arith }
 
 -- ---- the clients leave
 
@@ -113,8 +113,8 @@ unfolding changes doing is_gone is_down least_version
 up_left service does past up = record { board = up.board; server = up.server; stays = up.stays; up = up.up; seen = up.seen }
 
 pub down_left : (service : List ℕ) (past : List Event) → IsDown service past → IsDown service (Leave (record { 0 = 1 }) ∷ past)
-unfolding changes doing is_gone least_version
-down_left service past down = record { board = down.board; server = down.server; gone = down.gone; seen = down.seen }
+unfolding changes doing is_gone is_down least_version
+down_left service past down = record { board = down.board; server = down.server; gone = down.gone; down = down.down; seen = down.seen }
 
 pub leave_case : (service : List ℕ) (n m : ℕ) (past : List Event) → IsQuiet service 1 n m past → IsOpen past → 0 < length (changes past) → Case (at service 1 past) (Leave (record { 0 = 1 }))
 unfolding published
@@ -156,32 +156,37 @@ module _ (service : List ℕ) (clients : ℕ) (past : List Event) (left : IsLeft
   pub run_closed : IsDown service past → Run (at service clients past) (Close (record { 0 = 1 }) ∷ []) (at service clients (closed past))
   run_closed down = (close_case (omega (arith, ap length down.board)), refl)
 
-pub final_shut : (service : List ℕ) (clients : ℕ) (past : List Event) → IsLeft service clients past → IsFinal (at service clients (Stop (stop Shutdown) ∷ closed past))
-unfolding doing is_closed has_left was_shut_down
-final_shut service clients past left = record {
+pub final_shut : (service : List ℕ) (clients : ℕ) (past : List Event) → IsLeft service clients past → is_gone 1 past ≡ false → IsFinal (at service clients (Stop (stop Shutdown) ∷ closed past))
+unfolding doing is_closed is_gone has_left was_shut_down
+final_shut service clients past left stays = record {
   left = left.left;
   ended = left.matched;
   off = λ server low high. let is : 1 ≡ server = omega arith in subst (λ k. doing k (Stop (stop Shutdown) ∷ closed past) ≡ Off) is refl;
   over = λ server low high. let is : 1 ≡ server = omega arith in inl (subst (λ k. was_shut_down k (Stop (stop Shutdown) ∷ closed past) ≡ true) is refl);
   closed = λ queue low high. let is : 1 ≡ queue = omega arith in subst (λ k. is_closed k (Stop (stop Shutdown) ∷ closed past) ≡ true) is refl;
+  down = λ queue low high all.
+      let is : 1 ≡ queue = omega arith in
+      let goes : is_gone 1 past ≡ true = all 1 (omega arith) (omega arith) is in absurd (cc (sym stays ∙ goes));
 }
 
 pub final_dropped : (service : List ℕ) (clients : ℕ) (cause : StopCause) (past : List Event) → IsLeft service clients past → IsFinal (at service clients (gone service (Stop (stop cause) ∷ closed past)))
-unfolding doing is_closed has_left is_gone
+unfolding doing is_closed is_down has_left is_gone
 final_dropped service clients cause past left = record {
   left = left.left;
   ended = left.matched;
   off = λ server low high. let is : 1 ≡ server = omega arith in subst (λ k. doing k (gone service (Stop (stop cause) ∷ closed past)) ≡ Off) is refl;
   over = λ server low high. let is : 1 ≡ server = omega arith in inr (subst (λ k. is_gone k (gone service (Stop (stop cause) ∷ closed past)) ≡ true) is refl);
   closed = λ queue low high. let is : 1 ≡ queue = omega arith in subst (λ k. is_closed k (gone service (Stop (stop cause) ∷ closed past)) ≡ true) is refl;
+  down = λ queue low high all. let is : 1 ≡ queue = omega arith in subst (λ k. is_down k (gone service (Stop (stop cause) ∷ closed past)) ≡ true) is refl;
 }
 
 pub final_down : (service : List ℕ) (clients : ℕ) (past : List Event) → IsLeft service clients past → IsDown service past → IsFinal (at service clients (closed past))
-unfolding doing is_closed has_left is_gone
+unfolding doing is_closed is_down has_left is_gone
 final_down service clients past left down = record {
   left = left.left;
   ended = left.matched;
   off = λ server low high. let is : 1 ≡ server = omega arith in subst (λ k. doing k (closed past) ≡ Off) is down.server;
   over = λ server low high. let is : 1 ≡ server = omega arith in inr (subst (λ k. is_gone k (closed past) ≡ true) is down.gone);
   closed = λ queue low high. let is : 1 ≡ queue = omega arith in subst (λ k. is_closed k (closed past) ≡ true) is refl;
+  down = λ queue low high all. let is : 1 ≡ queue = omega arith in subst (λ k. is_down k (closed past) ≡ true) is down.down;
 }

@@ -51,6 +51,7 @@ pub record IsDown (service : List ℕ) (past : List Event) : Type 0 where
   pub board : changes past ≡ Remove service 1 ∷ Put service 1 service ∷ []
   pub server : doing 1 past ≡ Off
   pub gone : is_gone 1 past ≡ true
+  pub down : is_down 1 past ≡ true
   pub seen : least_version (play_setup service) 1 past ≤ 2
 
 -- each answer to the first calls is of one of the first requests

@@ -301,7 +301,7 @@ module _ (service : List ℕ) (clients : List Client) (history : List Event) (li
   pub over_shut : IsUp service (Idle (record { 0 = 1 })) so_far → IsOver service clients (history ++ Close (record { 0 = 1 }) ∷ Stop (stop Shutdown) ∷ []) lines
   over_shut up =
       over_by service clients history so_far (Close (record { 0 = 1 }) ∷ Stop (stop Shutdown) ∷ []) (Stop (stop Shutdown) ∷ closed so_far) lines old (run_shut service (length clients) so_far old.left up)
-      (final_shut service (length clients) so_far old.left) (tt, (tt, old.order))
+      (final_shut service (length clients) so_far old.left up.stays) (tt, (tt, old.order))
       (λ n m. keeps_on (play_setup service) n m so_far (closed so_far) (Stop (stop Shutdown) ∷ closed so_far) (keeps_closed service n m so_far) (keeps_shut service n m (closed so_far))) op_shut starts_shut
       (reverse-append history (Close (record { 0 = 1 }) ∷ Stop (stop Shutdown) ∷ []))
 
