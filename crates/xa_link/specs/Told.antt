@@ -18,6 +18,10 @@ GrewByPart before now piece = (n : ℕ) × (n < length piece) × Grew before now
 abbrev pub Shrank : Option (List ℕ) → Option (List ℕ) → List ℕ → Type 0
 Shrank before now piece = before ≡ option_map (λ xs. piece ++ xs) now
 
+-- the octets that are told were read to their end; what isn't told stays so
+abbrev pub ReadOut : Option (List ℕ) → Option (List ℕ) → Type 0
+ReadOut before now = now ≡ option_map (λ xs. []) before
+
 -- where octets are told, there are none
 abbrev pub Empty : Option (List ℕ) → Type 0
 Empty told = IfSome told (λ xs. xs ≡ [])

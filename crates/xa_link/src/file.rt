@@ -1,6 +1,6 @@
 // The files of the system.
 ghost use Rattle.std.specs.Prelude.{◌≡◌, ◌≤◌, ◌<◌, ◌-◌, ℕ, List, length, None, IfOk, IfSome, OnOk, IsErrOf};
-ghost use Rattle.xa_link.specs.Told.{Rose, Empty};
+ghost use Rattle.xa_link.specs.Told.{Rose, ReadOut};
 ghost use Rattle.xa_link.specs.Reads.{HasExactly, HasMore};
 
 use crate::count::raise;
@@ -56,7 +56,7 @@ pub fn read_all<S: Source>(
     ensures content { IfOk result (λ all. HasExactly (S.left source.old) all.items) }
     ensures short { IfOk result (λ all. length all.items ≤ limit) }
     ensures long { IsErrOf result ShelfRefused.TooLong → HasMore (S.left source.old) limit }
-    ensures ended { OnOk result (Empty (S.left source.new)) }
+    ensures ended { OnOk result (ReadOut (S.left source.old) (S.left source.new)) }
     ensures alone { S.beside_reads source.new ≡ S.beside_reads source.old }
     ensures later { S.read_faults source.old ≤ S.read_faults source.new }
     ensures cause { IsErrOf result ShelfRefused.Failed → Rose (S.read_faults source.old) (S.read_faults source.new) }

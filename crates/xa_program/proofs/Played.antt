@@ -1,7 +1,7 @@
 -- How a run of `play` ends, by how its script was served.
 use Rattle.std.proofs.Common.{◌≡◌, ◌⊎◌, ℕ, ◌+◌, ◌-◌, ◌^◌, min, List, [], ◌∷◌, ◌++◌, length, reverse, Option, Some, None, Ok, Err, ap, inl, inr, refl, sym, ◌∙◌, subst, arith, slice_set, slice_index_or}
 use Rattle.std.specs.Prelude.{Result, IfSome, OnOk, MatchResult}
-use Rattle.xa_link.specs.Told.{Rose, Empty, Grew, GrewByPart}
+use Rattle.xa_link.specs.Told.{Rose, ReadOut, Grew, GrewByPart}
 use Rattle.xa_events.specs.declared.event.Event.{Event}
 use Rattle.xa_script.specs.declared.script.Client.{Client}
 use Rattle.xa_pipe.specs.Life.{IsLife}
@@ -131,7 +131,7 @@ still_one (starter ∷ other ∷ starters) now one = absurd (omega (arith, one))
 
 module _ {L S : Type 0} (tells : LinkTells L) (shows : S → StarterShows) (streams : Streams) (service : List ℕ) (clients : List Client)
     (history : List Event) (lives : List (Life L)) (starters : List S) (old now : S)
-    (one : length starters ≡ 1) (none : (shows old).faults ≡ 0) (unasked : IfSome (shows old).asked (λ all. all ≡ [])) (script : IsTheScript streams.told clients) (ended : Empty streams.left_after) (quiet : ReadsWell streams) where
+    (one : length starters ≡ 1) (none : (shows old).faults ≡ 0) (unasked : IfSome (shows old).asked (λ all. all ≡ [])) (script : IsTheScript streams.told clients) (ended : ReadOut streams.told streams.left_after) (quiet : ReadsWell streams) where
   played : IsServed tells (shows old) (shows now) service clients history lives → IsPlayed tells shows streams.told service clients history lives (slice_set starters 0 now)
   played served = record {
     script = script;

@@ -2,7 +2,7 @@
 use Rattle.std.specs.Prelude.{◌≡◌, ◌≤◌, ◌<◌, ◌^◌, ◌-◌, min, ℕ, zero, suc, List, [], ◌∷◌, ◌++◌, length, reverse, map, Option, IfSome, All, ⊤}
 use Rattle.xa_types.specs.declared.setup.Setup.{Setup}
 use Rattle.xa_types.specs.Setup.{numbered}
-use Rattle.xa_link.specs.Told.{Rose, Empty, Grew, GrewByPart}
+use Rattle.xa_link.specs.Told.{Rose, ReadOut, Grew, GrewByPart}
 use Rattle.xa_events.specs.declared.event.Event.{Event}
 use Rattle.xa_types.specs.declared.ids.Generation.{Generation}
 use Rattle.xa_events.specs.Server.{starts}
@@ -132,11 +132,11 @@ pub record IsSilent (streams : Streams) : Type 0 where
 -- how `play SERVICE` ends, and what that shows
 abbrev pub PlayEnds : {L S : Type 0} → LinkTells L → (S → StarterShows) → Streams → List ℕ → Status → List Event → List (Life L) → List S → Type 0
 PlayEnds tells shows streams service Done history lives starters =
-    (clients : List Client) × IsPlayed tells shows streams.told service clients history lives starters × Empty streams.left_after
+    (clients : List Client) × IsPlayed tells shows streams.told service clients history lives starters × ReadOut streams.told streams.left_after
     × Grew streams.took_before streams.took_after (transcript (names_of clients) (reverse history))
     × ReadsWell streams × WritesWell streams
 PlayEnds tells shows streams service WriteFault history lives starters =
-    (clients : List Client) × IsPlayed tells shows streams.told service clients history lives starters × Empty streams.left_after
+    (clients : List Client) × IsPlayed tells shows streams.told service clients history lives starters × ReadOut streams.told streams.left_after
     × GrewByPart streams.took_before streams.took_after (transcript (names_of clients) (reverse history))
     × ReadsWell streams × Rose streams.writes_before streams.writes_after
 PlayEnds tells shows streams service ScriptRead history lives starters = Rose streams.reads_before streams.reads_after × IsSilent streams

@@ -1,7 +1,7 @@
 // The top call.
 ghost use Rattle.std.specs.Prelude.{◌≡◌, ◌⊎◌, ◌≤◌, ◌↔◌, [], ◌∷◌, ℕ, List, map, string_bytes, None, Some, All, IfSome, IfOk, IfErr, OnOk, length, vec_len};
 ghost use Rattle.xa_types.specs.Name.{IsName};
-ghost use Rattle.xa_link.specs.Told.{Rose, Empty};
+ghost use Rattle.xa_link.specs.Told.{Rose, ReadOut};
 ghost use Rattle.xa_script.specs.declared.script.Script.{Script};
 ghost use Rattle.xa_script.specs.Script.{IsScript};
 ghost use Rattle.xa_program.specs.declared.words.Command.TheVariants.{Play, Server};
@@ -130,7 +130,7 @@ fn nothing<Y: Yard>(alloc: Global, status: Status) -> Outcome<Y>
 fn script_of<I: Source>(alloc: Global, input: &mut I) -> Result<(Script, Vec<u8>), Status>
     ensures script { IfOk result (λ read. IsTheScript (I.left input.old) read.0.clients) }
     ensures built { IfOk result (λ read. IsBuiltScript read.0.clients) }
-    ensures ended { OnOk result (Empty (I.left input.new)) }
+    ensures ended { OnOk result (ReadOut (I.left input.old) (I.left input.new)) }
     ensures quiet { OnOk result (I.read_faults input.new ≡ I.read_faults input.old) }
     ensures refused { IfErr result (ScriptRefusedAs (I.left input.old) (I.read_faults input.old) (I.read_faults input.new)) }
 {
