@@ -1,5 +1,5 @@
 // A server's program, frame by frame.
-ghost use Rattle.std.specs.Prelude.{◌≡◌, ◌↔◌, true, false, IfOk, OnOk, OnErr, IsErr, IsErrOf};
+ghost use Rattle.std.specs.Prelude.{◌≡◌, ◌↔◌, true, false, IfOk, OnOk, OnErr, IsErrOf};
 ghost use Rattle.xa_child.specs.Child.{begun, following, greeting, admits, answer, after, is_die, is_echo, returned, next};
 ghost use Rattle.xa_child.specs.Returned.{frame_of, all_said};
 ghost use Rattle.xa_child.specs.declared.child.ChildRefused.TheVariants as refusals;

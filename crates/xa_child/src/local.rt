@@ -1,7 +1,7 @@
 // Servers' programs in memory.
-ghost use Rattle.std.specs.Prelude.{◌≡◌, ◌≤◌, ◌<◌, ◌-◌, ◌+◌, ◌^◌, ◌++◌, [], ℕ, List, take, drop, length, true, false, Some, None, OnOk, OnErr, IfOk, All};
-ghost use Rattle.xa_child.specs.Child.{begun, greeting};
-ghost use Rattle.xa_frame.specs.Spelling.{all_spelled, HasSpelling};
+ghost use Rattle.std.specs.Prelude.{◌≡◌, ◌≤◌, ◌<◌, ◌-◌, ◌+◌, ◌++◌, [], ℕ, List, take, drop, length, true, false, Some, None, OnOk, OnErr, IfOk};
+ghost use Rattle.xa_child.specs.Child.{greeting};
+ghost use Rattle.xa_frame.specs.Spelling.{all_spelled};
 ghost use Rattle.xa_frame.specs.Stream.{IsPartial};
 ghost use Rattle.xa_link.specs.Told.{Rose};
 ghost use Rattle.xa_child.specs.LocalHolds.{Holds, Says};

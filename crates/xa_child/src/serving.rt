@@ -1,5 +1,5 @@
 // A server's program with its input, from which it takes the frames that are whole.
-ghost use Rattle.std.specs.Prelude.{◌≡◌, ◌<◌, ◌^◌, ◌++◌, IfOk, OnOk, true, false};
+ghost use Rattle.std.specs.Prelude.{◌≡◌, ◌<◌, ◌^◌, ◌++◌, IfOk, OnOk};
 ghost use Rattle.std.specs.List.{All};
 ghost use Rattle.xa_frame.specs.Spelling.{all_spelled, HasSpelling};
 ghost use Rattle.xa_child.specs.Child.{answer};

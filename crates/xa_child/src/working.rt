@@ -1,5 +1,5 @@
 // The work of a server's program: it reads frames and writes what it says to them.
-ghost use Rattle.std.specs.Prelude.{◌≡◌, ◌≤◌, ◌<◌, ◌+◌, ◌^◌, [], length, false, IfOk, IfErr, OnOk, OnErr};
+ghost use Rattle.std.specs.Prelude.{◌≡◌, ◌≤◌, ◌<◌, ◌^◌, [], length, false, IfOk, IfErr, OnOk};
 ghost use Rattle.std.specs.List.{All};
 ghost use Rattle.xa_frame.specs.Spelling.{all_spelled, HasSpelling};
 ghost use Rattle.xa_frame.specs.Stream.{IsPartial};

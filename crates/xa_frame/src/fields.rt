@@ -1,6 +1,5 @@
 //! The fields of a frame, read from left to right. Each reader answers the field and the octets after it.
 
-ghost use Rattle.std.specs.Prelude.{◌≡◌};
 ghost use Rattle.xa_frame.specs.Reading.{Reads, octet_at, number_at, word_at, name_of, rval_of, mode_of, sized_of};
 
 use xa_types::{BadName, Mode, Name, Rval};

@@ -1,6 +1,5 @@
-ghost use Rattle.std.specs.Prelude.{◌≡◌, ◌+◌, ◌-◌, ◌<◌, ◌≤◌, drop, ◌^◌, ◌↔◌, ◌++◌, [], length, min, ℕ, List, OnOk, OnErr, MatchResult};
+ghost use Rattle.std.specs.Prelude.{◌≡◌, ◌+◌, ◌-◌, ◌<◌, ◌≤◌, drop, ◌^◌, ◌++◌, [], length, ℕ, List, OnOk, OnErr, MatchResult};
 ghost use Rattle.xa_frame.specs.declared.frame.Frame.{Frame};
-ghost use Rattle.xa_frame.specs.Spelling.{spelled, HasSpelling};
 ghost use Rattle.xa_frame.specs.Stream.{IsPartial, IsMalformed, Begins};
 ghost use Rattle.xa_frame.specs.Reader.{Answered};
 

@@ -1,5 +1,5 @@
 // Counts of what failed.
-ghost use Rattle.std.specs.Prelude.{◌≡◌, ◌≤◌, ◌<◌};
+ghost use Rattle.std.specs.Prelude.{◌≤◌};
 ghost use Rattle.xa_link.specs.Told.{Rose};
 
 /// One more. The count stands still at its end.

@@ -1,5 +1,5 @@
 // The files of the system.
-ghost use Rattle.std.specs.Prelude.{◌≡◌, ◌≤◌, ◌<◌, ◌-◌, ℕ, List, length, None, IfOk, IfSome, OnOk, IsErrOf};
+ghost use Rattle.std.specs.Prelude.{◌≡◌, ◌≤◌, ◌<◌, ◌-◌, length, None, IfOk, OnOk, IsErrOf};
 ghost use Rattle.xa_link.specs.Told.{Rose, ReadOut};
 ghost use Rattle.xa_link.specs.Reads.{HasExactly, HasMore};
 

@@ -1,9 +1,9 @@
-ghost use Rattle.std.specs.Prelude.{◌≡◌, ◌++◌, ◌∷◌, ◌+◌, ◌<◌, ◌≤◌, [], ℕ, List, length, IfOk, IfErr, OnOk, OnErr};
+ghost use Rattle.std.specs.Prelude.{◌≡◌, ◌++◌, ◌∷◌, ◌+◌, ◌<◌, ◌≤◌, [], List, length, IfOk, IfErr, OnOk, OnErr};
 ghost use Rattle.xa_link.specs.Told.{Rose, Grew, GrewByPart, Empty};
 ghost use Rattle.xa_frame.specs.declared.frame.Frame.{Frame};
 ghost use Rattle.xa_frame.specs.Spelling.{spelled, HasSpelling, IsData};
 ghost use Rattle.xa_events.specs.declared.event.StopCause.TheVariants.{Starved, WriteFault};
-ghost use Rattle.xa_frame.specs.Stream.{IsPartial, IsMalformed, Begins};
+ghost use Rattle.xa_frame.specs.Stream.{IsPartial};
 ghost use Rattle.xa_pipe.specs.Frames.{shutdown_frame};
 ghost use Rattle.xa_pipe.specs.Pipe.{invoke_frame, Wrote, HasRead, ended_by, Keeps, ReadsNone, CountsReads, CountsWrites};
 

@@ -1,5 +1,5 @@
 // When a tpcall is refused (XATMI, tpcall).
-ghost use Rattle.std.specs.Prelude.{◌≡◌, ◌⊎◌, ℕ, List, [], true, false, MatchOption};
+ghost use Rattle.std.specs.Prelude.{◌≡◌, ◌⊎◌, ℕ, List, true, false, MatchOption};
 ghost use Rattle.xa_types.specs.Kind.{is_sound};
 ghost use Rattle.xa_types.specs.Name.{IsName, is_name};
 ghost use Rattle.xa_events.specs.Calls.{is_invalid_call};

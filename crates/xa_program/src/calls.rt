@@ -3,18 +3,14 @@ ghost use Rattle.std.specs.Prelude.{◌≡◌, ◌++◌, ◌∷◌, ◌+◌, ◌
 ghost use Rattle.xa_types.specs.declared.call.Op.{Op};
 ghost use Rattle.xa_types.specs.declared.call.Op.TheVariants.{Call as CallOp};
 ghost use Rattle.xa_types.specs.Kind.{is_sound};
-ghost use Rattle.xa_types.specs.declared.reply.Reply.TheVariants.{Answered as AnsweredReply, Fault as FaultReply};
-ghost use Rattle.xa_types.specs.declared.fault.Fault.{Fault};
-ghost use Rattle.xa_events.specs.declared.event.Event.TheVariants.{Accept, Take, End, Answer as AnswerEvent, Refuse};
-ghost use Rattle.xa_events.specs.declared.event.Evidence.{Evidence};
+ghost use Rattle.xa_types.specs.declared.reply.Reply.TheVariants.{Answered as AnsweredReply};
+ghost use Rattle.xa_events.specs.declared.event.Event.TheVariants.{Accept, Take, End, Answer as AnswerEvent};
 ghost use Rattle.xa_events.specs.Answers.{reply_of};
 ghost use Rattle.xa_text.specs.Line.{line_text};
 ghost use Rattle.xa_pipe.specs.Life.{outcome_by};
-ghost use Rattle.xa_frame.specs.Spelling.{IsData};
-ghost use Rattle.xa_play.specs.History.{accept, take_of, end_with, answer_of, refuse, after_stop};
+ghost use Rattle.xa_play.specs.History.{accept, take_of, end_with, answer_of, after_stop};
 ghost use Rattle.xa_play.specs.PlaySetup.{play_setup};
-ghost use Rattle.xa_play.specs.Refusal.{IsRefused};
-ghost use Rattle.xa_program.specs.Progress.{IsPlaying, IsServing, HasFallen, NeverStarted, IsLive, IsBuiltOp, Exchanged, outcome_heard, cause_heard, Freed, IsCarried, IsTurnedDown};
+ghost use Rattle.xa_program.specs.Progress.{IsPlaying, IsServing, NeverStarted, IsLive, IsBuiltOp, Exchanged, outcome_heard, cause_heard, Freed, IsCarried, IsTurnedDown};
 
 use std::alloc::Global;
 use xa_events::{Event, Outcome, StopCause};

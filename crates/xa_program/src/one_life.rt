@@ -1,11 +1,11 @@
 // The one life of the server of `play`, from its start to its end.
-ghost use Rattle.std.specs.Prelude.{◌≡◌, ◌++◌, ◌∷◌, [], ℕ, List, reverse, IfOk, OnOk, MatchOption, true};
+ghost use Rattle.std.specs.Prelude.{◌≡◌, ◌∷◌, [], ℕ, List, reverse, IfOk, OnOk, MatchOption, true};
 ghost use Rattle.xa_events.specs.declared.event.Event.{Event};
-ghost use Rattle.xa_events.specs.declared.event.Event.TheVariants.{Advertise, Start};
+ghost use Rattle.xa_events.specs.declared.event.Event.TheVariants.{Advertise};
 ghost use Rattle.xa_pipe.specs.Pipe.{Wrote, HasRead};
 ghost use Rattle.xa_play.specs.History.{advertise, start};
 ghost use Rattle.xa_play.specs.PlaySetup.{server_name};
-ghost use Rattle.xa_program.specs.Progress.{IsPlaying, NoneFailed, IsLive, IsLeaving, IsServing, NeverStarted, IsOver, HasLived, HasNotLived, IsBuiltScript, IsOnly, Greets, IsDone};
+ghost use Rattle.xa_program.specs.Progress.{IsPlaying, NoneFailed, IsLive, IsLeaving, NeverStarted, IsOver, HasLived, HasNotLived, IsBuiltScript, IsOnly, Greets, IsDone};
 
 use crate::calls::{Session, make_calls, refuse_calls};
 use std::alloc::Global;

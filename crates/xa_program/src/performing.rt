@@ -1,5 +1,5 @@
 // A script is served, and its transcript is written.
-ghost use Rattle.std.specs.Prelude.{◌≡◌, ◌∷◌, ◌++◌, ◌<◌, ℕ, [], vec_len, vec_capacity, IfOk, MatchResult};
+ghost use Rattle.std.specs.Prelude.{◌≡◌, ◌∷◌, ◌++◌, ◌<◌, [], vec_len, vec_capacity, IfOk, MatchResult};
 ghost use Rattle.xa_link.specs.Told.{Empty, Rose};
 ghost use Rattle.xa_events.specs.declared.event.Event.TheVariants.{Advertise};
 ghost use Rattle.xa_play.specs.History.{advertise};

@@ -1,11 +1,10 @@
 // The top call.
-ghost use Rattle.std.specs.Prelude.{◌≡◌, ◌⊎◌, ◌≤◌, ◌↔◌, [], ◌∷◌, ℕ, List, map, string_bytes, None, Some, All, IfSome, IfOk, IfErr, OnOk, length, vec_len};
-ghost use Rattle.xa_types.specs.Name.{IsName};
+ghost use Rattle.std.specs.Prelude.{◌≡◌, ◌⊎◌, ◌≤◌, ◌↔◌, [], ℕ, List, map, string_bytes, None, Some, All, IfSome, IfOk, IfErr, OnOk, length};
 ghost use Rattle.xa_link.specs.Told.{Rose, ReadOut};
 ghost use Rattle.xa_script.specs.declared.script.Script.{Script};
 ghost use Rattle.xa_script.specs.Script.{IsScript};
 ghost use Rattle.xa_program.specs.declared.words.Command.TheVariants.{Play, Server};
-ghost use Rattle.xa_program.specs.Headline.{Streams, PlayEnds, IsTheScript, EndsEarly, HandsNothing, longest_script};
+ghost use Rattle.xa_program.specs.Headline.{PlayEnds, IsTheScript, EndsEarly, HandsNothing, longest_script};
 ghost use Rattle.xa_program.specs.Progress.{IsBuiltScript, ScriptRefusedAs};
 ghost use Rattle.xa_program.specs.Server.{ServerEnds};
 ghost use Rattle.xa_program.specs.Words.{command_in};

@@ -1,9 +1,8 @@
-ghost use Rattle.std.specs.Prelude.{◌≡◌, ◌++◌, ◌+◌, ◌==◌, ◌<◌, ◌∷◌, [], if◌then◌else◌, OnOk, OnErr, IfErr, codes, decimal};
+ghost use Rattle.std.specs.Prelude.{◌≡◌, ◌++◌, ◌+◌, ◌==◌, ◌<◌, [], if◌then◌else◌, OnOk, OnErr, codes, decimal};
 ghost use Rattle.std.specs.Fmt.{signed_decimal};
-ghost use Rattle.xa_types.specs.Fault.{fault_text, event_text};
 ghost use Rattle.std.specs.List.{flat_map};
 ghost use Rattle.xa_types.specs.declared.reply.Reply.TheVariants.{Answered};
-ghost use Rattle.xa_text.specs.Line.{hex_digit, hex_pair, hex, data_text, coded, answer_text, event_rest, reply_text, call_text, line_text};
+ghost use Rattle.xa_text.specs.Line.{hex_pair, hex, data_text, coded, answer_text, event_rest, reply_text, call_text, line_text};
 ghost use Rattle.std.specs.Io.{StartsWith};
 
 use itoa::Buffer;

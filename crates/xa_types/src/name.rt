@@ -1,4 +1,4 @@
-ghost use Rattle.std.specs.Prelude.{◌≡◌, ◌↔◌, IsOk, IfOk, length, take, ◌≤◌};
+ghost use Rattle.std.specs.Prelude.{◌≡◌, ◌↔◌, IsOk, IfOk, length, take};
 ghost use Rattle.std.specs.List.{list_all};
 ghost use Rattle.xa_types.specs.Name.{IsName, is_name, is_graphic, begins_with_dot};
 

@@ -1,5 +1,5 @@
 // A sink in memory.
-ghost use Rattle.std.specs.Prelude.{◌≡◌, ◌≤◌, ◌<◌, ◌-◌, ◌+◌, ◌++◌, ℕ, take, length, Some, None, []};
+ghost use Rattle.std.specs.Prelude.{◌≡◌, ◌<◌, ◌-◌, take, Some, None, []};
 
 use crate::count::raise;
 use crate::{Failed, Sink};

@@ -1,5 +1,5 @@
 // A source in memory.
-ghost use Rattle.std.specs.Prelude.{◌≡◌, ◌≤◌, ◌<◌, ◌-◌, ◌+◌, ◌++◌, ℕ, take, drop, length, Some, None, []};
+ghost use Rattle.std.specs.Prelude.{◌≡◌, ◌≤◌, ◌<◌, ◌-◌, ◌+◌, ◌++◌, take, drop, length, Some, None, []};
 
 use crate::count::raise;
 use crate::{Failed, Source};
