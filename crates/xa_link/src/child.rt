@@ -1,5 +1,6 @@
 // Servers as processes.
-ghost use Rattle.std.specs.Prelude.{◌≡◌, ◌≤◌, ◌<◌, length, None, IfOk, OnOk, IsErr};
+ghost use Rattle.std.specs.Prelude.{◌≡◌, ◌≤◌, ◌<◌, ◌∷◌, [], length, codes, None, IfOk, OnOk, IsErr};
+ghost use Rattle.std.specs.Process.{command_program, command_args};
 ghost use Rattle.std.specs.Io.KnownBytes.{ReadConsumes};
 ghost use Rattle.xa_link.specs.Told.{Rose};
 
@@ -123,7 +124,10 @@ fn text(octets: &[u8]) -> Result<&str, StartRefused> {
     str::from_utf8(octets).map_err(|_| StartRefused::Failed)
 }
 
-fn command(alloc: Global, program: &str, name: &str) -> Result<Command, AllocError> {
+fn command(alloc: Global, program: &str, name: &str) -> Result<Command, AllocError>
+    ensures program { IfOk result (λ c. command_program c ≡ program.now) }
+    ensures words { IfOk result (λ c. command_args c ≡ codes "server" ∷ name.now ∷ []) }
+{
     let mut command = Command::new(alloc, program)?;
     command.arg("server")?.arg(name)?;
     Ok(command)

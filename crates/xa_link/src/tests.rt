@@ -6,6 +6,8 @@ use crate::{
 };
 use std::alloc::Global;
 use std::fs;
+use std::io;
+use std::io::{ErrorKind, Read, Write};
 use std::test::Fail;
 use xa_types::{Generation, Name, Octets, Sequence, ServerSetup, Setup};
 
@@ -184,6 +186,55 @@ fn files_are_read_whole(rt: HostRuntime) -> Result<(), Fail> {
     }
     assert!(rt; read);
     Ok(())
+}
+
+// Fails once, by that error, and is then at its end, or takes all.
+#[derive(Drop)]
+struct Unsteady {
+    first: Option<ErrorKind>,
+}
+
+impl Unsteady {
+    fn fail_once(&mut self) -> io::Result<()> {
+        match self.first.take() {
+            Some(kind) => Err(io::Error::from(kind)),
+            None => Ok(()),
+        }
+    }
+}
+
+impl Read for Unsteady {
+    fn read(&mut self, _into: &mut [u8]) -> io::Result<usize> {
+        self.fail_once()?;
+        Ok(0)
+    }
+}
+
+impl Write for Unsteady {
+    fn write(&mut self, from: &[u8]) -> io::Result<usize> {
+        self.fail_once()?;
+        Ok(from.len())
+    }
+
+    fn flush(&mut self) -> io::Result<()> {
+        Ok(())
+    }
+}
+
+fn failing_once(kind: ErrorKind) -> Unsteady {
+    Unsteady { first: Some(kind) }
+}
+
+#[test]
+fn an_interrupted_stream_is_tried_again(rt: HostRuntime) {
+    let mut fails = ReadSource::new(failing_once(ErrorKind::Other));
+    assert!(rt; gives(&mut fails, &[None, Some("")]));
+    let mut stopped = ReadSource::new(failing_once(ErrorKind::Interrupted));
+    assert!(rt; gives(&mut stopped, &[Some("")]));
+    let mut fails = WriteSink::new(failing_once(ErrorKind::Other));
+    assert!(rt; put(&mut fails, b"a") == Err(Failed));
+    let mut stopped = WriteSink::new(failing_once(ErrorKind::Interrupted));
+    assert!(rt; put(&mut stopped, b"a") == Ok(()));
 }
 
 // A test's standard input is empty.
