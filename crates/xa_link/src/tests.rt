@@ -5,10 +5,9 @@ use crate::{
     put,
 };
 use std::alloc::Global;
-use std::fs;
-use std::io;
 use std::io::{ErrorKind, Read, Write};
 use std::test::Fail;
+use std::{fs, io};
 use xa_types::{Generation, Name, Octets, Sequence, ServerSetup, Setup};
 
 fn octets(alloc: Global, text: &str) -> Result<Octets, Fail> {
