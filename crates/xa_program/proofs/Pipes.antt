@@ -78,7 +78,7 @@ module _ (service : List ℕ) (n m : ℕ) (payload : Data) (outcome : Outcome) (
   pub cause_served : (cause : StopCause) → cause_of 1 1 (served service (n + 1) (m + 1) payload outcome (Some cause) answer past) ≡ Some cause
   cause_served cause = refl
 
-  -- no life ends in it, but by a cause that is named
+  -- behind a call with which no life ends, each stop was behind a close still
   pub stops_served : AtEach (StopsClosed (play_setup service) 1 1) past → AtEach (StopsClosed (play_setup service) 1 1) (served service (n + 1) (m + 1) payload outcome None answer past)
   stops_served stops = ((λ h. cc h), ((λ h. cc h), ((λ h. cc h), ((λ h. cc h), stops))))
 

@@ -44,8 +44,8 @@ pub fn run<R, S: Shelf, I: Source, O: Sink, Y: Yard, G: Gate>(
     ensures untouched { command_in (map string_bytes words.now) ≡ None → (I.left input.new ≡ I.left input.old) × (I.read_faults input.new ≡ I.read_faults input.old)
         × (O.took out.new ≡ O.took out.old) × (O.write_faults out.new ≡ O.write_faults out.old) }
 
-    // No command reads a file of the shelf.
-    ensures unread { S.shelf_faults _shelf.new ≡ S.shelf_faults _shelf.old }
+    // No failed read of a file of the shelf is counted.
+    ensures shelf { S.shelf_faults _shelf.new ≡ S.shelf_faults _shelf.old }
 
     // What `play` comes to.
     ensures play { (service : List ℕ) → command_in (map string_bytes words.now) ≡ Some (Play service)
