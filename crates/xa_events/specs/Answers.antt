@@ -1,24 +1,27 @@
--- How a request ended, and what its caller is told (XATMI, tpcall, tpgetrply and tpreturn; that a death is TPESVCERR, and NOMEM, are this
--- project's own).
+-- What a caller is told of a request, by how it was settled (XATMI, tpcall, tpgetrply and tpreturn; that a death is TPESVCERR, TPESYSTEM of a
+-- request that was swept, and NOMEM, are this project's own).
 use Rattle.std.specs.Prelude.{◌≡◌, ◌⊎◌, Bool, true, false, Option, Some, None, if◌then◌else◌}
 use Rattle.xa_types.specs.declared.data.Data.{Data}
 use Rattle.xa_types.specs.declared.data.Kind.{Kind}
 use Rattle.xa_types.specs.declared.data.Kind.TheVariants.{Octet as OctetKind, Struct as StructKind}
-use Rattle.xa_types.specs.declared.fault.Fault.TheVariants.{SvcErr, OType, NoMemory}
+use Rattle.xa_types.specs.declared.fault.Fault.TheVariants.{SvcErr, OType, System, NoMemory}
 use Rattle.xa_types.specs.declared.reply.Answer.{Answer}
 use Rattle.xa_types.specs.declared.reply.Answer.TheVariants.{Success, Failed as FailedAnswer, Error}
 use Rattle.xa_types.specs.Kind.{kind_of}
 use Rattle.std.specs.Str.{bytes_eq}
-use Rattle.xa_events.specs.declared.event.Outcome.{Outcome}
-use Rattle.xa_events.specs.declared.event.Outcome.TheVariants.{Returned, Failed, BadReturn, Died, Starved}
+use Rattle.xa_events.specs.declared.event.Outcome.TheVariants.{Returned, Failed, BadReturn, BadForward, Died, Starved}
+use Rattle.xa_events.specs.Request.{Settlement}
+use Rattle.xa_events.specs.Request.Settlement.{EndedBy, SweptAway}
 
--- the reply follows how the request ended
-abbrev pub reply_of : Outcome → Answer
-reply_of (Returned code payload) = Success code payload
-reply_of (Failed code payload) = FailedAnswer code payload
-reply_of BadReturn = Error SvcErr
-reply_of Died = Error SvcErr
-reply_of Starved = Error NoMemory
+-- the reply follows what befell the request
+abbrev pub reply_of : Settlement → Answer
+reply_of (EndedBy (Returned code payload)) = Success code payload
+reply_of (EndedBy (Failed code payload)) = FailedAnswer code payload
+reply_of (EndedBy BadReturn) = Error SvcErr
+reply_of (EndedBy (BadForward version)) = Error SvcErr
+reply_of (EndedBy Died) = Error SvcErr
+reply_of (EndedBy Starved) = Error NoMemory
+reply_of SweptAway = Error System
 
 -- whether the buffer's kind takes data of that kind; data that is absent fits every buffer
 abbrev pub kind_fits : Kind → Option Kind → Bool
@@ -33,21 +36,21 @@ under_kind None payload answer = answer
 under_kind (Some wanted) payload answer = if kind_fits wanted (kind_of payload) then answer else Error OType
 
 -- what a caller with that TPNOCHANGE kind, if it has one, is told
-abbrev pub answer_to : Option Kind → Outcome → Answer
-answer_to wanted (Returned code payload) = under_kind wanted payload (Success code payload)
-answer_to wanted (Failed code payload) = under_kind wanted payload (FailedAnswer code payload)
-answer_to wanted outcome = reply_of outcome
+abbrev pub answer_to : Option Kind → Settlement → Answer
+answer_to wanted (EndedBy (Returned code payload)) = under_kind wanted payload (Success code payload)
+answer_to wanted (EndedBy (Failed code payload)) = under_kind wanted payload (FailedAnswer code payload)
+answer_to wanted settlement = reply_of settlement
 
 abbrev pub has_kind : Option Kind → Bool
 has_kind None = false
 has_kind (Some kind) = true
 
 -- whether the request came back with data, which may be of another kind than the caller's buffer
-abbrev pub has_payload : Outcome → Bool
-has_payload (Returned code payload) = has_kind (kind_of payload)
-has_payload (Failed code payload) = has_kind (kind_of payload)
+abbrev pub has_payload : Settlement → Bool
+has_payload (EndedBy (Returned code payload)) = has_kind (kind_of payload)
+has_payload (EndedBy (Failed code payload)) = has_kind (kind_of payload)
 has_payload _ = false
 
--- the answer is the outcome's, or TPEOTYPE where data came back
-abbrev pub Tells : Answer → Outcome → Type 0
-Tells answer outcome = (answer ≡ reply_of outcome) ⊎ ((answer ≡ Error OType) × (has_payload outcome ≡ true))
+-- the answer is the settlement's, or TPEOTYPE where data came back
+abbrev pub Tells : Answer → Settlement → Type 0
+Tells answer settlement = (answer ≡ reply_of settlement) ⊎ ((answer ≡ Error OType) × (has_payload settlement ≡ true))

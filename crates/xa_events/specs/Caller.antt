@@ -1,50 +1,78 @@
--- A caller, read off the events: its last call, its requests, its open descriptors, what it has read of the board (XATMI, tpcall, tpacall and
--- tpgetrply; that 50 and 16 descriptors may be open is this project's own).
-use Rattle.std.specs.Prelude.{◌≡◌, ℕ, ◌+◌, ◌==◌, ◌<◌, ◌&&◌, nat_le, Bool, true, false, List, Option, Some, None, if◌then◌else◌}
-use Rattle.std.specs.List.{list_any, filter_map}
+-- A caller, read off the events: its last call, its requests, its open descriptors, what it has read of the board and of the clock (XATMI, tpcall,
+-- tpacall and tpgetrply; that 50 and 16 descriptors may be open is this project's own).
+use Rattle.std.specs.Prelude.{◌≡◌, ℕ, ◌+◌, ◌==◌, ◌<◌, ◌&&◌, nat_le, nat_lt, Bool, true, false, List, Option, Some, None, if◌then◌else◌}
+use Rattle.std.specs.List.{list_any, filter_map, slice_get}
 use Rattle.xa_types.specs.declared.ids.RequestId.{RequestId}
 use Rattle.xa_types.specs.declared.setup.Setup.{Setup}
 use Rattle.xa_types.specs.declared.call.Mode.{Mode}
-use Rattle.xa_types.specs.declared.call.Mode.TheVariants.{Reply, NoReply, ConvReceives, ConvSends}
+use Rattle.xa_types.specs.declared.call.Mode.TheVariants.{Reply}
 use Rattle.xa_events.specs.declared.event.Event.{Event}
-use Rattle.xa_events.specs.declared.event.Event.TheVariants.{Advertise, Withdraw, Accept, Answer, Leave, Refuse}
+use Rattle.xa_events.specs.declared.event.Event.TheVariants.{Advertise, Withdraw, Accept, Forward, Tick, Start, StartFailed, End, Answer, Cancel, Lapse, Refuse, NotYet, Leave, Send, Receive, Break, Priority}
 use Rattle.xa_events.specs.declared.event.Evidence.{Evidence}
-use Rattle.xa_events.specs.declared.event.Evidence.TheVariants.{Argument, Version}
+use Rattle.xa_events.specs.declared.event.Evidence.TheVariants.{Version, AllDown, Clock, Deadline}
+use Rattle.xa_events.specs.declared.event.Outcome.{Outcome}
+use Rattle.xa_events.specs.declared.event.Outcome.TheVariants.{BadForward}
 use Rattle.xa_events.specs.Words.{latest, count, kept, greatest}
+use Rattle.xa_events.specs.Homes.{caller_of}
 use Rattle.xa_events.specs.Board.{boot}
+
+-- ---- calls
+
+-- the caller of the event and the number of its call, of the kinds that belong to a call
+abbrev pub call_in : Event → Option (ℕ × ℕ)
+call_in (Advertise a) = Some (a.by.0, a.op)
+call_in (Withdraw w) = Some (w.by.0, w.op)
+call_in (Accept a) = Some (a.by.0, a.op)
+call_in (Tick t) = Some (t.by.0, t.op)
+call_in (Answer a) = Some (a.by.0, a.op)
+call_in (Cancel c) = Some (c.by.0, c.op)
+call_in (Lapse l) = Some (l.by.0, l.op)
+call_in (Refuse r) = Some (r.by.0, r.op)
+call_in (NotYet n) = Some (n.by.0, n.op)
+call_in (Send s) = Some (s.by.0, s.op)
+call_in (Receive r) = Some (r.by.0, r.op)
+call_in (Break b) = Some (b.by.0, b.op)
+call_in (Priority p) = Some (p.by.0, p.op)
+call_in _ = None
+
+-- calls are counted from 1: an event with the number 0 was made by no call
+abbrev pub is_numbered_by : ℕ → Option (ℕ × ℕ) → Bool
+is_numbered_by caller None = false
+is_numbered_by caller (Some (by, op)) = (by == caller) && nat_lt 0 op
 
 -- the event is of a call of the caller
 abbrev pub is_call_of : ℕ → Event → Bool
-is_call_of caller (Advertise a) = a.by.0 == caller
-is_call_of caller (Withdraw w) = w.by.0 == caller
-is_call_of caller (Accept a) = a.by.0 == caller
-is_call_of caller (Answer a) = a.by.0 == caller
-is_call_of caller (Refuse r) = r.by.0 == caller
-is_call_of caller _ = false
+is_call_of caller e = is_numbered_by caller (call_in e)
 
+abbrev pub number_in : Option (ℕ × ℕ) → ℕ
+number_in None = 0
+number_in (Some (by, op)) = op
+
+-- the number of the event's call
 abbrev pub op_in : Event → ℕ
-op_in (Advertise a) = a.op
-op_in (Withdraw w) = w.op
-op_in (Accept a) = a.op
-op_in (Answer a) = a.op
-op_in (Refuse r) = r.op
-op_in _ = 0
+op_in e = number_in (call_in e)
 
 abbrev pub op_of : Option Event → ℕ
 op_of None = 0
 op_of (Some event) = op_in event
 
+-- the newest event of a call of the caller
+unfoldable pub newest_call : ℕ → List Event → Option Event
+newest_call caller past = latest (is_call_of caller) past
+
 -- the number of the caller's last call; 0 where it made none
-unfoldable pub last_op : ℕ → List Event → ℕ
-last_op caller past = op_of (latest (is_call_of caller) past)
+abbrev pub last_op : ℕ → List Event → ℕ
+last_op caller past = op_of (newest_call caller past)
 
 abbrev pub accepted_in : Option Event → Option RequestId
 accepted_in (Some (Accept a)) = Some a.request
 accepted_in _ = None
 
 -- the request as which the caller's last call was accepted, where it was and nothing of it came since
-unfoldable pub just_accepted : ℕ → List Event → Option RequestId
-just_accepted caller past = accepted_in (latest (is_call_of caller) past)
+abbrev pub just_accepted : ℕ → List Event → Option RequestId
+just_accepted caller past = accepted_in (newest_call caller past)
+
+-- ---- requests and descriptors
 
 abbrev pub accepts_for : ℕ → Event → Bool
 accepts_for caller (Accept a) = a.by.0 == caller
@@ -56,37 +84,86 @@ accepted caller past = count (accepts_for caller) past
 
 abbrev pub wants_reply : Mode → Bool
 wants_reply Reply = true
-wants_reply NoReply = false
-wants_reply ConvReceives = false
-wants_reply ConvSends = false
+wants_reply _ = false
 
-abbrev pub opens : ℕ → Event → Option RequestId
-opens caller (Accept a) = if (a.by.0 == caller) && wants_reply a.mode then Some a.request else None
-opens caller _ = None
+-- the event makes a descriptor of the caller valid
+abbrev pub validates : ℕ → Event → Option RequestId
+validates caller (Accept a) = if (a.by.0 == caller) && wants_reply a.mode then Some a.request else None
+validates caller _ = None
 
-abbrev pub settles : ℕ → Event → Option RequestId
-settles caller (Answer a) = if a.by.0 == caller then Some a.request else None
-settles caller _ = None
+-- the event makes a descriptor of the caller invalid: its reply was taken, it was cancelled, or its tpcall lapsed
+abbrev pub invalidates : ℕ → Event → Option RequestId
+invalidates caller (Answer a) = if a.by.0 == caller then Some a.request else None
+invalidates caller (Cancel c) = if c.by.0 == caller then Some c.request else None
+invalidates caller (Lapse l) = if (l.by.0 == caller) && l.of_call then slice_get l.requests 0 else None
+invalidates caller _ = None
 
 -- the requests whose descriptors are open, the oldest first
-unfoldable pub opened : ℕ → List Event → List RequestId
-opened caller past = kept (opens caller) (settles caller) past
+unfoldable pub open_descriptors : ℕ → List Event → List RequestId
+open_descriptors caller past = kept (validates caller) (invalidates caller) past
 
+-- callers from 1 to the number of clients are clients
+abbrev pub is_client : ℕ → ℕ → Bool
+is_client clients caller = nat_le 1 caller && nat_le caller clients
+
+-- how many descriptors a caller may have open: a client 50, a server 16
+abbrev pub descriptor_limit : ℕ → ℕ → ℕ
+descriptor_limit clients caller = if is_client clients caller then 50 else 16
+
+-- ---- the board and the clock
+
+-- the version of the board that was looked up
 abbrev pub version_in : Evidence → Option ℕ
-version_in Argument = None
 version_in (Version v) = Some v
+version_in (AllDown v) = Some v
+version_in _ = None
 
--- the version of the board that the event shows its caller to have read or made
-abbrev pub reads : ℕ → Event → Option ℕ
-reads caller (Advertise a) = if a.by.0 == caller then Some a.version else None
-reads caller (Withdraw w) = if w.by.0 == caller then Some w.version else None
-reads caller (Accept a) = if a.by.0 == caller then Some a.version else None
-reads caller (Refuse r) = if r.by.0 == caller then version_in r.evidence else None
-reads caller _ = None
+-- 0 is no version that was read
+abbrev pub version_of : Outcome → Option ℕ
+version_of (BadForward v) = if v == 0 then None else Some v
+version_of _ = None
+
+-- the version of the board that the event shows the caller to have read or made
+abbrev pub reads : ℕ → ℕ → Event → Option ℕ
+reads clients caller (Advertise a) = if a.by.0 == caller then Some a.version else None
+reads clients caller (Withdraw w) = if w.by.0 == caller then Some w.version else None
+reads clients caller (Accept a) = if a.by.0 == caller then Some a.version else None
+reads clients caller (Forward f) = if caller_of clients f.server.0 == caller then Some f.version else None
+reads clients caller (End e) = if caller_of clients e.server.0 == caller then version_of e.outcome else None
+reads clients caller (Refuse r) = if r.by.0 == caller then version_in r.evidence else None
+reads clients caller _ = None
+
+-- the versions that the caller read or made, the newest first
+unfoldable pub versions : ℕ → ℕ → List Event → List ℕ
+versions clients caller past = filter_map (reads clients caller) past
 
 -- the least version that the caller may still read: the greatest that it read or made, and at least the boot's
-unfoldable pub least_version : Setup → ℕ → List Event → ℕ
-least_version setup caller past = greatest (boot setup) (filter_map (reads caller) past)
+abbrev pub least_version : Setup → ℕ → ℕ → List Event → ℕ
+least_version setup clients caller past = greatest (boot setup) (versions clients caller past)
+
+abbrev pub tick_of : Evidence → Option ℕ
+tick_of (Clock tick) = Some tick
+tick_of (Deadline now deadline) = Some now
+tick_of _ = None
+
+-- the tick that the event shows the caller to have read or made
+abbrev pub tick_in : ℕ → ℕ → Event → Option ℕ
+tick_in clients caller (Tick t) = if t.by.0 == caller then Some t.now else None
+tick_in clients caller (Start s) = if caller_of clients s.server.0 == caller then Some s.tick else None
+tick_in clients caller (StartFailed s) = if caller_of clients s.server.0 == caller then Some s.tick else None
+tick_in clients caller (Lapse l) = if l.by.0 == caller then Some l.now else None
+tick_in clients caller (Refuse r) = if r.by.0 == caller then tick_of r.evidence else None
+tick_in clients caller _ = None
+
+-- the ticks that the caller read or made, the newest first
+unfoldable pub ticks : ℕ → ℕ → List Event → List ℕ
+ticks clients caller past = filter_map (tick_in clients caller) past
+
+-- the least tick that the caller may still read
+abbrev pub tick_floor : ℕ → ℕ → List Event → ℕ
+tick_floor clients caller past = greatest 0 (ticks clients caller past)
+
+-- ---- the end of a client
 
 abbrev pub is_leave_of : ℕ → Event → Bool
 is_leave_of client (Leave c) = c.0 == client
@@ -96,14 +173,16 @@ is_leave_of client _ = false
 unfoldable pub has_left : ℕ → List Event → Bool
 has_left client past = list_any (is_leave_of client) past
 
--- callers from 1 to the number of clients are clients
-abbrev pub is_client : ℕ → ℕ → Bool
-is_client clients caller = nat_le 1 caller && nat_le caller clients
+-- the caller gives something up, and no call asked for it
+abbrev pub gives_up : ℕ → Event → Bool
+gives_up caller (Cancel c) = (c.by.0 == caller) && (c.op == 0)
+gives_up caller (Break b) = (b.by.0 == caller) && (b.op == 0)
+gives_up caller _ = false
+
+-- whether the client is leaving: it gives up what it still has open
+unfoldable pub is_leaving : ℕ → List Event → Bool
+is_leaving client past = list_any (gives_up client) past
 
 -- each client has left
 abbrev pub AllLeft : ℕ → List Event → Type 0
 AllLeft clients past = (client : ℕ) → 0 < client → client < clients + 1 → has_left client past ≡ true
-
--- how many descriptors a caller may have open: a client 50, a server 16
-abbrev pub descriptor_limit : ℕ → ℕ → ℕ
-descriptor_limit clients caller = if is_client clients caller then 50 else 16

@@ -1,7 +1,8 @@
--- When an event may come next. A case has up to three parts: what is asked of the events of its own place, which is the board or a queue
--- (Home); what is asked of those of its own worker, a client or a server (Worker); and which events of other places stand before (Before).
--- Where a case names no other source its rule is this project's own.
+-- When an event may come next. A case has three parts: what is asked of the events of its own home (Home), what is asked of those of its own
+-- worker (Worker), and which events of other homes stand before (Before). Where a case names no other source its rule is this project's own.
+-- A kind whose home part is empty isn't built yet: it has no case.
 use Rattle.std.specs.Prelude.{◌≡◌, ℕ, ◌+◌, ◌<◌, ◌≤◌, ◌⊎◌, Bool, true, false, List, [], length, Option, Some, None, IsSome, IsSomeAnd, slice_get}
+use Rattle.xa_types.specs.declared.setup.Setup.{Setup}
 use Rattle.xa_types.specs.declared.row.Row.{Row}
 use Rattle.xa_types.specs.declared.call.Mode.TheVariants.{Reply}
 use Rattle.xa_types.specs.declared.fault.Fault.{Fault}
@@ -11,7 +12,7 @@ use Rattle.xa_types.specs.Priority.{priority_of}
 use Rattle.xa_types.specs.Rows.{Put, configured, row_of}
 use Rattle.xa_types.specs.Setup.{queue_of, capacity_of}
 use Rattle.xa_events.specs.declared.event.Event.{Event}
-use Rattle.xa_events.specs.declared.event.Event.TheVariants.{Advertise, Withdraw, Accept, Take, Gone, Down, Close, Start, StartFailed, End, Stop, Answer, Leave, Refuse}
+use Rattle.xa_events.specs.declared.event.Event.TheVariants.{Advertise, Withdraw, Accept, Take, Forward, Sweep, Gone, Down, Close, Tick, Start, StartFailed, End, Stop, Answer, Cancel, Lapse, Refuse, NotYet, Leave, Send, Receive, Break, Priority}
 use Rattle.xa_events.specs.declared.event.Advertised.{Advertised}
 use Rattle.xa_events.specs.declared.event.Withdrawn.{Withdrawn}
 use Rattle.xa_events.specs.declared.event.Accepted.{Accepted}
@@ -19,183 +20,148 @@ use Rattle.xa_events.specs.declared.event.Taken.{Taken}
 use Rattle.xa_events.specs.declared.event.Started.{Started}
 use Rattle.xa_events.specs.declared.event.Ended.{Ended}
 use Rattle.xa_events.specs.declared.event.Stopped.{Stopped}
-use Rattle.xa_events.specs.declared.event.Answered.{Answered}
+use Rattle.xa_events.specs.declared.event.Told.{Told}
 use Rattle.xa_events.specs.declared.event.Refused.{Refused}
 use Rattle.xa_events.specs.declared.event.Evidence.{Evidence}
 use Rattle.xa_events.specs.declared.event.Evidence.TheVariants.{Argument, Version}
 use Rattle.xa_events.specs.declared.event.Outcome.{Outcome}
-use Rattle.xa_events.specs.declared.event.Outcome.TheVariants.{Returned, Failed, BadReturn, Died, Starved}
+use Rattle.xa_events.specs.declared.event.Outcome.TheVariants.{Returned, Failed, BadReturn, BadForward, Died, Starved}
 use Rattle.xa_events.specs.declared.event.StopCause.{StopCause}
 use Rattle.xa_events.specs.declared.event.StopCause.TheVariants.{Shutdown, Exit, EndOfInput, ReadFault, WriteFault, BadBytes, OutOfTurn, Starved as StarvedStop}
 use Rattle.xa_events.specs.declared.event.Doing.TheVariants.{Off, Idle, Busy, Dying}
 use Rattle.xa_events.specs.Words.{has}
 use Rattle.xa_events.specs.State.{State}
+use Rattle.xa_events.specs.Homes.{caller_of}
 use Rattle.xa_events.specs.Board.{published, boot, rows_of_version}
 use Rattle.xa_events.specs.Queue.{waiting, takes, is_down, is_closed}
 use Rattle.xa_events.specs.Server.{doing, starts, is_gone, was_shut_down, last_outcome, may_start, AllGone}
-use Rattle.xa_events.specs.Caller.{last_op, just_accepted, accepted, opened, least_version, has_left, is_client, AllLeft, descriptor_limit}
-use Rattle.xa_events.specs.Request.{ended}
+use Rattle.xa_events.specs.Caller.{last_op, just_accepted, accepted, open_descriptors, version_in, least_version, tick_floor, has_left, is_leaving, is_client, AllLeft, descriptor_limit}
+use Rattle.xa_events.specs.Request.{WasSettled}
 use Rattle.xa_events.specs.Clock.{is_shown}
 use Rattle.xa_events.specs.Answers.{Tells}
 
 -- ---- Advertise: the boot advertises the configured services in order (in the form of XATMI's tpadvertise; that the boot does it is this
 -- project's own)
 
-pub record AdvertiseHome (s : State) (a : Advertised) : Type 0 where
-  pub booting : slice_get (configured s.setup) (published s.past) ≡ Some (Put a.service a.queue.0 a.routine)
-  pub version : a.version ≡ published s.past + 1
+pub record AdvertiseHome (setup : Setup) (a : Advertised) (past : List Event) : Type 0 where
+  pub booting : slice_get (configured setup) (published past) ≡ Some (Put a.service a.queue.0 a.routine)
+  pub version : a.version ≡ published past + 1
 
-pub record AdvertiseWorker (s : State) (a : Advertised) : Type 0 where
+pub record AdvertiseWorker (a : Advertised) : Type 0 where
   pub domain : a.by.0 ≡ 0
   pub op : a.op ≡ 0
-
-pub record AdvertiseCase (s : State) (a : Advertised) : Type 0 where
-  pub home : AdvertiseHome s a
-  pub worker : AdvertiseWorker s a
 
 -- ---- Withdraw: by the domain, where all servers of the queue are gone (in the form of XATMI's tpunadvertise; that the domain does it is this
 -- project's own)
 
-pub record WithdrawHome (s : State) (w : Withdrawn) : Type 0 where
-  pub stands : IsSome (row_of w.service w.queue.0 (rows_of_version s.setup s.past (published s.past)))
-  pub version : w.version ≡ published s.past + 1
+pub record WithdrawHome (setup : Setup) (w : Withdrawn) (past : List Event) : Type 0 where
+  pub stands : IsSome (row_of w.service w.queue.0 (rows_of_version setup past (published past)))
+  pub version : w.version ≡ published past + 1
 
-pub record WithdrawWorker (s : State) (w : Withdrawn) : Type 0 where
+pub record WithdrawWorker (w : Withdrawn) : Type 0 where
   pub domain : w.by.0 ≡ 0
   pub op : w.op ≡ 0
 
-pub record WithdrawBefore (s : State) (w : Withdrawn) : Type 0 where
-  pub gone : AllGone s.setup w.queue.0 s.past
+-- ---- a caller's next call
 
-pub record WithdrawCase (s : State) (w : Withdrawn) : Type 0 where
-  pub home : WithdrawHome s w
-  pub worker : WithdrawWorker s w
-  pub before : WithdrawBefore s w
+-- a client that hasn't left and isn't leaving
+pub record IsActive (clients caller : ℕ) (past : List Event) : Type 0 where
+  pub client : is_client clients caller ≡ true
+  pub not_left : has_left caller past ≡ false
+  pub not_leaving : is_leaving caller past ≡ false
 
--- ---- a client's next call
-
-pub record IsNextCall (s : State) (caller op : ℕ) : Type 0 where
-  pub client : is_client s.clients caller ≡ true
-  pub not_left : has_left caller s.past ≡ false
-  pub next : op ≡ last_op caller s.past + 1
+pub record IsNextCall (clients caller op : ℕ) (past : List Event) : Type 0 where
+  pub active : IsActive clients caller past
+  pub next : op ≡ last_op caller past + 1
 
 -- ---- Accept: a queue accepts the request of a call (XATMI, tpcall)
 
-pub record AcceptHome (s : State) (a : Accepted) : Type 0 where
-  pub not_down : is_down a.queue.0 s.past ≡ false
-  pub not_closed : is_closed a.queue.0 s.past ≡ false
-  pub room : length (waiting s.setup a.queue.0 s.past) < capacity_of s.setup a.queue.0
+pub record AcceptHome (setup : Setup) (a : Accepted) (past : List Event) : Type 0 where
+  pub not_down : is_down a.queue.0 past ≡ false
+  pub not_closed : is_closed a.queue.0 past ≡ false
+  pub room : length (waiting setup a.queue.0 past) < capacity_of setup a.queue.0
 
-pub record AcceptWorker (s : State) (a : Accepted) : Type 0 where
-  pub call : IsNextCall s a.by.0 a.op
+pub record AcceptWorker (setup : Setup) (clients : ℕ) (a : Accepted) (past : List Event) : Type 0 where
+  pub call : IsNextCall clients a.by.0 a.op past
   pub caller : a.request.caller ≡ a.by
-  pub number : a.request.number ≡ accepted a.by.0 s.past + 1
+  pub number : a.request.number ≡ accepted a.by.0 past + 1
   pub mode : a.mode ≡ Reply
-  pub few : length (opened a.by.0 s.past) < descriptor_limit s.clients a.by.0
-  pub sound : is_sound s.setup a.payload ≡ true
-  pub fresh : least_version s.setup a.by.0 s.past ≤ a.version
+  pub few : length (open_descriptors a.by.0 past) < descriptor_limit clients a.by.0
+  pub sound : is_sound setup a.payload ≡ true
+  pub fresh : least_version setup clients a.by.0 past ≤ a.version
 
 -- the row by which the request is accepted
-pub record RowAdmits (s : State) (a : Accepted) (row : Row) : Type 0 where
+pub record RowAdmits (setup : Setup) (a : Accepted) (row : Row) : Type 0 where
   pub routine : row.routine ≡ a.routine
   pub replies : row.conversational ≡ false
-  pub kind : is_accepted s.setup row.accepts (kind_of a.payload) ≡ true
+  pub kind : is_accepted setup row.accepts (kind_of a.payload) ≡ true
   pub priority : a.priority ≡ priority_of row.priority None
 
-pub record AcceptBefore (s : State) (a : Accepted) : Type 0 where
-  pub version : a.version ≤ published s.past
-  pub row : IsSomeAnd (row_of a.service a.queue.0 (rows_of_version s.setup s.past a.version)) (RowAdmits s a)
-
-pub record AcceptCase (s : State) (a : Accepted) : Type 0 where
-  pub home : AcceptHome s a
-  pub worker : AcceptWorker s a
-  pub before : AcceptBefore s a
+pub record AcceptBefore (setup : Setup) (a : Accepted) (past : List Event) : Type 0 where
+  pub version : a.version ≤ published past
+  pub row : IsSomeAnd (row_of a.service a.queue.0 (rows_of_version setup past a.version)) (RowAdmits setup a)
 
 -- ---- Take: a server is given a request that waits (XATMI, tpservice)
 
-pub record TakeHome (s : State) (t : Taken) : Type 0 where
-  pub not_down : is_down (queue_of s.setup t.server.0) s.past ≡ false
-  pub waits : has t.request (waiting s.setup (queue_of s.setup t.server.0) s.past) ≡ true
-  pub count : t.k ≡ takes s.setup (queue_of s.setup t.server.0) s.past + 1
+pub record TakeHome (setup : Setup) (t : Taken) (past : List Event) : Type 0 where
+  pub not_down : is_down (queue_of setup t.server.0) past ≡ false
+  pub waits : has t.request (waiting setup (queue_of setup t.server.0) past) ≡ true
+  pub count : t.k ≡ takes setup (queue_of setup t.server.0) past + 1
 
-pub record TakeWorker (s : State) (t : Taken) : Type 0 where
-  pub idle : doing t.server.0 s.past ≡ Idle t.generation
-  pub none : opened (s.clients + t.server.0) s.past ≡ []
+pub record TakeWorker (clients : ℕ) (t : Taken) (past : List Event) : Type 0 where
+  pub idle : doing t.server.0 past ≡ Idle t.generation
+  pub none : open_descriptors (caller_of clients t.server.0) past ≡ []
 
-pub record TakeCase (s : State) (t : Taken) : Type 0 where
-  pub home : TakeHome s t
-  pub worker : TakeWorker s t
+-- ---- Gone: a server that is off and may not start again is given up (after Tuxedo, RESTART and MAXGEN of UBBCONFIG)
 
--- ---- Gone: a server that is off and may not start again at tick 0, which alone the clock shows, is given up (after Tuxedo, RESTART and MAXGEN
--- of UBBCONFIG)
+pub record GoneHome (setup : Setup) (server : ℕ) (past : List Event) : Type 0 where
+  pub known : 0 < queue_of setup server
+  pub not_gone : is_gone server past ≡ false
 
-pub record GoneWorker (s : State) (server : ℕ) : Type 0 where
-  pub known : 0 < queue_of s.setup server
-  pub off : doing server s.past ≡ Off
-  pub not_gone : is_gone server s.past ≡ false
-  pub not_shut_down : was_shut_down server s.past ≡ false
-  pub spent : may_start s.setup server (starts server s.past) 0 ≡ false
-
-pub record GoneCase (s : State) (server : ℕ) : Type 0 where
-  pub worker : GoneWorker s server
+pub record GoneWorker (setup : Setup) (clients server : ℕ) (past : List Event) : Type 0 where
+  pub off : doing server past ≡ Off
+  pub not_shut_down : was_shut_down server past ≡ false
+  pub spent : may_start setup server (starts server past) (tick_floor clients (caller_of clients server) past) ≡ false
 
 -- ---- Down: the queue has no server left, and no row of it stands
 
-pub record DownHome (s : State) (queue : ℕ) : Type 0 where
-  pub known : 0 < capacity_of s.setup queue
-  pub not_down : is_down queue s.past ≡ false
-  pub gone : AllGone s.setup queue s.past
+pub record DownHome (setup : Setup) (queue : ℕ) (past : List Event) : Type 0 where
+  pub known : 0 < capacity_of setup queue
+  pub not_down : is_down queue past ≡ false
+  pub gone : AllGone setup queue past
 
-pub record DownBefore (s : State) (queue : ℕ) : Type 0 where
-  pub withdrawn : (service : List ℕ) → row_of service queue (rows_of_version s.setup s.past (published s.past)) ≡ None
-
-pub record DownCase (s : State) (queue : ℕ) : Type 0 where
-  pub home : DownHome s queue
-  pub before : DownBefore s queue
+-- no row of the queue stands
+abbrev pub NoRows : Setup → ℕ → List Event → Type 0
+NoRows setup queue past = (service : List ℕ) → row_of service queue (rows_of_version setup past (published past)) ≡ None
 
 -- ---- Close: all clients have left
 
-pub record CloseHome (s : State) (queue : ℕ) : Type 0 where
-  pub known : 0 < capacity_of s.setup queue
-  pub not_closed : is_closed queue s.past ≡ false
-
-pub record CloseBefore (s : State) (queue : ℕ) : Type 0 where
-  pub left : AllLeft s.clients s.past
-
-pub record CloseCase (s : State) (queue : ℕ) : Type 0 where
-  pub home : CloseHome s queue
-  pub before : CloseBefore s queue
+pub record CloseHome (setup : Setup) (queue : ℕ) (past : List Event) : Type 0 where
+  pub known : 0 < capacity_of setup queue
+  pub not_closed : is_closed queue past ≡ false
 
 -- ---- Start and StartFailed (after Tuxedo, RESTART, MAXGEN and GRACE of UBBCONFIG)
 
-pub record StartWorker (s : State) (b : Started) : Type 0 where
-  pub off : doing b.server.0 s.past ≡ Off
-  pub not_gone : is_gone b.server.0 s.past ≡ false
-  pub not_shut_down : was_shut_down b.server.0 s.past ≡ false
-  pub count : b.generation.0 ≡ length (starts b.server.0 s.past) + 1
-  pub may : may_start s.setup b.server.0 (starts b.server.0 s.past) b.tick ≡ true
-
-pub record StartBefore (s : State) (b : Started) : Type 0 where
-  pub shown : is_shown b.tick s.past ≡ true
-
-pub record StartCase (s : State) (b : Started) : Type 0 where
-  pub worker : StartWorker s b
-  pub before : StartBefore s b
+pub record StartWorker (setup : Setup) (clients : ℕ) (b : Started) (past : List Event) : Type 0 where
+  pub off : doing b.server.0 past ≡ Off
+  pub not_gone : is_gone b.server.0 past ≡ false
+  pub not_shut_down : was_shut_down b.server.0 past ≡ false
+  pub count : b.generation.0 ≡ length (starts b.server.0 past) + 1
+  pub floor : tick_floor clients (caller_of clients b.server.0) past ≤ b.tick
+  pub may : may_start setup b.server.0 (starts b.server.0 past) b.tick ≡ true
 
 -- ---- End: a request ends at its server (XATMI, tpreturn)
 
--- data that is returned is sound
-abbrev pub is_sound_outcome : State → Outcome → Bool
-is_sound_outcome s (Returned code payload) = is_sound s.setup payload
-is_sound_outcome s (Failed code payload) = is_sound s.setup payload
-is_sound_outcome s _ = true
+-- data that is returned is sound; a forward isn't built yet, so none fails
+abbrev pub is_sound_outcome : Setup → Outcome → Bool
+is_sound_outcome setup (Returned code payload) = is_sound setup payload
+is_sound_outcome setup (Failed code payload) = is_sound setup payload
+is_sound_outcome setup (BadForward version) = false
+is_sound_outcome setup _ = true
 
-pub record EndWorker (s : State) (e : Ended) : Type 0 where
-  pub busy : doing e.server.0 s.past ≡ Busy e.generation e.request
-  pub sound : is_sound_outcome s e.outcome ≡ true
-
-pub record EndCase (s : State) (e : Ended) : Type 0 where
-  pub worker : EndWorker s e
+pub record EndWorker (setup : Setup) (e : Ended) (past : List Event) : Type 0 where
+  pub busy : doing e.server.0 past ≡ Busy e.generation e.request
+  pub sound : is_sound_outcome setup e.outcome ≡ true
 
 -- ---- Stop: a life of a server ends (TPEXIT after Tuxedo)
 
@@ -225,93 +191,112 @@ idle_stops Exit (Some BadReturn) = true
 idle_stops Exit _ = false
 idle_stops cause _ = true
 
-pub record StopWorker (s : State) (x : Stopped) : Type 0 where
-  pub alive : ((doing x.server.0 s.past ≡ Idle x.generation) × (idle_stops x.cause (last_outcome x.server.0 s.past) ≡ true))
-      ⊎ ((doing x.server.0 s.past ≡ Dying x.generation) × (dying_stops x.cause (last_outcome x.server.0 s.past) ≡ true))
-  pub none : opened (s.clients + x.server.0) s.past ≡ []
+pub record StopWorker (clients : ℕ) (x : Stopped) (past : List Event) : Type 0 where
+  pub alive : ((doing x.server.0 past ≡ Idle x.generation) × (idle_stops x.cause (last_outcome x.server.0 past) ≡ true))
+      ⊎ ((doing x.server.0 past ≡ Dying x.generation) × (dying_stops x.cause (last_outcome x.server.0 past) ≡ true))
+  pub none : open_descriptors (caller_of clients x.server.0) past ≡ []
 
--- a server is shut down where its queue is closed and nothing waits
-pub record StopBefore (s : State) (x : Stopped) : Type 0 where
-  pub shut : x.cause ≡ Shutdown → is_closed (queue_of s.setup x.server.0) s.past ≡ true
-  pub empty : x.cause ≡ Shutdown → waiting s.setup (queue_of s.setup x.server.0) s.past ≡ []
+-- the queue is closed and nothing waits there
+pub record IsShut (setup : Setup) (queue : ℕ) (past : List Event) : Type 0 where
+  pub closed : is_closed queue past ≡ true
+  pub empty : waiting setup queue past ≡ []
 
-pub record StopCase (s : State) (x : Stopped) : Type 0 where
-  pub worker : StopWorker s x
-  pub before : StopBefore s x
+-- ---- Answer: the caller is told what befell its request (XATMI, tpcall and tpgetrply)
 
--- ---- Answer: the caller is told how its request ended (XATMI, tpcall and tpgetrply)
-
-pub record AnswerWorker (s : State) (a : Answered) : Type 0 where
-  pub client : is_client s.clients a.by.0 ≡ true
-  pub not_left : has_left a.by.0 s.past ≡ false
-  pub op : (a.op ≡ last_op a.by.0 s.past + 1) ⊎ ((a.op ≡ last_op a.by.0 s.past) × (just_accepted a.by.0 s.past ≡ Some a.request))
+pub record AnswerWorker (clients : ℕ) (a : Told) (past : List Event) : Type 0 where
+  pub active : IsActive clients a.by.0 past
+  pub op : (a.op ≡ last_op a.by.0 past + 1) ⊎ ((a.op ≡ last_op a.by.0 past) × (just_accepted a.by.0 past ≡ Some a.request))
   pub caller : a.request.caller ≡ a.by
-  pub is_open : has a.request (opened a.by.0 s.past) ≡ true
-
-pub record AnswerBefore (s : State) (a : Answered) : Type 0 where
-  pub told : IsSomeAnd (ended a.request s.past) (Tells a.answer)
-
-pub record AnswerCase (s : State) (a : Answered) : Type 0 where
-  pub worker : AnswerWorker s a
-  pub before : AnswerBefore s a
-
--- ---- Leave: a client that has no descriptor open leaves; that it has made all its calls is said by `MadeCalls`
-
-pub record LeaveWorker (s : State) (client : ℕ) : Type 0 where
-  pub known : is_client s.clients client ≡ true
-  pub not_left : has_left client s.past ≡ false
-  pub none : opened client s.past ≡ []
-
-pub record LeaveCase (s : State) (client : ℕ) : Type 0 where
-  pub worker : LeaveWorker s client
+  pub is_open : has a.request (open_descriptors a.by.0 past) ≡ true
 
 -- ---- Refuse: a call is refused (XATMI, tpcall), with what shows that it is right: a version that was looked up is no older than what the
 -- caller has seen, and was published
 
-abbrev pub IsFresh : State → ℕ → Evidence → Type 0
-IsFresh s caller Argument = Unit {0}
-IsFresh s caller (Version v) = least_version s.setup caller s.past ≤ v
+pub record RefuseWorker (setup : Setup) (clients : ℕ) (r : Refused) (past : List Event) : Type 0 where
+  pub call : IsNextCall clients r.by.0 r.op past
+  pub fresh : (version : ℕ) → version_in r.evidence ≡ Some version → least_version setup clients r.by.0 past ≤ version
 
-pub record RefuseWorker (s : State) (r : Refused) : Type 0 where
-  pub call : IsNextCall s r.by.0 r.op
-  pub fresh : IsFresh s r.by.0 r.evidence
+abbrev pub IsEvidenceFor : Fault → Evidence → List Event → Type 0
+IsEvidenceFor Inval Argument past = Unit {0}
+IsEvidenceFor NoEnt (Version v) past = v ≤ published past
+IsEvidenceFor fault evidence past = ⊥
 
-abbrev pub IsEvidenceFor : State → Fault → Evidence → Type 0
-IsEvidenceFor s Inval Argument = Unit {0}
-IsEvidenceFor s NoEnt (Version v) = v ≤ published s.past
-IsEvidenceFor s fault evidence = ⊥
+-- ---- Leave: a client that has no descriptor open leaves; that it has made all its calls is said by `MadeCalls`
 
-pub record RefuseBefore (s : State) (r : Refused) : Type 0 where
-  pub shown : IsEvidenceFor s r.fault r.evidence
-
-pub record RefuseCase (s : State) (r : Refused) : Type 0 where
-  pub worker : RefuseWorker s r
-  pub before : RefuseBefore s r
+pub record LeaveWorker (clients client : ℕ) (past : List Event) : Type 0 where
+  pub known : is_client clients client ≡ true
+  pub not_left : has_left client past ≡ false
+  pub none : open_descriptors client past ≡ []
 
 -- ---- all kinds
 
-abbrev pub KindCase : State → Event → Type 0
-KindCase s (Advertise a) = AdvertiseCase s a
-KindCase s (Withdraw w) = WithdrawCase s w
-KindCase s (Accept a) = AcceptCase s a
-KindCase s (Take t) = TakeCase s t
-KindCase s (Gone server) = GoneCase s server.0
-KindCase s (Down queue) = DownCase s queue.0
-KindCase s (Close queue) = CloseCase s queue.0
-KindCase s (Start b) = StartCase s b
-KindCase s (StartFailed b) = StartCase s b
-KindCase s (End e) = EndCase s e
-KindCase s (Stop x) = StopCase s x
-KindCase s (Answer a) = AnswerCase s a
-KindCase s (Leave client) = LeaveCase s client.0
-KindCase s (Refuse r) = RefuseCase s r
+-- what is asked of the events of the event's own home
+abbrev pub HomePart : Setup → Event → List Event → Type 0
+HomePart setup (Advertise a) past = AdvertiseHome setup a past
+HomePart setup (Withdraw w) past = WithdrawHome setup w past
+HomePart setup (Accept a) past = AcceptHome setup a past
+HomePart setup (Take t) past = TakeHome setup t past
+HomePart setup (Forward f) past = ⊥
+HomePart setup (Sweep x) past = ⊥
+HomePart setup (Gone server) past = GoneHome setup server.0 past
+HomePart setup (Down queue) past = DownHome setup queue.0 past
+HomePart setup (Close queue) past = CloseHome setup queue.0 past
+HomePart setup (Tick t) past = ⊥
+HomePart setup (Start b) past = Unit {0}
+HomePart setup (StartFailed b) past = Unit {0}
+HomePart setup (End e) past = Unit {0}
+HomePart setup (Stop x) past = Unit {0}
+HomePart setup (Answer a) past = Unit {0}
+HomePart setup (Cancel c) past = ⊥
+HomePart setup (Lapse l) past = ⊥
+HomePart setup (Refuse r) past = Unit {0}
+HomePart setup (NotYet n) past = ⊥
+HomePart setup (Leave client) past = Unit {0}
+HomePart setup (Send s) past = ⊥
+HomePart setup (Receive r) past = ⊥
+HomePart setup (Break b) past = ⊥
+HomePart setup (Priority p) past = ⊥
+
+-- what is asked of the events of the event's own worker
+abbrev pub WorkerPart : Setup → ℕ → Event → List Event → Type 0
+WorkerPart setup clients (Advertise a) past = AdvertiseWorker a
+WorkerPart setup clients (Withdraw w) past = WithdrawWorker w
+WorkerPart setup clients (Accept a) past = AcceptWorker setup clients a past
+WorkerPart setup clients (Take t) past = TakeWorker clients t past
+WorkerPart setup clients (Gone server) past = GoneWorker setup clients server.0 past
+WorkerPart setup clients (Start b) past = StartWorker setup clients b past
+WorkerPart setup clients (StartFailed b) past = StartWorker setup clients b past
+WorkerPart setup clients (End e) past = EndWorker setup e past
+WorkerPart setup clients (Stop x) past = StopWorker clients x past
+WorkerPart setup clients (Answer a) past = AnswerWorker clients a past
+WorkerPart setup clients (Refuse r) past = RefuseWorker setup clients r past
+WorkerPart setup clients (Leave client) past = LeaveWorker clients client.0 past
+WorkerPart setup clients _ past = Unit {0}
 
 -- nothing comes before the boot is over but what the boot advertises
-abbrev pub AfterBoot : State → Event → Type 0
-AfterBoot s (Advertise a) = Unit {0}
-AfterBoot s _ = boot s.setup ≤ published s.past
+abbrev pub IsBooted : Setup → Event → List Event → Type 0
+IsBooted setup (Advertise a) past = Unit {0}
+IsBooted setup _ past = boot setup ≤ published past
+
+-- what is asked of the events of other homes
+abbrev pub NamedBefore : Setup → ℕ → Event → List Event → Type 0
+NamedBefore setup clients (Withdraw w) past = AllGone setup w.queue.0 past
+NamedBefore setup clients (Accept a) past = AcceptBefore setup a past
+NamedBefore setup clients (Down queue) past = NoRows setup queue.0 past
+NamedBefore setup clients (Close queue) past = AllLeft clients past
+NamedBefore setup clients (Start b) past = is_shown b.tick past ≡ true
+NamedBefore setup clients (StartFailed b) past = is_shown b.tick past ≡ true
+NamedBefore setup clients (Stop x) past = x.cause ≡ Shutdown → IsShut setup (queue_of setup x.server.0) past
+NamedBefore setup clients (Answer a) past = WasSettled a.request (Tells a.answer) past
+NamedBefore setup clients (Refuse r) past = IsEvidenceFor r.fault r.evidence past
+NamedBefore setup clients _ past = Unit {0}
+
+pub record BeforePart (setup : Setup) (clients : ℕ) (e : Event) (past : List Event) : Type 0 where
+  pub booted : IsBooted setup e past
+  pub named : NamedBefore setup clients e past
 
 -- the event may come next
 pub record Case (s : State) (e : Event) : Type 0 where
-  pub boot : AfterBoot s e
-  pub kind : KindCase s e
+  pub home : HomePart s.setup e s.past
+  pub worker : WorkerPart s.setup s.clients e s.past
+  pub before : BeforePart s.setup s.clients e s.past

@@ -1,30 +1,30 @@
 -- Laws of every run, by counts in the list of events (this project's own). They rest on no case: of the words that the cases use
--- they have the events' readings, and what an answer may be for an outcome.
-use Rattle.std.specs.Prelude.{◌≡◌, ℕ, ◌≤◌, Bool, true, false, List, [], ◌∷◌, ◌⊎◌, Some}
+-- they have the events' readings, and what an answer may be.
+use Rattle.std.specs.Prelude.{◌≡◌, ℕ, ◌+◌, ◌≤◌, ◌<◌, ◌||◌, Bool, true, false, List, [], ◌∷◌, ◌⊎◌, Some}
 use Rattle.std.specs.List.{filter_map}
 use Rattle.xa_types.specs.declared.ids.RequestId.{RequestId}
 use Rattle.xa_events.specs.declared.event.Event.{Event}
-use Rattle.xa_events.specs.declared.event.Event.TheVariants.{Advertise, Withdraw, Take, End, Answer}
-use Rattle.xa_events.specs.declared.event.Answered.{Answered}
+use Rattle.xa_events.specs.declared.event.Event.TheVariants.{Advertise, Withdraw, Answer}
+use Rattle.xa_events.specs.declared.event.Told.{Told}
+use Rattle.xa_events.specs.declared.event.Doing.TheVariants.{Off}
 use Rattle.xa_events.specs.Words.{count, same_request, greatest, AtEach}
 use Rattle.xa_events.specs.Answers.{Tells}
-use Rattle.xa_events.specs.Caller.{reads}
-use Rattle.xa_events.specs.Request.{is_accept_of, is_end_of}
+use Rattle.xa_events.specs.Caller.{reads, versions}
+use Rattle.xa_events.specs.Request.{is_accept_of, is_take_of, is_forward_of, is_end_of, is_sweep_of, is_settled_by, WasSettled}
+use Rattle.xa_events.specs.Server.{doing, was_shut_down, is_gone}
 
-abbrev pub is_take_of : RequestId → Event → Bool
-is_take_of request (Take t) = same_request t.request request
-is_take_of request _ = false
+-- the event moves an accepted request on: from its queue to a server, to another queue, or to its end
+abbrev pub moves_on : RequestId → Event → Bool
+moves_on request e = is_take_of request e || (is_forward_of request e || is_settled_by request e)
 
--- a request is accepted once, then taken once, then ended once: an accept finds it not accepted, a take finds it accepted, not taken and not
--- ended, and an end finds it accepted, taken and not ended
+-- a request is accepted once; what moves it on finds it accepted and not settled; a take or a sweep finds it at a queue, as often taken as
+-- forwarded, and a forward or an end finds it at a server, once more taken
 pub record OnceInTurn (e : Event) (before : List Event) : Type 0 where
   pub fresh : (request : RequestId) → is_accept_of request e ≡ true → count (is_accept_of request) before ≡ 0
-  pub sent : (request : RequestId) → is_take_of request e ≡ true → count (is_accept_of request) before ≡ 1
-  pub taken : (request : RequestId) → is_take_of request e ≡ true → count (is_take_of request) before ≡ 0
-  pub first : (request : RequestId) → is_take_of request e ≡ true → count (is_end_of request) before ≡ 0
-  pub known : (request : RequestId) → is_end_of request e ≡ true → count (is_accept_of request) before ≡ 1
-  pub ended : (request : RequestId) → is_end_of request e ≡ true → count (is_end_of request) before ≡ 0
-  pub served : (request : RequestId) → is_end_of request e ≡ true → count (is_take_of request) before ≡ 1
+  pub known : (request : RequestId) → moves_on request e ≡ true → count (is_accept_of request) before ≡ 1
+  pub unsettled : (request : RequestId) → moves_on request e ≡ true → count (is_settled_by request) before ≡ 0
+  pub waiting : (request : RequestId) → is_take_of request e || is_sweep_of request e ≡ true → count (is_take_of request) before ≡ count (is_forward_of request) before
+  pub held : (request : RequestId) → is_forward_of request e || is_end_of request e ≡ true → count (is_take_of request) before ≡ count (is_forward_of request) before + 1
 
 abbrev pub LawOfEnds : List Event → Type 0
 LawOfEnds past = AtEach OnceInTurn past
@@ -33,22 +33,12 @@ abbrev pub is_answer_of : RequestId → Event → Bool
 is_answer_of request (Answer a) = same_request a.request request
 is_answer_of request _ = false
 
--- the event is an end of that request, and the answer is its reply, or TPEOTYPE where data came back
-abbrev pub IsEndFor : Answered → Event → Type 0
-IsEndFor a (End e) = (same_request e.request a.request ≡ true) × Tells a.answer e.outcome
-IsEndFor a _ = ⊥
-
--- the end that the answer names is among these events
-abbrev pub HasEnd : Answered → List Event → Type 0
-HasEnd a [] = ⊥
-HasEnd a (e ∷ past) = IsEndFor a e ⊎ HasEnd a past
-
--- an answer is of a request that its caller had accepted, it is what the request's end says, and the request has no other
-pub record AnsweredOnce (a : Answered) (before : List Event) : Type 0 where
+-- an answer is of a request that its caller had accepted, it is what befell the request, and the request has no other
+pub record AnsweredOnce (a : Told) (before : List Event) : Type 0 where
   pub own : a.request.caller ≡ a.by
   pub known : count (is_accept_of a.request) before ≡ 1
   pub once : count (is_answer_of a.request) before ≡ 0
-  pub ended : HasEnd a before
+  pub settled : WasSettled a.request (Tells a.answer) before
 
 abbrev pub IsAnsweredOnce : Event → List Event → Type 0
 IsAnsweredOnce (Answer a) before = AnsweredOnce a before
@@ -64,9 +54,13 @@ is_change (Withdraw w) = true
 is_change _ = false
 
 -- what a caller reads of the board is no older than what it read before, and not of the future
-pub record ReadsForward (e : Event) (before : List Event) : Type 0 where
-  pub rises : (caller version : ℕ) → reads caller e ≡ Some version → greatest 0 (filter_map (reads caller) before) ≤ version
-  pub stands : (caller version : ℕ) → reads caller e ≡ Some version → version ≤ count is_change (e ∷ before)
+pub record ReadsForward (clients : ℕ) (e : Event) (before : List Event) : Type 0 where
+  pub rises : (caller version : ℕ) → reads clients caller e ≡ Some version → greatest 0 (versions clients caller before) ≤ version
+  pub stands : (caller version : ℕ) → reads clients caller e ≡ Some version → version ≤ count is_change (e ∷ before)
 
-abbrev pub LawOfVersions : List Event → Type 0
-LawOfVersions past = AtEach ReadsForward past
+abbrev pub LawOfVersions : ℕ → List Event → Type 0
+LawOfVersions clients past = AtEach (ReadsForward clients) past
+
+-- a server that was shut down or is given up is off
+abbrev pub LawOfServers : List Event → Type 0
+LawOfServers past = (server : ℕ) → (was_shut_down server past ≡ true) ⊎ (is_gone server past ≡ true) → doing server past ≡ Off

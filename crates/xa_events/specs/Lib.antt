@@ -1,5 +1,6 @@
 pub mod Words
 pub mod State
+pub mod Homes
 pub mod Board
 pub mod Queue
 pub mod Server
@@ -9,7 +10,9 @@ pub mod Clock
 pub mod Answers
 pub mod Cases
 pub mod Run
+pub mod Local
 pub mod Order
 pub mod Laws
 pub mod Calls
 pub mod Said
+pub mod Views

@@ -1,20 +1,22 @@
--- A queue, read off the events: what waits, how many requests were taken, whether it is down or closed (this project's own, after the request
--- queues of Tuxedo).
+-- A queue, read off the events: what waits there, how often a request was taken, and whether it is down or closed (after Tuxedo, UBBCONFIG: servers
+-- that share a queue).
 use Rattle.std.specs.Prelude.{ℕ, ◌==◌, Bool, false, List, Option, Some, None, if◌then◌else◌}
 use Rattle.std.specs.List.{list_any}
 use Rattle.xa_types.specs.declared.ids.RequestId.{RequestId}
 use Rattle.xa_types.specs.declared.setup.Setup.{Setup}
 use Rattle.xa_types.specs.Setup.{queue_of}
 use Rattle.xa_events.specs.declared.event.Event.{Event}
-use Rattle.xa_events.specs.declared.event.Event.TheVariants.{Accept, Take, Down, Close}
+use Rattle.xa_events.specs.declared.event.Event.TheVariants.{Accept, Take, Forward, Sweep, Down, Close}
 use Rattle.xa_events.specs.Words.{count, kept}
 
 abbrev pub enters : ℕ → Event → Option RequestId
 enters queue (Accept a) = if a.queue.0 == queue then Some a.request else None
+enters queue (Forward f) = if f.queue.0 == queue then Some f.request else None
 enters queue _ = None
 
 abbrev pub leaves : Setup → ℕ → Event → Option RequestId
 leaves setup queue (Take t) = if queue_of setup t.server.0 == queue then Some t.request else None
+leaves setup queue (Sweep x) = if x.queue.0 == queue then Some x.request else None
 leaves setup queue _ = None
 
 -- the requests that wait at the queue, the oldest first

@@ -7,9 +7,9 @@ use Rattle.xa_types.specs.declared.setup.Setup.{Setup}
 use Rattle.xa_types.specs.declared.setup.ServerSetup.{ServerSetup}
 use Rattle.xa_types.specs.Setup.{numbered, queue_of}
 use Rattle.xa_events.specs.declared.event.Event.{Event}
-use Rattle.xa_events.specs.declared.event.Event.TheVariants.{Take, Gone, Start, StartFailed, End, Stop}
+use Rattle.xa_events.specs.declared.event.Event.TheVariants.{Take, Forward, Gone, Start, StartFailed, End, Stop}
 use Rattle.xa_events.specs.declared.event.Outcome.{Outcome}
-use Rattle.xa_events.specs.declared.event.Outcome.TheVariants.{Returned, Failed, BadReturn, Died, Starved}
+use Rattle.xa_events.specs.declared.event.Outcome.TheVariants.{Returned, Failed, BadReturn, BadForward, Died, Starved}
 use Rattle.xa_events.specs.declared.event.StopCause.{StopCause}
 use Rattle.xa_events.specs.declared.event.StopCause.TheVariants.{Shutdown}
 use Rattle.xa_events.specs.declared.event.Doing.{Doing}
@@ -19,6 +19,7 @@ use Rattle.xa_events.specs.Words.{latest, count}
 -- the event changes what this server does
 abbrev pub moves_server : ℕ → Event → Bool
 moves_server server (Take t) = t.server.0 == server
+moves_server server (Forward f) = f.server.0 == server
 moves_server server (Start s) = s.server.0 == server
 moves_server server (StartFailed s) = s.server.0 == server
 moves_server server (End e) = e.server.0 == server
@@ -30,11 +31,13 @@ abbrev pub after_end : Outcome → Generation → Doing
 after_end (Returned code payload) g = Idle g
 after_end (Failed code payload) g = Idle g
 after_end BadReturn g = Idle g
+after_end (BadForward version) g = Idle g
 after_end Died g = Dying g
 after_end Starved g = Dying g
 
 abbrev pub doing_after : Option Event → Doing
 doing_after (Some (Take t)) = Busy t.generation t.request
+doing_after (Some (Forward f)) = Idle f.generation
 doing_after (Some (Start s)) = Idle s.generation
 doing_after (Some (End e)) = after_end e.outcome e.generation
 doing_after _ = Off

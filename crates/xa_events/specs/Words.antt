@@ -1,5 +1,5 @@
 -- Words that read a list of events, the newest first (this project's own). The readings of the machine are made of these and the kit's.
-use Rattle.std.specs.Prelude.{ℕ, ◌+◌, ◌==◌, ◌&&◌, max, not, Bool, cond, List, [], ◌∷◌, ◌++◌, Option, Some, None}
+use Rattle.std.specs.Prelude.{◌≡◌, ◌⊎◌, ℕ, ◌+◌, ◌==◌, ◌&&◌, max, not, Bool, cond, List, [], ◌∷◌, ◌++◌, Option, Some, None}
 use Rattle.std.specs.List.{find, filter, list_any}
 use Rattle.xa_types.specs.declared.ids.RequestId.{RequestId}
 
@@ -53,3 +53,8 @@ EachNumbered P n (x ∷ xs) = P n x × EachNumbered P (n + 1) xs
 abbrev pub AtEach : {X : Type 0} → (X → List X → Type 0) → List X → Type 0
 AtEach P [] = Unit {0}
 AtEach P (e ∷ past) = P e past × AtEach P past
+
+-- the list at an earlier moment, or now
+abbrev pub IsEarlier : {X : Type 0} → List X → List X → Type 0
+IsEarlier earlier [] = earlier ≡ []
+IsEarlier earlier (e ∷ past) = (earlier ≡ e ∷ past) ⊎ IsEarlier earlier past

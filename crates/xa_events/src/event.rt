@@ -1,5 +1,7 @@
+// The events of the machine. Fields stand in the order of the table of events in docs/machine.md.
 use xa_types::{
-    Answer, CallerId, Data, Fault, Generation, Mode, Name, QueueId, RequestId, ServerId,
+    Answer, CallerId, ConvEvent, Data, Fault, Generation, Mode, Name, QueueId, RequestId, Sequence,
+    ServerId,
 };
 
 /// A service was advertised on a queue. `op` is 0 at the boot.
@@ -47,6 +49,36 @@ pub struct Taken {
     pub k: u64,
 }
 
+/// A server passed its request on to another service, for the `hop`-th time.
+#[derive(Debug, Drop)]
+pub struct Forwarded {
+    pub request: RequestId,
+    pub server: ServerId,
+    pub generation: Generation,
+    pub hop: u8,
+    pub version: u64,
+    pub service: Name,
+    pub queue: QueueId,
+    pub routine: Name,
+    pub priority: u8,
+    pub payload: Data,
+}
+
+/// A request that waited at a queue that is down was given up.
+#[derive(Clone, Copy, Debug, PartialEq, Eq)]
+pub struct Swept {
+    pub request: RequestId,
+    pub queue: QueueId,
+}
+
+/// The clock was moved on, and shows `now`.
+#[derive(Clone, Copy, Debug, PartialEq, Eq)]
+pub struct Ticked {
+    pub by: CallerId,
+    pub op: u32,
+    pub now: u64,
+}
+
 /// A server was started, or its start failed.
 #[derive(Clone, Copy, Debug, PartialEq, Eq)]
 pub struct Started {
@@ -55,12 +87,14 @@ pub struct Started {
     pub tick: u64,
 }
 
-/// How a request ended at its server.
+/// How a request ended at its server. `BadForward` has the version of the board that was looked up, or 0 where neither
+/// the board nor a queue is the reason.
 #[derive(Debug, Drop)]
 pub enum Outcome {
     Returned(i32, Data),
     Failed(i32, Data),
     BadReturn,
+    BadForward(u64),
     Died,
     Starved,
 }
@@ -98,18 +132,121 @@ pub struct Stopped {
 
 /// A caller was told what became of its request.
 #[derive(Debug, Drop)]
-pub struct Answered {
+pub struct Told {
     pub by: CallerId,
     pub op: u32,
     pub request: RequestId,
     pub answer: Answer,
 }
 
-/// What shows that a refusal is right: nothing but the call, or the version of the board that was looked up.
+/// A caller gave up its descriptor. `op` is 0 where no call asked for it.
+#[derive(Clone, Copy, Debug, PartialEq, Eq)]
+pub struct Cancelled {
+    pub by: CallerId,
+    pub op: u32,
+    pub request: RequestId,
+}
+
+/// The time of a call for a reply ran out. `requests` are those that were looked at, and `of_call` says whether it was
+/// a tpcall, whose request lapses with it.
+#[derive(Debug, Drop)]
+pub struct Lapsed {
+    pub by: CallerId,
+    pub op: u32,
+    pub requests: Sequence<RequestId>,
+    pub of_call: bool,
+    pub now: u64,
+    pub deadline: u64,
+}
+
+/// No reply had come to a call that doesn't wait. `requests` are those that were looked at.
+#[derive(Debug, Drop)]
+pub struct Unready {
+    pub by: CallerId,
+    pub op: u32,
+    pub requests: Sequence<RequestId>,
+}
+
+/// A message was sent in the conversation that `request` began. `passes` says whether it gives control away.
+#[derive(Debug, Drop)]
+pub struct Sent {
+    pub by: CallerId,
+    pub op: u32,
+    pub request: RequestId,
+    pub payload: Data,
+    pub passes: bool,
+}
+
+/// What an end of a conversation received: a message, and whether it gives control; or how the other end ended.
+#[derive(Debug, Drop)]
+pub enum Item {
+    Message(Data, bool),
+    Ending(ConvEvent, i32, Data),
+}
+
+/// An end of a conversation received something.
+#[derive(Debug, Drop)]
+pub struct Received {
+    pub by: CallerId,
+    pub op: u32,
+    pub request: RequestId,
+    pub item: Item,
+}
+
+/// The originator broke its conversation. `op` is 0 where no call asked for it.
+#[derive(Clone, Copy, Debug, PartialEq, Eq)]
+pub struct Broken {
+    pub by: CallerId,
+    pub op: u32,
+    pub request: RequestId,
+}
+
+/// A caller set the priority of its next request.
+#[derive(Clone, Copy, Debug, PartialEq, Eq)]
+pub struct Prioritized {
+    pub by: CallerId,
+    pub op: u32,
+    pub absolute: bool,
+    pub amount: i32,
+}
+
+/// What shows that a refusal is right.
 #[derive(Clone, Copy, Debug, PartialEq, Eq)]
 pub enum Evidence {
+    /// The call alone.
     Argument,
+    /// The version of the board that was looked up.
     Version(u64),
+    /// The version of which each listed queue was down or closed.
+    AllDown(u64),
+    /// The descriptor that isn't open; 0 where any would do.
+    Descriptor(u64),
+    /// How many reply cells the caller has.
+    Cells(u32),
+    /// How many connections the caller may have open.
+    Connections(u32),
+    /// How many rows the board may have.
+    Rows(u32),
+    /// The tick that the clock showed.
+    Clock(u64),
+    /// The queue that was full, and how many waited there.
+    Queue(QueueId, u32),
+    /// No block was in the pool.
+    Pool,
+    /// The descriptor of a conversation, whose direction was full or empty.
+    Conversation(u64),
+    /// The tick that the clock showed, and the deadline.
+    Deadline(u64, u64),
+    /// Whether the caller has control.
+    Control(bool),
+    /// The caller may not make this call.
+    Role,
+    /// The routine of the row that stands.
+    Routine(Name),
+    /// No row of that service stands on the caller's queue.
+    NoRow,
+    /// The descriptor of a conversation whose other end has ended, the event and the code, which is 0.
+    Ended(u64, ConvEvent, i32),
 }
 
 /// A call was refused.
@@ -128,20 +265,30 @@ pub enum Event {
     Withdraw(Withdrawn),
     Accept(Accepted),
     Take(Taken),
+    Forward(Forwarded),
+    Sweep(Swept),
     /// A server is given up: it takes no more, and isn't started again.
     Gone(ServerId),
     /// A queue has no server left.
     Down(QueueId),
     /// A queue accepts no more.
     Close(QueueId),
+    Tick(Ticked),
     Start(Started),
     StartFailed(Started),
     End(Ended),
     Stop(Stopped),
-    Answer(Answered),
+    Answer(Told),
+    Cancel(Cancelled),
+    Lapse(Lapsed),
+    Refuse(Refused),
+    NotYet(Unready),
     /// A client has made its last call.
     Leave(CallerId),
-    Refuse(Refused),
+    Send(Sent),
+    Receive(Received),
+    Break(Broken),
+    Priority(Prioritized),
 }
 
 /// What a server does.

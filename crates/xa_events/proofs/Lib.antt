@@ -1,4 +1,0 @@
-pub mod WordsLemmas
-pub mod Versions
-pub mod Stages
-pub mod AnswersOnce

@@ -1,0 +1,111 @@
+-- What is read off the events of one home or one worker, in one record each, and what one event changes of it (this project's own).
+-- Tables are compared with these; no public contract of a run rests on this file.
+use Rattle.std.specs.Prelude.{ℕ, ◌+◌, ◌||◌, ◌==◌, Bool, true, false, cond, List, [], ◌∷◌, Option, Some, None, if◌then◌else◌}
+use Rattle.std.specs.List.{filter_map, cons_option}
+use Rattle.xa_types.specs.declared.ids.RequestId.{RequestId}
+use Rattle.xa_types.specs.declared.setup.Setup.{Setup}
+use Rattle.xa_types.specs.Rows.{Change}
+use Rattle.xa_types.specs.Setup.{queue_of}
+use Rattle.xa_events.specs.declared.event.Event.{Event}
+use Rattle.xa_events.specs.declared.event.Event.TheVariants.{Gone}
+use Rattle.xa_events.specs.Words.{latest, count, kept, added, without}
+use Rattle.xa_events.specs.Board.{change_in, changes}
+use Rattle.xa_events.specs.Queue.{enters, leaves, waiting, takes_from, takes, is_down_of, is_down, is_close_of, is_closed}
+use Rattle.xa_events.specs.Server.{moves_server, start_in, starts, is_gone_of, is_gone, stops_server}
+use Rattle.xa_events.specs.Caller.{is_call_of, newest_call, accepts_for, accepted, validates, invalidates, open_descriptors, reads, versions, tick_in, ticks, is_leave_of, has_left, gives_up, is_leaving}
+
+-- the newer of both, where there is one
+abbrev pub newer : Bool → Event → Option Event → Option Event
+newer here e older = cond here (Some e) older
+
+-- ---- the board
+
+pub record BoardView : Type 0 where
+  pub changes : List Change
+
+abbrev pub board_view : List Event → BoardView
+board_view past = record { changes = changes past }
+
+abbrev pub board_after : Event → BoardView → BoardView
+board_after e view = record { changes = cons_option (change_in e) view.changes }
+
+-- ---- a queue
+
+pub record QueueView : Type 0 where
+  pub waiting : List RequestId
+  pub takes : ℕ
+  pub down : Bool
+  pub closed : Bool
+
+abbrev pub queue_view : Setup → ℕ → List Event → QueueView
+queue_view setup queue past = record {
+  waiting = waiting setup queue past;
+  takes = takes setup queue past;
+  down = is_down queue past;
+  closed = is_closed queue past;
+}
+
+abbrev pub queue_after : Setup → ℕ → Event → QueueView → QueueView
+queue_after setup queue e view = record {
+  waiting = added (enters queue e) (without (leaves setup queue e) view.waiting);
+  takes = cond (takes_from setup queue e) (view.takes + 1) view.takes;
+  down = is_down_of queue e || view.down;
+  closed = is_close_of queue e || view.closed;
+}
+
+-- ---- a server
+
+pub record ServerView : Type 0 where
+  pub moved : Option Event
+  pub starts : List ℕ
+  pub gone : Bool
+  pub stopped : Option Event
+
+abbrev pub server_view : ℕ → List Event → ServerView
+server_view server past = record {
+  moved = latest (moves_server server) past;
+  starts = starts server past;
+  gone = is_gone server past;
+  stopped = latest (stops_server server) past;
+}
+
+abbrev pub server_after : ℕ → Event → ServerView → ServerView
+server_after server e view = record {
+  moved = newer (moves_server server e) e view.moved;
+  starts = cons_option (start_in server e) view.starts;
+  gone = is_gone_of server e || view.gone;
+  stopped = newer (stops_server server e) e view.stopped;
+}
+
+-- ---- a caller
+
+pub record CallerView : Type 0 where
+  pub called : Option Event
+  pub accepted : ℕ
+  pub descriptors : List RequestId
+  pub versions : List ℕ
+  pub ticks : List ℕ
+  pub left : Bool
+  pub leaving : Bool
+
+abbrev pub caller_view : ℕ → ℕ → List Event → CallerView
+caller_view clients caller past = record {
+  called = newest_call caller past;
+  accepted = accepted caller past;
+  descriptors = open_descriptors caller past;
+  versions = versions clients caller past;
+  ticks = ticks clients caller past;
+  left = has_left caller past;
+  leaving = is_leaving caller past;
+}
+
+abbrev pub caller_after : ℕ → ℕ → Event → CallerView → CallerView
+caller_after clients caller e view = record {
+  called = newer (is_call_of caller e) e view.called;
+  accepted = cond (accepts_for caller e) (view.accepted + 1) view.accepted;
+  descriptors = added (validates caller e) (without (invalidates caller e) view.descriptors);
+  versions = cons_option (reads clients caller e) view.versions;
+  ticks = cons_option (tick_in clients caller e) view.ticks;
+  left = is_leave_of caller e || view.left;
+  leaving = gives_up caller e || view.leaving;
+}
