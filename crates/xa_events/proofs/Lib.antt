@@ -1,1 +1,2 @@
 mod Owns
+mod Merge

@@ -1,23 +1,17 @@
 -- What is read off the events of a home, or of a worker, alone is what is read off all events.
-use Rattle.std.proofs.Common.{◌≡◌, ℕ, ◌+◌, ◌==◌, ◌||◌, if◌then◌else◌, Bool, true, false, cond, List, [], ◌∷◌, length, Option, Some, None, refl, sym, ◌∙◌, ap, subst, eq-eqb, eqb-true, inl, inr}
-use Rattle.std.specs.List.{filter, cons_option, slice_get}
+use Rattle.std.proofs.Common.{◌≡◌, ℕ, ◌+◌, ◌==◌, ◌||◌, if◌then◌else◌, Bool, false, cond, List, [], ◌∷◌, Some, None, refl, sym, ◌∙◌, ap, eq-eqb, eqb-true, inl, inr}
+use Rattle.std.specs.List.{filter, cons_option}
 use Rattle.std.proofs.lemmas.Bool.{cases_Bool}
-use Rattle.xa_types.specs.declared.ids.RequestId.{RequestId}
 use Rattle.xa_types.specs.declared.setup.Setup.{Setup}
-use Rattle.xa_types.specs.declared.row.Row.{Row}
-use Rattle.xa_types.specs.Rows.{Change, rows_at}
-use Rattle.xa_types.specs.Setup.{queue_of}
 use Rattle.xa_events.specs.declared.event.Event.{Event}
 use Rattle.xa_events.specs.declared.event.Event.TheVariants.{Advertise, Withdraw, Accept, Take, Forward, Sweep, Gone, Down, Close, Tick, Start, StartFailed, End, Stop, Answer, Cancel, Lapse, Refuse, NotYet, Leave, Send, Receive, Break, Priority}
-use Rattle.xa_events.specs.declared.event.Outcome.{Outcome}
-use Rattle.xa_events.specs.declared.event.Doing.{Doing}
-use Rattle.xa_events.specs.Words.{latest, added, without}
-use Rattle.xa_events.specs.Homes.{Home, at_home, of_worker, caller_of}
+use Rattle.xa_events.specs.Words.{added, without}
+use Rattle.xa_events.specs.Homes.{at_home, of_worker, caller_of}
 use Rattle.xa_events.specs.Homes.Home.{BoardHome, QueueHome}
-use Rattle.xa_events.specs.Board.{changes, published, rows_of_version}
+use Rattle.xa_events.specs.Board.{changes}
 use Rattle.xa_events.specs.Queue.{waiting, takes, is_down, is_closed}
-use Rattle.xa_events.specs.Server.{doing, doing_after, starts, is_gone, is_gone_of, was_shut_down, is_shutdown_stop, last_outcome, outcome_in, AllGone}
-use Rattle.xa_events.specs.Caller.{newest_call, accepted, open_descriptors, versions, ticks, has_left, is_leaving, version_of, version_in, tick_of, wants_reply}
+use Rattle.xa_events.specs.Server.{starts, is_gone}
+use Rattle.xa_events.specs.Caller.{newest_call, accepted, open_descriptors, versions, ticks, has_left, is_leaving}
 use Rattle.xa_events.specs.Local.{home_events, worker_events}
 use Rattle.xa_events.specs.Views.{newer, BoardView, board_view, board_after, QueueView, queue_view, queue_after, ServerView, server_view, server_after, CallerView, caller_view, caller_after}
 

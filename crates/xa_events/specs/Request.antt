@@ -1,5 +1,5 @@
 -- A request, read off the events: where it was sent last, and how it was settled (XATMI, tpreturn; tpforward and tpsprio after Tuxedo).
-use Rattle.std.specs.Prelude.{ℕ, ◌||◌, Bool, true, false, List, [], ◌∷◌, Option, Some, None, option_map, IsSomeAnd, ◌⊎◌, if◌then◌else◌}
+use Rattle.std.specs.Prelude.{ℕ, ◌||◌, Bool, false, List, [], ◌∷◌, Option, Some, None, option_map, IsSomeAnd, ◌⊎◌, if◌then◌else◌}
 use Rattle.xa_types.specs.declared.ids.RequestId.{RequestId}
 use Rattle.xa_types.specs.declared.ids.QueueId.{QueueId}
 use Rattle.xa_types.specs.declared.call.Mode.{Mode}

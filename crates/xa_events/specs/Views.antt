@@ -1,14 +1,12 @@
 -- What is read off the events of one home or one worker, in one record each, and what one event changes of it (this project's own).
 -- Tables are compared with these; no public contract of a run rests on this file.
-use Rattle.std.specs.Prelude.{ℕ, ◌+◌, ◌||◌, ◌==◌, Bool, true, false, cond, List, [], ◌∷◌, Option, Some, None, if◌then◌else◌}
-use Rattle.std.specs.List.{filter_map, cons_option}
+use Rattle.std.specs.Prelude.{ℕ, ◌+◌, ◌||◌, Bool, cond, List, Option, Some}
+use Rattle.std.specs.List.{cons_option}
 use Rattle.xa_types.specs.declared.ids.RequestId.{RequestId}
 use Rattle.xa_types.specs.declared.setup.Setup.{Setup}
 use Rattle.xa_types.specs.Rows.{Change}
-use Rattle.xa_types.specs.Setup.{queue_of}
 use Rattle.xa_events.specs.declared.event.Event.{Event}
-use Rattle.xa_events.specs.declared.event.Event.TheVariants.{Gone}
-use Rattle.xa_events.specs.Words.{latest, count, kept, added, without}
+use Rattle.xa_events.specs.Words.{latest, added, without}
 use Rattle.xa_events.specs.Board.{change_in, changes}
 use Rattle.xa_events.specs.Queue.{enters, leaves, waiting, takes_from, takes, is_down_of, is_down, is_close_of, is_closed}
 use Rattle.xa_events.specs.Server.{moves_server, start_in, starts, is_gone_of, is_gone, stops_server}
