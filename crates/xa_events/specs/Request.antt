@@ -1,5 +1,5 @@
 -- A request, read off the events: where it was sent last, and how it was settled (XATMI, tpreturn; tpforward and tpsprio after Tuxedo).
-use Rattle.std.specs.Prelude.{ℕ, ◌||◌, Bool, false, List, [], ◌∷◌, Option, Some, None, option_map, IsSomeAnd, ◌⊎◌, if◌then◌else◌}
+use Rattle.std.specs.Prelude.{ℕ, Bool, false, List, [], ◌∷◌, Option, Some, None, option_map, IsSomeAnd, ◌⊎◌, if◌then◌else◌}
 use Rattle.xa_types.specs.declared.ids.RequestId.{RequestId}
 use Rattle.xa_types.specs.declared.ids.QueueId.{QueueId}
 use Rattle.xa_types.specs.declared.call.Mode.{Mode}
@@ -75,7 +75,9 @@ settlement_in request (Sweep x) = if same_request x.request request then Some Sw
 settlement_in request _ = None
 
 abbrev pub is_settled_by : RequestId → Event → Bool
-is_settled_by request e = is_end_of request e || is_sweep_of request e
+is_settled_by request (End e) = same_request e.request request
+is_settled_by request (Sweep x) = same_request x.request request
+is_settled_by request _ = false
 
 -- the request was settled so that P holds
 abbrev pub WasSettled : RequestId → (Settlement → Type 0) → List Event → Type 0

@@ -1,4 +1,4 @@
--- Three histories of a domain with one queue, one server on it and the service ECHO.
+-- Three histories of a domain with one queue, one server on it and the service ECHO, and one of two clients, two queues and two servers.
 use Rattle.std.specs.Prelude.{ℕ, ℤ, pos, false, List, [], ◌∷◌, ◌++◌, reverse, None, codes}
 use Rattle.xa_types.specs.declared.data.Data.{Data}
 use Rattle.xa_types.specs.declared.data.Data.TheVariants.{Absent, Octet}
@@ -100,3 +100,55 @@ died = boot ++ sent ++ ends Died ∷ stops EndOfInput ∷ Gone (record { 0 = 1 }
 abbrev pub refused : List Event
 refused = boot ++ Refuse (record { by = record { 0 = 1 }; op = 1; fault = Inval; evidence = Argument })
     ∷ Leave (record { 0 = 1 }) ∷ Close (record { 0 = 1 }) ∷ stops Shutdown ∷ []
+
+-- ---- two clients, two queues, two servers: one server dies, and the other client's call goes on
+
+abbrev pub town : Setup
+town = record {
+  block_time = 60;
+  blocks = 16;
+  shapes = [];
+  queues = (record { name = codes "Q"; group = codes "MAIN"; capacity = 100 }) ∷ (record { name = codes "R"; group = codes "MAIN"; capacity = 1 }) ∷ [];
+  servers = (record { name = codes "S"; queue = codes "Q"; program = None; restart = false; maxgen = 1; grace = 86400 })
+      ∷ (record { name = codes "T"; queue = codes "R"; program = None; restart = false; maxgen = 1; grace = 86400 }) ∷ [];
+  services = (record { name = codes "ECHO"; routine = codes "ECHO"; queues = codes "Q" ∷ []; priority = 50; accepts = all_kinds; conversational = false })
+      ∷ (record { name = codes "LEN"; routine = codes "LEN"; queues = codes "R" ∷ []; priority = 7; accepts = all_kinds; conversational = false }) ∷ [];
+}
+
+abbrev pub town_after : List Event → State
+town_after history = record { setup = town; clients = 2; past = reverse history }
+
+abbrev pub length_of : Op
+length_of = call (codes "LEN") (Octet (codes "hello"))
+
+abbrev pub first : RequestId
+first = record { caller = record { 0 = 1 }; number = 1 }
+
+abbrev pub second : RequestId
+second = record { caller = record { 0 = 2 }; number = 1 }
+
+abbrev pub parted : List Event
+parted =
+    Advertise (record { by = record { 0 = 0 }; op = 0; service = codes "ECHO"; queue = record { 0 = 1 }; routine = codes "ECHO"; version = 1 })
+    ∷ Advertise (record { by = record { 0 = 0 }; op = 0; service = codes "LEN"; queue = record { 0 = 2 }; routine = codes "LEN"; version = 2 })
+    ∷ Start (record { server = record { 0 = 2 }; generation = record { 0 = 1 }; tick = 0 })
+    ∷ Start (record { server = record { 0 = 1 }; generation = record { 0 = 1 }; tick = 0 })
+    ∷ Accept (record { by = record { 0 = 1 }; op = 1; request = first; version = 2; service = codes "ECHO"; queue = record { 0 = 1 }; routine = codes "ECHO"; priority = 50; mode = Reply; payload = Octet (codes "hello") })
+    ∷ Accept (record { by = record { 0 = 2 }; op = 1; request = second; version = 2; service = codes "LEN"; queue = record { 0 = 2 }; routine = codes "LEN"; priority = 7; mode = Reply; payload = Octet (codes "hello") })
+    ∷ Take (record { request = second; server = record { 0 = 2 }; generation = record { 0 = 1 }; k = 1 })
+    ∷ Take (record { request = first; server = record { 0 = 1 }; generation = record { 0 = 1 }; k = 1 })
+    ∷ End (record { request = first; server = record { 0 = 1 }; generation = record { 0 = 1 }; outcome = Died })
+    ∷ Stop (record { server = record { 0 = 1 }; generation = record { 0 = 1 }; cause = EndOfInput })
+    ∷ Gone (record { 0 = 1 })
+    ∷ End (record { request = second; server = record { 0 = 2 }; generation = record { 0 = 1 }; outcome = Returned (pos 5) Absent })
+    ∷ Withdraw (record { by = record { 0 = 0 }; op = 0; service = codes "ECHO"; queue = record { 0 = 1 }; version = 3 })
+    ∷ Down (record { 0 = 1 })
+    ∷ Answers (record { by = record { 0 = 1 }; op = 1; request = first; answer = Error SvcErr })
+    ∷ Refuse (record { by = record { 0 = 1 }; op = 2; fault = NoEnt; evidence = Version 3 })
+    ∷ Leave (record { 0 = 1 })
+    ∷ Answers (record { by = record { 0 = 2 }; op = 1; request = second; answer = Success (pos 5) Absent })
+    ∷ Leave (record { 0 = 2 })
+    ∷ Close (record { 0 = 1 })
+    ∷ Close (record { 0 = 2 })
+    ∷ Stop (record { server = record { 0 = 2 }; generation = record { 0 = 1 }; cause = Shutdown })
+    ∷ []

@@ -2,7 +2,8 @@
 //! that they are runs, that the calls became what they may, and what the client was told. No crate stands on this one.
 #![tactic(auto)]
 
-ghost use Rattle.std.specs.Prelude.{◌≡◌, reverse, [], ◌∷◌};
+ghost use Rattle.std.specs.Prelude.{◌≡◌, pos, reverse, [], ◌∷◌};
+ghost use Rattle.xa_types.specs.declared.data.Data.TheVariants.{Absent};
 ghost use Rattle.xa_types.specs.declared.fault.Fault.TheVariants.{SvcErr, NoEnt, Inval};
 ghost use Rattle.xa_types.specs.declared.reply.Answer.TheVariants.{Success, Error};
 ghost use Rattle.xa_types.specs.declared.reply.Reply.TheVariants.{Answered, Fault};
@@ -10,7 +11,7 @@ ghost use Rattle.xa_events.specs.Run.{Run, IsFinal};
 ghost use Rattle.xa_events.specs.State.{opening};
 ghost use Rattle.xa_events.specs.Calls.{MadeCalls};
 ghost use Rattle.xa_events.specs.Said.{reply_at};
-ghost use Rattle.xa_examples.specs.Histories.{bank, after, answered, died, refused, hello, none, dotted, greeting};
+ghost use Rattle.xa_examples.specs.Histories.{bank, after, answered, died, refused, hello, none, dotted, greeting, town, town_after, parted, length_of};
 
 /// A tpcall of ECHO with `hello` comes back with its data.
 pub fn a_call_is_answered()
@@ -35,4 +36,16 @@ pub fn a_call_is_refused()
     ensures calls { MadeCalls bank 1 (dotted ∷ []) (reverse refused) }
     ensures last { IsFinal (after refused) }
     ensures told { reply_at (reverse refused) 1 1 ≡ Fault Inval }
+{}
+
+/// Two clients call two services on two queues. The server of the first dies with the call in hand: its client is told
+/// TPESVCERR, and then TPENOENT. The other client's call, which was under way meanwhile, is answered.
+pub fn one_of_two_servers_dies()
+    ensures run { Run (opening town 2) parted (town_after parted) }
+    ensures first_calls { MadeCalls town 1 (hello ∷ none ∷ []) (reverse parted) }
+    ensures second_calls { MadeCalls town 2 (length_of ∷ []) (reverse parted) }
+    ensures last { IsFinal (town_after parted) }
+    ensures first_told { reply_at (reverse parted) 1 1 ≡ Answered 0 (Error SvcErr) }
+    ensures then_told { reply_at (reverse parted) 1 2 ≡ Fault NoEnt }
+    ensures second_told { reply_at (reverse parted) 2 1 ≡ Answered 0 (Success (pos 5) Absent) }
 {}
