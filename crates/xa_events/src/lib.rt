@@ -3,6 +3,7 @@
 #![tactic(auto)]
 
 mod event;
+pub mod laws;
 
 pub use event::{
     Accepted, Advertised, Broken, Cancelled, Doing, Ended, Event, Evidence, Forwarded, Item, Lapsed,
