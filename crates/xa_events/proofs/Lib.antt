@@ -1,3 +1,5 @@
 pub mod WordsLemmas
+pub mod Servers
 pub mod Stages
 pub mod AnswersOnce
+pub mod Versions
