@@ -77,7 +77,6 @@ unfolding versions
 none_read setup clients = λ caller. omega arith
 
 pub version_law : (s : State) (e : Event) → Case s e → ReadStands s → ReadsForward s.clients e s.past
-unfolding least_version
 version_law s e case stood = record {
   rises = λ caller version h. elim (reads_so s e caller version case h) [
     | inl k ↦ le_trans (greatest_rises 0 (boot s.setup) (versions s.clients caller s.past) (omega arith)) k.0
