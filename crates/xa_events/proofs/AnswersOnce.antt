@@ -1,18 +1,18 @@
 -- A request is answered once, as it was settled.
-use Rattle.std.proofs.Common.{◌≡◌, ℕ, ◌+◌, ◌≤◌, if◌then◌else◌, true, false, List, [], ◌∷◌, Some, None, inl, inr, ◌⊎◌, refl, sym, ◌∙◌, ap, subst, arith, eq-eqb}
+use Rattle.std.proofs.Common.{◌≡◌, ℕ, ◌+◌, ◌≤◌, if◌then◌else◌, true, false, List, [], ◌∷◌, Some, None, inl, inr, ◌⊎◌, refl, sym, ap, subst, arith, eq-eqb}
 use Rattle.std.proofs.lemmas.Bool.{cases_Bool}
 use Rattle.xa_types.specs.declared.ids.RequestId.{RequestId}
 use Rattle.xa_events.specs.declared.event.Event.{Event}
 use Rattle.xa_events.specs.declared.event.Event.TheVariants.{Accept, Answer}
 use Rattle.xa_events.specs.Words.{count, has}
-use Rattle.xa_events.specs.State.{State, noted, opening}
-use Rattle.xa_events.specs.Caller.{wants_reply, validates, invalidates, open_descriptors}
+use Rattle.xa_events.specs.State.{State}
+use Rattle.xa_events.specs.Caller.{validates, invalidates, open_descriptors}
 use Rattle.xa_events.specs.Request.{is_accept_of}
 use Rattle.xa_events.specs.Cases.{Case}
 use Rattle.xa_events.specs.Laws.{is_answer_of, IsAnsweredOnce}
 use Rattle.xa_events.proofs.WordsLemmas.{if_some, some_is, same_request_is, same_request_of, count_yes, count_no, count_grows, kept_before}
-use Rattle.xa_events.proofs.Stages.{Agree, Counts, Counted, Stage, stage}
-use Rattle.xa_events.proofs.Stages.Stage.{Unknown, Waits, Held, Over}
+use Rattle.xa_events.proofs.Stages.{Agree, Counted, Stage, stage}
+use Rattle.xa_events.proofs.Stages.Stage.{Unknown}
 
 -- a request has no more answers than it was accepted, and one less where its descriptor is open
 pub record Unanswered (past : List Event) : Type 0 where

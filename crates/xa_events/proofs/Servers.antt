@@ -3,10 +3,9 @@ use Rattle.std.proofs.Common.{◌≡◌, ℕ, ◌==◌, true, false, List, [], �
 use Rattle.std.proofs.lemmas.Bool.{cases_Bool, or_cases}
 use Rattle.xa_events.specs.declared.event.Event.{Event}
 use Rattle.xa_events.specs.declared.event.Event.TheVariants.{Take, Forward, Gone, Start, End, Stop}
-use Rattle.xa_events.specs.declared.event.Doing.TheVariants.{Off, Idle, Busy}
+use Rattle.xa_events.specs.declared.event.Doing.TheVariants.{Off}
 use Rattle.xa_events.specs.State.{State}
 use Rattle.xa_events.specs.Server.{doing, doing_after, moves_server, was_shut_down, is_gone, stops_server, is_shutdown_stop}
-use Rattle.xa_events.specs.Words.{latest}
 use Rattle.xa_events.specs.Cases.{Case}
 use Rattle.xa_events.specs.Laws.{LawOfServers}
 use Rattle.xa_events.proofs.WordsLemmas.{latest_yes, latest_no}

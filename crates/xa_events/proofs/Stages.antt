@@ -1,5 +1,5 @@
 -- Where a request is, and that its queue, its server and its counts agree on that.
-use Rattle.std.proofs.Common.{◌≡◌, ℕ, ◌+◌, ◌<◌, ◌||◌, ◌==◌, if◌then◌else◌, Bool, true, false, cond, List, [], ◌∷◌, Option, Some, None, inl, inr, ◌⊎◌, refl, sym, ◌∙◌, ap, subst, arith, eq-eqb, eqb-true, lt_of_le_of_lt}
+use Rattle.std.proofs.Common.{◌≡◌, ℕ, ◌+◌, ◌<◌, ◌||◌, ◌==◌, if◌then◌else◌, Bool, true, false, List, [], ◌∷◌, Option, Some, None, inl, inr, ◌⊎◌, refl, sym, ◌∙◌, ap, subst, arith, eq-eqb, eqb-true}
 use Rattle.std.proofs.lemmas.Bool.{cases_Bool}
 use Rattle.xa_types.specs.declared.ids.RequestId.{RequestId}
 use Rattle.xa_types.specs.declared.ids.Generation.{Generation}
@@ -18,7 +18,7 @@ use Rattle.xa_events.specs.Caller.{accepts_for, accepted}
 use Rattle.xa_events.specs.Request.{is_accept_of, is_take_of, is_forward_of, is_end_of, is_sweep_of, is_settled_by}
 use Rattle.xa_events.specs.Cases.{Case}
 use Rattle.xa_events.specs.Run.{Run}
-use Rattle.xa_events.specs.Laws.{moves_on, OnceInTurn, LawOfEnds}
+use Rattle.xa_events.specs.Laws.{moves_on, OnceInTurn}
 use Rattle.xa_events.proofs.WordsLemmas.{if_some, some_is, same_request_is, same_request_of, latest_yes, latest_no, count_yes, count_grows, kept_before}
 
 -- what each event that may come next keeps, a run keeps

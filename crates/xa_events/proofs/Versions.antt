@@ -1,5 +1,5 @@
 -- What a caller reads of the board never gets older, and is never of the future.
-use Rattle.std.proofs.Common.{◌≡◌, ℕ, ◌+◌, ◌≤◌, ◌==◌, true, cond, List, [], ◌∷◌, length, Some, inl, inr, ◌⊎◌, refl, arith, eqb-true, le_trans, zero-le}
+use Rattle.std.proofs.Common.{◌≡◌, ℕ, ◌+◌, ◌≤◌, ◌==◌, true, cond, List, [], ◌∷◌, length, Some, inl, inr, ◌⊎◌, refl, arith, eqb-true, le_trans}
 use Rattle.std.specs.List.{cons_option}
 use Rattle.xa_types.specs.declared.setup.Setup.{Setup}
 use Rattle.xa_types.specs.declared.fault.Fault.{Fault}

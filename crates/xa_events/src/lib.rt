@@ -6,7 +6,7 @@ mod event;
 pub mod laws;
 
 pub use event::{
-    Accepted, Advertised, Broken, Cancelled, Doing, Ended, Event, Evidence, Forwarded, Item, Lapsed,
-    Outcome, Prioritized, Received, Refused, Sent, Started, StopCause, Stopped, Swept, Taken, Ticked,
-    Told, Unready, Withdrawn,
+    Accepted, Advertised, Broken, Cancelled, Doing, Ended, Event, Evidence, Forwarded, Item,
+    Lapsed, Outcome, Prioritized, Received, Refused, Sent, Started, StopCause, Stopped, Swept,
+    Taken, Ticked, Told, Unready, Withdrawn,
 };
