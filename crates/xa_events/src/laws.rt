@@ -5,6 +5,29 @@ ghost use Rattle.xa_events.specs.declared.event.Event.{Event};
 ghost use Rattle.xa_events.specs.State.{State, opening};
 ghost use Rattle.xa_events.specs.Run.{Run};
 ghost use Rattle.xa_events.specs.Local.{Local};
+ghost use Rattle.xa_events.specs.Laws.{LawOfEnds, LawOfAnswers, LawOfVersions, LawOfServers};
+
+/// A request is accepted once at most, and what moves it on finds it accepted and not settled: a take or a sweep finds it
+/// at a queue, as often taken as forwarded, and a forward or an end finds it at a server, once more taken.
+pub fn ends_once()
+    ensures { (setup : Setup) (clients : ℕ) (events : List Event) (new : State) → Run (opening setup clients) events new → LawOfEnds new.past }
+{}
+
+/// Each answer is of a request of its own caller that was accepted; it is what befell the request, or TPEOTYPE where data
+/// came back, and the request's only one.
+pub fn answers_once()
+    ensures { (setup : Setup) (clients : ℕ) (events : List Event) (new : State) → Run (opening setup clients) events new → LawOfAnswers new.past }
+{}
+
+/// What a caller reads of the board never gets older, and is never of the future.
+pub fn reads_forward()
+    ensures { (setup : Setup) (clients : ℕ) (events : List Event) (new : State) → Run (opening setup clients) events new → LawOfVersions clients new.past }
+{}
+
+/// A server that was shut down or is given up is off.
+pub fn ended_servers_are_off()
+    ensures { (setup : Setup) (clients : ℕ) (events : List Event) (new : State) → Run (opening setup clients) events new → LawOfServers new.past }
+{}
 
 /// Events of which each meets its home part among the events of its home, its worker part among those of its worker, and
 /// names what was seen of other homes before it, are a run from the opening.
