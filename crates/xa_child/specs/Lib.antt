@@ -5,3 +5,4 @@ pub mod Returned
 pub mod Serving
 pub mod Turns
 pub mod Work
+pub mod LocalYard

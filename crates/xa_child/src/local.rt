@@ -1,5 +1,5 @@
 // Servers' programs in memory.
-ghost use Rattle.std.specs.Prelude.{◌≡◌, ◌≤◌, ◌<◌, ◌-◌, ◌+◌, ◌++◌, [], ℕ, List, take, drop, length, true, false, Some, None, OnOk, OnErr, IfOk};
+ghost use Rattle.std.specs.Prelude.{◌≡◌, ◌≤◌, ◌<◌, ◌-◌, ◌+◌, ◌++◌, [], ℕ, List, take, drop, length, true, false, Some, None, All, OnOk, OnErr, IfOk};
 ghost use Rattle.xa_child.specs.Child.{greeting};
 ghost use Rattle.xa_frame.specs.Spelling.{all_spelled};
 ghost use Rattle.xa_frame.specs.Stream.{IsPartial};
@@ -217,45 +217,80 @@ impl Link for LocalLink {
     ghost writes_alone = { λ _. refl };
 }
 
-/// Starts a server's program in memory.
+/// Starts a server's program in memory, and tells what it was asked for.
 #[derive(Debug, Drop)]
 pub struct LocalStarter {
     alloc: Global,
+    asked: Vec<(Name, Generation)>,
 }
 
 impl Starter<LocalLink> for LocalStarter {
+    ghost use Rattle.std.specs.Prelude.{Some};
+
     ghost start_faults = { λ _. 0 };
 
-    ghost asked = { λ _. None };
+    ghost asked = { λ s. Some s.asked.items };
 
-    fn start(&mut self, server: &Name, _generation: Generation) -> Result<LocalLink, StartRefused> {
-        LocalLink::start(self.alloc, server).map_err(|_| StartRefused::NoMemory)
+    fn start(&mut self, server: &Name, generation: Generation) -> Result<LocalLink, StartRefused> {
+        let Ok(link) = LocalLink::start(self.alloc, server) else {
+            return Err(StartRefused::NoMemory);
+        };
+        if self.asked.push((*server, generation)).is_err() {
+            return Err(StartRefused::NoMemory);
+        }
+        Ok(link)
     }
 }
 
-/// Servers' programs in memory, for any setup.
+/// Servers' programs in memory, for any setup. It tells for which it was asked.
 #[derive(Debug, Drop)]
 pub struct LocalYard {
     alloc: Global,
+    asked: Vec<Setup>,
 }
 
 impl LocalYard {
+    ghost use Rattle.xa_child.specs.LocalYard.{yard_asked};
+
     /// `alloc` is where the memory of the programs comes from.
-    pub fn new(alloc: Global) -> LocalYard {
-        LocalYard { alloc }
+    pub fn new(alloc: Global) -> LocalYard
+        ensures { yard_asked result ≡ [] }
+    {
+        LocalYard {
+            alloc,
+            asked: Vec::new(alloc),
+        }
+    }
+
+    // The starters of so many servers.
+    fn starters_of(&self, servers: usize) -> Result<Vec<LocalStarter>, NoMemory>
+        ensures each { IfOk result (λ all. length all.items ≡ servers) }
+        ensures none { IfOk result (λ all. All (λ s. s.asked.items ≡ []) all.items) }
+    {
+        let mut all = Vec::new(self.alloc);
+        for _ in 0..servers {
+            all.push(LocalStarter {
+                alloc: self.alloc,
+                asked: Vec::new(self.alloc),
+            })?;
+        }
+        Ok(all)
     }
 }
 
 impl Yard for LocalYard {
+    ghost use Rattle.std.specs.Prelude.{Some};
+
     type Line = LocalLink;
 
     type Start = LocalStarter;
 
+    ghost asked = { λ y. Some y.asked.items };
+
     fn starters(&mut self, setup: &Setup) -> Result<Vec<LocalStarter>, NoMemory> {
-        let mut all = Vec::new(self.alloc);
-        for _server in setup.servers.slice() {
-            all.push(LocalStarter { alloc: self.alloc })?;
-        }
+        let asked = setup.copy(self.alloc)?;
+        let all = self.starters_of(setup.servers.slice().len())?;
+        self.asked.push(asked)?;
         Ok(all)
     }
 }

@@ -4,3 +4,5 @@ pub mod Starts
 pub mod Files
 pub mod Lives
 pub mod Memory
+pub mod Processes
+pub mod Arguments

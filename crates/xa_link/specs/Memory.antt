@@ -1,5 +1,6 @@
 -- What the forms in memory tell.
 use Rattle.std.specs.Prelude.{ℕ, List, take, drop, map, Option}
+use Rattle.xa_types.specs.declared.setup.Setup.{Setup}
 use Rattle.xa_link.specs.declared.memory.source.MemorySource.{MemorySource}
 use Rattle.xa_link.specs.declared.memory.sink.MemorySink.{MemorySink}
 use Rattle.xa_link.specs.declared.memory.link.MemoryLink.{MemoryLink}
@@ -44,3 +45,7 @@ shelf_faults s = s.faults
 -- the lives of each server, in the order of their generations
 abbrev pub yard_lives : MemoryYard → List (List (Option MemoryLink))
 yard_lives y = map (λ server. server.items) y.lives.items
+
+-- for which setups it was asked for starters
+abbrev pub yard_asked : MemoryYard → List Setup
+yard_asked y = y.asked.items

@@ -1,7 +1,12 @@
--- The starts that a starter was asked for.
+-- What starters and yards were asked for.
 use Rattle.std.specs.Prelude.{◌≡◌, ℕ, List, [], ◌∷◌, ◌++◌, Option, option_map}
 use Rattle.xa_types.specs.declared.ids.Generation.{Generation}
+use Rattle.xa_types.specs.declared.setup.Setup.{Setup}
 
 -- one start more was asked for, of that server and generation; what isn't told stays so
 abbrev pub AsksFor : Option (List (List ℕ × Generation)) → Option (List (List ℕ × Generation)) → List ℕ → Generation → Type 0
 AsksFor before now server generation = now ≡ option_map (λ starts. starts ++ (server, generation) ∷ []) before
+
+-- starters were asked for once more, for that setup; what isn't told stays so
+abbrev pub AsksStarters : Option (List Setup) → Option (List Setup) → Setup → Type 0
+AsksStarters before now setup = now ≡ option_map (λ setups. setups ++ setup ∷ []) before

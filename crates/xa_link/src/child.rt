@@ -1,13 +1,14 @@
 // Servers as processes.
-ghost use Rattle.std.specs.Prelude.{◌≡◌, ◌≤◌, ◌<◌, ◌∷◌, [], length, codes, None, IfOk, OnOk, IsErr};
-ghost use Rattle.std.specs.Process.{command_program, command_args};
-ghost use Rattle.std.specs.Io.KnownBytes.{ReadConsumes};
+ghost use Rattle.std.specs.Prelude.{◌≡◌, ◌≤◌, ◌<◌, ◌∷◌, ◌⊎◌, [], length, None, IfOk, OnOk, IsErr, IsSome, unwrap_or, string_bytes};
+ghost use Rattle.std.specs.Process.{child_status};
+ghost use Rattle.std.specs.Io.KnownBytes.{ReadConsumes, WriteAppends};
 ghost use Rattle.xa_link.specs.Told.{Rose};
+ghost use Rattle.xa_link.specs.Processes.{StartsServer, IsChosen};
 
 use crate::count::raise;
 use crate::{Failed, Link, ReadSource, Sink, Source, StartRefused, Starter, WriteSink, Yard};
 use std::alloc::{AllocError, Global};
-use std::io::PipeWriter;
+use std::io::{PipeReader, PipeWriter, Write};
 use std::path::AsPath;
 use std::process::{Child, Command, OpenProcess, Processes, Stdio};
 use std::rt::Files;
@@ -28,10 +29,22 @@ impl<P: OpenProcess + Drop> Drop for ChildLink<P> {
             from,
             to,
         } = self;
-        drop(to);
-        drop(from);
-        let _ = child.wait();
+        let _ = finish(&mut child, from, to);
     }
+}
+
+// Closes both pipes, and then waits for the process.
+fn finish<P: OpenProcess>(
+    child: &mut Child<P>,
+    from: ReadSource<P::Stdout>,
+    to: WriteSink<PipeWriter>,
+) -> io::Result<()>
+    ensures { OnOk result (IsSome (child_status child.new)) }
+{
+    drop(to);
+    drop(from);
+    child.wait()?;
+    Ok(())
 }
 
 impl<P: OpenProcess + Drop> Source for ChildLink<P> {
@@ -62,7 +75,15 @@ impl<P: OpenProcess + Drop> Sink for ChildLink<P> {
 
     ghost beside_writes = { λ l. (None, l.from.faults) };
 
-    fn write(&mut self, from: &[u8]) -> Result<usize, Failed> {
+    fn write(&mut self, from: &[u8]) -> Result<usize, Failed>
+        ensures bound { IfOk result (λ n. n ≤ length from.now) }
+        ensures bytes { WriteAppends (⟦<PipeWriter as Write>⟧.contents self.old.to.writer) (⟦<PipeWriter as Write>⟧.contents self.new.to.writer) result from.now }
+        ensures alone { self.new.from.faults ≡ self.old.from.faults }
+        ensures later { self.old.to.faults ≤ self.new.to.faults }
+        ensures cause { IsErr result → Rose self.old.to.faults self.new.to.faults }
+        ensures nothing { result ≡ Ok 0 → 0 < length from.now → Rose self.old.to.faults self.new.to.faults }
+        ensures quiet { IfOk result (λ n. (0 < n) ⊎ (from.now ≡ []) → self.new.to.faults ≡ self.old.to.faults) }
+    {
         self.to.write(from)
     }
 }
@@ -80,73 +101,122 @@ impl<P: OpenProcess + Drop> Link for ChildLink<P> {
 pub struct ChildStarter<R: Processes + Files + AllocGlobal> {
     rt: R,
     program: Option<Octets>,
-    monitor: String,
+    monitor: Octets,
     faults: u64,
 }
 
+// The program that serves: the configured one, and where there is none the word by which the monitor was started.
+fn chosen<'a>(configured: &'a Option<Octets>, monitor: &'a Octets) -> &'a [u8]
+    ensures { result.now ≡ unwrap_or configured.now monitor.now }
+{
+    match configured {
+        Some(program) => program.slice(),
+        None => monitor.slice(),
+    }
+}
+
 impl<R: Processes + Files + AllocGlobal> ChildStarter<R> {
+    // A word of the monitor that can't be started is no failure, since the system knows where its program is.
     fn launch(&self, server: &Name) -> Result<ChildLink<R::Started>, StartRefused>
         ensures { IfOk result (λ l. (l.from.faults ≡ 0) × (l.to.faults ≡ 0)) }
     {
         let name = text(server.octets())?;
-        match &self.program {
-            Some(program) => self.run(text(program.slice())?, name),
-            None => self.run_monitor(name),
+        let started = self.run_chosen(chosen(&self.program, &self.monitor), name);
+        match (&self.program, started) {
+            (None, Err(StartRefused::Failed)) => self.run_found(name),
+            (_, started) => started,
         }
     }
 
-    // A word of the monitor that can't be started is no failure, since the system knows where its program is.
-    fn run_monitor(&self, name: &str) -> Result<ChildLink<R::Started>, StartRefused>
+    fn run_chosen(&self, program: &[u8], name: &str) -> Result<ChildLink<R::Started>, StartRefused>
+        requires { program.now ≡ unwrap_or self.now.program self.now.monitor }
         ensures { IfOk result (λ l. (l.from.faults ≡ 0) × (l.to.faults ≡ 0)) }
     {
-        match self.run(self.monitor.as_str(), name) {
-            Err(StartRefused::Failed) => {
-                let monitor = env::current_exe(&self.rt).map_err(|_| StartRefused::Failed)?;
-                self.run(monitor.as_str(), name)
-            }
-            done => done,
-        }
+        self.run(text(program)?, name)
+    }
+
+    // By the path that the system gives of the monitor's program.
+    fn run_found(&self, name: &str) -> Result<ChildLink<R::Started>, StartRefused>
+        requires { self.now.program ≡ None }
+        ensures { IfOk result (λ l. (l.from.faults ≡ 0) × (l.to.faults ≡ 0)) }
+    {
+        let Ok(monitor) = env::current_exe(&self.rt) else {
+            return Err(StartRefused::Failed);
+        };
+        self.run(monitor.as_str(), name)
     }
 
     fn run(&self, program: &str, name: &str) -> Result<ChildLink<R::Started>, StartRefused>
+        requires { IsChosen self.now.program program.now }
         ensures { IfOk result (λ l. (l.from.faults ≡ 0) × (l.to.faults ≡ 0)) }
     {
-        let command = command(self.rt.alloc(), program, name);
-        let mut command = command.map_err(|_| StartRefused::NoMemory)?;
-        spawn(&self.rt, &mut command).map_err(|error| match error.kind() {
+        let Ok(command) = command(self.rt.alloc(), program, name) else {
+            return Err(StartRefused::NoMemory);
+        };
+        spawn(&self.rt, command, program, name).map_err(|error| match error.kind() {
             io::ErrorKind::OutOfMemory => StartRefused::NoMemory,
             _ => StartRefused::Failed,
         })
     }
 }
 
-fn text(octets: &[u8]) -> Result<&str, StartRefused> {
-    str::from_utf8(octets).map_err(|_| StartRefused::Failed)
+fn text(octets: &[u8]) -> Result<&str, StartRefused>
+    ensures { IfOk result (λ text. text.now ≡ octets.now) }
+{
+    match str::from_utf8(octets) {
+        Ok(text) => Ok(text),
+        Err(_) => Err(StartRefused::Failed),
+    }
 }
 
 fn command(alloc: Global, program: &str, name: &str) -> Result<Command, AllocError>
-    ensures program { IfOk result (λ c. command_program c ≡ program.now) }
-    ensures words { IfOk result (λ c. command_args c ≡ codes "server" ∷ name.now ∷ []) }
+    ensures { IfOk result (StartsServer program.now name.now) }
 {
     let mut command = Command::new(alloc, program)?;
     command.arg("server")?.arg(name)?;
     Ok(command)
 }
 
+// The command with its input from that pipe and its output to a new one. Its standard error stays the monitor's.
+fn connected(mut command: Command, input: PipeReader, program: &str, name: &str) -> Command
+    requires { StartsServer program.now name.now command }
+    ensures { StartsServer program.now name.now result }
+{
+    command.stdin(Stdio::from(input)).stdout(Stdio::piped());
+    command
+}
+
+// Starts the process. What is required is what is known of the command as the system gets it.
+fn spawn_connected<R: Processes>(
+    rt: &R,
+    command: &mut Command,
+    program: &str,
+    name: &str,
+) -> io::Result<Child<R::Started>>
+    requires { StartsServer program.now name.now command.old }
+{
+    command.spawn(rt)
+}
+
 // The child's input is a pipe of our own, since a write to it takes one call of the system.
-fn spawn<R: Processes + Files>(rt: &R, command: &mut Command) -> io::Result<ChildLink<R::Started>>
+fn spawn<R: Processes + Files>(
+    rt: &R,
+    command: Command,
+    program: &str,
+    name: &str,
+) -> io::Result<ChildLink<R::Started>>
+    requires { StartsServer program.now name.now command }
     ensures { IfOk result (λ l. (l.from.faults ≡ 0) × (l.to.faults ≡ 0)) }
 {
     let (theirs, to) = io::pipe(rt)?;
-    let mut child = command
-        .stdin(Stdio::from(theirs))
-        .stdout(Stdio::piped())
-        .spawn(rt)?;
+    let mut command = connected(command, theirs, program, name);
+    let mut child = spawn_connected(rt, &mut command, program, name)?;
     let Some(from) = child.stdout.take() else {
         drop(to);
         let _ = child.wait();
         return Err(io::Error::from(io::ErrorKind::BrokenPipe));
     };
+    drop(command);
     Ok(ChildLink {
         child,
         from: ReadSource::new(from),
@@ -176,30 +246,38 @@ impl<R: Processes + Files + AllocGlobal> Starter<ChildLink<R::Started>> for Chil
 #[derive(Drop)]
 pub struct ChildYard<R: Processes + Files + AllocGlobal> {
     rt: R,
-    monitor: String,
+    monitor: Octets,
 }
 
 impl<R: Processes + Files + AllocGlobal> ChildYard<R> {
-    /// `monitor` is the word by which the monitor was itself started.
-    pub fn new(rt: R, monitor: String) -> ChildYard<R> {
+    /// `monitor` is the word by which the monitor was itself started. Where that can't be started, as where it isn't
+    /// text, the system is asked for the path of the monitor's program.
+    pub fn new(rt: R, monitor: Octets) -> ChildYard<R> {
         ChildYard { rt, monitor }
     }
 }
 
 impl<R: Processes + Files + AllocGlobal + Clone + Drop> ChildYard<R> {
     fn starter(&self, server: &ServerSetup) -> Result<ChildStarter<R>, NoMemory>
-        ensures { IfOk result (λ s. s.faults ≡ 0) }
+        ensures program { IfOk result (λ s. s.program ≡ server.now.program) }
+        ensures monitor { IfOk result (λ s. s.monitor ≡ self.now.monitor) }
+        ensures count { IfOk result (λ s. s.faults ≡ 0) }
     {
-        let program = match &server.program {
-            Some(program) => Some(program.copy(self.rt.alloc())?),
-            None => None,
-        };
         Ok(ChildStarter {
             rt: self.rt.clone()?,
-            program,
-            monitor: self.monitor.clone()?,
+            program: copy_program(self.rt.alloc(), &server.program)?,
+            monitor: self.monitor.copy(self.rt.alloc())?,
             faults: 0,
         })
+    }
+}
+
+fn copy_program(alloc: Global, program: &Option<Octets>) -> Result<Option<Octets>, NoMemory>
+    ensures { IfOk result (λ copied. copied ≡ program.now) }
+{
+    match program {
+        Some(program) => Ok(Some(program.copy(alloc)?)),
+        None => Ok(None),
     }
 }
 
@@ -213,6 +291,8 @@ where
     type Line = ChildLink<R::Started>;
 
     type Start = ChildStarter<R>;
+
+    ghost asked = { λ _. None };
 
     fn starters(&mut self, setup: &Setup) -> Result<Vec<ChildStarter<R>>, NoMemory> {
         let mut all = Vec::new(self.rt.alloc());

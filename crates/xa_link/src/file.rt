@@ -1,7 +1,7 @@
 // The files of the system.
 ghost use Rattle.std.specs.Prelude.{◌≡◌, ◌≤◌, ◌<◌, ◌-◌, length, None, IfOk, OnOk, IsErrOf};
-ghost use Rattle.xa_link.specs.Told.{Rose, ReadOut};
-ghost use Rattle.xa_link.specs.Reads.{HasExactly, HasMore};
+ghost use Rattle.xa_link.specs.Told.{Rose, ReadOut, Grew};
+ghost use Rattle.xa_link.specs.Reads.{HasExactly, HasMore, GrewByMore};
 
 use crate::count::raise;
 use crate::{ReadSource, Shelf, ShelfRefused, Source};
@@ -54,8 +54,10 @@ pub fn read_all<S: Source>(
     limit: usize,
 ) -> Result<Vec<u8>, ShelfRefused>
     ensures content { IfOk result (λ all. HasExactly (S.left source.old) all.items) }
+    ensures given { IfOk result (λ all. Grew (S.gave source.old) (S.gave source.new) all.items) }
     ensures short { IfOk result (λ all. length all.items ≤ limit) }
     ensures long { IsErrOf result ShelfRefused.TooLong → HasMore (S.left source.old) limit }
+    ensures over { IsErrOf result ShelfRefused.TooLong → GrewByMore (S.gave source.old) (S.gave source.new) limit }
     ensures ended { OnOk result (ReadOut (S.left source.old) (S.left source.new)) }
     ensures alone { S.beside_reads source.new ≡ S.beside_reads source.old }
     ensures later { S.read_faults source.old ≤ S.read_faults source.new }

@@ -3,6 +3,7 @@
 //! count.
 #![tactic(auto)]
 
+mod arguments;
 mod child;
 mod count;
 mod file;
@@ -17,6 +18,7 @@ mod stream;
 #[cfg(test)]
 mod tests;
 
+pub use arguments::{Arguments, MemoryArguments, SystemArguments};
 pub use child::{ChildLink, ChildStarter, ChildYard};
 pub use file::{FileShelf, read_all};
 pub use gate::{Gate, OpenGate, Point};

@@ -1,8 +1,9 @@
 // How servers are started.
-ghost use Rattle.std.specs.Prelude.{◌≡◌, ◌≤◌, ◌<◌, ℕ, List, [], length, All, Option, IfSome, IfOk, OnOk, IsErrOf};
+ghost use Rattle.std.specs.Prelude.{◌≡◌, ◌≤◌, ◌<◌, ℕ, List, [], length, All, Option, IfSome, IfOk, OnOk, OnErr, IsErrOf};
 ghost use Rattle.xa_types.specs.declared.ids.Generation.{Generation};
+ghost use Rattle.xa_types.specs.declared.setup.Setup.{Setup};
 ghost use Rattle.xa_link.specs.Told.{Rose, Empty};
-ghost use Rattle.xa_link.specs.Starts.{AsksFor};
+ghost use Rattle.xa_link.specs.Starts.{AsksFor, AsksStarters};
 
 use crate::Link;
 use thiserror::Error;
@@ -22,7 +23,8 @@ pub trait Starter<L: Link> {
     /// How often a start failed. It stands still at 2^64 - 1.
     ghost start_faults: { Self → ℕ };
 
-    /// The starts that it was asked for, each with the server's name and the generation, where it tells them.
+    /// The starts that it was asked for, each with the server's name and the generation, where it tells them. One that
+    /// memory ran out for is none.
     ghost asked: { Self → Option (List (List ℕ × Generation)) };
 
     /// Starts the server, for the `generation`th time, and gives the pipes of that life. Nothing went through them,
@@ -32,6 +34,7 @@ pub trait Starter<L: Link> {
         ensures fresh { IfOk result (λ link. Empty (L.took link) × Empty (L.gave link)) }
         ensures started { OnOk result (AsksFor (asked self.old) (asked self.new) server.now generation) }
         ensures failed { IsErrOf result StartRefused.Failed → AsksFor (asked self.old) (asked self.new) server.now generation }
+        ensures starved { IsErrOf result StartRefused.NoMemory → asked self.new ≡ asked self.old }
 
         ensures later { start_faults self.old ≤ start_faults self.new }
         ensures cause { IsErrOf result StartRefused.Failed → Rose (start_faults self.old) (start_faults self.new) }
@@ -46,9 +49,16 @@ pub trait Yard {
     /// What starts the lives of one server.
     type Start: Starter<Self::Line> + Send;
 
+    /// For which setups starters were asked of it, the oldest first, where it tells them. A call that memory ran out for
+    /// is none.
+    ghost asked: { Self → Option (List Setup) };
+
     /// One starter for each server of the setup, in its order. None of them was asked for a start.
     fn starters(&mut self, setup: &Setup) -> Result<Vec<Self::Start>, NoMemory>
         ensures each { IfOk result (λ all. length all.items ≡ length setup.now.servers) }
         ensures counts { IfOk result (λ all. All (λ s. Self.Start.start_faults s ≡ 0) all.items) }
-        ensures none { IfOk result (λ all. All (λ s. IfSome (Self.Start.asked s) (λ starts. starts ≡ [])) all.items) };
+        ensures none { IfOk result (λ all. All (λ s. IfSome (Self.Start.asked s) (λ starts. starts ≡ [])) all.items) }
+
+        ensures asked { OnOk result (AsksStarters (asked self.old) (asked self.new) setup.now) }
+        ensures starved { OnErr result (asked self.new ≡ asked self.old) };
 }

@@ -1,7 +1,9 @@
+pub mod Asking
 pub mod Built
 pub mod Carrying
 pub mod Complete
 pub mod Exchanging
+pub mod Given
 pub mod Over
 pub mod Pipes
 pub mod Played

@@ -1,7 +1,7 @@
 -- How a run of `play` ends, by how its script was served.
 use Rattle.std.proofs.Common.{◌≡◌, ◌⊎◌, ℕ, ◌+◌, ◌-◌, ◌^◌, min, List, [], ◌∷◌, ◌++◌, length, reverse, Option, Some, None, Ok, Err, ap, inl, inr, refl, sym, ◌∙◌, subst, arith, slice_set, slice_index_or}
 use Rattle.std.specs.Prelude.{Result, IfSome, OnOk, MatchResult}
-use Rattle.xa_link.specs.Told.{Rose, ReadOut, Grew, GrewByPart}
+use Rattle.xa_link.specs.Told.{Rose, Grew, GrewByPart}
 use Rattle.xa_events.specs.declared.event.Event.{Event}
 use Rattle.xa_script.specs.declared.script.Client.{Client}
 use Rattle.xa_pipe.specs.Life.{IsLife}
@@ -131,8 +131,8 @@ still_one (starter ∷ other ∷ starters) now one = absurd (omega (arith, one))
 
 module _ {L S : Type 0} (tells : LinkTells L) (shows : S → StarterShows) (streams : Streams) (service : List ℕ) (clients : List Client)
     (history : List Event) (lives : List (Life L)) (starters : List S) (old now : S)
-    (one : length starters ≡ 1) (none : (shows old).faults ≡ 0) (unasked : IfSome (shows old).asked (λ all. all ≡ [])) (script : IsTheScript streams.told clients) (ended : ReadOut streams.told streams.left_after) (quiet : ReadsWell streams) where
-  played : IsServed tells (shows old) (shows now) service clients history lives → IsPlayed tells shows streams.told service clients history lives (slice_set starters 0 now)
+    (one : length starters ≡ 1) (none : (shows old).faults ≡ 0) (unasked : IfSome (shows old).asked (λ all. all ≡ [])) (script : IsTheScript streams.input clients) (quiet : ReadsWell streams) where
+  played : IsServed tells (shows old) (shows now) service clients history lives → IsPlayed tells shows streams.input service clients history lives (slice_set starters 0 now)
   played served = record {
     script = script;
     machine = served.machine;
@@ -147,14 +147,14 @@ module _ {L S : Type 0} (tells : LinkTells L) (shows : S → StarterShows) (stre
   pub play_ends : (status : Status)
       → ServingEnds tells streams.took_before streams.took_after streams.writes_before streams.writes_after (shows old) (shows now) service clients status history lives
       → PlayEnds tells shows streams service status history lives (slice_set starters 0 now)
-  play_ends Done ends = (clients, played ends.0, ended, ends.1, quiet, ends.2)
-  play_ends WriteFault ends = (clients, played ends.0, ended, ends.1, quiet, ends.2)
+  play_ends Done ends = (clients, played ends.0, ends.1, quiet, ends.2)
+  play_ends WriteFault ends = (clients, played ends.0, ends.1, quiet, ends.2)
   play_ends NoMemory ends = (quiet, record { took = ends.0; writes = ends.1 })
   play_ends status ends = absurd ends
 
 -- a run whose script was refused, and that left the output alone
 pub refused_ends : {L S : Type 0} (tells : LinkTells L) (shows : S → StarterShows) (streams : Streams) (service : List ℕ) (status : Status) (history : List Event) (lives : List (Life L)) (starters : List S)
-    → ScriptRefusedAs streams.told streams.reads_before streams.reads_after status → IsSilent streams → PlayEnds tells shows streams service status history lives starters
+    → ScriptRefusedAs streams.input streams.reads_before streams.reads_after status → IsSilent streams → PlayEnds tells shows streams service status history lives starters
 refused_ends tells shows streams service ScriptRead history lives starters why silent = (why, silent)
 refused_ends tells shows streams service (TooLong inputs.Script) history lives starters why silent = (why.0, why.1, silent)
 refused_ends tells shows streams service (BadLine line cause) history lives starters why silent = (why.0, why.1, why.2, silent)

@@ -1,8 +1,8 @@
 -- What a run of `play` comes to (this project's own).
-use Rattle.std.specs.Prelude.{◌≡◌, ◌≤◌, ◌<◌, ◌^◌, ◌-◌, min, ℕ, zero, suc, List, [], ◌∷◌, ◌++◌, length, reverse, map, Option, IfSome, All, ⊤}
+use Rattle.std.specs.Prelude.{◌≡◌, ◌≤◌, ◌^◌, ◌-◌, min, ℕ, zero, suc, List, [], ◌∷◌, ◌++◌, length, reverse, map, Option, IfSome, All, ⊤}
 use Rattle.xa_types.specs.declared.setup.Setup.{Setup}
 use Rattle.xa_types.specs.Setup.{numbered}
-use Rattle.xa_link.specs.Told.{Rose, ReadOut, Grew, GrewByPart}
+use Rattle.xa_link.specs.Told.{Rose, Grew, GrewByPart}
 use Rattle.xa_events.specs.declared.event.Event.{Event}
 use Rattle.xa_types.specs.declared.ids.Generation.{Generation}
 use Rattle.xa_events.specs.Server.{starts}
@@ -20,6 +20,7 @@ use Rattle.xa_program.specs.declared.status.Input.TheVariants as inputs
 use Rattle.xa_pipe.specs.Life.{IsLife}
 use Rattle.xa_play.specs.PlaySetup.{play_setup}
 use Rattle.xa_play.specs.Transcript.{transcript}
+use Rattle.xa_program.specs.Input.{InputTells, CameWhole, CameOver}
 use Rattle.xa_program.specs.Lives.{server_name_in, lives_of, failed_starts}
 use Rattle.xa_script.specs.Script.{IsScript, IsFirstFault}
 
@@ -86,26 +87,25 @@ pub record IsCarried {L S : Type 0} (tells : LinkTells L) (shows : S → Starter
 abbrev pub longest_script : ℕ
 longest_script = 1_048_576
 
--- where the input tells its octets, they are a script with these clients, and not too long
-abbrev pub IsTheScript : Option (List ℕ) → List Client → Type 0
-IsTheScript told clients = IfSome told (λ octets. (length octets ≤ longest_script) × IsScript octets (record { clients = clients }))
+-- what came from the input is a script with these clients, and not too long
+abbrev pub IsTheScript : InputTells → List Client → Type 0
+IsTheScript input clients = (octets : List ℕ) × CameWhole input octets × (length octets ≤ longest_script) × IsScript octets (record { clients = clients })
 
--- where the input tells its octets, they aren't too long, and their first line at fault is that one
-abbrev pub HasFirstFault : Option (List ℕ) → ℕ → Type 0
-HasFirstFault told line = IfSome told (λ octets. (length octets ≤ longest_script) × IsFirstFault octets line)
+-- what came from the input isn't too long, and its first line at fault is that one
+abbrev pub HasFirstFault : InputTells → ℕ → Type 0
+HasFirstFault input line = (octets : List ℕ) × CameWhole input octets × (length octets ≤ longest_script) × IsFirstFault octets line
 
 -- the clients are the script's, and the history and the pipes are theirs
-pub record IsPlayed {L S : Type 0} (tells : LinkTells L) (shows : S → StarterShows) (told : Option (List ℕ)) (service : List ℕ) (clients : List Client)
+pub record IsPlayed {L S : Type 0} (tells : LinkTells L) (shows : S → StarterShows) (input : InputTells) (service : List ℕ) (clients : List Client)
     (history : List Event) (lives : List (Life L)) (starters : List S) : Type 0 where
-  pub script : IsTheScript told clients
+  pub script : IsTheScript input clients
   pub machine : IsHistory (play_setup service) clients history
   pub carried : IsCarried tells shows (play_setup service) (reverse history) lives starters
 
--- what the input and the output show of a run: what the input holds before and after, what the output took, and how often a read or
--- a write failed
+-- what the input and the output show of a run: what the input tells of its octets, what the output took, and how often a read or a write
+-- failed
 pub record Streams : Type 0 where
-  pub told : Option (List ℕ)
-  pub left_after : Option (List ℕ)
+  pub input : InputTells
   pub reads_before : ℕ
   pub reads_after : ℕ
   pub took_before : Option (List ℕ)
@@ -132,16 +132,16 @@ pub record IsSilent (streams : Streams) : Type 0 where
 -- how `play SERVICE` ends, and what that shows
 abbrev pub PlayEnds : {L S : Type 0} → LinkTells L → (S → StarterShows) → Streams → List ℕ → Status → List Event → List (Life L) → List S → Type 0
 PlayEnds tells shows streams service Done history lives starters =
-    (clients : List Client) × IsPlayed tells shows streams.told service clients history lives starters × ReadOut streams.told streams.left_after
+    (clients : List Client) × IsPlayed tells shows streams.input service clients history lives starters
     × Grew streams.took_before streams.took_after (transcript (names_of clients) (reverse history))
     × ReadsWell streams × WritesWell streams
 PlayEnds tells shows streams service WriteFault history lives starters =
-    (clients : List Client) × IsPlayed tells shows streams.told service clients history lives starters × ReadOut streams.told streams.left_after
+    (clients : List Client) × IsPlayed tells shows streams.input service clients history lives starters
     × GrewByPart streams.took_before streams.took_after (transcript (names_of clients) (reverse history))
     × ReadsWell streams × Rose streams.writes_before streams.writes_after
 PlayEnds tells shows streams service ScriptRead history lives starters = Rose streams.reads_before streams.reads_after × IsSilent streams
-PlayEnds tells shows streams service (TooLong inputs.Script) history lives starters = IfSome streams.told (λ octets. longest_script < length octets) × ReadsWell streams × IsSilent streams
-PlayEnds tells shows streams service (BadLine line cause) history lives starters = (cause ≡ 9) × HasFirstFault streams.told line × ReadsWell streams × IsSilent streams
+PlayEnds tells shows streams service (TooLong inputs.Script) history lives starters = CameOver streams.input longest_script × ReadsWell streams × IsSilent streams
+PlayEnds tells shows streams service (BadLine line cause) history lives starters = (cause ≡ 9) × HasFirstFault streams.input line × ReadsWell streams × IsSilent streams
 PlayEnds tells shows streams service NoMemory history lives starters = ReadsWell streams × IsSilent streams
 PlayEnds tells shows streams service status history lives starters = ⊥
 

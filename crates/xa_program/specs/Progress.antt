@@ -41,6 +41,7 @@ use Rattle.xa_play.specs.History.{refuse, stop, after_stop, in_order}
 use Rattle.xa_play.specs.Refusal.{IsRefused}
 use Rattle.xa_play.specs.Between.{at, IsQuiet, IsOpen, IsUp, IsDown, IsLeft, HasNoMore, KnowsAnswers}
 use Rattle.xa_program.specs.Lives.{lives_of, failed_starts}
+use Rattle.xa_program.specs.Input.{InputTells, CameOver}
 use Rattle.xa_program.specs.Headline.{IsHistory, StarterShows, LinkTells, IsLifeOf, HasFirstFault, longest_script, names_of}
 use Rattle.xa_program.specs.declared.outcome.Life.{Life}
 use Rattle.xa_program.specs.declared.status.Status.{Status}
@@ -300,9 +301,9 @@ pub record Unprinted (before after : Option (List ℕ)) (faults faults_after : �
   pub writes : faults_after ≡ faults
 
 -- why there is no script
-abbrev pub ScriptRefusedAs : Option (List ℕ) → ℕ → ℕ → Status → Type 0
-ScriptRefusedAs told reads reads_after ScriptRead = Rose reads reads_after
-ScriptRefusedAs told reads reads_after (TooLong inputs.Script) = IfSome told (λ octets. longest_script < length octets) × (reads_after ≡ reads)
-ScriptRefusedAs told reads reads_after (BadLine line cause) = (cause ≡ 9) × HasFirstFault told line × (reads_after ≡ reads)
-ScriptRefusedAs told reads reads_after NoMemory = reads_after ≡ reads
-ScriptRefusedAs told reads reads_after status = ⊥
+abbrev pub ScriptRefusedAs : InputTells → ℕ → ℕ → Status → Type 0
+ScriptRefusedAs input reads reads_after ScriptRead = Rose reads reads_after
+ScriptRefusedAs input reads reads_after (TooLong inputs.Script) = CameOver input longest_script × (reads_after ≡ reads)
+ScriptRefusedAs input reads reads_after (BadLine line cause) = (cause ≡ 9) × HasFirstFault input line × (reads_after ≡ reads)
+ScriptRefusedAs input reads reads_after NoMemory = reads_after ≡ reads
+ScriptRefusedAs input reads reads_after status = ⊥

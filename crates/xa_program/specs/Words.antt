@@ -1,9 +1,17 @@
 -- The words of a command line (this project's own).
-use Rattle.std.specs.Prelude.{ℕ, Bool, false, not, ◌&&◌, ◌==◌, List, [], ◌∷◌, Option, Some, None, option_and_then, codes, if◌then◌else◌}
+use Rattle.std.specs.Prelude.{ℕ, drop, Bool, false, not, ◌&&◌, ◌==◌, List, [], ◌∷◌, Option, Some, None, option_and_then, codes, if◌then◌else◌}
 use Rattle.std.specs.Str.{bytes_eq}
 use Rattle.xa_types.specs.Name.{is_name}
 use Rattle.xa_program.specs.declared.words.Command.{Command}
 use Rattle.xa_program.specs.declared.words.Command.TheVariants.{Play, Server}
+
+-- the program's own word, and the words behind it
+abbrev pub own_word : List (List ℕ) → List ℕ
+own_word [] = []
+own_word (own ∷ behind) = own
+
+abbrev pub words_behind : List (List ℕ) → List (List ℕ)
+words_behind all = drop 1 all
 
 abbrev pub begins_with_dash : List ℕ → Bool
 begins_with_dash [] = false

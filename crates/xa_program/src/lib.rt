@@ -16,5 +16,5 @@ pub use outcome::{Life, Outcome};
 pub use server::child_work;
 pub use status::{Input, Status};
 pub use top::run;
-pub use words::{Command, read_words};
+pub use words::{Command, all_words, own_word, read_words, words_behind};
 pub use xa_child::{Child, ChildRefused, LocalLink, LocalStarter, LocalYard, child_step};

@@ -1,6 +1,10 @@
+// How a command ends.
 ghost use Rattle.std.specs.Prelude.{◌≡◌};
+ghost use Rattle.std.specs.Process.{exit_status};
 ghost use Rattle.xa_program.specs.declared.status.Status.TheVariants as statuses;
+ghost use Rattle.xa_program.specs.Status.{number_of};
 
+use std::process::ExitCode;
 use xa_types::NoMemory;
 
 /// Which input was too long.
@@ -29,6 +33,31 @@ pub enum Status {
     BadFrame(u64),
     /// Memory ran out.
     NoMemory,
+}
+
+impl Status {
+    /// The number that stands for it.
+    pub fn number(self) -> u8
+        ensures { result ≡ number_of self }
+    {
+        match self {
+            Status::Done => 0,
+            Status::Usage => 1,
+            Status::BadLine { .. } => 3,
+            Status::ScriptRead => 4,
+            Status::WriteFault => 5,
+            Status::NoMemory => 6,
+            Status::TooLong(_) => 7,
+            Status::BadFrame(_) => 10,
+        }
+    }
+
+    /// What the program hands to the system as it ends.
+    pub fn exit_code(self) -> ExitCode
+        ensures { exit_status result ≡ number_of self }
+    {
+        ExitCode::from(self.number())
+    }
 }
 
 impl From<NoMemory> for Status {

@@ -1,13 +1,17 @@
 // The top call.
-ghost use Rattle.std.specs.Prelude.{◌≡◌, ◌⊎◌, ◌≤◌, ◌↔◌, [], ℕ, List, map, string_bytes, None, Some, All, IfSome, IfOk, IfErr, OnOk, length};
-ghost use Rattle.xa_link.specs.Told.{Rose, ReadOut};
+ghost use Rattle.std.specs.Prelude.{◌≡◌, ◌⊎◌, ◌≤◌, ◌↔◌, [], ℕ, List, map, string_bytes, None, Some, All, IfSome, IfOk, IfErr, OnOk, OnErr, length};
+ghost use Rattle.xa_link.specs.Told.{Rose};
+ghost use Rattle.xa_link.specs.Starts.{AsksStarters};
+ghost use Rattle.xa_play.specs.PlaySetup.{play_setup};
 ghost use Rattle.xa_script.specs.declared.script.Script.{Script};
 ghost use Rattle.xa_script.specs.Script.{IsScript};
 ghost use Rattle.xa_program.specs.declared.words.Command.TheVariants.{Play, Server};
 ghost use Rattle.xa_program.specs.Headline.{PlayEnds, IsTheScript, EndsEarly, HandsNothing, longest_script};
 ghost use Rattle.xa_program.specs.Progress.{IsBuiltScript, ScriptRefusedAs};
 ghost use Rattle.xa_program.specs.Server.{ServerEnds};
+ghost use Rattle.xa_program.specs.Input.{InputTells, Tells};
 ghost use Rattle.xa_program.specs.Words.{command_in};
+ghost use Rattle.xa_program.specs.Yard.{AsksYard};
 
 use crate::outcome::Outcome;
 use crate::performing::{Served, perform};
@@ -40,8 +44,8 @@ pub fn run<R, S: Shelf, I: Source, O: Sink, Y: Yard, G: Gate>(
     // The words are no command's.
     ensures usage { (result.status ≡ Status.Usage) ↔ (command_in (map string_bytes words.now) ≡ None) }
 
-    // Then what the input tells that it holds, and what the output tells that it took, stay, and so do their counts.
-    ensures untouched { command_in (map string_bytes words.now) ≡ None → (I.left input.new ≡ I.left input.old) × (I.read_faults input.new ≡ I.read_faults input.old)
+    // Then what the input tells that it holds and gave, and what the output tells that it took, stay, and so do their counts.
+    ensures untouched { command_in (map string_bytes words.now) ≡ None → (I.left input.new ≡ I.left input.old) × (I.gave input.new ≡ I.gave input.old) × (I.read_faults input.new ≡ I.read_faults input.old)
         × (O.took out.new ≡ O.took out.old) × (O.write_faults out.new ≡ O.write_faults out.old) }
 
     // No failed read of a file of the shelf is counted.
@@ -51,8 +55,7 @@ pub fn run<R, S: Shelf, I: Source, O: Sink, Y: Yard, G: Gate>(
     ensures play { (service : List ℕ) → command_in (map string_bytes words.now) ≡ Some (Play service)
         → PlayEnds (record { took = Y.Line.took; gave = Y.Line.gave; left = Y.Line.left; reads = Y.Line.read_faults; writes = Y.Line.write_faults }) (λ s. record { faults = Y.Start.start_faults s; asked = Y.Start.asked s })
         (record {
-          told = I.left input.old;
-          left_after = I.left input.new;
+          input = record { left = I.left input.old; left_after = I.left input.new; gave = I.gave input.old; gave_after = I.gave input.new };
           reads_before = I.read_faults input.old;
           reads_after = I.read_faults input.new;
           took_before = O.took out.old;
@@ -62,11 +65,15 @@ pub fn run<R, S: Shelf, I: Source, O: Sink, Y: Yard, G: Gate>(
         })
         service result.status result.history.items result.lives.items result.starters.items }
 
-    // Where a script is read that isn't too long, and neither the input nor the output fails, `play` ends with Done or NoMemory.
+    // Where the input tells octets that are a script and not too long, and neither it nor the output fails, `play` ends with Done or
+    // NoMemory. That they don't fail is that their counts don't rise: where a count stands at 2^64 - 1 this says nothing.
     ensures complete { (service : List ℕ) (octets : List ℕ) (script : Script) → command_in (map string_bytes words.now) ≡ Some (Play service)
-        → I.left input.old ≡ Some octets → length octets ≤ longest_script → IsScript octets script
+        → Tells (record { left = I.left input.old; left_after = I.left input.new; gave = I.gave input.old; gave_after = I.gave input.new }) octets → length octets ≤ longest_script → IsScript octets script
         → (Rose (I.read_faults input.old) (I.read_faults input.new) → ⊥) → (Rose (O.write_faults out.old) (O.write_faults out.new) → ⊥)
         → (result.status ≡ Status.Done) ⊎ (result.status ≡ Status.NoMemory) }
+
+    // For which setups the yard was asked for starters.
+    ensures yard { AsksYard (command_in (map string_bytes words.now)) result.status (Y.asked yard.old) (Y.asked yard.new) }
 
     // What the program of a server comes to; nothing is handed back.
     ensures server { (name : List ℕ) → command_in (map string_bytes words.now) ≡ Some (Server name)
@@ -93,8 +100,7 @@ fn obey<I: Source, O: Sink, Y: Yard>(
     ensures play { (service : List ℕ) → command ≡ Play service
         → PlayEnds (record { took = Y.Line.took; gave = Y.Line.gave; left = Y.Line.left; reads = Y.Line.read_faults; writes = Y.Line.write_faults }) (λ s. record { faults = Y.Start.start_faults s; asked = Y.Start.asked s })
         (record {
-          told = I.left input.old;
-          left_after = I.left input.new;
+          input = record { left = I.left input.old; left_after = I.left input.new; gave = I.gave input.old; gave_after = I.gave input.new };
           reads_before = I.read_faults input.old;
           reads_after = I.read_faults input.new;
           took_before = O.took out.old;
@@ -106,6 +112,7 @@ fn obey<I: Source, O: Sink, Y: Yard>(
     ensures server { (name : List ℕ) → command ≡ Server name
         → ServerEnds name (I.left input.old) (I.left input.new) (I.gave input.old) (I.gave input.new) (O.took out.old) (O.took out.new) (I.read_faults input.old) (I.read_faults input.new) (O.write_faults out.old) (O.write_faults out.new) result.status
         × HandsNothing result.history.items result.lives.items result.starters.items }
+    ensures yard { AsksYard (Some command) result.status (Y.asked yard.old) (Y.asked yard.new) }
     ensures early { EndsEarly result.status result.history.items result.lives.items result.starters.items }
 {
     match command {
@@ -130,11 +137,10 @@ fn nothing<Y: Yard>(alloc: Global, status: Status) -> Outcome<Y>
 
 // The script that the input holds, to its end, and the octets that it had.
 fn script_of<I: Source>(alloc: Global, input: &mut I) -> Result<(Script, Vec<u8>), Status>
-    ensures script { IfOk result (λ read. IsTheScript (I.left input.old) read.0.clients) }
+    ensures script { IfOk result (λ read. IsTheScript (record { left = I.left input.old; left_after = I.left input.new; gave = I.gave input.old; gave_after = I.gave input.new }) read.0.clients) }
     ensures built { IfOk result (λ read. IsBuiltScript read.0.clients) }
-    ensures ended { OnOk result (ReadOut (I.left input.old) (I.left input.new)) }
     ensures quiet { OnOk result (I.read_faults input.new ≡ I.read_faults input.old) }
-    ensures refused { IfErr result (ScriptRefusedAs (I.left input.old) (I.read_faults input.old) (I.read_faults input.new)) }
+    ensures refused { IfErr result (ScriptRefusedAs (record { left = I.left input.old; left_after = I.left input.new; gave = I.gave input.old; gave_after = I.gave input.new }) (I.read_faults input.old) (I.read_faults input.new)) }
 {
     let octets = match read_all(alloc, input, LONGEST_SCRIPT) {
         Ok(octets) => octets,
@@ -158,8 +164,7 @@ fn play<I: Source, O: Sink, Y: Yard>(
 ) -> Outcome<Y>
     ensures play { PlayEnds (record { took = Y.Line.took; gave = Y.Line.gave; left = Y.Line.left; reads = Y.Line.read_faults; writes = Y.Line.write_faults }) (λ s. record { faults = Y.Start.start_faults s; asked = Y.Start.asked s })
         (record {
-          told = I.left input.old;
-          left_after = I.left input.new;
+          input = record { left = I.left input.old; left_after = I.left input.new; gave = I.gave input.old; gave_after = I.gave input.new };
           reads_before = I.read_faults input.old;
           reads_after = I.read_faults input.new;
           took_before = O.took out.old;
@@ -168,6 +173,7 @@ fn play<I: Source, O: Sink, Y: Yard>(
           writes_after = O.write_faults out.new;
         })
         service.now result.status result.history.items result.lives.items result.starters.items }
+    ensures yard { AsksYard (Some (Play service.now)) result.status (Y.asked yard.old) (Y.asked yard.new) }
     ensures early { EndsEarly result.status result.history.items result.lives.items result.starters.items }
 {
     let (script, octets) = match script_of(alloc, input) {
@@ -200,6 +206,8 @@ fn starters_of<Y: Yard>(
     ensures one { IfOk result (λ starters. length starters.items ≡ 1) }
     ensures counts { IfOk result (λ starters. All (λ s. Y.Start.start_faults s ≡ 0) starters.items) }
     ensures none { IfOk result (λ starters. All (λ s. IfSome (Y.Start.asked s) (λ starts. starts ≡ [])) starters.items) }
+    ensures asked { OnOk result (AsksStarters (Y.asked yard.old) (Y.asked yard.new) (play_setup service.now)) }
+    ensures starved { OnErr result (Y.asked yard.new ≡ Y.asked yard.old) }
 {
     let setup = play_setup(alloc, service)?;
     yard.starters(&setup)

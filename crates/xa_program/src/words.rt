@@ -1,7 +1,80 @@
-ghost use Rattle.std.specs.Prelude.{◌≡◌, map, string_bytes};
-ghost use Rattle.xa_program.specs.Words.{begins_with_dash, name_in, command_of, command_in};
+// The words that the program was started with, and the command that they are.
+ghost use Rattle.std.specs.Prelude.{◌≡◌, ◌⊎◌, All, IfOk, IfErr, IfSome, IsErrOf, map, string_bytes};
+ghost use Rattle.std.specs.Str.{IsUtf8};
+ghost use Rattle.xa_program.specs.Words.{own_word, words_behind, begins_with_dash, name_in, command_of, command_in};
 
-use xa_types::Name;
+use crate::status::Status;
+use std::alloc::Global;
+use xa_link::Arguments;
+use xa_types::{Name, NoMemory, Octets};
+
+/// The words that the program was started with, in their order, of which the first is its own.
+pub fn all_words<A: Arguments>(alloc: Global, given: &A) -> Result<Vec<Octets>, NoMemory>
+    ensures { IfOk result (λ all. IfSome (A.words given.now) (λ told. all.items ≡ told)) }
+{
+    let mut all = Vec::new(alloc);
+    for place in 0..usize::MAX {
+        match given.word(place)? {
+            Some(word) => all.push(word)?,
+            None => return Ok(all),
+        }
+    }
+    Err(NoMemory)
+}
+
+/// The program's own word, which may be no text.
+pub fn own_word(all: &[Octets]) -> &[u8]
+    ensures { result.now ≡ own_word all.now }
+{
+    match all {
+        [] => b"",
+        [own, ..] => own.slice(),
+    }
+}
+
+/// The words behind the program's own, as text. Where one of them is none, they are no command's.
+pub fn words_behind(alloc: Global, all: &[Octets]) -> Result<Vec<String>, Status>
+    ensures words { IfOk result (λ words. map string_bytes words.items ≡ words_behind all.now) }
+    ensures usage { IsErrOf result Status.Usage → All IsUtf8 (words_behind all.now) → ⊥ }
+    ensures refused { IfErr result (λ status. (status ≡ Status.Usage) ⊎ (status ≡ Status.NoMemory)) }
+{
+    match all {
+        [] => Ok(Vec::new(alloc)),
+        [_, behind @ ..] => texts_of(alloc, behind),
+    }
+}
+
+fn texts_of(alloc: Global, words: &[Octets]) -> Result<Vec<String>, Status>
+    ensures words { IfOk result (λ texts. map string_bytes texts.items ≡ words.now) }
+    ensures usage { IsErrOf result Status.Usage → All IsUtf8 words.now → ⊥ }
+    ensures refused { IfErr result (λ status. (status ≡ Status.Usage) ⊎ (status ≡ Status.NoMemory)) }
+{
+    let mut texts = Vec::new(alloc);
+    for word in words {
+        let text = match text_of(alloc, word) {
+            Ok(text) => text,
+            Err(status) => return Err(status),
+        };
+        if texts.push(text).is_err() {
+            return Err(Status::NoMemory);
+        }
+    }
+    Ok(texts)
+}
+
+fn text_of(alloc: Global, word: &Octets) -> Result<String, Status>
+    ensures text { IfOk result (λ text. string_bytes text ≡ word.now) }
+    ensures usage { IsErrOf result Status.Usage → IsUtf8 word.now → ⊥ }
+    ensures refused { IfErr result (λ status. (status ≡ Status.Usage) ⊎ (status ≡ Status.NoMemory)) }
+{
+    let Ok(text) = str::from_utf8(word.slice()) else {
+        return Err(Status::Usage);
+    };
+    match String::from_str(alloc, text) {
+        Ok(text) => Ok(text),
+        Err(_) => Err(Status::NoMemory),
+    }
+}
 
 /// What the program is asked to do.
 #[derive(Clone, Copy, Debug, PartialEq, Eq)]

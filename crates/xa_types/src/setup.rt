@@ -1,4 +1,8 @@
-use crate::{Accepts, Name, Octets, Sequence};
+// The setup of a domain.
+ghost use Rattle.std.specs.Prelude.{◌≡◌, IfOk};
+
+use crate::{Accepts, Name, NoMemory, Octets, Sequence};
+use std::alloc::Global;
 
 /// The kind of a field of X_C_TYPE: signed numbers of 2, 4 and 8 octets, a number of one, or so many octets of text.
 #[derive(Clone, Copy, Debug, PartialEq, Eq)]
@@ -24,6 +28,17 @@ pub struct ShapeSetup {
     pub fields: Sequence<FieldSetup>,
 }
 
+impl ShapeSetup {
+    fn copy(&self, alloc: Global) -> Result<ShapeSetup, NoMemory>
+        ensures { IfOk result (λ copied. copied ≡ self.now) }
+    {
+        Ok(ShapeSetup {
+            name: self.name,
+            fields: Sequence::from_vec(Vec::from_slice(alloc, self.fields.slice())?),
+        })
+    }
+}
+
 /// A queue, at which `capacity` requests may wait, and the group that it is of.
 #[derive(Clone, Copy, Debug, PartialEq, Eq)]
 pub struct QueueSetup {
@@ -44,6 +59,30 @@ pub struct ServerSetup {
     pub grace: u32,
 }
 
+fn copy_program(program: &Option<Octets>, alloc: Global) -> Result<Option<Octets>, NoMemory>
+    ensures { IfOk result (λ copied. copied ≡ program.now) }
+{
+    match program {
+        Some(program) => Ok(Some(program.copy(alloc)?)),
+        None => Ok(None),
+    }
+}
+
+impl ServerSetup {
+    fn copy(&self, alloc: Global) -> Result<ServerSetup, NoMemory>
+        ensures { IfOk result (λ copied. copied ≡ self.now) }
+    {
+        Ok(ServerSetup {
+            name: self.name,
+            queue: self.queue,
+            program: copy_program(&self.program, alloc)?,
+            restart: self.restart,
+            maxgen: self.maxgen,
+            grace: self.grace,
+        })
+    }
+}
+
 /// A service: its routine, the queues on which it is advertised, the priority of its requests, the kinds of data that
 /// it accepts, and whether it is for conversations.
 #[derive(Debug, Drop)]
@@ -56,6 +95,21 @@ pub struct ServiceSetup {
     pub conversational: bool,
 }
 
+impl ServiceSetup {
+    fn copy(&self, alloc: Global) -> Result<ServiceSetup, NoMemory>
+        ensures { IfOk result (λ copied. copied ≡ self.now) }
+    {
+        Ok(ServiceSetup {
+            name: self.name,
+            routine: self.routine,
+            queues: Sequence::from_vec(Vec::from_slice(alloc, self.queues.slice())?),
+            priority: self.priority,
+            accepts: self.accepts,
+            conversational: self.conversational,
+        })
+    }
+}
+
 /// A domain as it is configured. `block_time` is in ticks, and `blocks` is a number of blocks; `play` needs neither.
 #[derive(Debug, Drop)]
 pub struct Setup {
@@ -65,4 +119,50 @@ pub struct Setup {
     pub queues: Sequence<QueueSetup>,
     pub servers: Sequence<ServerSetup>,
     pub services: Sequence<ServiceSetup>,
+}
+
+fn copy_shapes(shapes: &[ShapeSetup], alloc: Global) -> Result<Vec<ShapeSetup>, NoMemory>
+    ensures { IfOk result (λ all. all.items ≡ shapes.now) }
+{
+    let mut all = Vec::new(alloc);
+    for shape in shapes {
+        all.push(shape.copy(alloc)?)?;
+    }
+    Ok(all)
+}
+
+fn copy_servers(servers: &[ServerSetup], alloc: Global) -> Result<Vec<ServerSetup>, NoMemory>
+    ensures { IfOk result (λ all. all.items ≡ servers.now) }
+{
+    let mut all = Vec::new(alloc);
+    for server in servers {
+        all.push(server.copy(alloc)?)?;
+    }
+    Ok(all)
+}
+
+fn copy_services(services: &[ServiceSetup], alloc: Global) -> Result<Vec<ServiceSetup>, NoMemory>
+    ensures { IfOk result (λ all. all.items ≡ services.now) }
+{
+    let mut all = Vec::new(alloc);
+    for service in services {
+        all.push(service.copy(alloc)?)?;
+    }
+    Ok(all)
+}
+
+impl Setup {
+    /// A copy.
+    pub fn copy(&self, alloc: Global) -> Result<Setup, NoMemory>
+        ensures { IfOk result (λ copied. copied ≡ self.now) }
+    {
+        Ok(Setup {
+            block_time: self.block_time,
+            blocks: self.blocks,
+            shapes: Sequence::from_vec(copy_shapes(self.shapes.slice(), alloc)?),
+            queues: Sequence::from_vec(Vec::from_slice(alloc, self.queues.slice())?),
+            servers: Sequence::from_vec(copy_servers(self.servers.slice(), alloc)?),
+            services: Sequence::from_vec(copy_services(self.services.slice(), alloc)?),
+        })
+    }
 }

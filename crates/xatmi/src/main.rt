@@ -6,30 +6,29 @@ mod process_tests;
 #[cfg(test)]
 mod tests;
 
+ghost use Rattle.std.specs.Prelude.{◌≡◌};
+ghost use Rattle.std.specs.Process.{exit_status};
+ghost use Rattle.xa_program.specs.Status.{number_of};
+
+use std::io;
 use std::mem::forget;
 use std::process::ExitCode;
 use std::rt::Env;
-use std::{env, io};
-use xa_link::{ChildYard, FileShelf, OpenGate, ReadSource, WriteSink};
-use xa_program::{Input, Outcome, Status, run};
+use xa_link::{ChildYard, FileShelf, OpenGate, ReadSource, SystemArguments, WriteSink};
+use xa_program::{Input, Outcome, Status, all_words, own_word, run, words_behind};
+use xa_types::Octets;
 
-// The word that this program was started by, and the words after it.
-fn read_words<R: Env + AllocGlobal>(rt: &R) -> Result<(String, Vec<String>), Status> {
-    let mut args = env::args(rt).map_err(|error| match error.kind() {
-        io::ErrorKind::OutOfMemory => Status::NoMemory,
-        _ => Status::Usage,
-    })?;
-    let program = args.next().unwrap_or(String::new(rt.alloc()));
-    let mut words = Vec::new(rt.alloc());
-    for word in args {
-        words.push(word).map_err(|_| Status::NoMemory)?;
-    }
-    Ok((program, words))
+// The word that this program was started by, and the words behind it.
+fn words<R: Env + AllocGlobal>(rt: R) -> Result<(Octets, Vec<String>), Status> {
+    let alloc = rt.alloc();
+    let all = all_words(alloc, &SystemArguments::new(rt))?;
+    let own = Octets::of(alloc, own_word(all.as_slice()))?;
+    Ok((own, words_behind(alloc, all.as_slice())?))
 }
 
 // Runs the command. The processes that it started are waited for before it answers.
 fn run_command(rt: HostRuntime) -> Status {
-    let (program, words) = match read_words(&rt) {
+    let (own, words) = match words(rt) {
         Ok(read) => read,
         Err(status) => return status,
     };
@@ -45,26 +44,13 @@ fn run_command(rt: HostRuntime) -> Status {
         &mut FileShelf::new(rt, rt.alloc()),
         &mut ReadSource::new(rt.stdin()),
         &mut WriteSink::new(rt.stdout()),
-        &mut ChildYard::new(rt, program),
+        &mut ChildYard::new(rt, own),
         &OpenGate,
     );
     drop(lives);
     // The system takes back all memory at once as the program ends.
     forget(history);
     status
-}
-
-fn number(status: Status) -> u8 {
-    match status {
-        Status::Done => 0,
-        Status::Usage => 1,
-        Status::BadLine { .. } => 3,
-        Status::ScriptRead => 4,
-        Status::WriteFault => 5,
-        Status::NoMemory => 6,
-        Status::TooLong(_) => 7,
-        Status::BadFrame(_) => 10,
-    }
 }
 
 // Says on standard error how the command ended, but nothing of one that is done.
@@ -84,8 +70,14 @@ fn report<R: Eprint>(rt: &R, status: Status) -> io::Result<()> {
     }
 }
 
+// Says how the command ended, and answers what the system is told of it.
+fn finish<R: Eprint>(rt: &R, status: Status) -> ExitCode
+    ensures { exit_status result ≡ number_of status }
+{
+    let _ = report(rt, status);
+    status.exit_code()
+}
+
 fn main(rt: HostRuntime) -> ExitCode {
-    let status = run_command(rt);
-    let _ = report(&rt, status);
-    ExitCode::from(number(status))
+    finish(&rt, run_command(rt))
 }

@@ -1,5 +1,5 @@
 // A yard in memory.
-ghost use Rattle.std.specs.Prelude.{◌≡◌, map, Some};
+ghost use Rattle.std.specs.Prelude.{◌≡◌, ◌++◌, ◌∷◌, [], All, length, map, IfOk, OnOk, OnErr, Some};
 ghost use Rattle.xa_link.specs.Lives.{life_of};
 
 use super::MemoryLink;
@@ -53,28 +53,34 @@ impl Starter<MemoryLink> for MemoryStarter {
 pub struct MemoryYard {
     alloc: Global,
     lives: Vec<Vec<Option<MemoryLink>>>,
+    asked: Vec<Setup>,
 }
 
 impl MemoryYard {
-    ghost use Rattle.xa_link.specs.Memory.{yard_lives};
+    ghost use Rattle.xa_link.specs.Memory.{yard_lives, yard_asked};
 
     /// The lives stand by server, in the order of the setup, and then by generation. A start fails where a `None`
     /// stands for it, where it is beyond the last one, and where it is asked for again.
     pub fn new(alloc: Global, lives: Vec<Vec<Option<MemoryLink>>>) -> MemoryYard
-        ensures { yard_lives result ≡ map (λ server. server.items) lives.items }
+        ensures lives { yard_lives result ≡ map (λ server. server.items) lives.items }
+        ensures asked { yard_asked result ≡ [] }
     {
-        MemoryYard { alloc, lives }
+        MemoryYard {
+            alloc,
+            lives,
+            asked: Vec::new(alloc),
+        }
     }
-}
 
-impl Yard for MemoryYard {
-    type Line = MemoryLink;
-
-    type Start = MemoryStarter;
-
-    fn starters(&mut self, setup: &Setup) -> Result<Vec<MemoryStarter>, NoMemory> {
+    // The starters of so many servers, each with its lives.
+    fn take_starters(&mut self, servers: usize) -> Result<Vec<MemoryStarter>, NoMemory>
+        ensures each { IfOk result (λ all. length all.items ≡ servers) }
+        ensures counts { IfOk result (λ all. All (λ s. s.faults ≡ 0) all.items) }
+        ensures none { IfOk result (λ all. All (λ s. s.asked.items ≡ []) all.items) }
+        ensures asked { self.new.asked ≡ self.old.asked }
+    {
         let mut all = Vec::new(self.alloc);
-        for i in 0..setup.servers.slice().len() {
+        for i in 0..servers {
             let mut lives = Vec::new(self.alloc);
             if i < self.lives.len() {
                 mem::swap(&mut self.lives[i], &mut lives);
@@ -85,6 +91,21 @@ impl Yard for MemoryYard {
                 faults: 0,
             })?;
         }
+        Ok(all)
+    }
+}
+
+impl Yard for MemoryYard {
+    type Line = MemoryLink;
+
+    type Start = MemoryStarter;
+
+    ghost asked = { λ y. Some y.asked.items };
+
+    fn starters(&mut self, setup: &Setup) -> Result<Vec<MemoryStarter>, NoMemory> {
+        let asked = setup.copy(self.alloc)?;
+        let all = self.take_starters(setup.servers.slice().len())?;
+        self.asked.push(asked)?;
         Ok(all)
     }
 }

@@ -1,5 +1,9 @@
-use Rattle.std.proofs.Common.{◌≡◌, [], arith, length, sym, subst}
+use Rattle.std.proofs.Common.{◌≡◌, [], Some, arith, length, sym, subst}
 use Rattle.std.specs.Prelude.{IfSome}
+use Rattle.xa_program.specs.declared.status.Status.{Status}
+use Rattle.xa_program.specs.declared.words.Command.TheVariants.{Play}
+use Rattle.xa_program.specs.Yard.{AsksYard}
+use Rattle.xa_program.proofs.Asking.{served_asks, refused_asks}
 use Rattle.xa_program.proofs.Played.{play_ends}
 use Rattle.xa_program.proofs.top.play.Goals as goal
 
@@ -10,5 +14,14 @@ returns-in-Ok-starters_of-clause-play g c =
     let unasked = subst (λ s. IfSome (g.Y.Start.Starter.asked s) (λ starts. starts ≡ [])) (sym c.index_mut.ensures.value) (c.in-Ok-starters_of.ensures.none 0 c.index_mut.result.now (omega (arith, one))) in
     play_ends _ (λ s. record { faults = g.Y.Start.Starter.start_faults s; asked = g.Y.Start.Starter.asked s }) _ c.args.service.now c.in-Ok.read.0.clients
     c.perform-status.result.history.items c.perform-status.result.lives.items c.in-Ok-starters_of.starters.items c.index_mut.result.now c.perform-status.new.starter
-    one none unasked c.in-Ok.ensures.script c.in-Ok.ensures.ended c.in-Ok.ensures.quiet
+    one none unasked c.in-Ok.ensures.script c.in-Ok.ensures.quiet
     c.perform-status.result.status c.perform-status.ensures
+
+pub returns-in-Ok-starters_of-clause-yard : goal.returns-in-Ok-starters_of-clause-yard
+returns-in-Ok-starters_of-clause-yard g c =
+    served_asks _ _ _ _ _ _ _ c.args.service.now _ c.perform-status.result.status _ _ _ _ c.perform-status.ensures c.in-Ok-starters_of.ensures.asked
+
+pub returns-in-Err-clause-yard : goal.returns-in-Err-clause-yard
+returns-in-Err-clause-yard g c =
+    subst (λ (status : Status). AsksYard (Some (Play c.args.service.now)) status (g.Y.Yard.asked c.args.yard.now) (g.Y.Yard.asked c.args.yard.now)) (sym c.nothing.ensures.status)
+    (refused_asks _ _ _ c.args.service.now c.in-Err.status (g.Y.Yard.asked c.args.yard.now) c.in-Err.ensures.refused)

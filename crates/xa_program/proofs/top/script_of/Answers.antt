@@ -1,4 +1,5 @@
-use Rattle.std.proofs.Common.{◌≡◌, ◌≤◌, length, ap, arith}
+use Rattle.std.proofs.Common.{◌≡◌, ◌≤◌, ℕ, List, length, ap, subst, arith}
+use Rattle.xa_script.specs.Script.{IsScript}
 use Rattle.std.specs.Str.Lines.{lines}
 use Rattle.xa_program.proofs.Built.{script_built, few_lines}
 use Rattle.xa_program.proofs.top.script_of.Goals as goal
@@ -10,3 +11,11 @@ returns-in-Ok-read_script-clause-built g c =
     let short : length c.in-Ok.octets.items ≤ 1048576 = c.in-Ok.ensures.short in
     let fewer = few_lines octets in
     script_built (lines octets) c.in-Ok-read_script.script.clients (omega (arith, fewer, same, short)) c.in-Ok-read_script.ensures.found
+
+pub returns-in-Ok-read_script-clause-script : goal.returns-in-Ok-read_script-clause-script
+returns-in-Ok-read_script-clause-script g c = (
+  c.in-Ok.octets.items,
+  record { held = c.in-Ok.ensures.content; ended = c.in-Ok.ensures.ended; given = c.in-Ok.ensures.given },
+  c.in-Ok.ensures.short,
+  subst (λ (octets : List ℕ). IsScript octets c.in-Ok-read_script.script) c.as_slice.ensures.value c.in-Ok-read_script.ensures.found,
+)
