@@ -14,8 +14,6 @@ mod sink;
 mod source;
 mod starter;
 mod stream;
-#[cfg(test)]
-mod tests;
 
 pub use child::{ChildLink, ChildStarter, ChildYard};
 pub use file::{FileShelf, read_all};
