@@ -3,8 +3,6 @@
 #![tactic(auto)]
 
 mod child;
-#[cfg(test)]
-mod child_tests;
 mod local;
 mod serving;
 mod working;

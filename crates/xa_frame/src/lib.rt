@@ -30,8 +30,3 @@ pub use frame::{Body, Frame};
 pub use laws::{malformed_for_ever, one_frame};
 pub use reader::{NextRefused, Reader};
 pub use writing::{append, append_invoke, append_return, encode, kind_octet};
-
-#[cfg(test)]
-mod hostile_tests;
-#[cfg(test)]
-mod tests;

@@ -15,8 +15,6 @@ mod sink;
 mod source;
 mod starter;
 mod stream;
-#[cfg(test)]
-mod tests;
 
 pub use arguments::{Arguments, MemoryArguments, SystemArguments};
 pub use child::{ChildLink, ChildStarter, ChildYard};

@@ -7,8 +7,6 @@
 mod hearing;
 mod laws;
 mod pipe;
-#[cfg(test)]
-mod tests;
 
 pub use hearing::Return;
 pub use laws::ends_as_said;

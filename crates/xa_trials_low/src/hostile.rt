@@ -1,7 +1,7 @@
-//! Spellings of frames, changed at one octet and cut, against a decoder that is written by the crate's documentation.
-use super::*;
+//! Spellings of frames, changed at one octet and cut, against a decoder that is written by the documentation of
+//! `xa_frame`.
 use std::alloc::Global;
-use std::test::*;
+use xa_frame::{Body, NextRefused, Reader, encode};
 
 const SPELLINGS: [&[u8]; 6] = [
     b"XA\x01\x01\0\0\0\x03\0\0\0\0\x02S1",
@@ -129,56 +129,57 @@ fn kind(body: &Body) -> u8 {
     }
 }
 
-// What the reader says of the octets. A frame is written again as they stand.
-fn read(alloc: Global, octets: &[u8]) -> Result<Said, Fail> {
-    if octets.len() > 1000 {
-        return Err(Fail::from("the octets are few"));
-    }
+// What the reader says of the octets, where that is without a fault and the frame is written again as they stand.
+fn read(alloc: Global, octets: &[u8]) -> Option<Said> {
     let mut reader = Reader::new(alloc);
-    reader.feed(octets)?;
+    if octets.len() > 1000 || reader.feed(octets).is_err() {
+        return None;
+    }
     match reader.next() {
-        Ok(None) => Ok(Said::Partial),
-        Err(NextRefused::BadFrame(0)) => Ok(Said::Malformed),
-        Err(_) => Err(Fail::from("no place but 0, and memory is there")),
-        Ok(Some(frame)) => {
-            let again = encode(alloc, &frame)?;
-            if !octets.starts_with(again.slice()) {
-                return Err(Fail::from("the frame is spelled otherwise"));
-            }
-            Ok(Said::Whole(kind(&frame.body), u64::from(frame.tag)))
+        Ok(None) => Some(Said::Partial),
+        Err(NextRefused::BadFrame(0)) => Some(Said::Malformed),
+        Ok(Some(frame))
+            if encode(alloc, &frame).is_ok_and(|again| octets.starts_with(again.slice())) => {
+            Some(Said::Whole(kind(&frame.body), u64::from(frame.tag)))
         }
+        Ok(Some(_)) | Err(_) => None,
     }
 }
 
-// The first value of the octet at that place of which the reader and the decoder say different things.
-fn differs(alloc: Global, spelling: &[u8], place: usize) -> Result<Option<u8>, Fail> {
-    let mut octets = Vec::from_slice(alloc, spelling)?;
+// Whether the reader and the decoder say the same, whatever value the octet at that place has.
+fn is_told(alloc: Global, spelling: &[u8], place: usize) -> bool {
+    let mut octets = [0u8; 64];
+    let Some(octets) = octets.get_mut(..spelling.len()) else {
+        return false;
+    };
+    octets.copy_from_slice(spelling);
     for value in 0..=255 {
         if let Some(octet) = octets.get_mut(place) {
             *octet = value;
         }
-        if read(alloc, &octets)? != decode(&octets) {
-            return Ok(Some(value));
+        if read(alloc, octets) != Some(decode(octets)) {
+            return false;
         }
     }
-    Ok(None)
+    true
+}
+
+// Whether less than a frame is told so.
+fn is_partial(alloc: Global, octets: &[u8]) -> bool {
+    decode(octets) == Said::Partial && read(alloc, octets) == Some(Said::Partial)
 }
 
 #[test]
-fn hostile_octets_are_told(rt: HostRuntime) -> Result<(), Fail> {
-    let alloc = rt.alloc();
+fn hostile_octets_are_told(rt: HostRuntime) {
     for spelling in SPELLINGS {
         assert!(rt; matches!(decode(spelling), Said::Whole(..)));
         for place in 0..spelling.len() {
             let cut = spelling.get(..place).unwrap_or_default();
-            assert_eq!(rt; decode(cut), Said::Partial, "{cut:?}");
-            assert_eq!(rt; read(alloc, cut)?, Said::Partial, "{cut:?}");
-            assert_eq!(rt;
-                differs(alloc, spelling, place)?,
-                None,
+            assert!(rt; is_partial(rt.alloc(), cut), "{cut:?}");
+            assert!(rt;
+                is_told(rt.alloc(), spelling, place),
                 "octet {place} of {spelling:?}"
             );
         }
     }
-    Ok(())
 }

@@ -1,10 +1,11 @@
-// Talks over a link in memory, and why they end.
-use crate::Pipe;
+//! Talks over a link in memory, and why they end.
+use crate::memory::link_of;
 use std::alloc::Global;
 use std::test::Fail;
 use xa_events::StopCause;
-use xa_link::{Link, MemoryLink, MemorySink, MemorySource};
-use xa_types::{Data, Name, Octets};
+use xa_link::{Link, MemoryLink};
+use xa_pipe::Pipe;
+use xa_types::{Data, Name, NoMemory};
 
 const READY: &[u8] = b"XA\x01\x01\0\0\0\x02\0\0\0\0\x01S";
 
@@ -15,12 +16,7 @@ const RETURN: &[u8] = b"XA\x01\x04\0\0\0\x0f\0\0\0\x01\0\0\0\0\x07\x01\0\0\0\x05
 
 const SHORT: &[u8] = b"XA\x01\x04\0\0\0\x0f\0\0\0\x01\0\0\0\0\x07\x01\0\0\0\x05";
 
-// What the monitor writes: an INVOKE of ECHO with hello, and SHUTDOWN.
-const INVOKE: &[u8] = b"XA\x01\x11\0\0\0\x15\0\0\0\x01\x04ECHO\x04ECHO\0\x01\0\0\0\x05hello";
-
-const SHUTDOWN: &[u8] = b"XA\x01\x13\0\0\0\0\0\0\0\0";
-
-// What the program says, the reads of five octets that fail, and the code that is returned or why the life ends.
+// What the program says, the read of five octets that fails, and the code that is returned or why the life ends.
 type Said = (
     &'static [&'static [u8]],
     &'static [u64],
@@ -83,63 +79,76 @@ fn talk<L: Link>(pipe: &mut Pipe<L>, server: &Name) -> Result<i32, StopCause> {
     Ok(back.code)
 }
 
-fn hear(alloc: Global, said: &[&[u8]], fails: &[u64]) -> Result<Result<i32, StopCause>, Fail> {
-    let server = Name::read(b"S")?;
+// The link of a program that says these.
+fn saying(alloc: Global, said: &[&[u8]], fails: &[u64]) -> Result<Pipe<MemoryLink>, NoMemory> {
     let mut octets = Vec::new(alloc);
     for frame in said {
         octets.extend_from_slice(frame)?;
     }
-    let source = MemorySource::new(Octets::from_vec(octets), Vec::from_slice(alloc, fails)?, 5);
-    let sink = MemorySink::new(alloc, Vec::new(alloc), Vec::new(alloc), 5);
-    let mut pipe = Pipe::new(alloc, MemoryLink::new(source, sink));
-    let heard = talk(&mut pipe, &server);
-    let _ = pipe.into_link();
-    Ok(heard)
+    let link = link_of(alloc, &octets, [fails, &[], &[]], 5)?;
+    Ok(Pipe::new(alloc, link))
+}
+
+fn ends_so(alloc: Global, server: &Name, (said, fails, want): Said) -> bool {
+    match saying(alloc, said, fails) {
+        Ok(mut pipe) => {
+            let heard = talk(&mut pipe, server);
+            drop(pipe.into_link());
+            heard == want
+        }
+        Err(_) => false,
+    }
 }
 
 #[test]
 fn each_end_is_told_by_its_cause(rt: HostRuntime) -> Result<(), Fail> {
-    for (said, fails, want) in SAID {
-        assert_eq!(rt; hear(rt.alloc(), said, fails)?, want);
+    let server = Name::read(b"S")?;
+    for row in SAID {
+        assert!(rt; ends_so(rt.alloc(), &server, row), "{:?}", row.2);
     }
     Ok(())
 }
 
-// What was written by writes of five octets, of which some fail and others take nothing.
-fn write(
-    alloc: Global,
-    fails: &[u64],
-    idle: &[u64],
-    want: Result<(), StopCause>,
-    wrote: &[u8],
-) -> Result<bool, Fail> {
-    let service = Name::read(b"ECHO")?;
-    let payload = Data::Octet(Octets::of(alloc, b"hello")?);
-    let source = MemorySource::new(Octets::of(alloc, b"")?, Vec::new(alloc), 5);
-    let sink = MemorySink::new(
-        alloc,
-        Vec::from_slice(alloc, fails)?,
-        Vec::from_slice(alloc, idle)?,
-        5,
-    );
-    let mut pipe = Pipe::new(alloc, MemoryLink::new(source, sink));
-    let mut done = pipe.send(&service, 1, &payload);
-    if done.is_ok() {
-        done = pipe.shut_down();
+// What the monitor writes: an INVOKE of ECHO without data, and SHUTDOWN.
+const BOTH: &[u8] = b"XA\x01\x11\0\0\0\x0c\0\0\0\x01\x04ECHO\x04ECHO\0\0\
+    XA\x01\x13\0\0\0\0\0\0\0\0";
+
+// The writes of five octets that fail and that take nothing, and how many octets are taken.
+const TAKEN: [(&[u64], &[u64], usize); 4] = [
+    (&[], &[], 36),
+    (&[1], &[], 0),
+    (&[], &[2], 5),
+    (&[6], &[], 24),
+];
+
+fn write<L: Link>(pipe: &mut Pipe<L>, service: &Name) -> Result<(), StopCause> {
+    pipe.send(service, 1, &Data::Absent)?;
+    pipe.shut_down()
+}
+
+// Whether so many octets are taken, and the rest fails.
+fn takes(alloc: Global, service: &Name, fails: &[u64], idle: &[u64], want: usize) -> bool {
+    match link_of(alloc, b"", [&[], fails, idle], 5) {
+        Ok(link) => {
+            let mut pipe = Pipe::new(alloc, link);
+            let done = write(&mut pipe, service);
+            let link = pipe.into_link();
+            let whole = if want == BOTH.len() {
+                Ok(())
+            } else {
+                Err(StopCause::WriteFault)
+            };
+            done == whole && link.taken().len() == want && BOTH.starts_with(link.taken())
+        }
+        Err(_) => false,
     }
-    let link = pipe.into_link();
-    Ok(done == want && link.taken() == wrote)
 }
 
 #[test]
 fn what_is_written_is_taken_or_fails(rt: HostRuntime) -> Result<(), Fail> {
-    let alloc = rt.alloc();
-    let mut both = Vec::from_slice(alloc, INVOKE)?;
-    both.extend_from_slice(SHUTDOWN)?;
-    let fault = Err(StopCause::WriteFault);
-    assert!(rt; write(alloc, &[], &[], Ok(()), both.as_slice())?);
-    assert!(rt; write(alloc, &[1], &[], fault, b"")?);
-    assert!(rt; write(alloc, &[], &[2], fault, &INVOKE[..5])?);
-    assert!(rt; write(alloc, &[8], &[], fault, INVOKE)?);
+    let service = Name::read(b"ECHO")?;
+    for (fails, idle, want) in TAKEN {
+        assert!(rt; takes(rt.alloc(), &service, fails, idle, want), "{want}");
+    }
     Ok(())
 }

@@ -1,0 +1,24 @@
+//! Trials of the public calls of the crates that know no domain: what their clauses don't say, or leave to memory, to
+//! the system and to whoever reads them. No crate stands on this one.
+#![tactic(auto)]
+
+#[cfg(test)]
+mod frames;
+#[cfg(test)]
+mod hostile;
+#[cfg(test)]
+mod lines;
+#[cfg(test)]
+mod links;
+#[cfg(test)]
+mod memory;
+#[cfg(test)]
+mod pipes;
+#[cfg(test)]
+mod programs;
+#[cfg(test)]
+mod scripts;
+#[cfg(test)]
+mod shelves;
+#[cfg(test)]
+mod yards;

@@ -1,0 +1,66 @@
+//! Sources, sinks and links in memory, as the tables of the trials tell them.
+ghost use Rattle.std.specs.Prelude.{◌≡◌, ◌<◌, [], IfOk};
+ghost use Rattle.xa_link.specs.Memory.{source_gave, sink_took, link_source, link_sink};
+
+use std::alloc::Global;
+use xa_link::{MemoryLink, MemorySink, MemorySource, Source};
+use xa_types::{NoMemory, Octets};
+
+/// The source of these octets, of which reads with these numbers fail, and give at most so many.
+pub fn source_of(
+    alloc: Global,
+    octets: &[u8],
+    fails: &[u64],
+    most: u32,
+) -> Result<MemorySource, NoMemory>
+    requires { 0 < most }
+    ensures gave { IfOk result (λ source. source_gave source ≡ []) }
+{
+    let octets = Octets::of(alloc, octets)?;
+    Ok(MemorySource::new(octets, Vec::from_slice(alloc, fails)?, most))
+}
+
+/// A sink of which writes with these numbers fail or take nothing, and take at most so many octets.
+pub fn sink_of(
+    alloc: Global,
+    fails: &[u64],
+    idle: &[u64],
+    most: u32,
+) -> Result<MemorySink, NoMemory>
+    requires { 0 < most }
+    ensures took { IfOk result (λ sink. sink_took sink ≡ []) }
+{
+    let fails = Vec::from_slice(alloc, fails)?;
+    Ok(MemorySink::new(alloc, fails, Vec::from_slice(alloc, idle)?, most))
+}
+
+/// A link of both, with the numbers of the reads and the writes that fail and of the writes that take nothing.
+pub fn link_of(
+    alloc: Global,
+    octets: &[u8],
+    faults: [&[u64]; 3],
+    most: u32,
+) -> Result<MemoryLink, NoMemory>
+    requires { 0 < most }
+    ensures gave { IfOk result (λ link. source_gave (link_source link) ≡ []) }
+    ensures took { IfOk result (λ link. sink_took (link_sink link) ≡ []) }
+{
+    let [reads, writes, idle] = faults;
+    let source = source_of(alloc, octets, reads, most)?;
+    Ok(MemoryLink::new(source, sink_of(alloc, writes, idle, most)?))
+}
+
+/// Whether reads of five octets give these, and fail where a `None` stands.
+pub fn gives<S: Source>(source: &mut S, want: &[Option<&str>]) -> bool {
+    for text in want {
+        let mut piece = [0u8; 5];
+        let got = match source.read(&mut piece) {
+            Ok(n) => Some(&piece[..n]),
+            Err(_) => None,
+        };
+        if got != text.map(|text| text.as_bytes()) {
+            return false;
+        }
+    }
+    true
+}
