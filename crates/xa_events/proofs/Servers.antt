@@ -26,38 +26,31 @@ servers_none = λ server h. refl
 abbrev pub IsEnded : ℕ → List Event → Type 0
 IsEnded server past = (was_shut_down server past ≡ true) ⊎ (is_gone server past ≡ true)
 
--- what moves the server leaves it off, or finds it not ended
-moved : (s : State) (e : Event) (server : ℕ) → Case s e → LawOfServers s.past → moves_server server e ≡ true → (doing_after (Some e) ≡ Off) ⊎ (IsEnded server (e ∷ s.past) → ⊥)
+-- what moves a server that has ended leaves it off
+moved : (s : State) (e : Event) (server : ℕ) → Case s e → LawOfServers s.past → moves_server server e ≡ true → IsEnded server (e ∷ s.past) → doing_after (Some e) ≡ Off
 unfolding was_shut_down is_gone
-moved s (Take t) server case law y = inr (λ h. cc (law server h, ap (λ n. doing n s.past) (eqb-true t.server.0 server y), case.worker.idle))
-moved s (Forward f) server case law y = absurd case.home
-moved s (Start b) server case law y = let same = eqb-true b.server.0 server y in
-    inr (λ h. elim h [
-      | inl d ↦ cc (d, ap (λ n. was_shut_down n s.past) same, case.worker.not_shut_down)
-      | inr g ↦ cc (g, ap (λ n. is_gone n s.past) same, case.worker.not_gone)
-    ])
-moved s (End e) server case law y = inr (λ h. cc (law server h, ap (λ n. doing n s.past) (eqb-true e.server.0 server y), case.worker.busy))
-moved s _ server case law y = inl refl
+moved s (Take t) server case law y h = cc (law server h, ap (λ n. doing n s.past) (eqb-true t.server.0 server y), case.worker.idle)
+moved s (Forward f) server case law y h = absurd case.home
+moved s (Start b) server case law y (inl h) = cc (h, ap (λ n. was_shut_down n s.past) (eqb-true b.server.0 server y), case.worker.not_shut_down)
+moved s (Start b) server case law y (inr h) = cc (h, ap (λ n. is_gone n s.past) (eqb-true b.server.0 server y), case.worker.not_gone)
+moved s (End e) server case law y h = cc (law server h, ap (λ n. doing n s.past) (eqb-true e.server.0 server y), case.worker.busy)
+moved s _ server case law y h = refl
 
--- what doesn't move the server and finds it not ended ends it only where it is off
+-- what doesn't move it finds it off
 unmoved : (s : State) (e : Event) (server : ℕ) → Case s e → LawOfServers s.past → moves_server server e ≡ false → IsEnded server (e ∷ s.past) → doing server s.past ≡ Off
 unfolding was_shut_down is_gone
-unmoved s (Gone gone) server case law n h = elim h [
-  | inl d ↦ law server (inl d)
-  | inr g ↦ elim (or_cases (gone.0 == server) (is_gone server s.past) g) [
-    | inl y ↦ subst (λ n. doing n s.past ≡ Off) (eqb-true gone.0 server y) case.worker.off
-    | inr k ↦ law server (inr k)
-  ]
+unmoved s (Gone gone) server case law n (inl h) = law server (inl h)
+unmoved s (Gone gone) server case law n (inr h) = elim (or_cases (gone.0 == server) (is_gone server s.past) h) [
+  | inl y ↦ subst (λ n. doing n s.past ≡ Off) (eqb-true gone.0 server y) case.worker.off
+  | inr k ↦ law server (inr k)
 ]
-unmoved s (Stop x) server case law n h = elim h [
-  | inl d ↦ law server (inl (sym (ap is_shutdown_stop (latest_no (stops_server server) (Stop x) s.past n)) ∙ d))
-  | inr g ↦ law server (inr g)
-]
+unmoved s (Stop x) server case law n (inl h) = law server (inl (sym (ap is_shutdown_stop (latest_no (stops_server server) (Stop x) s.past n)) ∙ h))
+unmoved s (Stop x) server case law n (inr h) = law server (inr h)
 unmoved s _ server case law n h = law server h
 
 pub servers_more : (s : State) (e : Event) → Case s e → LawOfServers s.past → LawOfServers (e ∷ s.past)
 servers_more s e case law = λ server h.
     elim (cases_Bool (moves_server server e)) [
-      | inl y ↦ doing_here server e s.past y ∙ elim (moved s e server case law y) [ inl off ↦ off | inr not_ended ↦ absurd (not_ended h) ]
+      | inl y ↦ doing_here server e s.past y ∙ moved s e server case law y h
       | inr n ↦ doing_other server e s.past n ∙ unmoved s e server case law n h
     ]

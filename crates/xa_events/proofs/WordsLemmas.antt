@@ -2,11 +2,11 @@
 use Rattle.std.proofs.Common.{if◌then◌else◌, ◌≡◌, ℕ, ◌+◌, ◌≤◌, ◌==◌, ◌||◌, ◌&&◌, Bool, true, false, cond, not, List, [], ◌∷◌, Option, Some, None, inl, inr, ◌⊎◌, refl, sym, ◌∙◌, ap, subst, arith, eq-eqb, eqb-true}
 use Rattle.std.specs.List.{filter_map, list_any, cons_option}
 use Rattle.std.proofs.Math.Bool.{or-false}
-use Rattle.std.proofs.lemmas.Bool.{cases_Bool, or_cases, or_left, or_right, and_parts, and_from}
+use Rattle.std.proofs.lemmas.Bool.{cond_both, or_cases, or_left, and_parts, and_from}
 use Rattle.std.proofs.lemmas.List.Folds.{list_any-append}
 use Rattle.std.proofs.lemmas.Map.Views.{any-filter_same}
 use Rattle.xa_types.specs.declared.ids.RequestId.{RequestId}
-use Rattle.xa_events.specs.Words.{latest, count, greatest, same_request, added, without, has, kept}
+use Rattle.xa_events.specs.Words.{latest, count, greatest, same_request, added, without, has}
 
 -- ---- two requests
 
@@ -23,14 +23,9 @@ pub same_request_of : (a b : RequestId) → a ≡ b → same_request a b ≡ tru
 same_request_of a b e =
     subst (λ x. same_request a x ≡ true) e (and_from (a.caller.0 == a.caller.0) (a.number == a.number) (eq-eqb a.caller.0 a.caller.0 refl) (eq-eqb a.number a.number refl))
 
--- ---- a value under a test
-
 pub if_some : {X : Type 0} (b : Bool) (o : Option X) (x : X) → (if b then o else None) ≡ Some x → (b ≡ true) × (o ≡ Some x)
 if_some true o x h = (refl, h)
 if_some false o x h = cc h
-
-pub some_is : {X : Type 0} (x y : X) → Some x ≡ Some y → x ≡ y
-some_is x y h = cc h
 
 -- ---- latest, count, list_any, filter_map on one more
 
@@ -46,12 +41,8 @@ count_yes p e past h = ap (λ b. cond b (count p past + 1) (count p past)) h
 pub count_no : {X : Type 0} (p : X → Bool) (e : X) (past : List X) → p e ≡ false → count p (e ∷ past) ≡ count p past
 count_no p e past h = ap (λ b. cond b (count p past + 1) (count p past)) h
 
-count_step : (b : Bool) (n : ℕ) → n ≤ cond b (n + 1) n
-count_step true n = omega arith
-count_step false n = omega arith
-
 pub count_grows : {X : Type 0} (p : X → Bool) (e : X) (past : List X) → count p past ≤ count p (e ∷ past)
-count_grows p e past = count_step (p e) (count p past)
+count_grows p e past = cond_both (p e) (count p past + 1) (count p past) (λ n. count p past ≤ n) (λ y. omega arith) (λ n. omega arith)
 
 pub list_any_yes : {X : Type 0} (p : X → Bool) (e : X) (past : List X) → p e ≡ true → list_any p (e ∷ past) ≡ true
 list_any_yes p e past h = or_left (p e) (list_any p past) h
@@ -105,20 +96,3 @@ kept_before new out rs r h =
       | inl y ↦ let p = and_parts (not (names r out)) (has r rs) (sym (has_without r out rs) ∙ y) in inr (p.1, λ e. let n = sym (ap not (names_of r out e)) ∙ p.0 in cc n)
       | inr n ↦ inl (names_is r new n)
     ]
-
--- what comes in is there
-pub kept_new : (new out : Option RequestId) (rs : List RequestId) (r : RequestId) → new ≡ Some r → has r (added new (without out rs)) ≡ true
-kept_new new out rs r e = has_added r new (without out rs) ∙ or_right (has r (without out rs)) (names r new) (names_of r new e)
-
--- what was there and didn't go out is there
-pub kept_old : (new out : Option RequestId) (rs : List RequestId) (r : RequestId) → has r rs ≡ true → (out ≡ Some r → ⊥) → has r (added new (without out rs)) ≡ true
-kept_old new out rs r h stays =
-    has_added r new (without out rs) ∙ or_left (has r (without out rs)) (names r new) (has_without r out rs ∙ elim (cases_Bool (names r out)) [
-      | inl y ↦ absurd (stays (names_is r out y))
-      | inr n ↦ ap (λ b. not b && has r rs) n ∙ h
-    ])
-
--- where nothing comes in and nothing goes out, nothing changes
-pub kept_same : {X : Type 0} (enters leaves : X → Option RequestId) (e : X) (past : List X) → enters e ≡ None → leaves e ≡ None → kept enters leaves (e ∷ past) ≡ kept enters leaves past
-kept_same enters leaves e past i o =
-    ap (λ n. added n (without (leaves e) (kept enters leaves past))) i ∙ ap (λ n. without n (kept enters leaves past)) o
