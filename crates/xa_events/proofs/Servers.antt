@@ -1,22 +1,21 @@
 -- A server that was shut down or is given up is off.
 use Rattle.std.proofs.Common.{◌≡◌, ℕ, ◌==◌, true, false, List, [], ◌∷◌, Some, inl, inr, ◌⊎◌, refl, sym, ◌∙◌, ap, subst, eqb-true}
-use Rattle.std.proofs.lemmas.Bool.{cases_Bool, or_cases}
+use Rattle.std.proofs.lemmas.Bool.{cond_both, or_cases}
 use Rattle.xa_events.specs.declared.event.Event.{Event}
 use Rattle.xa_events.specs.declared.event.Event.TheVariants.{Take, Forward, Gone, Start, End, Stop}
+use Rattle.xa_events.specs.declared.event.Doing.{Doing}
 use Rattle.xa_events.specs.declared.event.Doing.TheVariants.{Off}
+use Rattle.xa_events.specs.Words.{latest}
 use Rattle.xa_events.specs.State.{State}
 use Rattle.xa_events.specs.Server.{doing, doing_after, moves_server, was_shut_down, is_gone, stops_server, is_shutdown_stop}
 use Rattle.xa_events.specs.Cases.{Case}
 use Rattle.xa_events.specs.Laws.{LawOfServers}
-use Rattle.xa_events.proofs.WordsLemmas.{latest_yes, latest_no}
+use Rattle.xa_events.proofs.WordsLemmas.{latest_no}
 
-pub doing_here : (server : ℕ) (e : Event) (past : List Event) → moves_server server e ≡ true → doing server (e ∷ past) ≡ doing_after (Some e)
+-- what a server does is by this event where it moves the server, and else what it did
+pub doing_both : (server : ℕ) (e : Event) (past : List Event) (P : Doing → Type 0) → (moves_server server e ≡ true → P (doing_after (Some e))) → (moves_server server e ≡ false → P (doing server past)) → P (doing server (e ∷ past))
 unfolding doing
-doing_here server e past y = ap doing_after (latest_yes (moves_server server) e past y)
-
-pub doing_other : (server : ℕ) (e : Event) (past : List Event) → moves_server server e ≡ false → doing server (e ∷ past) ≡ doing server past
-unfolding doing
-doing_other server e past n = ap doing_after (latest_no (moves_server server) e past n)
+doing_both server e past P here other = cond_both (moves_server server e) (Some e) (latest (moves_server server) past) (λ o. P (doing_after o)) here other
 
 pub servers_none : LawOfServers []
 unfolding doing
@@ -49,8 +48,4 @@ unmoved s (Stop x) server case law n (inr h) = law server (inr h)
 unmoved s _ server case law n h = law server h
 
 pub servers_more : (s : State) (e : Event) → Case s e → LawOfServers s.past → LawOfServers (e ∷ s.past)
-servers_more s e case law = λ server h.
-    elim (cases_Bool (moves_server server e)) [
-      | inl y ↦ doing_here server e s.past y ∙ moved s e server case law y h
-      | inr n ↦ doing_other server e s.past n ∙ unmoved s e server case law n h
-    ]
+servers_more s e case law = λ server h. doing_both server e s.past (λ d. d ≡ Off) (λ y. moved s e server case law y h) (λ n. unmoved s e server case law n h)

@@ -1,6 +1,6 @@
 -- Where a request is, and that its queue, its server and its counts agree on that.
 use Rattle.std.proofs.Common.{◌≡◌, ℕ, ◌+◌, ◌<◌, ◌≤◌, ◌||◌, ◌==◌, if◌then◌else◌, Bool, true, false, cond, List, [], ◌∷◌, Some, None, inl, inr, refl, sym, ◌∙◌, ap, subst, arith, eq-eqb, eqb-true, lt_of_le_of_lt}
-use Rattle.std.proofs.lemmas.Bool.{cases_Bool, cond-true, cond-false}
+use Rattle.std.proofs.lemmas.Bool.{cond_both, cond-true}
 use Rattle.std.proofs.lemmas.Option.{cond_some}
 use Rattle.xa_types.specs.declared.ids.RequestId.{RequestId}
 use Rattle.xa_types.specs.declared.ids.Generation.{Generation}
@@ -21,7 +21,7 @@ use Rattle.xa_events.specs.Cases.{Case}
 use Rattle.xa_events.specs.Run.{Run}
 use Rattle.xa_events.specs.Laws.{moves_on, OnceInTurn}
 use Rattle.xa_events.proofs.WordsLemmas.{same_request_is, same_request_of, count_yes, count_grows, kept_before}
-use Rattle.xa_events.proofs.Servers.{doing_here, doing_other}
+use Rattle.xa_events.proofs.Servers.{doing_both}
 
 -- what each event that may come next keeps, a run keeps
 pub along : (P : State → Type 0) → ((s : State) (e : Event) → Case s e → P s → P (noted s e)) → (es : List Event) (s new : State) → P s → Run s es new → P new
@@ -57,10 +57,6 @@ stage r (e ∷ past) = cond (moves r e) (stage_by e) (stage r past)
 pub stage_here : (r : RequestId) (e : Event) (past : List Event) → moves r e ≡ true → stage r (e ∷ past) ≡ stage_by e
 unfolding stage
 stage_here r e past h = cond-true (moves r e) (stage_by e) (stage r past) h
-
-pub stage_other : (r : RequestId) (e : Event) (past : List Event) → moves r e ≡ false → stage r (e ∷ past) ≡ stage r past
-unfolding stage
-stage_other r e past h = cond-false (moves r e) (stage_by e) (stage r past) h
 
 -- an event that moves a request needs it at that stage
 abbrev pub Found : Setup → Event → Stage → Type 0
@@ -151,8 +147,6 @@ not_fresh s (Accept a) r case m f h =
     omega (arith, g, by, case.worker.number, accepted_one a.by.0 (Accept a) s.past (eq-eqb a.by.0 a.by.0 refl))
 not_fresh s _ r case m f h = absurd f
 
--- ---- the counts
-
 -- the counts behind one event more, and what the law says of it
 abbrev pub Next : Stage → RequestId → Event → List Event → Type 0
 Next stage r e past = Counted r (e ∷ past) stage
@@ -178,21 +172,17 @@ still (End e) r past stage n c = rw n (c, λ h. cc, λ h. cc, λ h. cc, λ h. cc
 still _ r past stage n c = (c, λ h. cc, λ h. cc, λ h. cc, λ h. cc)
 
 next : (s : State) (e : Event) (r : RequestId) → Case s e → Agree s → Next (stage r (e ∷ s.past)) r e s.past
+unfolding stage
 next s e r case agree =
-    elim (cases_Bool (moves r e)) [
-      | inl m ↦ rw (stage_here r e s.past m) (moved s.setup e r s.past (stage r s.past) m (found s e r case agree m) (agree.counts r))
-      | inr n ↦ rw (stage_other r e s.past n) (still e r s.past (stage r s.past) n (agree.counts r))
-    ]
-
--- ---- what agrees goes on agreeing
+    cond_both (moves r e) (stage_by e) (stage r s.past) (λ x. Next x r e s.past)
+    (λ m. moved s.setup e r s.past (stage r s.past) m (found s e r case agree m) (agree.counts r))
+    (λ n. still e r s.past (stage r s.past) n (agree.counts r))
 
 -- a request that the event doesn't move stays at its stage
 stays : (s : State) (e : Event) (r : RequestId) (old : Stage) → Case s e → Agree s → stage r s.past ≡ old → (moves r e ≡ true → Found s.setup e old → ⊥) → stage r (e ∷ s.past) ≡ old
+unfolding stage
 stays s e r old case agree is unmoved =
-    elim (cases_Bool (moves r e)) [
-      | inl m ↦ absurd (unmoved m (subst (Found s.setup e) is (found s e r case agree m)))
-      | inr n ↦ stage_other r e s.past n ∙ is
-    ]
+    cond_both (moves r e) (stage_by e) (stage r s.past) (λ x. x ≡ old) (λ m. absurd (unmoved m (subst (Found s.setup e) is (found s e r case agree m)))) (λ n. is)
 
 pub agree_more : (s : State) (e : Event) → Case s e → Agree s → Agree (noted s e)
 unfolding waiting
@@ -201,19 +191,14 @@ agree_more s e case agree = record {
     | inl i ↦ let n = entered queue e r i in stage_here r e s.past n.0 ∙ n.1
     | inr k ↦ stays s e r (Waits queue) case agree (agree.waits queue r k.0) (λ m f. k.1 (left_queue s.setup queue e r m f))
   ];
-  busy = λ server generation r h. elim (cases_Bool (moves_server server e)) [
-    | inl y ↦ let n = held_by server generation e r y (sym (doing_here server e s.past y) ∙ h) in stage_here r e s.past n.0 ∙ n.1
-    | inr n ↦ stays s e r (Held server) case agree (agree.busy server generation r (sym (doing_other server e s.past n) ∙ h)) (λ m f. cc (of_holder s.setup server e f, n))
-  ];
+  busy = λ server generation r. doing_both server e s.past (λ d. d ≡ Busy generation r → stage r (e ∷ s.past) ≡ Held server)
+      (λ y h. let n = held_by server generation e r y h in stage_here r e s.past n.0 ∙ n.1)
+      (λ n h. stays s e r (Held server) case agree (agree.busy server generation r h) (λ m f. cc (of_holder s.setup server e f, n)));
   fresh = λ r h. stays s e r Unknown case agree (agree.fresh r (lt_of_le_of_lt (accepted_grows r.caller.0 e s.past) h)) (λ m f. not_fresh s e r case m f h);
   counts = λ r. (next s e r case agree).0;
 }
 
 pub ends_law : (s : State) (e : Event) → Case s e → Agree s → OnceInTurn e s.past
-ends_law s e case agree = record {
-  fresh = λ r. (next s e r case agree).1;
-  known = λ r h. ((next s e r case agree).2 h).0;
-  unsettled = λ r h. ((next s e r case agree).2 h).1;
-  waiting = λ r. (next s e r case agree).3;
-  held = λ r. (next s e r case agree).4;
-}
+ends_law s e case agree =
+    let n = λ (r : RequestId). next s e r case agree in
+    record { fresh = λ r. (n r).1; known = λ r h. ((n r).2 h).0; unsettled = λ r h. ((n r).2 h).1; waiting = λ r. (n r).3; held = λ r. (n r).4 }

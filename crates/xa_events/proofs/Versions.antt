@@ -18,8 +18,6 @@ use Rattle.xa_events.specs.Cases.{Case, is_sound_outcome, IsEvidenceFor}
 use Rattle.xa_events.specs.Laws.{is_change, ReadsForward}
 use Rattle.xa_events.proofs.WordsLemmas.{if_some, count_yes, count_grows, greatest_rises, greatest_one_more}
 
--- ---- the version of the board is the number of its changes
-
 change_one : (e : Event) (past : List Event) → published (e ∷ past) ≡ cond (is_change e) (published past + 1) (published past)
 unfolding published changes
 change_one (Advertise a) past = omega arith
@@ -30,8 +28,6 @@ pub published_is : (past : List Event) → published past ≡ count is_change pa
 unfolding published changes
 published_is [] = refl
 published_is (e ∷ past) = change_one e past ∙ ap (λ n. cond (is_change e) (n + 1) n) (published_is past)
-
--- ---- what one event reads
 
 -- what is read is no older than the floor, and stands, or it is made by this event
 abbrev pub Reads : State → Event → ℕ → ℕ → Type 0
@@ -59,8 +55,6 @@ reads_so s (Refuse r) caller version case h =
     let i = if_some (r.by.0 == caller) (version_in r.evidence) version h in
     rw (← eqb-true r.by.0 caller i.0) (inl (case.worker.fresh version i.1, shown_version s.past r.fault r.evidence version case.before.named i.1))
 reads_so s _ caller version case h = cc h
-
--- ---- along a run
 
 -- all that was read is at most the version of the board
 abbrev pub ReadStands : State → Type 0

@@ -69,30 +69,25 @@ greatest_one_more f (Some n) least m h k = let j = h n refl in omega (arith, j, 
 
 -- ---- requests that are kept
 
-abbrev pub names : RequestId → Option RequestId → Bool
-names r None = false
-names r (Some other) = same_request r other
+pub has_added : (r a : RequestId) (rs : List RequestId) → has r (added (Some a) rs) ≡ (has r rs || same_request r a)
+has_added r a rs = list_any-append (same_request r) rs (a ∷ []) ∙ ap (λ b. has r rs || b) (or-false (same_request r a))
 
-pub names_is : (r : RequestId) (o : Option RequestId) → names r o ≡ true → o ≡ Some r
-names_is r None h = cc h
-names_is r (Some other) h = ap Some (sym (same_request_is r other h))
-
-pub names_of : (r : RequestId) (o : Option RequestId) → o ≡ Some r → names r o ≡ true
-names_of r o e = subst (λ x. names r x ≡ true) (sym e) (same_request_of r r refl)
-
-pub has_added : (r : RequestId) (new : Option RequestId) (rs : List RequestId) → has r (added new rs) ≡ (has r rs || names r new)
-has_added r None rs = sym (or-false (has r rs))
-has_added r (Some a) rs = list_any-append (same_request r) rs (a ∷ []) ∙ ap (λ b. has r rs || b) (or-false (same_request r a))
-
-pub has_without : (r : RequestId) (out : Option RequestId) (rs : List RequestId) → has r (without out rs) ≡ (not (names r out) && has r rs)
-has_without r None rs = refl
-has_without r (Some out) rs =
+pub has_without : (r out : RequestId) (rs : List RequestId) → has r (without (Some out) rs) ≡ (not (same_request r out) && has r rs)
+has_without r out rs =
     any-filter_same (same_request r) (λ q. not (same_request q out)) (not (same_request r out)) (λ q h. ap (λ x. not (same_request x out)) (sym (same_request_is r q h))) rs
+
+-- what is there without another was there, and is another
+pub without_before : (out : Option RequestId) (rs : List RequestId) (r : RequestId) → has r (without out rs) ≡ true → (has r rs ≡ true) × (out ≡ Some r → ⊥)
+without_before None rs r h = (h, λ e. cc e)
+without_before (Some out) rs r h =
+    let p = and_parts (not (same_request r out)) (has r rs) (sym (has_without r out rs) ∙ h) in
+    (p.1, λ e. let n = sym (ap not (same_request_of r out (cc e))) ∙ p.0 in cc n)
 
 -- what is there after one step came in by it, or was there and didn't go out by it
 pub kept_before : (new out : Option RequestId) (rs : List RequestId) (r : RequestId) → has r (added new (without out rs)) ≡ true → (new ≡ Some r) ⊎ ((has r rs ≡ true) × (out ≡ Some r → ⊥))
-kept_before new out rs r h =
-    elim (or_cases (has r (without out rs)) (names r new) (sym (has_added r new (without out rs)) ∙ h)) [
-      | inl y ↦ let p = and_parts (not (names r out)) (has r rs) (sym (has_without r out rs) ∙ y) in inr (p.1, λ e. let n = sym (ap not (names_of r out e)) ∙ p.0 in cc n)
-      | inr n ↦ inl (names_is r new n)
+kept_before None out rs r h = inr (without_before out rs r h)
+kept_before (Some a) out rs r h =
+    elim (or_cases (has r (without out rs)) (same_request r a) (sym (has_added r a (without out rs)) ∙ h)) [
+      | inl old ↦ inr (without_before out rs r old)
+      | inr new ↦ inl (ap Some (sym (same_request_is r a new)))
     ]
