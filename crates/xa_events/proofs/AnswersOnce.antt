@@ -1,5 +1,5 @@
 -- A request is answered once, as it was settled.
-use Rattle.std.proofs.Common.{◌≡◌, ℕ, ◌+◌, ◌≤◌, ◌==◌, ◌&&◌, if◌then◌else◌, true, false, List, [], ◌∷◌, Some, None, inl, inr, ◌⊎◌, refl, sym, ap, subst, arith, eq-eqb}
+use Rattle.std.proofs.Common.{◌≡◌, ℕ, ◌+◌, ◌≤◌, if◌then◌else◌, true, false, List, ◌∷◌, Some, None, inl, inr, refl, sym, ap, arith, eq-eqb}
 use Rattle.std.proofs.lemmas.Bool.{cases_Bool}
 use Rattle.std.proofs.lemmas.Option.{cond_some}
 use Rattle.xa_types.specs.declared.ids.RequestId.{RequestId}
@@ -20,10 +20,6 @@ pub record Unanswered (past : List Event) : Type 0 where
   pub all : (r : RequestId) → count (is_answer_of r) past ≤ count (is_accept_of r) past
   pub is_open : (r : RequestId) → has r (open_descriptors r.caller.0 past) ≡ true → count (is_answer_of r) past + 1 ≤ count (is_accept_of r) past
 
-pub unanswered_none : Unanswered []
-unfolding open_descriptors
-unanswered_none = record { all = λ r. omega arith; is_open = λ r h. cc h }
-
 -- what makes a descriptor valid accepts its request, and is no answer
 validated : (caller : ℕ) (e : Event) (r : RequestId) → validates caller e ≡ Some r → (is_accept_of r e ≡ true) × (is_answer_of r e ≡ false)
 validated caller (Accept a) r h = (same_request_of a.request r (cond_some _ a.request r h).1, refl)
@@ -33,10 +29,7 @@ validated caller _ r h = cc h
 answer_of : (s : State) (e : Event) (r : RequestId) → Case s e → is_answer_of r e ≡ true → (has r (open_descriptors r.caller.0 s.past) ≡ true) × (invalidates r.caller.0 e ≡ Some r)
 answer_of s (Answer a) r case h =
     let by : a.by.0 ≡ a.request.caller.0 = ap (λ c. c.0) (sym case.worker.caller) in
-    rw (← same_request_is a.request r h) (
-      subst (λ n. has a.request (open_descriptors n s.past) ≡ true) by case.worker.is_open,
-      ap (λ b. if b then Some a.request else None) (eq-eqb a.by.0 a.request.caller.0 by),
-    )
+    rw (← same_request_is a.request r h) (rw by at case.worker.is_open, ap (λ b. if b then Some a.request else None) (eq-eqb a.by.0 a.request.caller.0 by))
 answer_of s _ r case h = cc h
 
 pub unanswered_more : (s : State) (e : Event) → Case s e → Unanswered s.past → Unanswered (e ∷ s.past)

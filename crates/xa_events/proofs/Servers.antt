@@ -1,5 +1,5 @@
 -- A server that was shut down or is given up is off.
-use Rattle.std.proofs.Common.{◌≡◌, ℕ, ◌==◌, true, false, List, [], ◌∷◌, Some, inl, inr, ◌⊎◌, refl, sym, ◌∙◌, ap, subst, eqb-true}
+use Rattle.std.proofs.Common.{◌≡◌, ℕ, ◌==◌, true, false, List, ◌∷◌, Some, inl, inr, ◌⊎◌, refl, sym, ◌∙◌, ap, subst, eqb-true}
 use Rattle.std.proofs.lemmas.Bool.{cond_both, or_cases}
 use Rattle.xa_events.specs.declared.event.Event.{Event}
 use Rattle.xa_events.specs.declared.event.Event.TheVariants.{Take, Forward, Gone, Start, End, Stop}
@@ -16,10 +16,6 @@ use Rattle.xa_events.proofs.WordsLemmas.{latest_no}
 pub doing_both : (server : ℕ) (e : Event) (past : List Event) (P : Doing → Type 0) → (moves_server server e ≡ true → P (doing_after (Some e))) → (moves_server server e ≡ false → P (doing server past)) → P (doing server (e ∷ past))
 unfolding doing
 doing_both server e past P here other = cond_both (moves_server server e) (Some e) (latest (moves_server server) past) (λ o. P (doing_after o)) here other
-
-pub servers_none : LawOfServers []
-unfolding doing
-servers_none = λ server h. refl
 
 -- the server was shut down or is given up
 abbrev pub IsEnded : ℕ → List Event → Type 0

@@ -54,10 +54,6 @@ pub stage : RequestId → List Event → Stage
 stage r [] = Unknown
 stage r (e ∷ past) = cond (moves r e) (stage_by e) (stage r past)
 
-pub stage_here : (r : RequestId) (e : Event) (past : List Event) → moves r e ≡ true → stage r (e ∷ past) ≡ stage_by e
-unfolding stage
-stage_here r e past h = cond-true (moves r e) (stage_by e) (stage r past) h
-
 -- an event that moves a request needs it at that stage
 abbrev pub Found : Setup → Event → Stage → Type 0
 Found setup (Accept a) Unknown = Unit {0}
@@ -100,8 +96,6 @@ found s (Sweep x) r case agree m = absurd case.home
 found s (End e) r case agree m = rw (← same_request_is e.request r m, agree.busy e.server.0 e.generation e.request case.worker.busy) refl
 found s _ r case agree m = cc m
 
--- ---- what one event changes
-
 -- what goes into a queue waits there
 entered : (queue : ℕ) (e : Event) (r : RequestId) → enters queue e ≡ Some r → (moves r e ≡ true) × (stage_by e ≡ Waits queue)
 entered queue (Accept a) r h = let i = cond_some (a.queue.0 == queue) a.request r h in (same_request_of a.request r i.1, ap Waits (eqb-true a.queue.0 queue i.0))
@@ -119,8 +113,7 @@ not_busy Died g generation r h = cc h
 not_busy _ g generation r h = cc h
 
 -- a server is busy by its own take
-held_by : (server : ℕ) (generation : Generation) (e : Event) (r : RequestId) → moves_server server e ≡ true → doing_after (Some e) ≡ Busy generation r
-    → (moves r e ≡ true) × (stage_by e ≡ Held server)
+held_by : (server : ℕ) (generation : Generation) (e : Event) (r : RequestId) → moves_server server e ≡ true → doing_after (Some e) ≡ Busy generation r → (moves r e ≡ true) × (stage_by e ≡ Held server)
 held_by server generation (Take t) r o h = (same_request_of t.request r (cc h), ap Held (eqb-true t.server.0 server o))
 held_by server generation (End e) r o h = absurd (not_busy e.outcome e.generation generation r h)
 held_by server generation _ r o h = cc h
@@ -185,14 +178,14 @@ stays s e r old case agree is unmoved =
     cond_both (moves r e) (stage_by e) (stage r s.past) (λ x. x ≡ old) (λ m. absurd (unmoved m (subst (Found s.setup e) is (found s e r case agree m)))) (λ n. is)
 
 pub agree_more : (s : State) (e : Event) → Case s e → Agree s → Agree (noted s e)
-unfolding waiting
+unfolding waiting stage
 agree_more s e case agree = record {
   waits = λ queue r h. elim (kept_before (enters queue e) (leaves s.setup queue e) (waiting s.setup queue s.past) r h) [
-    | inl i ↦ let n = entered queue e r i in stage_here r e s.past n.0 ∙ n.1
+    | inl i ↦ let n = entered queue e r i in cond-true (moves r e) (stage_by e) (stage r s.past) n.0 ∙ n.1
     | inr k ↦ stays s e r (Waits queue) case agree (agree.waits queue r k.0) (λ m f. k.1 (left_queue s.setup queue e r m f))
   ];
   busy = λ server generation r. doing_both server e s.past (λ d. d ≡ Busy generation r → stage r (e ∷ s.past) ≡ Held server)
-      (λ y h. let n = held_by server generation e r y h in stage_here r e s.past n.0 ∙ n.1)
+      (λ y h. let n = held_by server generation e r y h in cond-true (moves r e) (stage_by e) (stage r s.past) n.0 ∙ n.1)
       (λ n h. stays s e r (Held server) case agree (agree.busy server generation r h) (λ m f. cc (of_holder s.setup server e f, n)));
   fresh = λ r h. stays s e r Unknown case agree (agree.fresh r (lt_of_le_of_lt (accepted_grows r.caller.0 e s.past) h)) (λ m f. not_fresh s e r case m f h);
   counts = λ r. (next s e r case agree).0;

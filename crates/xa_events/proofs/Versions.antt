@@ -1,5 +1,5 @@
 -- What a caller reads of the board never gets older, and is never of the future.
-use Rattle.std.proofs.Common.{◌≡◌, ℕ, ◌+◌, ◌≤◌, ◌==◌, true, cond, List, [], ◌∷◌, Some, inl, inr, ◌⊎◌, refl, ◌∙◌, ap, arith, eqb-true, le_trans}
+use Rattle.std.proofs.Common.{◌≡◌, ℕ, ◌+◌, ◌≤◌, ◌==◌, true, List, [], ◌∷◌, Some, inl, inr, ◌⊎◌, refl, arith, eqb-true, le_trans}
 use Rattle.std.proofs.lemmas.Option.{cond_some}
 use Rattle.xa_types.specs.declared.setup.Setup.{Setup}
 use Rattle.xa_types.specs.declared.fault.Fault.{Fault}
@@ -11,23 +11,19 @@ use Rattle.xa_events.specs.declared.event.Evidence.TheVariants.{Argument, Versio
 use Rattle.xa_events.specs.declared.event.Outcome.{Outcome}
 use Rattle.xa_events.specs.declared.event.Outcome.TheVariants.{BadForward}
 use Rattle.xa_events.specs.Words.{count, greatest}
-use Rattle.xa_events.specs.State.{State, noted, opening}
+use Rattle.xa_events.specs.State.{State, noted}
 use Rattle.xa_events.specs.Board.{changes, published, boot}
 use Rattle.xa_events.specs.Caller.{reads, versions, least_version, version_in, version_of}
 use Rattle.xa_events.specs.Cases.{Case, is_sound_outcome, IsEvidenceFor}
 use Rattle.xa_events.specs.Laws.{is_change, ReadsForward}
 use Rattle.xa_events.proofs.WordsLemmas.{if_some, count_yes, count_grows, greatest_rises, greatest_one_more}
 
-change_one : (e : Event) (past : List Event) → published (e ∷ past) ≡ cond (is_change e) (published past + 1) (published past)
-unfolding published changes
-change_one (Advertise a) past = omega arith
-change_one (Withdraw w) past = omega arith
-change_one _ past = refl
-
 pub published_is : (past : List Event) → published past ≡ count is_change past
 unfolding published changes
 published_is [] = refl
-published_is (e ∷ past) = change_one e past ∙ ap (λ n. cond (is_change e) (n + 1) n) (published_is past)
+published_is (Advertise a ∷ past) = omega (arith, published_is past)
+published_is (Withdraw w ∷ past) = omega (arith, published_is past)
+published_is (_ ∷ past) = published_is past
 
 -- what is read is no older than the floor, and stands, or it is made by this event
 abbrev pub Reads : State → Event → ℕ → ℕ → Type 0
@@ -59,10 +55,6 @@ reads_so s _ caller version case h = cc h
 -- all that was read is at most the version of the board
 abbrev pub ReadStands : State → Type 0
 ReadStands s = (caller : ℕ) → greatest 0 (versions s.clients caller s.past) ≤ count is_change s.past
-
-pub none_read : (setup : Setup) (clients : ℕ) → ReadStands (opening setup clients)
-unfolding versions
-none_read setup clients = λ caller. omega arith
 
 pub version_law : (s : State) (e : Event) → Case s e → ReadStands s → ReadsForward s.clients e s.past
 version_law s e case stood = record {

@@ -8,8 +8,6 @@ use Rattle.std.proofs.lemmas.Map.Views.{any-filter_same}
 use Rattle.xa_types.specs.declared.ids.RequestId.{RequestId}
 use Rattle.xa_events.specs.Words.{latest, count, greatest, same_request, added, without, has}
 
--- ---- two requests
-
 request_of : ℕ → ℕ → RequestId
 request_of caller number = record { caller = record { 0 = caller }; number = number }
 
@@ -27,7 +25,7 @@ pub if_some : {X : Type 0} (b : Bool) (o : Option X) (x : X) → (if b then o el
 if_some true o x h = (refl, h)
 if_some false o x h = cc h
 
--- ---- latest, count, list_any, filter_map on one more
+-- ---- one more for latest, count, list_any, filter_map and greatest
 
 pub latest_yes : {X : Type 0} (p : X → Bool) (e : X) (past : List X) → p e ≡ true → latest p (e ∷ past) ≡ Some e
 latest_yes p e past h = ap (λ b. cond b (Some e) (latest p past)) h
@@ -55,8 +53,6 @@ filter_map_yes f e past y h = ap (λ o. cons_option o (filter_map f past)) h
 
 pub filter_map_no : {X Y : Type 0} (f : X → Option Y) (e : X) (past : List X) → f e ≡ None → filter_map f (e ∷ past) ≡ filter_map f past
 filter_map_no f e past h = ap (λ o. cons_option o (filter_map f past)) h
-
--- ---- greatest
 
 pub greatest_rises : (low high : ℕ) (ns : List ℕ) → low ≤ high → greatest low ns ≤ greatest high ns
 greatest_rises low high [] h = h
