@@ -1,6 +1,7 @@
 -- Where a request is, and that its queue, its server and its counts agree on that.
-use Rattle.std.proofs.Common.{◌≡◌, ℕ, ◌+◌, ◌<◌, ◌||◌, ◌==◌, if◌then◌else◌, Bool, true, false, List, [], ◌∷◌, Option, Some, None, inl, inr, ◌⊎◌, refl, sym, ◌∙◌, ap, subst, arith, eq-eqb, eqb-true}
-use Rattle.std.proofs.lemmas.Bool.{cases_Bool}
+use Rattle.std.proofs.Common.{◌≡◌, ℕ, ◌+◌, ◌<◌, ◌≤◌, ◌||◌, ◌==◌, if◌then◌else◌, Bool, true, false, cond, List, [], ◌∷◌, Some, None, inl, inr, refl, sym, ◌∙◌, ap, subst, arith, eq-eqb, eqb-true, lt_of_le_of_lt}
+use Rattle.std.proofs.lemmas.Bool.{cond_both, cond-true}
+use Rattle.std.proofs.lemmas.Option.{cond_some}
 use Rattle.xa_types.specs.declared.ids.RequestId.{RequestId}
 use Rattle.xa_types.specs.declared.ids.Generation.{Generation}
 use Rattle.xa_types.specs.declared.setup.Setup.{Setup}
@@ -10,7 +11,7 @@ use Rattle.xa_events.specs.declared.event.Event.TheVariants.{Accept, Take, Forwa
 use Rattle.xa_events.specs.declared.event.Doing.TheVariants.{Busy}
 use Rattle.xa_events.specs.declared.event.Outcome.{Outcome}
 use Rattle.xa_events.specs.declared.event.Outcome.TheVariants.{Died}
-use Rattle.xa_events.specs.Words.{latest, count, has, same_request}
+use Rattle.xa_events.specs.Words.{count, has, same_request}
 use Rattle.xa_events.specs.State.{State, noted, opening}
 use Rattle.xa_events.specs.Queue.{enters, leaves, waiting}
 use Rattle.xa_events.specs.Server.{moves_server, after_end, doing_after, doing}
@@ -19,7 +20,8 @@ use Rattle.xa_events.specs.Request.{is_accept_of, is_take_of, is_forward_of, is_
 use Rattle.xa_events.specs.Cases.{Case}
 use Rattle.xa_events.specs.Run.{Run}
 use Rattle.xa_events.specs.Laws.{moves_on, OnceInTurn}
-use Rattle.xa_events.proofs.WordsLemmas.{if_some, some_is, same_request_is, same_request_of, latest_yes, latest_no, count_yes, count_grows, kept_before}
+use Rattle.xa_events.proofs.WordsLemmas.{same_request_is, same_request_of, count_yes, count_grows, kept_before}
+use Rattle.xa_events.proofs.Servers.{doing_both}
 
 -- what each event that may come next keeps, a run keeps
 pub along : (P : State → Type 0) → ((s : State) (e : Event) → Case s e → P s → P (noted s e)) → (es : List Event) (s new : State) → P s → Run s es new → P new
@@ -41,24 +43,16 @@ moves r (Sweep x) = same_request x.request r
 moves r (End e) = same_request e.request r
 moves r _ = false
 
-abbrev pub stage_by : Option Event → Stage
-stage_by (Some (Accept a)) = Waits a.queue.0
-stage_by (Some (Take t)) = Held t.server.0
-stage_by (Some (Forward f)) = Waits f.queue.0
-stage_by (Some (Sweep x)) = Over
-stage_by (Some (End e)) = Over
-stage_by _ = Unknown
+abbrev pub stage_by : Event → Stage
+stage_by (Accept a) = Waits a.queue.0
+stage_by (Take t) = Held t.server.0
+stage_by (Forward f) = Waits f.queue.0
+stage_by _ = Over
 
+-- where the request is, by the last event that moves it
 pub stage : RequestId → List Event → Stage
-stage r past = stage_by (latest (moves r) past)
-
-pub stage_other : (r : RequestId) (e : Event) (past : List Event) → moves r e ≡ false → stage r (e ∷ past) ≡ stage r past
-unfolding stage
-stage_other r e past h = ap stage_by (latest_no (moves r) e past h)
-
-pub stage_here : (r : RequestId) (e : Event) (past : List Event) → moves r e ≡ true → stage r (e ∷ past) ≡ stage_by (Some e)
-unfolding stage
-stage_here r e past h = ap stage_by (latest_yes (moves r) e past h)
+stage r [] = Unknown
+stage r (e ∷ past) = cond (moves r e) (stage_by e) (stage r past)
 
 -- an event that moves a request needs it at that stage
 abbrev pub Found : Setup → Event → Stage → Type 0
@@ -102,16 +96,10 @@ found s (Sweep x) r case agree m = absurd case.home
 found s (End e) r case agree m = rw (← same_request_is e.request r m, agree.busy e.server.0 e.generation e.request case.worker.busy) refl
 found s _ r case agree m = cc m
 
--- ---- what one event changes
-
 -- what goes into a queue waits there
-entered : (queue : ℕ) (e : Event) (r : RequestId) → enters queue e ≡ Some r → (moves r e ≡ true) × (stage_by (Some e) ≡ Waits queue)
-entered queue (Accept a) r h =
-    let i = if_some (a.queue.0 == queue) (Some a.request) r h in
-    (same_request_of a.request r (some_is a.request r i.1), ap Waits (eqb-true a.queue.0 queue i.0))
-entered queue (Forward f) r h =
-    let i = if_some (f.queue.0 == queue) (Some f.request) r h in
-    (same_request_of f.request r (some_is f.request r i.1), ap Waits (eqb-true f.queue.0 queue i.0))
+entered : (queue : ℕ) (e : Event) (r : RequestId) → enters queue e ≡ Some r → (moves r e ≡ true) × (stage_by e ≡ Waits queue)
+entered queue (Accept a) r h = let i = cond_some (a.queue.0 == queue) a.request r h in (same_request_of a.request r i.1, ap Waits (eqb-true a.queue.0 queue i.0))
+entered queue (Forward f) r h = let i = cond_some (f.queue.0 == queue) f.request r h in (same_request_of f.request r i.1, ap Waits (eqb-true f.queue.0 queue i.0))
 entered queue _ r h = cc h
 
 -- what moves a request that waits takes it out of its queue
@@ -125,8 +113,7 @@ not_busy Died g generation r h = cc h
 not_busy _ g generation r h = cc h
 
 -- a server is busy by its own take
-held_by : (server : ℕ) (generation : Generation) (e : Event) (r : RequestId) → moves_server server e ≡ true → doing_after (Some e) ≡ Busy generation r
-    → (moves r e ≡ true) × (stage_by (Some e) ≡ Held server)
+held_by : (server : ℕ) (generation : Generation) (e : Event) (r : RequestId) → moves_server server e ≡ true → doing_after (Some e) ≡ Busy generation r → (moves r e ≡ true) × (stage_by e ≡ Held server)
 held_by server generation (Take t) r o h = (same_request_of t.request r (cc h), ap Held (eqb-true t.server.0 server o))
 held_by server generation (End e) r o h = absurd (not_busy e.outcome e.generation generation r h)
 held_by server generation _ r o h = cc h
@@ -137,9 +124,9 @@ of_holder setup server (Forward g) f = eq-eqb g.server.0 server f
 of_holder setup server (End e) f = eq-eqb e.server.0 server f
 of_holder setup server _ f = absurd f
 
-pub accepted_grows : (caller : ℕ) (e : Event) (past : List Event) → accepted caller past < accepted caller (e ∷ past) + 1
+pub accepted_grows : (caller : ℕ) (e : Event) (past : List Event) → accepted caller past ≤ accepted caller (e ∷ past)
 unfolding accepted
-accepted_grows caller e past = let g = count_grows (accepts_for caller) e past in omega (arith, g)
+accepted_grows caller e past = count_grows (accepts_for caller) e past
 
 pub accepted_one : (caller : ℕ) (e : Event) (past : List Event) → accepts_for caller e ≡ true → accepted caller (e ∷ past) ≡ accepted caller past + 1
 unfolding accepted
@@ -148,93 +135,63 @@ accepted_one caller e past h = count_yes (accepts_for caller) e past h
 -- what moves a request that is unknown accepts it
 not_fresh : (s : State) (e : Event) (r : RequestId) → Case s e → moves r e ≡ true → Found s.setup e Unknown → accepted r.caller.0 (e ∷ s.past) < r.number → ⊥
 not_fresh s (Accept a) r case m f h =
-    let same : a.request ≡ r = same_request_is a.request r m in
-    let by : accepted a.request.caller.0 (Accept a ∷ s.past) ≡ accepted a.by.0 (Accept a ∷ s.past) = ap (λ c. accepted c.0 (Accept a ∷ s.past)) case.worker.caller in
-    let g : accepted a.request.caller.0 (Accept a ∷ s.past) < a.request.number = subst (λ (q : RequestId). accepted q.caller.0 (Accept a ∷ s.past) < q.number) (sym same) h in
+    let g = rw (← same_request_is a.request r m) at h in
+    let by = ap (λ c. accepted c.0 (Accept a ∷ s.past)) case.worker.caller in
     omega (arith, g, by, case.worker.number, accepted_one a.by.0 (Accept a) s.past (eq-eqb a.by.0 a.by.0 refl))
 not_fresh s _ r case m f h = absurd f
 
--- ---- the counts
-
--- what the law says of one request, by its counts
-abbrev pub Turn : RequestId → Event → ℕ → ℕ → ℕ → ℕ → Type 0
-Turn r e accepts takes forwards settled = (is_accept_of r e ≡ true → accepts ≡ 0)
-    × (moves_on r e ≡ true → (accepts ≡ 1) × (settled ≡ 0))
-    × (is_take_of r e || is_sweep_of r e ≡ true → takes ≡ forwards)
-    × (is_forward_of r e || is_end_of r e ≡ true → takes ≡ forwards + 1)
-
--- the counts behind one event more, and the law at it
+-- the counts behind one event more, and what the law says of it
 abbrev pub Next : Stage → RequestId → Event → List Event → Type 0
-Next stage r e past = Counted r (e ∷ past) stage × Turn r e (count (is_accept_of r) past) (count (is_take_of r) past) (count (is_forward_of r) past) (count (is_settled_by r) past)
+Next stage r e past = Counted r (e ∷ past) stage
+    × (is_accept_of r e ≡ true → count (is_accept_of r) past ≡ 0)
+    × (moves_on r e ≡ true → (count (is_accept_of r) past ≡ 1) × (count (is_settled_by r) past ≡ 0))
+    × (is_take_of r e || is_sweep_of r e ≡ true → count (is_take_of r) past ≡ count (is_forward_of r) past)
+    × (is_forward_of r e || is_end_of r e ≡ true → count (is_take_of r) past ≡ count (is_forward_of r) past + 1)
 
-moved : (setup : Setup) (e : Event) (r : RequestId) (past : List Event) (stage : Stage) → moves r e ≡ true → Found setup e stage → Counted r past stage → Next (stage_by (Some e)) r e past
-moved setup (Accept a) r past Unknown m f c = rw m ((ap (λ n. n + 1) c.0, c.1, c.2), (λ h. c.0, λ h. cc, λ h. cc, λ h. cc))
-moved setup (Take t) r past (Waits queue) m f c = rw m ((c.0, ap (λ n. n + 1) c.1, c.2), (λ h. cc, λ h. (c.0, c.2), λ h. c.1, λ h. cc))
-moved setup (Forward g) r past (Held server) m f c = rw m ((c.0, c.1, c.2), (λ h. cc, λ h. (c.0, c.2), λ h. cc, λ h. c.1))
-moved setup (Sweep x) r past (Waits queue) m f c = rw m ((c.0, tt, ap (λ n. n + 1) c.2), (λ h. cc, λ h. (c.0, c.2), λ h. c.1, λ h. cc))
-moved setup (End e) r past (Held server) m f c = rw m ((c.0, tt, ap (λ n. n + 1) c.2), (λ h. cc, λ h. (c.0, c.2), λ h. cc, λ h. c.1))
+moved : (setup : Setup) (e : Event) (r : RequestId) (past : List Event) (stage : Stage) → moves r e ≡ true → Found setup e stage → Counted r past stage → Next (stage_by e) r e past
+moved setup (Accept a) r past Unknown m f c = rw m ((ap (λ n. n + 1) c.0, c.1, c.2), λ h. c.0, λ h. cc, λ h. cc, λ h. cc)
+moved setup (Take t) r past (Waits queue) m f c = rw m ((c.0, ap (λ n. n + 1) c.1, c.2), λ h. cc, λ h. (c.0, c.2), λ h. c.1, λ h. cc)
+moved setup (Forward g) r past (Held server) m f c = rw m ((c.0, c.1, c.2), λ h. cc, λ h. (c.0, c.2), λ h. cc, λ h. c.1)
+moved setup (Sweep x) r past (Waits queue) m f c = rw m ((c.0, tt, ap (λ n. n + 1) c.2), λ h. cc, λ h. (c.0, c.2), λ h. c.1, λ h. cc)
+moved setup (End e) r past (Held server) m f c = rw m ((c.0, tt, ap (λ n. n + 1) c.2), λ h. cc, λ h. (c.0, c.2), λ h. cc, λ h. c.1)
 moved setup _ r past _ m f c = absurd f
 
 still : (e : Event) (r : RequestId) (past : List Event) (stage : Stage) → moves r e ≡ false → Counted r past stage → Next stage r e past
-still (Accept a) r past stage n c = rw n (c, (λ h. cc, λ h. cc, λ h. cc, λ h. cc))
-still (Take t) r past stage n c = rw n (c, (λ h. cc, λ h. cc, λ h. cc, λ h. cc))
-still (Forward f) r past stage n c = rw n (c, (λ h. cc, λ h. cc, λ h. cc, λ h. cc))
-still (Sweep x) r past stage n c = rw n (c, (λ h. cc, λ h. cc, λ h. cc, λ h. cc))
-still (End e) r past stage n c = rw n (c, (λ h. cc, λ h. cc, λ h. cc, λ h. cc))
-still _ r past stage n c = (c, (λ h. cc, λ h. cc, λ h. cc, λ h. cc))
+still (Accept a) r past stage n c = rw n (c, λ h. cc, λ h. cc, λ h. cc, λ h. cc)
+still (Take t) r past stage n c = rw n (c, λ h. cc, λ h. cc, λ h. cc, λ h. cc)
+still (Forward f) r past stage n c = rw n (c, λ h. cc, λ h. cc, λ h. cc, λ h. cc)
+still (Sweep x) r past stage n c = rw n (c, λ h. cc, λ h. cc, λ h. cc, λ h. cc)
+still (End e) r past stage n c = rw n (c, λ h. cc, λ h. cc, λ h. cc, λ h. cc)
+still _ r past stage n c = (c, λ h. cc, λ h. cc, λ h. cc, λ h. cc)
 
 next : (s : State) (e : Event) (r : RequestId) → Case s e → Agree s → Next (stage r (e ∷ s.past)) r e s.past
+unfolding stage
 next s e r case agree =
-    elim (cases_Bool (moves r e)) [
-      | inl m ↦ rw (stage_here r e s.past m) (moved s.setup e r s.past (stage r s.past) m (found s e r case agree m) (agree.counts r))
-      | inr n ↦ rw (stage_other r e s.past n) (still e r s.past (stage r s.past) n (agree.counts r))
-    ]
-
--- ---- what agrees goes on agreeing
-
-waits_before : (setup : Setup) (queue : ℕ) (e : Event) (past : List Event) (r : RequestId) → has r (waiting setup queue (e ∷ past)) ≡ true
-    → (enters queue e ≡ Some r) ⊎ ((has r (waiting setup queue past) ≡ true) × (leaves setup queue e ≡ Some r → ⊥))
-unfolding waiting
-waits_before setup queue e past r h = kept_before (enters queue e) (leaves setup queue e) (waiting setup queue past) r h
-
-busy_before : (server : ℕ) (generation : Generation) (e : Event) (past : List Event) (r : RequestId) → doing server (e ∷ past) ≡ Busy generation r
-    → ((moves_server server e ≡ true) × (doing_after (Some e) ≡ Busy generation r)) ⊎ ((moves_server server e ≡ false) × (doing server past ≡ Busy generation r))
-unfolding doing
-busy_before server generation e past r h =
-    elim (cases_Bool (moves_server server e)) [
-      | inl y ↦ inl (y, sym (ap doing_after (latest_yes (moves_server server) e past y)) ∙ h)
-      | inr n ↦ inr (n, sym (ap doing_after (latest_no (moves_server server) e past n)) ∙ h)
-    ]
+    cond_both (moves r e) (stage_by e) (stage r s.past) (λ x. Next x r e s.past)
+    (λ m. moved s.setup e r s.past (stage r s.past) m (found s e r case agree m) (agree.counts r))
+    (λ n. still e r s.past (stage r s.past) n (agree.counts r))
 
 -- a request that the event doesn't move stays at its stage
 stays : (s : State) (e : Event) (r : RequestId) (old : Stage) → Case s e → Agree s → stage r s.past ≡ old → (moves r e ≡ true → Found s.setup e old → ⊥) → stage r (e ∷ s.past) ≡ old
+unfolding stage
 stays s e r old case agree is unmoved =
-    elim (cases_Bool (moves r e)) [
-      | inl m ↦ absurd (unmoved m (subst (Found s.setup e) is (found s e r case agree m)))
-      | inr n ↦ stage_other r e s.past n ∙ is
-    ]
+    cond_both (moves r e) (stage_by e) (stage r s.past) (λ x. x ≡ old) (λ m. absurd (unmoved m (subst (Found s.setup e) is (found s e r case agree m)))) (λ n. is)
 
 pub agree_more : (s : State) (e : Event) → Case s e → Agree s → Agree (noted s e)
+unfolding waiting stage
 agree_more s e case agree = record {
-  waits = λ queue r h. elim (waits_before s.setup queue e s.past r h) [
-    | inl i ↦ let n = entered queue e r i in stage_here r e s.past n.0 ∙ n.1
+  waits = λ queue r h. elim (kept_before (enters queue e) (leaves s.setup queue e) (waiting s.setup queue s.past) r h) [
+    | inl i ↦ let n = entered queue e r i in cond-true (moves r e) (stage_by e) (stage r s.past) n.0 ∙ n.1
     | inr k ↦ stays s e r (Waits queue) case agree (agree.waits queue r k.0) (λ m f. k.1 (left_queue s.setup queue e r m f))
   ];
-  busy = λ server generation r h. elim (busy_before server generation e s.past r h) [
-    | inl i ↦ let n = held_by server generation e r i.0 i.1 in stage_here r e s.past n.0 ∙ n.1
-    | inr k ↦ stays s e r (Held server) case agree (agree.busy server generation r k.1) (λ m f. cc (of_holder s.setup server e f, k.0))
-  ];
-  fresh = λ r h.
-      let g = accepted_grows r.caller.0 e s.past in
-      stays s e r Unknown case agree (agree.fresh r (omega (arith, g, h))) (λ m f. not_fresh s e r case m f h);
+  busy = λ server generation r. doing_both server e s.past (λ d. d ≡ Busy generation r → stage r (e ∷ s.past) ≡ Held server)
+      (λ y h. let n = held_by server generation e r y h in cond-true (moves r e) (stage_by e) (stage r s.past) n.0 ∙ n.1)
+      (λ n h. stays s e r (Held server) case agree (agree.busy server generation r h) (λ m f. cc (of_holder s.setup server e f, n)));
+  fresh = λ r h. stays s e r Unknown case agree (agree.fresh r (lt_of_le_of_lt (accepted_grows r.caller.0 e s.past) h)) (λ m f. not_fresh s e r case m f h);
   counts = λ r. (next s e r case agree).0;
 }
 
 pub ends_law : (s : State) (e : Event) → Case s e → Agree s → OnceInTurn e s.past
-ends_law s e case agree = record {
-  fresh = λ r. (next s e r case agree).1.0;
-  known = λ r h. ((next s e r case agree).1.1 h).0;
-  unsettled = λ r h. ((next s e r case agree).1.1 h).1;
-  waiting = λ r. (next s e r case agree).1.2;
-  held = λ r. (next s e r case agree).1.3;
-}
+ends_law s e case agree =
+    let n = λ (r : RequestId). next s e r case agree in
+    record { fresh = λ r. (n r).1; known = λ r h. ((n r).2 h).0; unsettled = λ r h. ((n r).2 h).1; waiting = λ r. (n r).3; held = λ r. (n r).4 }

@@ -1,10 +1,9 @@
 -- What a caller reads of the board never gets older, and is never of the future.
-use Rattle.std.proofs.Common.{◌≡◌, ℕ, ◌+◌, ◌≤◌, ◌==◌, true, cond, List, [], ◌∷◌, length, Some, inl, inr, ◌⊎◌, refl, arith, eqb-true, le_trans}
-use Rattle.std.specs.List.{cons_option}
+use Rattle.std.proofs.Common.{◌≡◌, ℕ, ◌+◌, ◌≤◌, ◌==◌, true, List, [], ◌∷◌, Some, inl, inr, ◌⊎◌, refl, arith, eqb-true, le_trans}
+use Rattle.std.proofs.lemmas.Option.{cond_some}
 use Rattle.xa_types.specs.declared.setup.Setup.{Setup}
 use Rattle.xa_types.specs.declared.fault.Fault.{Fault}
 use Rattle.xa_types.specs.declared.fault.Fault.TheVariants.{Inval, NoEnt}
-use Rattle.xa_types.specs.Rows.{Change}
 use Rattle.xa_events.specs.declared.event.Event.{Event}
 use Rattle.xa_events.specs.declared.event.Event.TheVariants.{Advertise, Withdraw, Accept, Forward, End, Refuse}
 use Rattle.xa_events.specs.declared.event.Evidence.{Evidence}
@@ -12,27 +11,19 @@ use Rattle.xa_events.specs.declared.event.Evidence.TheVariants.{Argument, Versio
 use Rattle.xa_events.specs.declared.event.Outcome.{Outcome}
 use Rattle.xa_events.specs.declared.event.Outcome.TheVariants.{BadForward}
 use Rattle.xa_events.specs.Words.{count, greatest}
-use Rattle.xa_events.specs.State.{State, noted, opening}
-use Rattle.xa_events.specs.Homes.{caller_of}
-use Rattle.xa_events.specs.Board.{change_in, changes, published, boot}
+use Rattle.xa_events.specs.State.{State, noted}
+use Rattle.xa_events.specs.Board.{changes, published, boot}
 use Rattle.xa_events.specs.Caller.{reads, versions, least_version, version_in, version_of}
 use Rattle.xa_events.specs.Cases.{Case, is_sound_outcome, IsEvidenceFor}
 use Rattle.xa_events.specs.Laws.{is_change, ReadsForward}
-use Rattle.xa_events.proofs.WordsLemmas.{if_some, some_is, count_yes, count_grows, greatest_rises, greatest_one_more}
-
--- ---- the version of the board is the number of its changes
-
-change_one : (e : Event) (n : ℕ) (before : List Change) → length before ≡ n → length (cons_option (change_in e) before) ≡ cond (is_change e) (n + 1) n
-change_one (Advertise a) n before h = omega (arith, h)
-change_one (Withdraw w) n before h = omega (arith, h)
-change_one _ n before h = h
+use Rattle.xa_events.proofs.WordsLemmas.{if_some, count_yes, count_grows, greatest_rises, greatest_one_more}
 
 pub published_is : (past : List Event) → published past ≡ count is_change past
 unfolding published changes
 published_is [] = refl
-published_is (e ∷ past) = change_one e (count is_change past) (changes past) (published_is past)
-
--- ---- what one event reads
+published_is (Advertise a ∷ past) = omega (arith, published_is past)
+published_is (Withdraw w ∷ past) = omega (arith, published_is past)
+published_is (_ ∷ past) = published_is past
 
 -- what is read is no older than the floor, and stands, or it is made by this event
 abbrev pub Reads : State → Event → ℕ → ℕ → Type 0
@@ -40,7 +31,7 @@ Reads s e caller version = ((least_version s.setup s.clients caller s.past ≤ v
 
 shown_version : (past : List Event) (fault : Fault) (e : Evidence) (version : ℕ) → IsEvidenceFor fault e past → version_in e ≡ Some version → version ≤ published past
 shown_version past Inval Argument version h e = cc e
-shown_version past NoEnt (Version v) version h e = rw (← some_is v version e) h
+shown_version past NoEnt (Version v) version h e = rw (← (cond_some true v version e).1) h
 shown_version past _ _ version h e = absurd h
 
 -- a forward isn't built yet, so none fails
@@ -49,32 +40,21 @@ no_version setup (BadForward v) version sound h = cc sound
 no_version setup _ version sound h = cc h
 
 pub reads_so : (s : State) (e : Event) (caller version : ℕ) → Case s e → reads s.clients caller e ≡ Some version → Reads s e caller version
-reads_so s (Advertise a) caller version case h =
-    let i = if_some (a.by.0 == caller) (Some a.version) version h in
-    rw (← some_is a.version version i.1) (inr (refl, case.home.version))
-reads_so s (Withdraw w) caller version case h =
-    let i = if_some (w.by.0 == caller) (Some w.version) version h in
-    rw (← some_is w.version version i.1) (inr (refl, case.home.version))
+reads_so s (Advertise a) caller version case h = rw (← (cond_some (a.by.0 == caller) a.version version h).1) (inr (refl, case.home.version))
+reads_so s (Withdraw w) caller version case h = rw (← (cond_some (w.by.0 == caller) w.version version h).1) (inr (refl, case.home.version))
 reads_so s (Accept a) caller version case h =
-    let i = if_some (a.by.0 == caller) (Some a.version) version h in
-    rw (← eqb-true a.by.0 caller i.0, ← some_is a.version version i.1) (inl (case.worker.fresh, case.before.named.version))
+    let i = cond_some (a.by.0 == caller) a.version version h in
+    rw (← eqb-true a.by.0 caller i.0, ← i.1) (inl (case.worker.fresh, case.before.named.version))
 reads_so s (Forward f) caller version case h = absurd case.home
-reads_so s (End e) caller version case h =
-    absurd (no_version s.setup e.outcome version case.worker.sound (if_some (caller_of s.clients e.server.0 == caller) (version_of e.outcome) version h).1)
+reads_so s (End e) caller version case h = absurd (no_version s.setup e.outcome version case.worker.sound (if_some _ (version_of e.outcome) version h).1)
 reads_so s (Refuse r) caller version case h =
     let i = if_some (r.by.0 == caller) (version_in r.evidence) version h in
     rw (← eqb-true r.by.0 caller i.0) (inl (case.worker.fresh version i.1, shown_version s.past r.fault r.evidence version case.before.named i.1))
 reads_so s _ caller version case h = cc h
 
--- ---- along a run
-
 -- all that was read is at most the version of the board
 abbrev pub ReadStands : State → Type 0
 ReadStands s = (caller : ℕ) → greatest 0 (versions s.clients caller s.past) ≤ count is_change s.past
-
-pub none_read : (setup : Setup) (clients : ℕ) → ReadStands (opening setup clients)
-unfolding versions
-none_read setup clients = λ caller. omega arith
 
 pub version_law : (s : State) (e : Event) → Case s e → ReadStands s → ReadsForward s.clients e s.past
 version_law s e case stood = record {

@@ -2,13 +2,11 @@
 use Rattle.std.proofs.Common.{if◌then◌else◌, ◌≡◌, ℕ, ◌+◌, ◌≤◌, ◌==◌, ◌||◌, ◌&&◌, Bool, true, false, cond, not, List, [], ◌∷◌, Option, Some, None, inl, inr, ◌⊎◌, refl, sym, ◌∙◌, ap, subst, arith, eq-eqb, eqb-true}
 use Rattle.std.specs.List.{filter_map, list_any, cons_option}
 use Rattle.std.proofs.Math.Bool.{or-false}
-use Rattle.std.proofs.lemmas.Bool.{cases_Bool, or_cases, or_left, or_right, and_parts, and_from}
+use Rattle.std.proofs.lemmas.Bool.{cond_both, or_cases, or_left, and_parts, and_from}
 use Rattle.std.proofs.lemmas.List.Folds.{list_any-append}
 use Rattle.std.proofs.lemmas.Map.Views.{any-filter_same}
 use Rattle.xa_types.specs.declared.ids.RequestId.{RequestId}
-use Rattle.xa_events.specs.Words.{latest, count, greatest, same_request, added, without, has, kept}
-
--- ---- two requests
+use Rattle.xa_events.specs.Words.{latest, count, greatest, same_request, added, without, has}
 
 request_of : ℕ → ℕ → RequestId
 request_of caller number = record { caller = record { 0 = caller }; number = number }
@@ -23,16 +21,11 @@ pub same_request_of : (a b : RequestId) → a ≡ b → same_request a b ≡ tru
 same_request_of a b e =
     subst (λ x. same_request a x ≡ true) e (and_from (a.caller.0 == a.caller.0) (a.number == a.number) (eq-eqb a.caller.0 a.caller.0 refl) (eq-eqb a.number a.number refl))
 
--- ---- a value under a test
-
 pub if_some : {X : Type 0} (b : Bool) (o : Option X) (x : X) → (if b then o else None) ≡ Some x → (b ≡ true) × (o ≡ Some x)
 if_some true o x h = (refl, h)
 if_some false o x h = cc h
 
-pub some_is : {X : Type 0} (x y : X) → Some x ≡ Some y → x ≡ y
-some_is x y h = cc h
-
--- ---- latest, count, list_any, filter_map on one more
+-- ---- one more for latest, count, list_any, filter_map and greatest
 
 pub latest_yes : {X : Type 0} (p : X → Bool) (e : X) (past : List X) → p e ≡ true → latest p (e ∷ past) ≡ Some e
 latest_yes p e past h = ap (λ b. cond b (Some e) (latest p past)) h
@@ -46,12 +39,8 @@ count_yes p e past h = ap (λ b. cond b (count p past + 1) (count p past)) h
 pub count_no : {X : Type 0} (p : X → Bool) (e : X) (past : List X) → p e ≡ false → count p (e ∷ past) ≡ count p past
 count_no p e past h = ap (λ b. cond b (count p past + 1) (count p past)) h
 
-count_step : (b : Bool) (n : ℕ) → n ≤ cond b (n + 1) n
-count_step true n = omega arith
-count_step false n = omega arith
-
 pub count_grows : {X : Type 0} (p : X → Bool) (e : X) (past : List X) → count p past ≤ count p (e ∷ past)
-count_grows p e past = count_step (p e) (count p past)
+count_grows p e past = cond_both (p e) (count p past + 1) (count p past) (λ n. count p past ≤ n) (λ y. omega arith) (λ n. omega arith)
 
 pub list_any_yes : {X : Type 0} (p : X → Bool) (e : X) (past : List X) → p e ≡ true → list_any p (e ∷ past) ≡ true
 list_any_yes p e past h = or_left (p e) (list_any p past) h
@@ -65,8 +54,6 @@ filter_map_yes f e past y h = ap (λ o. cons_option o (filter_map f past)) h
 pub filter_map_no : {X Y : Type 0} (f : X → Option Y) (e : X) (past : List X) → f e ≡ None → filter_map f (e ∷ past) ≡ filter_map f past
 filter_map_no f e past h = ap (λ o. cons_option o (filter_map f past)) h
 
--- ---- greatest
-
 pub greatest_rises : (low high : ℕ) (ns : List ℕ) → low ≤ high → greatest low ns ≤ greatest high ns
 greatest_rises low high [] h = h
 greatest_rises low high (n ∷ rest) h = let k = greatest_rises low high rest h in omega (arith, k)
@@ -78,47 +65,25 @@ greatest_one_more f (Some n) least m h k = let j = h n refl in omega (arith, j, 
 
 -- ---- requests that are kept
 
-abbrev pub names : RequestId → Option RequestId → Bool
-names r None = false
-names r (Some other) = same_request r other
+pub has_added : (r a : RequestId) (rs : List RequestId) → has r (added (Some a) rs) ≡ (has r rs || same_request r a)
+has_added r a rs = list_any-append (same_request r) rs (a ∷ []) ∙ ap (λ b. has r rs || b) (or-false (same_request r a))
 
-pub names_is : (r : RequestId) (o : Option RequestId) → names r o ≡ true → o ≡ Some r
-names_is r None h = cc h
-names_is r (Some other) h = ap Some (sym (same_request_is r other h))
-
-pub names_of : (r : RequestId) (o : Option RequestId) → o ≡ Some r → names r o ≡ true
-names_of r o e = subst (λ x. names r x ≡ true) (sym e) (same_request_of r r refl)
-
-pub has_added : (r : RequestId) (new : Option RequestId) (rs : List RequestId) → has r (added new rs) ≡ (has r rs || names r new)
-has_added r None rs = sym (or-false (has r rs))
-has_added r (Some a) rs = list_any-append (same_request r) rs (a ∷ []) ∙ ap (λ b. has r rs || b) (or-false (same_request r a))
-
-pub has_without : (r : RequestId) (out : Option RequestId) (rs : List RequestId) → has r (without out rs) ≡ (not (names r out) && has r rs)
-has_without r None rs = refl
-has_without r (Some out) rs =
+pub has_without : (r out : RequestId) (rs : List RequestId) → has r (without (Some out) rs) ≡ (not (same_request r out) && has r rs)
+has_without r out rs =
     any-filter_same (same_request r) (λ q. not (same_request q out)) (not (same_request r out)) (λ q h. ap (λ x. not (same_request x out)) (sym (same_request_is r q h))) rs
+
+-- what is there without another was there, and is another
+pub without_before : (out : Option RequestId) (rs : List RequestId) (r : RequestId) → has r (without out rs) ≡ true → (has r rs ≡ true) × (out ≡ Some r → ⊥)
+without_before None rs r h = (h, λ e. cc e)
+without_before (Some out) rs r h =
+    let p = and_parts (not (same_request r out)) (has r rs) (sym (has_without r out rs) ∙ h) in
+    (p.1, λ e. let n = sym (ap not (same_request_of r out (cc e))) ∙ p.0 in cc n)
 
 -- what is there after one step came in by it, or was there and didn't go out by it
 pub kept_before : (new out : Option RequestId) (rs : List RequestId) (r : RequestId) → has r (added new (without out rs)) ≡ true → (new ≡ Some r) ⊎ ((has r rs ≡ true) × (out ≡ Some r → ⊥))
-kept_before new out rs r h =
-    elim (or_cases (has r (without out rs)) (names r new) (sym (has_added r new (without out rs)) ∙ h)) [
-      | inl y ↦ let p = and_parts (not (names r out)) (has r rs) (sym (has_without r out rs) ∙ y) in inr (p.1, λ e. let n = sym (ap not (names_of r out e)) ∙ p.0 in cc n)
-      | inr n ↦ inl (names_is r new n)
+kept_before None out rs r h = inr (without_before out rs r h)
+kept_before (Some a) out rs r h =
+    elim (or_cases (has r (without out rs)) (same_request r a) (sym (has_added r a (without out rs)) ∙ h)) [
+      | inl old ↦ inr (without_before out rs r old)
+      | inr new ↦ inl (ap Some (sym (same_request_is r a new)))
     ]
-
--- what comes in is there
-pub kept_new : (new out : Option RequestId) (rs : List RequestId) (r : RequestId) → new ≡ Some r → has r (added new (without out rs)) ≡ true
-kept_new new out rs r e = has_added r new (without out rs) ∙ or_right (has r (without out rs)) (names r new) (names_of r new e)
-
--- what was there and didn't go out is there
-pub kept_old : (new out : Option RequestId) (rs : List RequestId) (r : RequestId) → has r rs ≡ true → (out ≡ Some r → ⊥) → has r (added new (without out rs)) ≡ true
-kept_old new out rs r h stays =
-    has_added r new (without out rs) ∙ or_left (has r (without out rs)) (names r new) (has_without r out rs ∙ elim (cases_Bool (names r out)) [
-      | inl y ↦ absurd (stays (names_is r out y))
-      | inr n ↦ ap (λ b. not b && has r rs) n ∙ h
-    ])
-
--- where nothing comes in and nothing goes out, nothing changes
-pub kept_same : {X : Type 0} (enters leaves : X → Option RequestId) (e : X) (past : List X) → enters e ≡ None → leaves e ≡ None → kept enters leaves (e ∷ past) ≡ kept enters leaves past
-kept_same enters leaves e past i o =
-    ap (λ n. added n (without (leaves e) (kept enters leaves past))) i ∙ ap (λ n. without n (kept enters leaves past)) o
