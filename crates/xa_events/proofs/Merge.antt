@@ -18,7 +18,7 @@ use Rattle.xa_events.specs.State.{State, opening, noted}
 use Rattle.xa_events.specs.Homes.{Home, same_home, home_of, worker_of, at_home, of_worker, caller_of}
 use Rattle.xa_events.specs.Homes.Home.{BoardHome, QueueHome, ClockHome, CallerHome}
 use Rattle.xa_events.specs.Board.{changes, published, boot, rows_of_version}
-use Rattle.xa_events.specs.Queue.{waiting, takes, is_down, is_closed, enters, leaves, is_close_of}
+use Rattle.xa_events.specs.Queue.{waiting, takes, is_down, is_closed, comes_in, goes_out, is_close_of}
 use Rattle.xa_events.specs.Server.{doing, doing_after, starts, is_gone, is_gone_of, was_shut_down, is_shutdown_stop, last_outcome, outcome_in, may_start, AllGone}
 use Rattle.xa_events.specs.Caller.{newest_call, op_of, accepted_in, accepted, open_descriptors, versions, ticks, tick_floor, has_left, is_leaving, descriptor_limit}
 use Rattle.xa_events.specs.Cases.{Case, HomePart, WorkerPart, NamedBefore, IsActive, IsNextCall, IsShut, NoRows, idle_stops, dying_stops}
@@ -37,6 +37,20 @@ AtEach-rest q P e past h =
 
 AtEach-here : {X : Type 0} (q : X → Bool) (P : X → List X → Type 0) (e : X) (past : List X) → q e ≡ true → AtEach P (filter q (e ∷ past)) → P e (filter q past)
 AtEach-here q P e past y h = let g = subst (λ (b : Bool). AtEach P (cond b (e ∷ filter q past) (filter q past))) y h in g.0
+
+earlier_self : {X : Type 0} (past : List X) → IsEarlier past past
+earlier_self [] = refl
+earlier_self (e ∷ past) = inl refl
+
+-- an earlier moment of the whole is one of the part
+earlier_own : {X : Type 0} (q : X → Bool) (seen past : List X) → IsEarlier seen past → IsEarlier (filter q seen) (filter q past)
+earlier_own q seen [] is = ap (filter q) is
+earlier_own q seen (e ∷ past) (inl is) = subst (λ xs. IsEarlier (filter q xs) (filter q (e ∷ past))) (sym is) (earlier_self (filter q (e ∷ past)))
+earlier_own q seen (e ∷ past) (inr older) =
+    elim (cases_Bool (q e)) [
+      | inl y ↦ subst (λ (b : Bool). IsEarlier (filter q seen) (cond b (e ∷ filter q past) (filter q past))) (sym y) (inr (earlier_own q seen past older))
+      | inr n ↦ subst (λ (b : Bool). IsEarlier (filter q seen) (cond b (e ∷ filter q past) (filter q past))) (sym n) (earlier_own q seen past older)
+    ]
 
 same_home-self : (home : Home) → same_home home home ≡ true
 same_home-self BoardHome = refl
@@ -60,6 +74,9 @@ module _ (setup : Setup) (clients : ℕ) (past : List Event) where
   rows_own : (v : ℕ) → rows_of_version setup board v ≡ rows_of_version setup past v
   unfolding rows_of_version
   rows_own v = ap (λ cs. rows_at setup cs v) changes_own
+
+  stands_own : rows_of_version setup board (published board) ≡ rows_of_version setup past (published past)
+  stands_own = rows_own (published board) ∙ ap (rows_of_version setup past) published_own
 
   module _ (queue : ℕ) where
     abbrev here : List Event
@@ -162,7 +179,7 @@ home_whole setup clients past (Advertise a) h = record {
   version = h.version ∙ ap (λ n. n + 1) (published_own setup clients past);
 }
 home_whole setup clients past (Withdraw w) h = record {
-  stands = subst (λ (standing : List Row). IsSome (row_of w.service w.queue.0 standing)) (rows_own setup clients past (published (home_events setup clients BoardHome past)) ∙ ap (rows_of_version setup past) (published_own setup clients past)) h.stands;
+  stands = subst (λ (standing : List Row). IsSome (row_of w.service w.queue.0 standing)) (stands_own setup clients past) h.stands;
   version = h.version ∙ ap (λ n. n + 1) (published_own setup clients past);
 }
 home_whole setup clients past (Accept a) h = record {
@@ -209,7 +226,7 @@ worker_whole setup clients past (Accept a) w = record {
   mode = w.mode;
   few = subst (λ (rs : List RequestId). length rs < descriptor_limit clients a.by.0) (descriptors_own setup clients past a.by.0) w.few;
   sound = w.sound;
-  fresh = subst (λ (vs : List ℕ). greatest (boot setup) vs ≤ a.version) (versions_own setup clients past a.by.0) w.fresh;
+  not_older = subst (λ (vs : List ℕ). greatest (boot setup) vs ≤ a.version) (versions_own setup clients past a.by.0) w.not_older;
 }
 worker_whole setup clients past (Take t) w = record {
   idle = sym (doing_own setup clients past t.server.0) ∙ w.idle;
@@ -218,12 +235,12 @@ worker_whole setup clients past (Take t) w = record {
 worker_whole setup clients past (Gone server) w = record {
   off = sym (doing_own setup clients past server.0) ∙ w.off;
   not_shut_down = sym (shut_own setup clients past server.0) ∙ w.not_shut_down;
-  spent = sym (ap (λ made. may_start setup server.0 made (tick_floor clients (caller_of clients server.0) (worker_events clients (caller_of clients server.0) past))) (starts_own setup clients past server.0)
-      ∙ ap (λ ns. may_start setup server.0 (starts server.0 past) (greatest 0 ns)) (ticks_own setup clients past (caller_of clients server.0))) ∙ w.spent;
+  no_restart = sym (ap (λ made. may_start setup server.0 made (tick_floor clients (caller_of clients server.0) (worker_events clients (caller_of clients server.0) past))) (starts_own setup clients past server.0)
+      ∙ ap (λ ns. may_start setup server.0 (starts server.0 past) (greatest 0 ns)) (ticks_own setup clients past (caller_of clients server.0))) ∙ w.no_restart;
 }
 worker_whole setup clients past (Start b) w = start_whole setup clients past b w
 worker_whole setup clients past (StartFailed b) w = start_whole setup clients past b w
-worker_whole setup clients past (End e) w = record { busy = sym (doing_own setup clients past e.server.0) ∙ w.busy; sound = w.sound }
+worker_whole setup clients past (End e) w = record { busy = sym (doing_own setup clients past e.server.0) ∙ w.busy; may = w.may }
 worker_whole setup clients past (Stop x) w = record {
   alive = elim w.alive [
     | inl i ↦ inl (sym (doing_own setup clients past x.server.0) ∙ i.0, sym (ap (idle_stops x.cause) (outcome_own setup clients past x.server.0)) ∙ i.1)
@@ -242,14 +259,16 @@ worker_whole setup clients past (Answer a) w = record {
 }
 worker_whole setup clients past (Refuse r) w = record {
   call = next_own setup clients past r.by.0 r.op w.call;
-  fresh = λ version shown. subst (λ (vs : List ℕ). greatest (boot setup) vs ≤ version) (versions_own setup clients past r.by.0) (w.fresh version shown);
+  not_older = λ version shown. subst (λ (vs : List ℕ). greatest (boot setup) vs ≤ version) (versions_own setup clients past r.by.0) (w.not_older version shown);
 }
 worker_whole setup clients past (Leave client) w = record {
   known = w.known;
   not_left = sym (left_own setup clients past client.0) ∙ w.not_left;
   none = sym (descriptors_own setup clients past client.0) ∙ w.none;
 }
-worker_whole setup clients past _ w = tt
+worker_whole setup clients past (Down queue) w = tt
+worker_whole setup clients past (Close queue) w = tt
+worker_whole setup clients past _ w = absurd w
 
 -- ---- a board without rows of a queue stays so behind the boot
 
@@ -285,7 +304,7 @@ no_rows_more setup queue _ past part booted none = (none, booted)
 
 -- ---- a closed queue at which nothing waits stays so
 
-none_enters : (setup : Setup) (queue : ℕ) (e : Event) (past : List Event) → HomePart setup e past → is_closed queue past ≡ true → enters queue e ≡ None
+none_enters : (setup : Setup) (queue : ℕ) (e : Event) (past : List Event) → HomePart setup e past → is_closed queue past ≡ true → comes_in queue e ≡ None
 none_enters setup queue (Accept a) past part shut =
     elim (cases_Bool (a.queue.0 == queue)) [
       | inl y ↦ let still : is_closed queue past ≡ false = subst (λ (n : ℕ). is_closed n past ≡ false) (eqb-true a.queue.0 queue y) part.not_closed in absurd (cc (still, shut))
@@ -302,7 +321,7 @@ shut_more : (setup : Setup) (queue : ℕ) (e : Event) (past : List Event) → Ho
 unfolding is_closed waiting
 shut_more setup queue e past part shut = record {
   closed = or_right (is_close_of queue e) (is_closed queue past) shut.closed;
-  empty = ap (λ o. added o (without (leaves setup queue e) (waiting setup queue past))) (none_enters setup queue e past part shut.closed) ∙ (ap (without (leaves setup queue e)) shut.empty ∙ without_none (leaves setup queue e));
+  empty = ap (λ o. added o (without (goes_out setup queue e) (waiting setup queue past))) (none_enters setup queue e past part shut.closed) ∙ (ap (without (goes_out setup queue e)) shut.empty ∙ without_none (goes_out setup queue e));
 }
 
 -- what was seen, and what each event of the home keeps, holds now
@@ -314,11 +333,14 @@ seen_now setup P more seen (e ∷ past) each (inr older) h = more e past each.0 
 -- ---- the case, from its parts
 
 module _ (setup : Setup) (clients : ℕ) (past : List Event) (homes : (home : Home) → AtEach (HomePart setup) (home_events setup clients home past)) where
-  still_no_rows : (queue : ℕ) → SawNoRows setup clients queue past → NoRows setup queue past
+  still_no_rows : (queue : ℕ) → SawNoRows setup queue past → NoRows setup queue past
   still_no_rows queue saw =
       let P : List Event → Type 0 = λ now. NoRows setup queue now × (boot setup ≤ published now) in
-      let now = seen_now setup P (λ e before part old. no_rows_more setup queue e before part old.1 old.0) saw.seen (home_events setup clients BoardHome past) (homes BoardHome) saw.stood (saw.none, saw.booted) in
-      λ service. sym (ap (row_of service queue) (rows_own setup clients past (published (home_events setup clients BoardHome past)) ∙ ap (rows_of_version setup past) (published_own setup clients past))) ∙ now.0 service
+      let to : (now : List Event) → P now → P (home_events setup clients BoardHome now) =
+      λ now h. (λ service. ap (row_of service queue) (stands_own setup clients now) ∙ h.0 service, subst (λ n. boot setup ≤ n) (sym (published_own setup clients now)) h.1) in
+      let now = seen_now setup P (λ e before part old. no_rows_more setup queue e before part old.1 old.0) (home_events setup clients BoardHome saw.seen) (home_events setup clients BoardHome past) (homes BoardHome)
+      (earlier_own (at_home setup clients BoardHome) saw.seen past saw.stood) (to saw.seen (saw.none, saw.booted)) in
+      λ service. sym (ap (row_of service queue) (stands_own setup clients past)) ∙ now.0 service
 
   still_shut : (queue : ℕ) → SawShut setup clients queue past → IsShut setup queue past
   still_shut queue saw =
@@ -328,7 +350,7 @@ module _ (setup : Setup) (clients : ℕ) (past : List Event) (homes : (home : Ho
   named_now : (e : Event) → SeenBefore setup clients e past → NamedBefore setup clients e past
   named_now (Down queue) named = still_no_rows queue.0 named
   named_now (Stop x) named = λ cause. still_shut (queue_of setup x.server.0) (named cause)
-  named_now (Advertise a) named = named
+  named_now (Advertise a) named = tt
   named_now (Withdraw w) named = named
   named_now (Accept a) named = named
   named_now (Close queue) named = named
@@ -336,7 +358,11 @@ module _ (setup : Setup) (clients : ℕ) (past : List Event) (homes : (home : Ho
   named_now (StartFailed b) named = named
   named_now (Answer a) named = named
   named_now (Refuse r) named = named
-  named_now _ named = tt
+  named_now (Take t) named = tt
+  named_now (Gone server) named = tt
+  named_now (End e) named = tt
+  named_now (Leave client) named = tt
+  named_now _ named = absurd named
 
 abbrev state : Setup → ℕ → List Event → State
 state setup clients past = record { setup = setup; clients = clients; past = past }

@@ -45,6 +45,7 @@ queue_idle setup clients queue (Accept a) view h = ap (λ b. record view { waiti
 queue_idle setup clients queue (Take t) view h = ap (λ b. record view { waiting = without (if b then Some t.request else None) view.waiting; takes = cond b (view.takes + 1) view.takes }) h
 queue_idle setup clients queue (Forward f) view h = ap (λ b. record view { waiting = added (if b then Some f.request else None) view.waiting }) h
 queue_idle setup clients queue (Sweep x) view h = ap (λ b. record view { waiting = without (if b then Some x.request else None) view.waiting }) h
+queue_idle setup clients queue (Gone s) view h = ap (λ b. record view { gone = cons_option (if b then Some s.0 else None) view.gone }) h
 queue_idle setup clients queue (Down q) view h = ap (λ b. record view { down = b || view.down }) h
 queue_idle setup clients queue (Close q) view h = ap (λ b. record view { closed = b || view.closed }) h
 queue_idle setup clients queue _ view h = refl

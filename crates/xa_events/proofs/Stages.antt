@@ -13,7 +13,7 @@ use Rattle.xa_events.specs.declared.event.Outcome.{Outcome}
 use Rattle.xa_events.specs.declared.event.Outcome.TheVariants.{Died}
 use Rattle.xa_events.specs.Words.{count, has, same_request}
 use Rattle.xa_events.specs.State.{State, noted, opening}
-use Rattle.xa_events.specs.Queue.{enters, leaves, waiting}
+use Rattle.xa_events.specs.Queue.{comes_in, goes_out, waiting}
 use Rattle.xa_events.specs.Server.{moves_server, after_end, doing_after, doing}
 use Rattle.xa_events.specs.Caller.{accepts_for, accepted}
 use Rattle.xa_events.specs.Request.{is_accept_of, is_take_of, is_forward_of, is_end_of, is_sweep_of, is_settled_by}
@@ -97,13 +97,13 @@ found s (End e) r case agree m = rw (← same_request_is e.request r m, agree.bu
 found s _ r case agree m = cc m
 
 -- what goes into a queue waits there
-entered : (queue : ℕ) (e : Event) (r : RequestId) → enters queue e ≡ Some r → (moves r e ≡ true) × (stage_by e ≡ Waits queue)
+entered : (queue : ℕ) (e : Event) (r : RequestId) → comes_in queue e ≡ Some r → (moves r e ≡ true) × (stage_by e ≡ Waits queue)
 entered queue (Accept a) r h = let i = cond_some (a.queue.0 == queue) a.request r h in (same_request_of a.request r i.1, ap Waits (eqb-true a.queue.0 queue i.0))
 entered queue (Forward f) r h = let i = cond_some (f.queue.0 == queue) f.request r h in (same_request_of f.request r i.1, ap Waits (eqb-true f.queue.0 queue i.0))
 entered queue _ r h = cc h
 
 -- what moves a request that waits takes it out of its queue
-left_queue : (setup : Setup) (queue : ℕ) (e : Event) (r : RequestId) → moves r e ≡ true → Found setup e (Waits queue) → leaves setup queue e ≡ Some r
+left_queue : (setup : Setup) (queue : ℕ) (e : Event) (r : RequestId) → moves r e ≡ true → Found setup e (Waits queue) → goes_out setup queue e ≡ Some r
 left_queue setup queue (Take t) r m f = ap (λ b. if b then Some t.request else None) (eq-eqb (queue_of setup t.server.0) queue f) ∙ ap Some (same_request_is t.request r m)
 left_queue setup queue (Sweep x) r m f = ap (λ b. if b then Some x.request else None) (eq-eqb x.queue.0 queue f) ∙ ap Some (same_request_is x.request r m)
 left_queue setup queue _ r m f = absurd f
@@ -180,7 +180,7 @@ stays s e r old case agree is unmoved =
 pub agree_more : (s : State) (e : Event) → Case s e → Agree s → Agree (noted s e)
 unfolding waiting stage
 agree_more s e case agree = record {
-  waits = λ queue r h. elim (kept_before (enters queue e) (leaves s.setup queue e) (waiting s.setup queue s.past) r h) [
+  waits = λ queue r h. elim (kept_before (comes_in queue e) (goes_out s.setup queue e) (waiting s.setup queue s.past) r h) [
     | inl i ↦ let n = entered queue e r i in cond-true (moves r e) (stage_by e) (stage r s.past) n.0 ∙ n.1
     | inr k ↦ stays s e r (Waits queue) case agree (agree.waits queue r k.0) (λ m f. k.1 (left_queue s.setup queue e r m f))
   ];
@@ -194,4 +194,4 @@ agree_more s e case agree = record {
 pub ends_law : (s : State) (e : Event) → Case s e → Agree s → OnceInTurn e s.past
 ends_law s e case agree =
     let n = λ (r : RequestId). next s e r case agree in
-    record { fresh = λ r. (n r).1; known = λ r h. ((n r).2 h).0; unsettled = λ r h. ((n r).2 h).1; waiting = λ r. (n r).3; held = λ r. (n r).4 }
+    record { new = λ r. (n r).1; known = λ r h. ((n r).2 h).0; unsettled = λ r h. ((n r).2 h).1; waiting = λ r. (n r).3; held = λ r. (n r).4 }

@@ -14,7 +14,7 @@ use Rattle.xa_events.specs.Words.{count, greatest}
 use Rattle.xa_events.specs.State.{State, noted}
 use Rattle.xa_events.specs.Board.{changes, published, boot}
 use Rattle.xa_events.specs.Caller.{reads, versions, least_version, version_in, version_of}
-use Rattle.xa_events.specs.Cases.{Case, is_sound_outcome, IsEvidenceFor}
+use Rattle.xa_events.specs.Cases.{Case, may_end_so, IsEvidenceFor}
 use Rattle.xa_events.specs.Laws.{is_change, ReadsForward}
 use Rattle.xa_events.proofs.WordsLemmas.{if_some, count_yes, count_grows, greatest_rises, greatest_one_more}
 
@@ -35,7 +35,7 @@ shown_version past NoEnt (Version v) version h e = rw (← (cond_some true v ver
 shown_version past _ _ version h e = absurd h
 
 -- a forward isn't built yet, so none fails
-no_version : (setup : Setup) (outcome : Outcome) (version : ℕ) → is_sound_outcome setup outcome ≡ true → version_of outcome ≡ Some version → ⊥
+no_version : (setup : Setup) (outcome : Outcome) (version : ℕ) → may_end_so setup outcome ≡ true → version_of outcome ≡ Some version → ⊥
 no_version setup (BadForward v) version sound h = cc sound
 no_version setup _ version sound h = cc h
 
@@ -44,12 +44,12 @@ reads_so s (Advertise a) caller version case h = rw (← (cond_some (a.by.0 == c
 reads_so s (Withdraw w) caller version case h = rw (← (cond_some (w.by.0 == caller) w.version version h).1) (inr (refl, case.home.version))
 reads_so s (Accept a) caller version case h =
     let i = cond_some (a.by.0 == caller) a.version version h in
-    rw (← eqb-true a.by.0 caller i.0, ← i.1) (inl (case.worker.fresh, case.before.named.version))
+    rw (← eqb-true a.by.0 caller i.0, ← i.1) (inl (case.worker.not_older, case.before.named.version))
 reads_so s (Forward f) caller version case h = absurd case.home
-reads_so s (End e) caller version case h = absurd (no_version s.setup e.outcome version case.worker.sound (if_some _ (version_of e.outcome) version h).1)
+reads_so s (End e) caller version case h = absurd (no_version s.setup e.outcome version case.worker.may (if_some _ (version_of e.outcome) version h).1)
 reads_so s (Refuse r) caller version case h =
     let i = if_some (r.by.0 == caller) (version_in r.evidence) version h in
-    rw (← eqb-true r.by.0 caller i.0) (inl (case.worker.fresh version i.1, shown_version s.past r.fault r.evidence version case.before.named i.1))
+    rw (← eqb-true r.by.0 caller i.0) (inl (case.worker.not_older version i.1, shown_version s.past r.fault r.evidence version case.before.named i.1))
 reads_so s _ caller version case h = cc h
 
 -- all that was read is at most the version of the board

@@ -35,22 +35,22 @@ abbrev pub under_kind : Option Kind → Data → Answer → Answer
 under_kind None payload answer = answer
 under_kind (Some wanted) payload answer = if kind_fits wanted (kind_of payload) then answer else Error OType
 
--- what a caller with that TPNOCHANGE kind, if it has one, is told
-abbrev pub answer_to : Option Kind → Settlement → Answer
-answer_to wanted (EndedBy (Returned code payload)) = under_kind wanted payload (Success code payload)
-answer_to wanted (EndedBy (Failed code payload)) = under_kind wanted payload (FailedAnswer code payload)
-answer_to wanted settlement = reply_of settlement
+-- what a caller with that TPNOCHANGE kind, if it has one, is told by that reply
+abbrev pub answer_to : Option Kind → Answer → Answer
+answer_to wanted (Success code payload) = under_kind wanted payload (Success code payload)
+answer_to wanted (FailedAnswer code payload) = under_kind wanted payload (FailedAnswer code payload)
+answer_to wanted (Error fault) = Error fault
 
 abbrev pub has_kind : Option Kind → Bool
 has_kind None = false
 has_kind (Some kind) = true
 
--- whether the request came back with data, which may be of another kind than the caller's buffer
-abbrev pub has_payload : Settlement → Bool
-has_payload (EndedBy (Returned code payload)) = has_kind (kind_of payload)
-has_payload (EndedBy (Failed code payload)) = has_kind (kind_of payload)
-has_payload _ = false
+-- whether the reply has data, which may be of another kind than the caller's buffer
+abbrev pub has_payload : Answer → Bool
+has_payload (Success code payload) = has_kind (kind_of payload)
+has_payload (FailedAnswer code payload) = has_kind (kind_of payload)
+has_payload (Error fault) = false
 
--- the answer is the settlement's, or TPEOTYPE where data came back
-abbrev pub Tells : Answer → Settlement → Type 0
-Tells answer settlement = (answer ≡ reply_of settlement) ⊎ ((answer ≡ Error OType) × (has_payload settlement ≡ true))
+-- the answer is the reply to what befell the request, or TPEOTYPE where data came back
+abbrev pub IsAnswerTo : Answer → Settlement → Type 0
+IsAnswerTo answer settlement = (answer ≡ reply_of settlement) ⊎ ((answer ≡ Error OType) × (has_payload (reply_of settlement) ≡ true))

@@ -87,20 +87,20 @@ wants_reply Reply = true
 wants_reply _ = false
 
 -- the event makes a descriptor of the caller valid
-abbrev pub validates : ℕ → Event → Option RequestId
-validates caller (Accept a) = if (a.by.0 == caller) && wants_reply a.mode then Some a.request else None
-validates caller _ = None
+abbrev pub opens_descriptor : ℕ → Event → Option RequestId
+opens_descriptor caller (Accept a) = if (a.by.0 == caller) && wants_reply a.mode then Some a.request else None
+opens_descriptor caller _ = None
 
 -- the event makes a descriptor of the caller invalid: its reply was taken, it was cancelled, or its tpcall lapsed
-abbrev pub invalidates : ℕ → Event → Option RequestId
-invalidates caller (Answer a) = if a.by.0 == caller then Some a.request else None
-invalidates caller (Cancel c) = if c.by.0 == caller then Some c.request else None
-invalidates caller (Lapse l) = if (l.by.0 == caller) && l.of_call then slice_get l.requests 0 else None
-invalidates caller _ = None
+abbrev pub closes_descriptor : ℕ → Event → Option RequestId
+closes_descriptor caller (Answer a) = if a.by.0 == caller then Some a.request else None
+closes_descriptor caller (Cancel c) = if c.by.0 == caller then Some c.request else None
+closes_descriptor caller (Lapse l) = if (l.by.0 == caller) && l.of_call then slice_get l.requests 0 else None
+closes_descriptor caller _ = None
 
 -- the requests whose descriptors are open, the oldest first
 unfoldable pub open_descriptors : ℕ → List Event → List RequestId
-open_descriptors caller past = kept (validates caller) (invalidates caller) past
+open_descriptors caller past = kept (opens_descriptor caller) (closes_descriptor caller) past
 
 -- callers from 1 to the number of clients are clients
 abbrev pub is_client : ℕ → ℕ → Bool

@@ -13,10 +13,10 @@ use Rattle.xa_types.specs.Setup.{numbered}
 use Rattle.xa_events.specs.declared.event.Event.{Event}
 use Rattle.xa_events.specs.declared.event.Event.TheVariants.{Accept, Answer, Refuse}
 use Rattle.xa_events.specs.declared.event.Accepted.{Accepted}
-use Rattle.xa_events.specs.declared.event.Told.{Told}
+use Rattle.xa_events.specs.declared.event.Replied.{Replied}
 use Rattle.xa_events.specs.declared.event.Evidence.{Evidence}
 use Rattle.xa_events.specs.declared.event.Evidence.TheVariants.{Argument, Version}
-use Rattle.xa_events.specs.Answers.{answer_to}
+use Rattle.xa_events.specs.Answers.{reply_of, answer_to}
 use Rattle.xa_events.specs.Board.{listed_in}
 use Rattle.xa_events.specs.Caller.{is_call_of, op_in, newest_call, last_op, just_accepted}
 use Rattle.xa_events.specs.Request.{WasSettled}
@@ -35,10 +35,10 @@ pub record CallSent (setup : Setup) (ask : Ask) (a : Accepted) : Type 0 where
   pub mode : a.mode ≡ Reply
 
 -- the caller is told what befell the request that this call sent
-pub record CallAnswered (ask : Ask) (b : Told) (before : List Event) : Type 0 where
+pub record CallAnswered (ask : Ask) (b : Replied) (before : List Event) : Type 0 where
   pub same : b.op ≡ last_op b.by.0 before
   pub request : just_accepted b.by.0 before ≡ Some b.request
-  pub told : WasSettled b.request (λ settlement. b.answer ≡ answer_to ask.expect settlement) before
+  pub told : WasSettled b.request (λ settlement. b.answer ≡ answer_to ask.expect (reply_of settlement)) before
 
 -- TPEINVAL by the call alone; TPENOENT where the version that was looked up lists no row
 abbrev pub CallRefused : Setup → Ask → Fault → Evidence → List Event → Type 0
@@ -58,14 +58,14 @@ is_tpcall (Some (Call ask)) = true
 is_tpcall op = false
 
 -- the event accepts the request of a tpcall, whose answer is still to come
-abbrev pub is_under_way : List Op → Option Event → Bool
-is_under_way ops (Some (Accept a)) = is_tpcall (numbered a.op ops)
-is_under_way ops event = false
+abbrev pub awaits_answer : List Op → Option Event → Bool
+awaits_answer ops (Some (Accept a)) = is_tpcall (numbered a.op ops)
+awaits_answer ops event = false
 
 -- the event fits the call of its number, and where it begins that call, the one before is over
 pub record FitsCall (setup : Setup) (caller : ℕ) (ops : List Op) (e : Event) (before : List Event) : Type 0 where
   pub fits : IsSomeAnd (numbered (op_in e) ops) (λ op. FitsEvent setup op e before)
-  pub turn : op_in e ≡ last_op caller before + 1 → is_under_way ops (newest_call caller before) ≡ false
+  pub turn : op_in e ≡ last_op caller before + 1 → awaits_answer ops (newest_call caller before) ≡ false
 
 -- each event of a call of the caller fits
 abbrev pub FitsCalls : Setup → ℕ → List Op → List Event → Type 0
@@ -75,4 +75,4 @@ FitsCalls setup caller ops past = AtEach (λ e before. is_call_of caller e ≡ t
 pub record MadeCalls (setup : Setup) (caller : ℕ) (ops : List Op) (past : List Event) : Type 0 where
   pub all : last_op caller past ≡ length ops
   pub each : FitsCalls setup caller ops past
-  pub over : is_under_way ops (newest_call caller past) ≡ false
+  pub over : awaits_answer ops (newest_call caller past) ≡ false

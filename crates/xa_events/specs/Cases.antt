@@ -1,6 +1,6 @@
 -- When an event may come next. A case has three parts: what is asked of the events of its own home (Home), what is asked of those of its own
 -- worker (Worker), and which events of other homes stand before (Before). Where a case names no other source its rule is this project's own.
--- A kind whose home part is empty isn't built yet: it has no case.
+-- A kind whose parts are ⊥ isn't built yet: it has no case. `Unit` is where nothing is asked.
 use Rattle.std.specs.Prelude.{◌≡◌, ℕ, ◌+◌, ◌<◌, ◌≤◌, ◌⊎◌, Bool, true, false, List, [], length, Option, Some, None, IsSome, IsSomeAnd, slice_get}
 use Rattle.xa_types.specs.declared.setup.Setup.{Setup}
 use Rattle.xa_types.specs.declared.row.Row.{Row}
@@ -20,7 +20,7 @@ use Rattle.xa_events.specs.declared.event.Taken.{Taken}
 use Rattle.xa_events.specs.declared.event.Started.{Started}
 use Rattle.xa_events.specs.declared.event.Ended.{Ended}
 use Rattle.xa_events.specs.declared.event.Stopped.{Stopped}
-use Rattle.xa_events.specs.declared.event.Told.{Told}
+use Rattle.xa_events.specs.declared.event.Replied.{Replied}
 use Rattle.xa_events.specs.declared.event.Refused.{Refused}
 use Rattle.xa_events.specs.declared.event.Evidence.{Evidence}
 use Rattle.xa_events.specs.declared.event.Evidence.TheVariants.{Argument, Version}
@@ -38,7 +38,7 @@ use Rattle.xa_events.specs.Server.{doing, starts, is_gone, was_shut_down, last_o
 use Rattle.xa_events.specs.Caller.{last_op, just_accepted, accepted, open_descriptors, version_in, least_version, tick_floor, has_left, is_leaving, is_client, AllLeft, descriptor_limit}
 use Rattle.xa_events.specs.Request.{WasSettled}
 use Rattle.xa_events.specs.Clock.{is_shown}
-use Rattle.xa_events.specs.Answers.{Tells}
+use Rattle.xa_events.specs.Answers.{IsAnswerTo}
 
 -- ---- Advertise: the boot advertises the configured services in order (in the form of XATMI's tpadvertise; that the boot does it is this
 -- project's own)
@@ -88,7 +88,7 @@ pub record AcceptWorker (setup : Setup) (clients : ℕ) (a : Accepted) (past : L
   pub mode : a.mode ≡ Reply
   pub few : length (open_descriptors a.by.0 past) < descriptor_limit clients a.by.0
   pub sound : is_sound setup a.payload ≡ true
-  pub fresh : least_version setup clients a.by.0 past ≤ a.version
+  pub not_older : least_version setup clients a.by.0 past ≤ a.version
 
 -- the row by which the request is accepted
 pub record RowAdmits (setup : Setup) (a : Accepted) (row : Row) : Type 0 where
@@ -121,7 +121,7 @@ pub record GoneHome (setup : Setup) (server : ℕ) (past : List Event) : Type 0 
 pub record GoneWorker (setup : Setup) (clients server : ℕ) (past : List Event) : Type 0 where
   pub off : doing server past ≡ Off
   pub not_shut_down : was_shut_down server past ≡ false
-  pub spent : may_start setup server (starts server past) (tick_floor clients (caller_of clients server) past) ≡ false
+  pub no_restart : may_start setup server (starts server past) (tick_floor clients (caller_of clients server) past) ≡ false
 
 -- ---- Down: the queue has no server left, and no row of it stands
 
@@ -152,20 +152,20 @@ pub record StartWorker (setup : Setup) (clients : ℕ) (b : Started) (past : Lis
 
 -- ---- End: a request ends at its server (XATMI, tpreturn)
 
--- data that is returned is sound; a forward isn't built yet, so none fails
-abbrev pub is_sound_outcome : Setup → Outcome → Bool
-is_sound_outcome setup (Returned code payload) = is_sound setup payload
-is_sound_outcome setup (Failed code payload) = is_sound setup payload
-is_sound_outcome setup (BadForward version) = false
-is_sound_outcome setup _ = true
+-- with which outcome a request may end: data that is returned is sound; a forward isn't built yet, so none fails
+abbrev pub may_end_so : Setup → Outcome → Bool
+may_end_so setup (Returned code payload) = is_sound setup payload
+may_end_so setup (Failed code payload) = is_sound setup payload
+may_end_so setup (BadForward version) = false
+may_end_so setup _ = true
 
 pub record EndWorker (setup : Setup) (e : Ended) (past : List Event) : Type 0 where
   pub busy : doing e.server.0 past ≡ Busy e.generation e.request
-  pub sound : is_sound_outcome setup e.outcome ≡ true
+  pub may : may_end_so setup e.outcome ≡ true
 
 -- ---- Stop: a life of a server ends (TPEXIT after Tuxedo)
 
--- the life failed: what its program writes ended, a read or a write of its link failed, or the program wrote what it may not
+-- the life failed: the program's output ended, a read or a write of the link failed, or the program wrote what it may not
 abbrev pub is_failure : StopCause → Bool
 is_failure EndOfInput = true
 is_failure ReadFault = true
@@ -184,7 +184,8 @@ dying_stops cause (Some Died) = is_failure cause
 dying_stops cause (Some Starved) = is_starved cause
 dying_stops cause _ = false
 
--- with which cause a server that is idle may stop: by TPEXIT only behind a request that failed or was a bad return, and by any other
+-- with which cause a server that is idle may stop: by TPEXIT only where the last that it did was to end a request as failed or as a bad return,
+-- and by any other
 abbrev pub idle_stops : StopCause → Option Outcome → Bool
 idle_stops Exit (Some (Failed code payload)) = true
 idle_stops Exit (Some BadReturn) = true
@@ -203,7 +204,7 @@ pub record IsShut (setup : Setup) (queue : ℕ) (past : List Event) : Type 0 whe
 
 -- ---- Answer: the caller is told what befell its request (XATMI, tpcall and tpgetrply)
 
-pub record AnswerWorker (clients : ℕ) (a : Told) (past : List Event) : Type 0 where
+pub record AnswerWorker (clients : ℕ) (a : Replied) (past : List Event) : Type 0 where
   pub active : IsActive clients a.by.0 past
   pub op : (a.op ≡ last_op a.by.0 past + 1) ⊎ ((a.op ≡ last_op a.by.0 past) × (just_accepted a.by.0 past ≡ Some a.request))
   pub caller : a.request.caller ≡ a.by
@@ -214,7 +215,7 @@ pub record AnswerWorker (clients : ℕ) (a : Told) (past : List Event) : Type 0 
 
 pub record RefuseWorker (setup : Setup) (clients : ℕ) (r : Refused) (past : List Event) : Type 0 where
   pub call : IsNextCall clients r.by.0 r.op past
-  pub fresh : (version : ℕ) → version_in r.evidence ≡ Some version → least_version setup clients r.by.0 past ≤ version
+  pub not_older : (version : ℕ) → version_in r.evidence ≡ Some version → least_version setup clients r.by.0 past ≤ version
 
 abbrev pub IsEvidenceFor : Fault → Evidence → List Event → Type 0
 IsEvidenceFor Inval Argument past = Unit {0}
@@ -263,15 +264,26 @@ WorkerPart setup clients (Advertise a) past = AdvertiseWorker a
 WorkerPart setup clients (Withdraw w) past = WithdrawWorker w
 WorkerPart setup clients (Accept a) past = AcceptWorker setup clients a past
 WorkerPart setup clients (Take t) past = TakeWorker clients t past
+WorkerPart setup clients (Forward f) past = ⊥
+WorkerPart setup clients (Sweep x) past = ⊥
 WorkerPart setup clients (Gone server) past = GoneWorker setup clients server.0 past
+WorkerPart setup clients (Down queue) past = Unit {0}
+WorkerPart setup clients (Close queue) past = Unit {0}
+WorkerPart setup clients (Tick t) past = ⊥
 WorkerPart setup clients (Start b) past = StartWorker setup clients b past
 WorkerPart setup clients (StartFailed b) past = StartWorker setup clients b past
 WorkerPart setup clients (End e) past = EndWorker setup e past
 WorkerPart setup clients (Stop x) past = StopWorker clients x past
 WorkerPart setup clients (Answer a) past = AnswerWorker clients a past
+WorkerPart setup clients (Cancel c) past = ⊥
+WorkerPart setup clients (Lapse l) past = ⊥
 WorkerPart setup clients (Refuse r) past = RefuseWorker setup clients r past
+WorkerPart setup clients (NotYet n) past = ⊥
 WorkerPart setup clients (Leave client) past = LeaveWorker clients client.0 past
-WorkerPart setup clients _ past = Unit {0}
+WorkerPart setup clients (Send s) past = ⊥
+WorkerPart setup clients (Receive r) past = ⊥
+WorkerPart setup clients (Break b) past = ⊥
+WorkerPart setup clients (Priority p) past = ⊥
 
 -- nothing comes before the boot is over but what the boot advertises
 abbrev pub IsBooted : Setup → Event → List Event → Type 0
@@ -280,16 +292,30 @@ IsBooted setup _ past = boot setup ≤ published past
 
 -- what is asked of the events of other homes
 abbrev pub NamedBefore : Setup → ℕ → Event → List Event → Type 0
+NamedBefore setup clients (Advertise a) past = Unit {0}
 NamedBefore setup clients (Withdraw w) past = AllGone setup w.queue.0 past
 NamedBefore setup clients (Accept a) past = AcceptBefore setup a past
+NamedBefore setup clients (Take t) past = Unit {0}
+NamedBefore setup clients (Forward f) past = ⊥
+NamedBefore setup clients (Sweep x) past = ⊥
+NamedBefore setup clients (Gone server) past = Unit {0}
 NamedBefore setup clients (Down queue) past = NoRows setup queue.0 past
 NamedBefore setup clients (Close queue) past = AllLeft clients past
+NamedBefore setup clients (Tick t) past = ⊥
 NamedBefore setup clients (Start b) past = is_shown b.tick past ≡ true
 NamedBefore setup clients (StartFailed b) past = is_shown b.tick past ≡ true
+NamedBefore setup clients (End e) past = Unit {0}
 NamedBefore setup clients (Stop x) past = x.cause ≡ Shutdown → IsShut setup (queue_of setup x.server.0) past
-NamedBefore setup clients (Answer a) past = WasSettled a.request (Tells a.answer) past
+NamedBefore setup clients (Answer a) past = WasSettled a.request (IsAnswerTo a.answer) past
+NamedBefore setup clients (Cancel c) past = ⊥
+NamedBefore setup clients (Lapse l) past = ⊥
 NamedBefore setup clients (Refuse r) past = IsEvidenceFor r.fault r.evidence past
-NamedBefore setup clients _ past = Unit {0}
+NamedBefore setup clients (NotYet n) past = ⊥
+NamedBefore setup clients (Leave client) past = Unit {0}
+NamedBefore setup clients (Send s) past = ⊥
+NamedBefore setup clients (Receive r) past = ⊥
+NamedBefore setup clients (Break b) past = ⊥
+NamedBefore setup clients (Priority p) past = ⊥
 
 pub record BeforePart (setup : Setup) (clients : ℕ) (e : Event) (past : List Event) : Type 0 where
   pub booted : IsBooted setup e past

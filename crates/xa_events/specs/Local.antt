@@ -9,8 +9,9 @@ use Rattle.xa_events.specs.declared.event.Event.TheVariants.{Down, Stop}
 use Rattle.xa_events.specs.declared.event.StopCause.TheVariants.{Shutdown}
 use Rattle.xa_events.specs.Words.{AtEach, IsEarlier}
 use Rattle.xa_events.specs.Homes.{Home, at_home, of_worker}
-use Rattle.xa_events.specs.Homes.Home.{BoardHome, QueueHome}
+use Rattle.xa_events.specs.Homes.Home.{QueueHome}
 use Rattle.xa_events.specs.Board.{boot, published}
+use Rattle.xa_events.specs.Server.{AllGone}
 use Rattle.xa_events.specs.Cases.{HomePart, WorkerPart, IsBooted, NamedBefore, NoRows, IsShut}
 
 -- the events of that home
@@ -21,11 +22,12 @@ home_events setup clients home past = filter (at_home setup clients home) past
 abbrev pub worker_events : ℕ → ℕ → List Event → List Event
 worker_events clients worker past = filter (of_worker clients worker) past
 
--- behind the boot the board was seen with no row of the queue
-pub record SawNoRows (setup : Setup) (clients queue : ℕ) (past : List Event) : Type 0 where
+-- behind the boot, and where no server of the queue was left, the board was seen with no row of it
+pub record SawNoRows (setup : Setup) (queue : ℕ) (past : List Event) : Type 0 where
   pub seen : List Event
-  pub stood : IsEarlier seen (home_events setup clients BoardHome past)
+  pub stood : IsEarlier seen past
   pub booted : boot setup ≤ published seen
+  pub gone : AllGone setup queue seen
   pub none : NoRows setup queue seen
 
 -- the queue was seen closed, with nothing that waits
@@ -36,7 +38,7 @@ pub record SawShut (setup : Setup) (clients queue : ℕ) (past : List Event) : T
 
 -- what the event names of other homes, as it was seen
 abbrev pub SeenBefore : Setup → ℕ → Event → List Event → Type 0
-SeenBefore setup clients (Down queue) past = SawNoRows setup clients queue.0 past
+SeenBefore setup clients (Down queue) past = SawNoRows setup queue.0 past
 SeenBefore setup clients (Stop x) past = x.cause ≡ Shutdown → SawShut setup clients (queue_of setup x.server.0) past
 SeenBefore setup clients e past = NamedBefore setup clients e past
 

@@ -9,19 +9,19 @@ use Rattle.xa_events.specs.declared.event.Event.{Event}
 use Rattle.xa_events.specs.declared.event.Event.TheVariants.{Accept, Take, Forward, Sweep, Down, Close}
 use Rattle.xa_events.specs.Words.{count, kept}
 
-abbrev pub enters : ℕ → Event → Option RequestId
-enters queue (Accept a) = if a.queue.0 == queue then Some a.request else None
-enters queue (Forward f) = if f.queue.0 == queue then Some f.request else None
-enters queue _ = None
+abbrev pub comes_in : ℕ → Event → Option RequestId
+comes_in queue (Accept a) = if a.queue.0 == queue then Some a.request else None
+comes_in queue (Forward f) = if f.queue.0 == queue then Some f.request else None
+comes_in queue _ = None
 
-abbrev pub leaves : Setup → ℕ → Event → Option RequestId
-leaves setup queue (Take t) = if queue_of setup t.server.0 == queue then Some t.request else None
-leaves setup queue (Sweep x) = if x.queue.0 == queue then Some x.request else None
-leaves setup queue _ = None
+abbrev pub goes_out : Setup → ℕ → Event → Option RequestId
+goes_out setup queue (Take t) = if queue_of setup t.server.0 == queue then Some t.request else None
+goes_out setup queue (Sweep x) = if x.queue.0 == queue then Some x.request else None
+goes_out setup queue _ = None
 
 -- the requests that wait at the queue, the oldest first
 unfoldable pub waiting : Setup → ℕ → List Event → List RequestId
-waiting setup queue past = kept (enters queue) (leaves setup queue) past
+waiting setup queue past = kept (comes_in queue) (goes_out setup queue) past
 
 abbrev pub takes_from : Setup → ℕ → Event → Bool
 takes_from setup queue (Take t) = queue_of setup t.server.0 == queue

@@ -7,7 +7,7 @@ use Rattle.xa_types.specs.declared.data.Data.{Data}
 use Rattle.xa_events.specs.declared.event.Event.{Event}
 use Rattle.xa_events.specs.declared.event.Event.TheVariants.{Accept, Take, Forward, Sweep, End}
 use Rattle.xa_events.specs.declared.event.Outcome.{Outcome}
-use Rattle.xa_events.specs.Words.{same_request}
+use Rattle.xa_events.specs.Words.{latest, same_request}
 
 abbrev pub is_accept_of : RequestId → Event → Bool
 is_accept_of request (Accept a) = same_request a.request request
@@ -31,8 +31,8 @@ is_sweep_of request _ = false
 
 -- ---- where it was sent
 
--- to which service and queue, by which routine, with which priority, mode and data, and how often it was forwarded
-pub record Entry : Type 0 where
+-- how a request was sent: to which service and queue, by which routine, with which priority, mode and data, and how often it was forwarded
+pub record SentAs : Type 0 where
   pub service : List ℕ
   pub queue : QueueId
   pub routine : List ℕ
@@ -42,25 +42,32 @@ pub record Entry : Type 0 where
   pub hop : ℕ
 
 -- a forward changes all but the mode
-abbrev pub entry_after : RequestId → Event → Option Entry → Option Entry
-entry_after request (Accept a) before = if same_request a.request request
+abbrev pub sent_after : RequestId → Event → Option SentAs → Option SentAs
+sent_after request (Accept a) before = if same_request a.request request
     then Some (record { service = a.service; queue = a.queue; routine = a.routine; priority = a.priority; mode = a.mode; payload = a.payload; hop = 0 }) else before
-entry_after request (Forward f) before = if same_request f.request request
-    then option_map (λ (entry : Entry). record { service = f.service; queue = f.queue; routine = f.routine; priority = f.priority; mode = entry.mode; payload = f.payload; hop = f.hop }) before else before
-entry_after request _ before = before
+sent_after request (Forward f) before = if same_request f.request request
+    then option_map (λ (sent : SentAs). record { service = f.service; queue = f.queue; routine = f.routine; priority = f.priority; mode = sent.mode; payload = f.payload; hop = f.hop }) before else before
+sent_after request _ before = before
 
 -- how the request was accepted or forwarded last
-unfoldable pub entry_of : RequestId → List Event → Option Entry
-entry_of request [] = None
-entry_of request (e ∷ past) = entry_after request e (entry_of request past)
+unfoldable pub sent_as : RequestId → List Event → Option SentAs
+sent_as request [] = None
+sent_as request (e ∷ past) = sent_after request e (sent_as request past)
 
-abbrev pub priority_in : Option Entry → ℕ
-priority_in None = 0
-priority_in (Some entry) = entry.priority
+-- the event sends the request to a queue
+abbrev pub is_entry_of : RequestId → Event → Bool
+is_entry_of request (Accept a) = same_request a.request request
+is_entry_of request (Forward f) = same_request f.request request
+is_entry_of request _ = false
+
+abbrev pub priority_in : Option Event → ℕ
+priority_in (Some (Accept a)) = a.priority
+priority_in (Some (Forward f)) = f.priority
+priority_in _ = 0
 
 -- the priority with which the request waits
-abbrev pub priority_at : List Event → RequestId → ℕ
-priority_at past request = priority_in (entry_of request past)
+unfoldable pub priority_at : List Event → RequestId → ℕ
+priority_at past request = priority_in (latest (is_entry_of request) past)
 
 -- ---- how it was settled
 

@@ -1,16 +1,18 @@
 -- What is read off the events of one home or one worker, in one record each, and what one event changes of it (this project's own).
 -- Tables are compared with these; no public contract of a run rests on this file.
-use Rattle.std.specs.Prelude.{ℕ, ◌+◌, ◌||◌, Bool, cond, List, Option, Some}
-use Rattle.std.specs.List.{cons_option}
+use Rattle.std.specs.Prelude.{ℕ, ◌+◌, ◌||◌, ◌==◌, Bool, cond, List, Option, Some, None, if◌then◌else◌}
+use Rattle.std.specs.List.{filter_map, cons_option}
 use Rattle.xa_types.specs.declared.ids.RequestId.{RequestId}
 use Rattle.xa_types.specs.declared.setup.Setup.{Setup}
 use Rattle.xa_types.specs.Rows.{Change}
+use Rattle.xa_types.specs.Setup.{queue_of}
 use Rattle.xa_events.specs.declared.event.Event.{Event}
+use Rattle.xa_events.specs.declared.event.Event.TheVariants.{Gone}
 use Rattle.xa_events.specs.Words.{latest, added, without}
 use Rattle.xa_events.specs.Board.{change_in, changes}
-use Rattle.xa_events.specs.Queue.{enters, leaves, waiting, takes_from, takes, is_down_of, is_down, is_close_of, is_closed}
+use Rattle.xa_events.specs.Queue.{comes_in, goes_out, waiting, takes_from, takes, is_down_of, is_down, is_close_of, is_closed}
 use Rattle.xa_events.specs.Server.{moves_server, start_in, starts, is_gone_of, is_gone, stops_server}
-use Rattle.xa_events.specs.Caller.{is_call_of, newest_call, accepts_for, accepted, validates, invalidates, open_descriptors, reads, versions, tick_in, ticks, is_leave_of, has_left, gives_up, is_leaving}
+use Rattle.xa_events.specs.Caller.{is_call_of, newest_call, accepts_for, accepted, opens_descriptor, closes_descriptor, open_descriptors, reads, versions, tick_in, ticks, is_leave_of, has_left, gives_up, is_leaving}
 
 -- the newer of both, where there is one
 abbrev pub newer : Bool → Event → Option Event → Option Event
@@ -34,6 +36,12 @@ pub record QueueView : Type 0 where
   pub takes : ℕ
   pub down : Bool
   pub closed : Bool
+  pub gone : List ℕ
+
+-- the server of the queue that is given up
+abbrev pub gone_from : Setup → ℕ → Event → Option ℕ
+gone_from setup queue (Gone server) = if queue_of setup server.0 == queue then Some server.0 else None
+gone_from setup queue _ = None
 
 abbrev pub queue_view : Setup → ℕ → List Event → QueueView
 queue_view setup queue past = record {
@@ -41,14 +49,16 @@ queue_view setup queue past = record {
   takes = takes setup queue past;
   down = is_down queue past;
   closed = is_closed queue past;
+  gone = filter_map (gone_from setup queue) past;
 }
 
 abbrev pub queue_after : Setup → ℕ → Event → QueueView → QueueView
 queue_after setup queue e view = record {
-  waiting = added (enters queue e) (without (leaves setup queue e) view.waiting);
+  waiting = added (comes_in queue e) (without (goes_out setup queue e) view.waiting);
   takes = cond (takes_from setup queue e) (view.takes + 1) view.takes;
   down = is_down_of queue e || view.down;
   closed = is_close_of queue e || view.closed;
+  gone = cons_option (gone_from setup queue e) view.gone;
 }
 
 -- ---- a server
@@ -101,7 +111,7 @@ abbrev pub caller_after : ℕ → ℕ → Event → CallerView → CallerView
 caller_after clients caller e view = record {
   called = newer (is_call_of caller e) e view.called;
   accepted = cond (accepts_for caller e) (view.accepted + 1) view.accepted;
-  descriptors = added (validates caller e) (without (invalidates caller e) view.descriptors);
+  descriptors = added (opens_descriptor caller e) (without (closes_descriptor caller e) view.descriptors);
   versions = cons_option (reads clients caller e) view.versions;
   ticks = cons_option (tick_in clients caller e) view.ticks;
   left = is_leave_of caller e || view.left;

@@ -132,7 +132,7 @@ pub struct Stopped {
 
 /// A caller was told what became of its request.
 #[derive(Debug, Drop)]
-pub struct Told {
+pub struct Replied {
     pub by: CallerId,
     pub op: u32,
     pub request: RequestId,
@@ -278,7 +278,7 @@ pub enum Event {
     StartFailed(Started),
     End(Ended),
     Stop(Stopped),
-    Answer(Told),
+    Answer(Replied),
     Cancel(Cancelled),
     Lapse(Lapsed),
     Refuse(Refused),

@@ -13,8 +13,8 @@ pub fn ends_once()
     ensures { (setup : Setup) (clients : ℕ) (events : List Event) (new : State) → Run (opening setup clients) events new → LawOfEnds new.past }
 {}
 
-/// Each answer is of a request of its own caller that was accepted; it is what befell the request, or TPEOTYPE where data
-/// came back, and the request's only one.
+/// The descriptor of a request becomes invalid once, and not before the request was accepted. Each answer is of a request
+/// of its own caller, which was settled once; it is what befell the request, or TPEOTYPE where data came back.
 pub fn answers_once()
     ensures { (setup : Setup) (clients : ℕ) (events : List Event) (new : State) → Run (opening setup clients) events new → LawOfAnswers new.past }
 {}

@@ -7,6 +7,6 @@ pub mod laws;
 
 pub use event::{
     Accepted, Advertised, Broken, Cancelled, Doing, Ended, Event, Evidence, Forwarded, Item,
-    Lapsed, Outcome, Prioritized, Received, Refused, Sent, Started, StopCause, Stopped, Swept,
-    Taken, Ticked, Told, Unready, Withdrawn,
+    Lapsed, Outcome, Prioritized, Received, Refused, Replied, Sent, Started, StopCause, Stopped,
+    Swept, Taken, Ticked, Unready, Withdrawn,
 };
