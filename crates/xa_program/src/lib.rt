@@ -8,8 +8,6 @@ mod performing;
 mod server;
 mod status;
 mod top;
-#[cfg(test)]
-mod top_tests;
 mod words;
 
 pub use outcome::{Life, Outcome};

@@ -125,33 +125,3 @@ pub fn read_words(words: &[String]) -> Option<Command>
         _ => None,
     }
 }
-
-#[cfg(test)]
-mod tests {
-    use super::{Command, read_words};
-    use std::test::Fail;
-    use xa_types::Name;
-
-    #[test]
-    fn commands_are_told_apart(rt: HostRuntime) -> Result<(), Fail> {
-        let alloc = rt.alloc();
-        let name = Name::read(b"TEST1")?;
-        let cases = [
-            ("play TEST1", Some(Command::Play(name))),
-            ("server TEST1", Some(Command::Server(name))),
-            ("Play TEST1", None),
-            ("play", None),
-            ("play -TEST1", None),
-            ("-play TEST1", None),
-            ("play TEST1 TEST1", None),
-        ];
-        for (line, command) in cases {
-            let mut words = Vec::new(alloc);
-            for word in line.split_whitespace() {
-                words.push(String::from_str(alloc, word)?)?;
-            }
-            assert_eq!(rt; read_words(&words), command, "at {line}");
-        }
-        Ok(())
-    }
-}

@@ -1,0 +1,101 @@
+//! The one way in which the trials run a command.
+use std::alloc::Global;
+use xa_link::{MemoryShelf, MemorySink, MemorySource, OpenGate, Yard};
+use xa_program::{Outcome, Status, run};
+use xa_types::{NoMemory, Octets};
+
+/// The input of a command, the reads of it that fail, and the writes of its output that take nothing.
+pub type Script<'a> = (&'a [u8], &'a [u64], &'a [u64]);
+
+// What a command is run on. A read gives seven octets at most, and a write takes five.
+#[derive(Drop)]
+struct Stage {
+    words: Vec<String>,
+    shelf: MemoryShelf,
+    input: MemorySource,
+    out: MemorySink,
+}
+
+fn words_of(alloc: Global, words: &[&str]) -> Result<Vec<String>, NoMemory> {
+    let mut texts = Vec::new(alloc);
+    for word in words {
+        texts.push(String::from_str(alloc, word)?)?;
+    }
+    Ok(texts)
+}
+
+fn shelf_of(alloc: Global, files: &[(&[u8], &[u8])]) -> Result<MemoryShelf, NoMemory> {
+    let mut all = Vec::new(alloc);
+    for (name, octets) in files {
+        all.push((Octets::of(alloc, name)?, Octets::of(alloc, octets)?))?;
+    }
+    Ok(MemoryShelf::new(all, Vec::new(alloc)))
+}
+
+fn input_of(alloc: Global, octets: &[u8], fails: &[u64]) -> Result<MemorySource, NoMemory> {
+    let octets = Octets::of(alloc, octets)?;
+    Ok(MemorySource::new(octets, Vec::from_slice(alloc, fails)?, 7))
+}
+
+fn out_of(alloc: Global, idle: &[u64]) -> Result<MemorySink, NoMemory> {
+    let idle = Vec::from_slice(alloc, idle)?;
+    Ok(MemorySink::new(alloc, Vec::new(alloc), idle, 5))
+}
+
+fn set_up(
+    alloc: Global,
+    words: &[&str],
+    files: &[(&[u8], &[u8])],
+    script: Script<'_>,
+) -> Result<Stage, NoMemory> {
+    let (octets, fails, idle) = script;
+    Ok(Stage {
+        words: words_of(alloc, words)?,
+        shelf: shelf_of(alloc, files)?,
+        input: input_of(alloc, octets, fails)?,
+        out: out_of(alloc, idle)?,
+    })
+}
+
+fn ends<Y: Yard>(rt: &HostRuntime, stage: &mut Stage, yard: &mut Y, want: (Status, &[u8])) -> bool
+where
+    Y::Line: Drop,
+    Y::Start: Drop,
+{
+    let Outcome {
+        status,
+        history: _,
+        lives: _,
+        starters: _,
+    } = run(
+        rt,
+        rt.alloc(),
+        stage.words.as_slice(),
+        &mut stage.shelf,
+        &mut stage.input,
+        &mut stage.out,
+        yard,
+        &OpenGate,
+    );
+    status == want.0 && stage.out.taken() == want.1
+}
+
+/// Whether a command of these words, with these files, this script and this yard, ends with that status and has
+/// written that.
+pub fn runs<Y: Yard>(
+    rt: &HostRuntime,
+    words: &[&str],
+    files: &[(&[u8], &[u8])],
+    script: Script<'_>,
+    yard: &mut Y,
+    want: (Status, &[u8]),
+) -> bool
+where
+    Y::Line: Drop,
+    Y::Start: Drop,
+{
+    match set_up(rt.alloc(), words, files, script) {
+        Ok(mut stage) => ends(rt, &mut stage, yard, want),
+        Err(_) => false,
+    }
+}

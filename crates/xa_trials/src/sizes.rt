@@ -1,0 +1,97 @@
+//! Data and scripts as long as they may be: no clause says that memory suffices for them.
+use crate::running::runs;
+use std::alloc::Global;
+use std::test::Fail;
+use xa_program::{Input, LocalYard, Status};
+
+// What the octets begin with, what comes again and again, and their end.
+type Long = (&'static [u8], &'static [u8], &'static [u8]);
+
+// The words, how often that comes in the input and in the output, both, and the status.
+type Row = (&'static [&'static str], usize, Long, Long, Status);
+
+const PLAY: &[&str] = &["play", "ECHO"];
+
+const EMPTY: Long = (b"", b"", b"");
+
+// INVOKE of ECHO with 65,536 octets, and SHUTDOWN.
+const ASKED: Long = (
+    b"XA\x01\x11\0\x01\0\x10\0\0\0\x01\x04ECHO\x04ECHO\0\x01\0\x01\0\0",
+    b"x",
+    b"XA\x01\x13\0\0\0\0\0\0\0\0",
+);
+
+// READY of the server S and NEXT, RETURN of success with code 0 and these octets, and NEXT.
+const SAID: Long = (
+    b"XA\x01\x01\0\0\0\x02\0\0\0\0\x01SXA\x01\x02\0\0\0\0\0\0\0\0\
+    XA\x01\x04\0\x01\0\x0a\0\0\0\x01\0\0\0\0\0\x01\0\x01\0\0",
+    b"x",
+    b"XA\x01\x02\0\0\0\0\0\0\0\0",
+);
+
+const ROWS: [Row; 4] = [
+    (
+        PLAY,
+        65_536,
+        (b"client a\ncall ECHO text \"", b"x", b"\"\n"),
+        (b"a 1 OK 0 octet ", b"78", b"\n"),
+        Status::Done,
+    ),
+    (&["server", "S"], 65_536, ASKED, SAID, Status::Done),
+    (PLAY, 1_048_576, (b"", b"#", b""), EMPTY, Status::Done),
+    (
+        PLAY,
+        1_048_576,
+        (b"", b"#", b"#"),
+        EMPTY,
+        Status::TooLong(Input::Script),
+    ),
+];
+
+fn octets_of(alloc: Global, (first, again, last): Long, count: usize) -> Result<Vec<u8>, Fail> {
+    let mut octets = Vec::from_slice(alloc, first)?;
+    for _ in 0..count {
+        octets.extend_from_slice(again)?;
+    }
+    octets.extend_from_slice(last)?;
+    Ok(octets)
+}
+
+fn is_run(rt: &HostRuntime, words: &[&str], input: &[u8], want: (Status, &[u8])) -> bool {
+    let mut yard = LocalYard::new(rt.alloc());
+    let none: &[u64] = &[];
+    runs(rt, words, &[], (input, none, none), &mut yard, want)
+}
+
+#[test]
+fn the_longest_data_and_script_are_played(rt: HostRuntime) -> Result<(), Fail> {
+    for (words, count, input, wrote, status) in ROWS {
+        let input = octets_of(rt.alloc(), input, count)?;
+        let wrote = octets_of(rt.alloc(), wrote, count)?;
+        assert!(rt;
+            is_run(&rt, words, &input, (status, &wrote)),
+            "{words:?}, {count}"
+        );
+    }
+    Ok(())
+}
+
+const CALLS: u32 = 1_001;
+
+fn lines_of(alloc: Global) -> Result<Vec<u8>, Fail> {
+    let mut lines = Vec::new(alloc);
+    for call in 1..=CALLS {
+        let line = format!(in alloc; "a {call} OK 0 none\n")?;
+        lines.extend_from_slice(line.as_bytes())?;
+    }
+    Ok(lines)
+}
+
+#[test]
+fn many_calls_are_played(rt: HostRuntime) -> Result<(), Fail> {
+    let calls: Long = (b"client a\n", b"call ECHO none\n", b"");
+    let script = octets_of(rt.alloc(), calls, CALLS as usize)?;
+    let lines = lines_of(rt.alloc())?;
+    assert!(rt; is_run(&rt, PLAY, &script, (Status::Done, &lines)));
+    Ok(())
+}
