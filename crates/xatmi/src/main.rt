@@ -19,7 +19,7 @@ use xa_program::{Input, Outcome, Status, all_words, own_word, run, words_behind}
 use xa_types::Octets;
 
 // The word that this program was started by, and the words behind it.
-fn words<R: Env + AllocGlobal>(rt: R) -> Result<(Octets, Vec<String>), Status> {
+fn words<R: Env + AllocGlobal + Drop>(rt: R) -> Result<(Octets, Vec<String>), Status> {
     let alloc = rt.alloc();
     let all = all_words(alloc, &SystemArguments::new(rt))?;
     let own = Octets::of(alloc, own_word(all.as_slice()))?;

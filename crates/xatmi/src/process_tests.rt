@@ -19,7 +19,7 @@ type Row = (Option<&'static str>, &'static str, Option<&'static [Step]>);
 
 const SHELL: Option<&str> = Some("/bin/sh");
 
-const ROWS: [Row; 8] = [
+const ROWS: [Row; 10] = [
     (
         Some("/bin/echo"),
         "",
@@ -47,6 +47,16 @@ const ROWS: [Row; 8] = [
         SHELL,
         "read -r all < /proc/$PPID/task/$PPID/children; test \"$all\" = $$ && echo alone",
         Some(&[Step::Gives("alone\n"), Step::Ends]),
+    ),
+    (
+        SHELL,
+        "test \"$(readlink /proc/$$/fd/2)\" = \"$(readlink /proc/$PPID/fd/2)\" && echo same",
+        Some(&[Step::Gives("same\n"), Step::Ends]),
+    ),
+    (
+        SHELL,
+        "trap '' PIPE; cat >/dev/null; sleep 0.1; echo x 2>/dev/null || echo shut >ended",
+        Some(&[]),
     ),
 ];
 
@@ -109,7 +119,7 @@ fn runs<L: Link + Drop, S: Starter<L>>(
 fn starts(rt: &HostRuntime, program: Option<&str>, steps: Option<&[Step]>) -> Result<bool, Fail> {
     let name = Name::read(b"S")?;
     let setup = setup(rt.alloc(), name, program)?;
-    let mut yard = ChildYard::new(rt.clone()?, String::from_str(rt.alloc(), "echo")?);
+    let mut yard = ChildYard::new(rt.clone()?, Octets::of(rt.alloc(), b"echo")?);
     let mut starters = yard.starters(&setup)?;
     match starters.as_mut_slice() {
         [starter] => Ok(runs(starter, &name, steps)),
@@ -121,7 +131,8 @@ fn count_descriptors(rt: &HostRuntime) -> Result<usize, Fail> {
     Ok(fs::read_dir(rt, "/proc/self/fd")?.count())
 }
 
-// A server is started with the words `server` and its name, so `sh` reads its script from the file `server`.
+// A server is started with the words `server` and its name, so `sh` reads its script from the file `server`. The last
+// one goes on once its input has ended, and notes that nobody reads its output then.
 #[test]
 fn processes_end_alone_and_leave_nothing(rt: HostRuntime) -> Result<(), Fail> {
     let before = count_descriptors(&rt)?;
@@ -129,7 +140,10 @@ fn processes_end_alone_and_leave_nothing(rt: HostRuntime) -> Result<(), Fail> {
         fs::write(&rt, "server", script)?;
         assert!(rt; starts(&rt, program, steps)?, "{script}");
     }
-    fs::remove_file(&rt, "server")?;
+    assert_eq!(rt; fs::read_to_string(&rt, "ended")?.as_str(), "shut\n");
+    for name in ["server", "ended"] {
+        fs::remove_file(&rt, name)?;
+    }
     let children = fs::read_to_string(&rt, "/proc/thread-self/children")?;
     assert_eq!(rt; children.as_str(), "");
     assert_eq!(rt; count_descriptors(&rt)?, before);

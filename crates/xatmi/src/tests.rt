@@ -1,7 +1,11 @@
-use std::fs;
+// What the program does with real processes, and what it says as it ends.
+use crate::report;
+use std::alloc::Global;
+use std::fmt::Display;
 use std::test::Fail;
+use std::{fs, io};
 use xa_link::{ChildYard, MemoryShelf, MemorySink, MemorySource, OpenGate};
-use xa_program::{Outcome, Status, run};
+use xa_program::{Input, Outcome, Status, run};
 use xa_types::Octets;
 
 // READY and NEXT of the server S, in the words of the shell's printf.
@@ -39,7 +43,7 @@ fn a_process_that_ends_is_a_server_that_died(rt: HostRuntime) -> Result<(), Fail
             &mut MemoryShelf::new(Vec::new(alloc), Vec::new(alloc)),
             &mut MemorySource::new(Octets::of(alloc, SCRIPT)?, Vec::new(alloc), 64),
             &mut out,
-            &mut ChildYard::new(rt.clone()?, String::from_str(alloc, "sh")?),
+            &mut ChildYard::new(rt.clone()?, Octets::of(alloc, b"sh")?),
             &OpenGate,
         );
         assert_eq!(rt; status, Status::Done);
@@ -53,4 +57,62 @@ fn a_process_that_ends_is_a_server_that_died(rt: HostRuntime) -> Result<(), Fail
     }
     fs::remove_file(&rt, "server")?;
     Ok(())
+}
+
+const LINES: [(Status, u8, &str); 9] = [
+    (Status::Done, 0, ""),
+    (
+        Status::Usage,
+        1,
+        "usage: xatmi run CONFIG, drill N, play SERVICE, server NAME",
+    ),
+    (
+        Status::BadLine { line: 7, cause: 9 },
+        3,
+        "script line 7 cause 9",
+    ),
+    (Status::ScriptRead, 4, "cannot read input"),
+    (Status::WriteFault, 5, "cannot write"),
+    (Status::NoMemory, 6, "no memory"),
+    (
+        Status::TooLong(Input::Configuration),
+        7,
+        "too long: configuration",
+    ),
+    (Status::TooLong(Input::Script), 7, "too long: script"),
+    (Status::BadFrame(24), 10, "bad frame at 24"),
+];
+
+// A standard error that takes this line alone.
+#[derive(Drop)]
+struct Taking<'a> {
+    alloc: Global,
+    line: &'a str,
+}
+
+impl Eprint for Taking<'_> {
+    fn eprint<D: Display + Drop>(&self, value: D) -> io::Result<()> {
+        self.eprintln(value)
+    }
+
+    fn eprintln<D: Display + Drop>(&self, value: D) -> io::Result<()> {
+        let said = format!(in self.alloc; "{value}")?;
+        if said.as_str() == self.line {
+            Ok(())
+        } else {
+            Err(io::Error::from(io::ErrorKind::Other))
+        }
+    }
+}
+
+#[test]
+fn each_status_has_its_line(rt: HostRuntime) {
+    for (status, number, line) in LINES {
+        let taking = Taking {
+            alloc: rt.alloc(),
+            line,
+        };
+        assert!(rt; report(&taking, status).is_ok(), "{line}");
+        assert_eq!(rt; status.number(), number);
+    }
 }
