@@ -8,7 +8,7 @@ use Rattle.xa_events.specs.declared.event.Event.TheVariants.{Take, Stop}
 use Rattle.xa_events.specs.declared.event.StopCause.{StopCause}
 use Rattle.xa_events.specs.declared.event.StopCause.TheVariants.{Shutdown}
 use Rattle.xa_events.specs.Words.{count, from_each}
-use Rattle.xa_events.specs.Request.{Entry, entry_of}
+use Rattle.xa_events.specs.Request.{SentAs, sent_as}
 use Rattle.xa_frame.specs.declared.frame.Frame.{Frame}
 use Rattle.xa_frame.specs.declared.frame.Body.TheVariants.{Ready, Next, Return, Invoke, Shutdown as ShutdownBody}
 
@@ -41,7 +41,7 @@ return_frame tag value code payload = record { tag = tag; body = Return value co
 
 -- ---- what the monitor writes: an INVOKE for each take, and SHUTDOWN at a shutdown
 
-abbrev pub invoke_with : ℕ → Option Entry → List Frame
+abbrev pub invoke_with : ℕ → Option SentAs → List Frame
 invoke_with tag None = []
 invoke_with tag (Some entry) = (record { tag = tag; body = Invoke entry.service entry.routine entry.mode entry.payload }) ∷ []
 
@@ -52,7 +52,7 @@ farewell _ = []
 -- what it writes at an event, with those before it
 abbrev pub written_at : ℕ → ℕ → Event → List Event → List Frame
 written_at server g (Take t) past =
-    if is_of_life server g t.server.0 t.generation.0 then invoke_with (invocation server g (Take t ∷ past)) (entry_of t.request past) else []
+    if is_of_life server g t.server.0 t.generation.0 then invoke_with (invocation server g (Take t ∷ past)) (sent_as t.request past) else []
 written_at server g (Stop x) past = if is_of_life server g x.server.0 x.generation.0 then farewell x.cause else []
 written_at server g _ past = []
 
