@@ -1,5 +1,5 @@
 // Servers' programs in memory.
-ghost use Rattle.std.specs.Prelude.{◌≡◌, ◌≤◌, ◌<◌, ◌-◌, ◌+◌, ◌++◌, [], ℕ, List, take, drop, length, true, false, Some, None, All, OnOk, OnErr, IfOk};
+ghost use Rattle.std.specs.Prelude.{◌≡◌, ◌≤◌, ◌<◌, ◌-◌, ◌+◌, ◌++◌, [], ℕ, List, take, drop, length, true, false, Some, All, OnOk, OnErr, IfOk};
 ghost use Rattle.xa_child.specs.Child.{greeting};
 ghost use Rattle.xa_frame.specs.Spelling.{all_spelled};
 ghost use Rattle.xa_frame.specs.Stream.{IsPartial};

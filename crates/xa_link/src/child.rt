@@ -1,5 +1,5 @@
 // Servers as processes.
-ghost use Rattle.std.specs.Prelude.{◌≡◌, ◌≤◌, ◌<◌, ◌∷◌, ◌⊎◌, [], length, None, IfOk, OnOk, IsErr, IsSome, unwrap_or, string_bytes};
+ghost use Rattle.std.specs.Prelude.{◌≡◌, ◌≤◌, ◌<◌, ◌⊎◌, [], length, None, IfOk, OnOk, IsErr, IsSome, unwrap_or};
 ghost use Rattle.std.specs.Process.{child_status};
 ghost use Rattle.std.specs.Io.KnownBytes.{ReadConsumes, WriteAppends};
 ghost use Rattle.xa_link.specs.Told.{Rose};

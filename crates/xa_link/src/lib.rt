@@ -1,6 +1,6 @@
-//! The outside as traits: files, streams, and the processes of servers. Of each there is a form in memory, which tells
-//! all of its octets, and a real one, which tells none; a count says how often it failed. Gates have one form and no
-//! count.
+//! The outside as traits: files, streams, the processes of servers, and the words of the command line. Of each there is
+//! a form in memory, which tells all of its octets, and a real one, which tells none; a count says how often it failed,
+//! but for words. Gates have one form and no count.
 #![tactic(auto)]
 
 mod arguments;

@@ -1,5 +1,5 @@
 -- What a run of `play` asks of its yard, by how it ends.
-use Rattle.std.proofs.Common.{◌≡◌, ℕ, List, Option, Some, inr, inl, refl}
+use Rattle.std.proofs.Common.{ℕ, List, Option, Some, inr, inl, refl}
 use Rattle.xa_types.specs.declared.setup.Setup.{Setup}
 use Rattle.xa_link.specs.Starts.{AsksStarters}
 use Rattle.xa_events.specs.declared.event.Event.{Event}

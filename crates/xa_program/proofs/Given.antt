@@ -1,5 +1,5 @@
 -- The words, as they are read one by one.
-use Rattle.std.proofs.Common.{◌≡◌, ◌∙◌, ℕ, ◌+◌, ◌-◌, suc, add-one, arith, List, [], ◌∷◌, ◌++◌, take, drop, length, length-drop, Option, Some, None, ap, sym}
+use Rattle.std.proofs.Common.{◌≡◌, ◌∙◌, ℕ, ◌+◌, ◌-◌, add-one, arith, List, [], ◌∷◌, ◌++◌, take, drop, length, length-drop, Option, Some, None, ap, sym}
 use Rattle.std.specs.Prelude.{IfSome}
 use Rattle.std.proofs.Math.Seq.{take-suc}
 use Rattle.std.proofs.lemmas.List.{take_all}

@@ -9,7 +9,7 @@ ghost use Rattle.xa_program.specs.declared.words.Command.TheVariants.{Play, Serv
 ghost use Rattle.xa_program.specs.Headline.{PlayEnds, IsTheScript, EndsEarly, HandsNothing, longest_script};
 ghost use Rattle.xa_program.specs.Progress.{IsBuiltScript, ScriptRefusedAs};
 ghost use Rattle.xa_program.specs.Server.{ServerEnds};
-ghost use Rattle.xa_program.specs.Input.{InputTells, Tells};
+ghost use Rattle.xa_program.specs.Input.{Tells};
 ghost use Rattle.xa_program.specs.Words.{command_in};
 ghost use Rattle.xa_program.specs.Yard.{AsksYard};
 

@@ -1,5 +1,5 @@
 // A yard in memory.
-ghost use Rattle.std.specs.Prelude.{◌≡◌, ◌++◌, ◌∷◌, [], All, length, map, IfOk, OnOk, OnErr, Some};
+ghost use Rattle.std.specs.Prelude.{◌≡◌, [], All, length, map, IfOk, Some};
 ghost use Rattle.xa_link.specs.Lives.{life_of};
 
 use super::MemoryLink;

@@ -1,4 +1,4 @@
-use Rattle.std.proofs.Common.{◌∙◌, ◌≡◌, Option, Some, subst, sym}
+use Rattle.std.proofs.Common.{◌∙◌, ◌≡◌, Option, Some, subst}
 use Rattle.xa_program.specs.declared.words.Command.{Command}
 use Rattle.xa_program.specs.Yard.{AsksYard}
 use Rattle.xa_program.specs.declared.words.Command.TheVariants.{Play, Server}
