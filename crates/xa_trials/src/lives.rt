@@ -1,9 +1,9 @@
 //! Lives of a server in memory, and what each call is told of them.
-use crate::running::runs;
+use crate::running::{runs, sink_of, source_of};
 use std::alloc::Global;
-use xa_link::{MemoryLink, MemorySink, MemorySource, MemoryYard};
+use xa_link::{MemoryLink, MemoryYard};
 use xa_program::Status;
-use xa_types::{NoMemory, Octets};
+use xa_types::NoMemory;
 
 // What a server's program says: READY, NEXT, and RETURNs to the first invocation, of which the last is cut short.
 const READY: &[u8] = b"XA\x01\x01\0\0\0\x02\0\0\0\0\x01S";
@@ -136,11 +136,8 @@ fn link_of(alloc: Global, said: &[&[u8]], faults: [&[u64]; 3]) -> Result<MemoryL
         octets.extend_from_slice(frame)?;
     }
     let [reads, writes, idle] = faults;
-    let reads = Vec::from_slice(alloc, reads)?;
-    let source = MemorySource::new(Octets::from_vec(octets), reads, 13);
-    let writes = Vec::from_slice(alloc, writes)?;
-    let sink = MemorySink::new(alloc, writes, Vec::from_slice(alloc, idle)?, 5);
-    Ok(MemoryLink::new(source, sink))
+    let source = source_of(alloc, &octets, reads, 13)?;
+    Ok(MemoryLink::new(source, sink_of(alloc, writes, idle, 5)?))
 }
 
 // A yard of one server with that life.

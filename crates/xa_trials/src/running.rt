@@ -1,4 +1,6 @@
 //! The one way in which the trials run a command.
+ghost use Rattle.std.specs.Prelude.{◌<◌};
+
 use std::alloc::Global;
 use xa_link::{MemoryShelf, MemorySink, MemorySource, OpenGate, Yard};
 use xa_program::{Outcome, Status, run};
@@ -32,14 +34,30 @@ fn shelf_of(alloc: Global, files: &[(&[u8], &[u8])]) -> Result<MemoryShelf, NoMe
     Ok(MemoryShelf::new(all, Vec::new(alloc)))
 }
 
-fn input_of(alloc: Global, octets: &[u8], fails: &[u64]) -> Result<MemorySource, NoMemory> {
+/// The source of these octets, of which reads with these numbers fail, and give at most so many.
+pub fn source_of(
+    alloc: Global,
+    octets: &[u8],
+    fails: &[u64],
+    most: u32,
+) -> Result<MemorySource, NoMemory>
+    requires { 0 < most }
+{
     let octets = Octets::of(alloc, octets)?;
-    Ok(MemorySource::new(octets, Vec::from_slice(alloc, fails)?, 7))
+    Ok(MemorySource::new(octets, Vec::from_slice(alloc, fails)?, most))
 }
 
-fn out_of(alloc: Global, idle: &[u64]) -> Result<MemorySink, NoMemory> {
-    let idle = Vec::from_slice(alloc, idle)?;
-    Ok(MemorySink::new(alloc, Vec::new(alloc), idle, 5))
+/// A sink of which writes with these numbers fail or take nothing, and take at most so many octets.
+pub fn sink_of(
+    alloc: Global,
+    fails: &[u64],
+    idle: &[u64],
+    most: u32,
+) -> Result<MemorySink, NoMemory>
+    requires { 0 < most }
+{
+    let fails = Vec::from_slice(alloc, fails)?;
+    Ok(MemorySink::new(alloc, fails, Vec::from_slice(alloc, idle)?, most))
 }
 
 fn set_up(
@@ -52,8 +70,8 @@ fn set_up(
     Ok(Stage {
         words: words_of(alloc, words)?,
         shelf: shelf_of(alloc, files)?,
-        input: input_of(alloc, octets, fails)?,
-        out: out_of(alloc, idle)?,
+        input: source_of(alloc, octets, fails, 7)?,
+        out: sink_of(alloc, &[], idle, 5)?,
     })
 }
 

@@ -1,5 +1,6 @@
 //! Scripts that are read, and lines at fault.
 use std::alloc::Global;
+use std::test::Fail;
 use xa_script::{Script, ScriptRefused, read_script};
 use xa_types::{Ask, Data, NoMemory, Op};
 
@@ -130,7 +131,9 @@ fn is_called(alloc: Global, service: usize, most: usize) -> bool {
 }
 
 #[test]
-fn a_service_has_255_octets_at_most(rt: HostRuntime) {
+fn a_service_has_255_octets_at_most(rt: HostRuntime) -> Result<(), Fail> {
     assert!(rt; is_called(rt.alloc(), 255, 65537));
-    assert!(rt; !is_called(rt.alloc(), 256, 0));
+    let longer = call_of(rt.alloc(), 256, 0)?;
+    assert!(rt; is_faulty(rt.alloc(), &longer, 2));
+    Ok(())
 }
