@@ -1,14 +1,14 @@
 -- The frames that the monitor and a server's program say, and what the monitor writes in a life, read off the events of the run (this
 -- project's own).
-use Rattle.std.specs.Prelude.{ℕ, ℤ, ◌%◌, ◌^◌, ◌==◌, ◌&&◌, Bool, false, List, [], ◌∷◌, Option, Some, if◌then◌else◌}
+use Rattle.std.specs.Prelude.{ℕ, ℤ, ◌%◌, ◌^◌, ◌==◌, ◌&&◌, Bool, false, List, [], ◌∷◌, Option, Some, None, if◌then◌else◌}
 use Rattle.xa_types.specs.declared.data.Data.{Data}
 use Rattle.xa_types.specs.declared.call.Rval.{Rval}
 use Rattle.xa_events.specs.declared.event.Event.{Event}
-use Rattle.xa_events.specs.declared.event.Event.TheVariants.{Accept, Take, Stop}
+use Rattle.xa_events.specs.declared.event.Event.TheVariants.{Take, Stop}
 use Rattle.xa_events.specs.declared.event.StopCause.{StopCause}
 use Rattle.xa_events.specs.declared.event.StopCause.TheVariants.{Shutdown}
-use Rattle.xa_events.specs.Words.{latest, count, from_each}
-use Rattle.xa_events.specs.Request.{is_accept_of}
+use Rattle.xa_events.specs.Words.{count, from_each}
+use Rattle.xa_events.specs.Request.{Entry, entry_of}
 use Rattle.xa_frame.specs.declared.frame.Frame.{Frame}
 use Rattle.xa_frame.specs.declared.frame.Body.TheVariants.{Ready, Next, Return, Invoke, Shutdown as ShutdownBody}
 
@@ -41,9 +41,9 @@ return_frame tag value code payload = record { tag = tag; body = Return value co
 
 -- ---- what the monitor writes: an INVOKE for each take, and SHUTDOWN at a shutdown
 
-abbrev pub invoke_with : ℕ → Option Event → List Frame
-invoke_with tag (Some (Accept a)) = (record { tag = tag; body = Invoke a.service a.routine a.mode a.payload }) ∷ []
-invoke_with tag _ = []
+abbrev pub invoke_with : ℕ → Option Entry → List Frame
+invoke_with tag None = []
+invoke_with tag (Some entry) = (record { tag = tag; body = Invoke entry.service entry.routine entry.mode entry.payload }) ∷ []
 
 abbrev pub farewell : StopCause → List Frame
 farewell Shutdown = shutdown_frame ∷ []
@@ -52,7 +52,7 @@ farewell _ = []
 -- what it writes at an event, with those before it
 abbrev pub written_at : ℕ → ℕ → Event → List Event → List Frame
 written_at server g (Take t) past =
-    if is_of_life server g t.server.0 t.generation.0 then invoke_with (invocation server g (Take t ∷ past)) (latest (is_accept_of t.request) past) else []
+    if is_of_life server g t.server.0 t.generation.0 then invoke_with (invocation server g (Take t ∷ past)) (entry_of t.request past) else []
 written_at server g (Stop x) past = if is_of_life server g x.server.0 x.generation.0 then farewell x.cause else []
 written_at server g _ past = []
 
