@@ -7,8 +7,8 @@ use Rattle.xa_frame.specs.declared.frame.Frame.{Frame}
 use Rattle.xa_frame.specs.Spelling.{spelled, all_spelled, HasSpelling, kind_octet}
 use Rattle.xa_events.specs.declared.event.StopCause.{StopCause}
 use Rattle.xa_events.specs.declared.event.StopCause.TheVariants.{Shutdown, Exit, EndOfInput, ReadFault, WriteFault, BadBytes, OutOfTurn, Starved}
-use Rattle.xa_pipe.specs.Life.{Turn, MaySay, Shows, is_reading, may_end}
-use Rattle.xa_pipe.specs.Life.Turn.{AwaitsReady, AwaitsNext, Idle, Serving, Exited}
+use Rattle.xa_pipe.specs.Life.{Turn, LastTurn, Written, MaySay, Shows, Gave, awaiting, is_reading, is_writing}
+use Rattle.xa_pipe.specs.Life.Written.{Cut, Missing}
 use Rattle.xa_pipe.specs.Pipe.{Piped, HasRead, Keeps, ReadsNone, Ceases}
 use Rattle.xa_frame.proofs.FrameLemmas.{all_spelled-push}
 use Rattle.xa_pipe.proofs.Frames.{told_more}
@@ -50,34 +50,28 @@ lost_more (Some octets) after frames rest piece read grew some =
 
 -- ---- what ceases
 
-starved_reading : (turn : Turn) → is_reading turn ≡ true → may_end Starved turn ≡ true
-starved_reading AwaitsReady reads = refl
-starved_reading AwaitsNext reads = refl
-starved_reading Idle reads = refl
-starved_reading Serving reads = refl
-starved_reading Exited reads = reads
+-- where the life stood
+abbrev pub stood : List ℕ → ℕ → List Frame → Turn → Written → LastTurn
+stood name tag frames turn written = record { name = name; tag = tag; frames = frames; turn = turn; written = written }
 
-starved_shows : (name : List ℕ) (tag : ℕ) (turn : Turn) (frames : List Frame) (rest : List ℕ) (left : Option (List ℕ)) → is_reading turn ≡ true → (rest ≡ [] → ⊥) → Shows name tag turn Starved frames rest left
-starved_shows name tag AwaitsReady frames rest left reads some = some
-starved_shows name tag AwaitsNext frames rest left reads some = some
-starved_shows name tag Idle frames rest left reads some = tt
-starved_shows name tag Serving frames rest left reads some = tt
-starved_shows name tag Exited frames rest left reads some = tt
+-- it gave what was read, and what stands behind that
+pub gave_read : (at : LastTurn) (pipe : Piped) (cause : StopCause) → HasRead pipe at.frames → Shows at cause pipe.rest pipe.left → Gave at cause pipe.gave pipe.left
+gave_read at pipe cause read shows = told_more pipe.gave _ _ (λ octets e. (pipe.rest, e, shows)) read.told
 
 module _ (name : List ℕ) (tag : ℕ) (turn : Turn) (frames : List Frame) (pipe : Piped) where
   -- no frame stands there
-  pub ceases_none : (cause : StopCause) → is_reading turn ≡ true → Keeps pipe frames cause → ReadsNone pipe frames cause → Ceases name tag turn frames pipe cause
-  ceases_none EndOfInput reads read why = record { may = reads; gave = told_more pipe.gave _ _ (λ octets e. (pipe.rest, e, why)) read.told }
-  ceases_none ReadFault reads read why = record { may = reads; gave = told_more pipe.gave _ _ (λ octets e. (pipe.rest, e, why)) read.told }
-  ceases_none (BadBytes place) reads read why = record { may = reads; gave = told_more pipe.gave _ _ (λ octets e. (pipe.rest, e, why)) read.told }
-  ceases_none Starved reads read why = record { may = starved_reading turn reads; gave = told_more pipe.gave _ _ (λ octets more. (more.0, more.1, starved_shows name tag turn frames more.0 pipe.left reads more.2)) why }
+  pub ceases_none : (cause : StopCause) → is_reading turn ≡ true → Keeps pipe frames cause → ReadsNone pipe frames cause → Ceases (awaiting name tag frames turn) pipe cause
+  ceases_none EndOfInput reads read why = record { may = reads; gave = gave_read (awaiting name tag frames turn) pipe EndOfInput read why }
+  ceases_none ReadFault reads read why = record { may = reads; gave = gave_read (awaiting name tag frames turn) pipe ReadFault read why }
+  ceases_none (BadBytes place) reads read why = record { may = reads; gave = gave_read (awaiting name tag frames turn) pipe (BadBytes place) read why }
+  ceases_none Starved reads read why = record { may = reads; gave = told_more pipe.gave _ _ (λ octets more. (more.0, more.1, λ whole. more.2)) why }
   ceases_none Shutdown reads read why = absurd why
   ceases_none Exit reads read why = absurd why
   ceases_none WriteFault reads read why = absurd why
   ceases_none (OutOfTurn kind number) reads read why = absurd why
 
   other_gave : (octets : List ℕ) (f : Frame) → HasSpelling f → (MaySay name tag turn f → ⊥) → octets ≡ all_spelled (frames ++ f ∷ []) ++ pipe.rest
-      → (rest : List ℕ) × (octets ≡ all_spelled frames ++ rest) × Shows name tag turn (OutOfTurn (kind_octet f.body) f.tag) frames rest pipe.left
+      → (rest : List ℕ) × (octets ≡ all_spelled frames ++ rest) × Shows (awaiting name tag frames turn) (OutOfTurn (kind_octet f.body) f.tag) rest pipe.left
   other_gave octets f spelling other read = (
     spelled f ++ pipe.rest,
     (read ∙ ap (λ front. front ++ pipe.rest) (all_spelled-push frames f)) ∙ append_assoc (all_spelled frames) (spelled f) pipe.rest,
@@ -86,9 +80,17 @@ module _ (name : List ℕ) (tag : ℕ) (turn : Turn) (frames : List Frame) (pipe
 
   -- another frame stands there
   pub ceases_other : (cause : StopCause) (f : Frame) → cause ≡ OutOfTurn (kind_octet f.body) f.tag → is_reading turn ≡ true → HasSpelling f → (MaySay name tag turn f → ⊥) → HasRead pipe (frames ++ f ∷ [])
-      → Ceases name tag turn frames pipe cause
+      → Ceases (awaiting name tag frames turn) pipe cause
   ceases_other cause f is reads spelling other read =
-      subst (λ (why : StopCause). Ceases name tag turn frames pipe why) (sym is) (record {
+      subst (λ (why : StopCause). Ceases (awaiting name tag frames turn) pipe why) (sym is) (record {
         may = reads;
         gave = told_more pipe.gave _ _ (λ octets. other_gave octets f spelling other) read.told;
       })
+
+  -- the frame that was due was written in part
+  pub ceases_cut : is_writing turn ≡ true → HasRead pipe frames → Ceases (stood name tag frames turn Cut) pipe WriteFault
+  ceases_cut writes read = record { may = writes; gave = gave_read (stood name tag frames turn Cut) pipe WriteFault read tt }
+
+  -- memory ran out before it was written
+  pub ceases_missing : is_writing turn ≡ true → HasRead pipe frames → Ceases (stood name tag frames turn Missing) pipe Starved
+  ceases_missing writes read = record { may = writes; gave = gave_read (stood name tag frames turn Missing) pipe Starved read (λ whole. cc whole) }

@@ -2,4 +2,6 @@ mod NoFrame
 pub mod Frames
 pub mod Ceasing
 pub mod Saying
+pub mod Coming
+pub mod Taking
 pub mod Whole

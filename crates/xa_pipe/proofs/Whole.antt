@@ -10,13 +10,16 @@ use Rattle.xa_frame.specs.declared.frame.Frame.{Frame}
 use Rattle.xa_frame.specs.Spelling.{spelled, all_spelled, HasSpelling}
 use Rattle.xa_frame.proofs.FrontLemmas.{no_other, is_whole, is_partial, still_malformed}
 use Rattle.xa_events.specs.declared.event.Event.{Event}
-use Rattle.xa_events.specs.declared.event.Outcome.{Outcome}
+use Rattle.xa_events.specs.declared.event.Outcome.TheVariants.{Starved as StarvedOutcome}
 use Rattle.xa_events.specs.declared.event.StopCause.{StopCause}
 use Rattle.xa_events.specs.declared.event.StopCause.TheVariants.{Shutdown, Exit, EndOfInput, ReadFault, WriteFault, BadBytes, OutOfTurn, Starved}
-use Rattle.xa_pipe.specs.Life.{Says, Turn, MaySay, IsLife, IsCounted, Shows, outcomes_in, all_outcomes, lost_by, may_end, tag_after}
-use Rattle.xa_pipe.specs.Life.Turn.{AwaitsReady, AwaitsNext, Idle, Serving, Exited}
-use Rattle.xa_pipe.specs.Whole.{GivesAll, EndedAs}
-use Rattle.xa_pipe.proofs.Saying.{all_spelt, outcomes_said, said-append, is_said, answers_next}
+use Rattle.xa_pipe.specs.declared.hearing.Return.{Return}
+use Rattle.xa_pipe.specs.Life.{Says, Turn, Written, LifeId, LinkShows, Occurrence, EndsAs, EachCame, AllCame, MaySay, IsLife, IsCounted, Shows, came_in, returns_in, lost_by, may_end, tag_after}
+use Rattle.xa_pipe.specs.Life.Turn.{AwaitsReady, AwaitsNext, AwaitsInvoke, Serving, Exited}
+use Rattle.xa_pipe.specs.Whole.{GivesAll, CameAsSaid}
+use Rattle.xa_pipe.proofs.Ceasing.{stood}
+use Rattle.xa_pipe.proofs.Coming.{came_length}
+use Rattle.xa_pipe.proofs.Saying.{all_spelt, returns_append, answers_next}
 
 -- ---- two lists of frames in the same octets
 
@@ -38,10 +41,11 @@ fronts (f ∷ fs) (g ∷ gs) x y hf hg e =
 
 -- ---- a life that ends with a request in hand
 
-module _ (setup : Setup) (name : List ℕ) (outcomes whole : List Outcome) (fs : List Frame) (turn : Turn) (here : Says setup name outcomes fs Serving) (left : Option (List ℕ)) (others : List ℕ) (held : left ≡ Some others) (rest y : List ℕ) where
+module _ (name : List ℕ) (returned n : ℕ) (fs : List Frame) (turn : Turn) (here : Says name returned fs Serving) (left : Option (List ℕ)) (others : List ℕ) (held : left ≡ Some others) (rest y : List ℕ) (written : Written) where
   -- where its RETURN stands whole, the life doesn't end there but by want of memory
-  whole_return : (k : Frame) (ks : List Frame) → Says setup name whole (fs ++ k ∷ ks) turn → HasSpelling k → rest ++ others ≡ spelled k ++ y
-      → (cause : StopCause) → may_end cause Serving ≡ true → IsCounted cause 0 0 → Shows name (tag_after (length outcomes)) Serving cause fs rest left → cause ≡ Starved
+  whole_return : (k : Frame) (ks : List Frame) → Says name n (fs ++ k ∷ ks) turn → HasSpelling k → rest ++ others ≡ spelled k ++ y
+      → (cause : StopCause) → may_end cause Serving written ≡ true → IsCounted cause 0 0
+      → Shows (record { name = name; tag = tag_after returned; frames = fs; turn = Serving; written = written }) cause rest left → cause ≡ Starved
   whole_return k ks says spelling stands Shutdown may counted shows = absurd cc may
   whole_return k ks says spelling stands Exit may counted shows = absurd cc may
   whole_return k ks says spelling stands EndOfInput may counted (partial, empty) =
@@ -55,72 +59,92 @@ module _ (setup : Setup) (name : List ℕ) (outcomes whole : List Outcome) (fs :
   whole_return k ks says spelling stands (OutOfTurn kind tag) may counted (f, more, begins, is_kind, is_tag, not) =
       let same = no_other f k (more ++ others) y begins.spelling spelling
       (sym (append_assoc (spelled f) more others) ∙ (ap (λ (xs : List ℕ). xs ++ others) (sym begins.whole) ∙ stands)) in
-      absurd (not (subst (λ (h : Frame). MaySay name (tag_after (length outcomes)) Serving h) (sym same.0) (answers_next setup name outcomes whole fs ks k turn here says)))
+      absurd (not (subst (λ (h : Frame). MaySay name (tag_after returned) Serving h) (sym same.0) (answers_next name returned n fs ks k turn here says)))
   whole_return k ks says spelling stands Starved may counted shows = refl
+
+-- ---- what each RETURN came to
+
+-- what came of some RETURNs is as said, whatever more would be said
+said_front : (setup : Setup) (returns more : List Return) (came : List Occurrence) → EachCame setup returns came → CameAsSaid setup (returns ++ more) came
+said_front setup [] more [] each = tt
+said_front setup [] more (c ∷ came) each = absurd each
+said_front setup (r ∷ returns) more [] each = absurd each
+said_front setup (r ∷ returns) more (c ∷ []) each = inl each.0
+said_front setup (r ∷ returns) more (c ∷ d ∷ came) each = (each.0, said_front setup returns more (d ∷ came) each.1)
+
+-- and the one behind them may be lost where memory runs out
+said_lost : (setup : Setup) (returns more : List Return) (earlier : List Occurrence) (last : Occurrence) → EachCame setup returns earlier → EndsAs StarvedOutcome last.event
+    → length (earlier ++ last ∷ []) ≤ length (returns ++ more) → CameAsSaid setup (returns ++ more) (earlier ++ last ∷ [])
+said_lost setup [] [] [] last each lost few = absurd (omega (arith, few))
+said_lost setup [] (r ∷ more) [] last each lost few = inr lost
+said_lost setup [] more (c ∷ earlier) last each lost few = absurd each
+said_lost setup (r ∷ returns) more [] last each lost few = absurd each
+said_lost setup (r ∷ returns) more (c ∷ []) last each lost few = (each.0, said_lost setup returns more [] last each.1 lost (omega (arith, few)))
+said_lost setup (r ∷ returns) more (c ∷ d ∷ earlier) last each lost few = (each.0, said_lost setup returns more (d ∷ earlier) last each.1 lost (omega (arith, few)))
 
 -- ---- the law
 
-none_said : {X : Type 0} (xs ys : List X) → length (xs ++ ys) ≤ length xs → xs ++ ys ≡ xs
-none_said xs [] few = append-nil xs
-none_said xs (y ∷ ys) few = absurd (omega (arith, few, length-append xs (y ∷ ys)))
+none_more : {X : Type 0} (xs ys : List X) → length (xs ++ ys) ≤ length xs → xs ++ ys ≡ xs
+none_more xs [] few = append-nil xs
+none_more xs (y ∷ ys) few = absurd (omega (arith, few, length-append xs (y ∷ ys)))
 
-one_more : {X : Type 0} (xs ys : List X) (x : X) → length ((xs ++ ys) ++ x ∷ []) ≤ length xs → ⊥
-one_more xs ys x few = omega (arith, few, length-append xs ys, length-append (xs ++ ys) (x ∷ []))
+module _ (setup : Setup) (name : List ℕ) (returned n : ℕ) (frames all : List Frame) (last_turn : Turn) (cause : StopCause) (written : Written) (says : Says name n all last_turn) (came : List Occurrence)
+    (left : Option (List ℕ)) (others rest more : List ℕ) (held : left ≡ Some others) (few : length came ≤ length (returns_in all)) where
+  abbrev Both : Type 0
+  Both = Continues frames all (rest ++ others) more ⊎ Continues all frames more (rest ++ others)
 
-module _ (setup : Setup) (name : List ℕ) (outcomes whole ended : List Outcome) (frames all : List Frame) (last : Turn) (cause : StopCause) (says : Says setup name whole all last)
-    (left : Option (List ℕ)) (others rest more : List ℕ) (held : left ≡ Some others) (few : length ended ≤ length whole) where
-  -- how the requests ended, of which none was in hand
-  none_in_hand : outcomes ≡ outcomes_said setup frames → ended ≡ outcomes → Continues frames all (rest ++ others) more ⊎ Continues all frames more (rest ++ others) → EndedAs whole ended
-  none_in_hand said is (inl (ks, same, stands)) = inl (
-    outcomes_said setup ks,
-    is_said says ∙ (ap (λ (fs : List Frame). outcomes_said setup fs) same ∙ (said-append setup frames ks
-        ∙ ap (λ (os : List Outcome). os ++ outcomes_said setup ks) (sym (is ∙ said)))),
-  )
-  none_in_hand said is (inr (ks, same, stands)) =
-      let longer : ended ≡ whole ++ outcomes_said setup ks = is ∙ (said ∙ (ap (λ (fs : List Frame). outcomes_said setup fs) same ∙ (said-append setup all ks
-      ∙ ap (λ (os : List Outcome). os ++ outcomes_said setup ks) (sym (is_said says))))) in
-      inl ([], sym (append-nil ended ∙ (longer ∙ none_said whole (outcomes_said setup ks) (subst (λ (os : List Outcome). length os ≤ length whole) longer few))))
+  longer : (fs ks gs : List Frame) → gs ≡ fs ++ ks → returns_in gs ≡ returns_in fs ++ returns_in ks
+  longer fs ks gs same = ap (λ (hs : List Frame). returns_in hs) same ∙ returns_append fs ks
 
-  one_in_hand : Says setup name outcomes frames Serving → ended ≡ outcomes ++ lost_by cause ∷ [] → may_end cause Serving ≡ true → IsCounted cause 0 0 → Shows name (tag_after (length outcomes)) Serving cause frames rest left
-      → Continues frames all (rest ++ others) more ⊎ Continues all frames more (rest ++ others) → EndedAs whole ended
-  one_in_hand here is may counted shows (inl ([], same, stands)) =
-      let alike : whole ≡ outcomes = is_said says ∙ (ap (λ (fs : List Frame). outcomes_said setup fs) (same ∙ append-nil frames) ∙ sym (is_said here)) in
-      absurd (one_more outcomes [] (lost_by cause) (subst (λ (os : List Outcome). length (os ++ lost_by cause ∷ []) ≤ length outcomes) (sym (append-nil outcomes))
-      (subst (λ (os : List Outcome). length os ≤ length outcomes) is (subst (λ (os : List Outcome). length ended ≤ length os) alike few))))
-  one_in_hand here is may counted shows (inl (k ∷ ks, same, stands)) =
-      let so : Says setup name whole (frames ++ k ∷ ks) last = subst (λ (fs : List Frame). Says setup name whole fs last) same says in
+  -- what came of the requests, of which none was in hand
+  none_in_hand : EachCame setup (returns_in frames) came → Both → CameAsSaid setup (returns_in all) came
+  none_in_hand each (inl (ks, same, stands)) = subst (λ (rs : List Return). CameAsSaid setup rs came) (sym (longer frames ks all same)) (said_front setup (returns_in frames) (returns_in ks) came each)
+  none_in_hand each (inr (ks, same, stands)) =
+      let so = longer all ks frames same in
+      let many = came_length setup (returns_in frames) came each in
+      let alike : returns_in frames ≡ returns_in all = so ∙ none_more (returns_in all) (returns_in ks) (omega (arith, few, many, ap length so)) in
+      subst (λ (rs : List Return). CameAsSaid setup rs came) alike
+      (subst (λ (rs : List Return). CameAsSaid setup rs came) (append-nil (returns_in frames)) (said_front setup (returns_in frames) [] came each))
+
+  one_in_hand : (earlier : List Occurrence) (last : Occurrence) → came ≡ earlier ++ last ∷ [] → EachCame setup (returns_in frames) earlier → EndsAs (lost_by cause) last.event
+      → Says name returned frames Serving → may_end cause Serving written ≡ true → IsCounted cause 0 0
+      → Shows (record { name = name; tag = tag_after returned; frames = frames; turn = Serving; written = written }) cause rest left → Both → CameAsSaid setup (returns_in all) came
+  one_in_hand earlier last is each lost here may counted shows (inl ([], same, stands)) =
+      let many = came_length setup (returns_in frames) earlier each in
+      absurd (omega (arith, few, many, ap length is, length-append earlier (last ∷ []), ap length (ap (λ (fs : List Frame). returns_in fs) (same ∙ append-nil frames))))
+  one_in_hand earlier last is each lost here may counted shows (inl (k ∷ ks, same, stands)) =
+      let so : Says name n (frames ++ k ∷ ks) last_turn = subst (λ (fs : List Frame). Says name n fs last_turn) same says in
       let spelt = All-head HasSpelling k ks (All-behind frames (k ∷ ks) (all_spelt so)) in
-      let starved = whole_return setup name outcomes whole frames last here left others held rest (all_spelled ks ++ more) k ks so spelt
+      let starved = whole_return name returned n frames last_turn here left others held rest (all_spelled ks ++ more) written k ks so spelt
       (stands ∙ append_assoc (spelled k) (all_spelled ks) more) cause may counted shows in
-      inr (
-        outcomes,
-        outcomes_said setup (k ∷ ks),
-        is ∙ ap (λ (c : StopCause). outcomes ++ lost_by c ∷ []) starved,
-        is_said so ∙ (said-append setup frames (k ∷ ks) ∙ ap (λ (os : List Outcome). os ++ outcomes_said setup (k ∷ ks)) (sym (is_said here))),
-      )
+      let wide = longer frames (k ∷ ks) all same in
+      let enough = subst (λ (rs : List Return). length (earlier ++ last ∷ []) ≤ length rs) wide (subst (λ (os : List Occurrence). length os ≤ length (returns_in all)) is few) in
+      let ended = said_lost setup (returns_in frames) (returns_in (k ∷ ks)) earlier last each (subst (λ (c : StopCause). EndsAs (lost_by c) last.event) starved lost) enough in
+      subst (λ (os : List Occurrence). CameAsSaid setup (returns_in all) os) (sym is)
+      (subst (λ (rs : List Return). CameAsSaid setup rs (earlier ++ last ∷ [])) (sym wide) ended)
     where
       All-behind : (fs gs : List Frame) → All HasSpelling (fs ++ gs) → All HasSpelling gs
       All-behind [] gs h = h
       All-behind (f ∷ fs) gs h = All-behind fs gs (All-tail HasSpelling f (fs ++ gs) h)
-  one_in_hand here is may counted shows (inr (ks, same, stands)) =
-      let longer : outcomes ≡ whole ++ outcomes_said setup ks = is_said here ∙ (ap (λ (fs : List Frame). outcomes_said setup fs) same ∙ (said-append setup all ks
-      ∙ ap (λ (os : List Outcome). os ++ outcomes_said setup ks) (sym (is_said says)))) in
-      absurd (one_more whole (outcomes_said setup ks) (lost_by cause)
-      (subst (λ (os : List Outcome). length (os ++ lost_by cause ∷ []) ≤ length whole) longer (subst (λ (os : List Outcome). length os ≤ length whole) is few)))
+  one_in_hand earlier last is each lost here may counted shows (inr (ks, same, stands)) =
+      let many = came_length setup (returns_in frames) earlier each in
+      absurd (omega (arith, few, many, ap length is, length-append earlier (last ∷ []), ap length (longer all ks frames same), length-append (returns_in all) (returns_in ks)))
 
-  by_turn : (turn : Turn) → Says setup name outcomes frames turn → ended ≡ all_outcomes cause turn outcomes → may_end cause turn ≡ true → IsCounted cause 0 0 → Shows name (tag_after (length outcomes)) turn cause frames rest left
-      → Continues frames all (rest ++ others) more ⊎ Continues all frames more (rest ++ others) → EndedAs whole ended
-  by_turn AwaitsReady here is may counted shows both = none_in_hand (is_said here) is both
-  by_turn AwaitsNext here is may counted shows both = none_in_hand (is_said here) is both
-  by_turn Idle here is may counted shows both = none_in_hand (is_said here) is both
-  by_turn Serving here is may counted shows both = one_in_hand here is may counted shows both
-  by_turn Exited here is may counted shows both = none_in_hand (is_said here) is both
+  by_turn : (turn : Turn) → Says name returned frames turn → AllCame setup cause turn (returns_in frames) came → may_end cause turn written ≡ true → IsCounted cause 0 0
+      → Shows (record { name = name; tag = tag_after returned; frames = frames; turn = turn; written = written }) cause rest left → Both → CameAsSaid setup (returns_in all) came
+  by_turn AwaitsReady here each may counted shows both = none_in_hand each both
+  by_turn AwaitsNext here each may counted shows both = none_in_hand each both
+  by_turn AwaitsInvoke here each may counted shows both = none_in_hand each both
+  by_turn Serving here (earlier, last, is, each, lost) may counted shows both = one_in_hand earlier last is each lost here may counted shows both
+  by_turn Exited here each may counted shows both = none_in_hand each both
 
-pub ends_as_said : (setup : Setup) (name : List ℕ) (server g : ℕ) (past : List Event) (took gave left : Option (List ℕ)) (outcomes : List Outcome)
-    → IsLife setup name server g past took gave left 0 0 → GivesAll setup name outcomes gave left → length (outcomes_in server g past) ≤ length outcomes → EndedAs outcomes (outcomes_in server g past)
-ends_as_said setup name server g past took gave left outcomes life gives few =
-    let told = subst (λ (t : Option (List ℕ)). IfSome t (λ octets. (rest : List ℕ) × (octets ≡ all_spelled life.frames ++ rest) × Shows name (tag_after (length life.outcomes)) life.turn life.cause life.frames rest left)) gives.given life.gave_frames in
-    let octets : all_spelled life.frames ++ (told.0 ++ gives.others) ≡ all_spelled gives.frames ++ gives.more =
+pub ends_as_said : (setup : Setup) (life : LifeId) (past : List Event) (link : LinkShows) (frames : List Frame) → IsLife setup life past link → link.reads ≡ 0 → link.writes ≡ 0 → GivesAll life.name frames link
+    → length (came_in life.server life.generation past) ≤ length (returns_in frames) → CameAsSaid setup (returns_in frames) (came_in life.server life.generation past)
+ends_as_said setup id past link frames life no_reads no_writes gives few =
+    let at = stood id.name (tag_after life.returned) life.frames life.turn life.written in
+    let told = subst (λ (t : Option (List ℕ)). IfSome t (λ octets. (rest : List ℕ) × (octets ≡ all_spelled life.frames ++ rest) × Shows at life.cause rest link.left)) gives.given life.gave_frames in
+    let octets : all_spelled life.frames ++ (told.0 ++ gives.others) ≡ all_spelled frames ++ gives.more =
     sym (append_assoc (all_spelled life.frames) told.0 gives.others) ∙ (ap (λ (xs : List ℕ). xs ++ gives.others) (sym told.1) ∙ gives.whole) in
-    by_turn setup name life.outcomes outcomes (outcomes_in server g past) life.frames gives.frames gives.turn life.cause gives.says left gives.others told.0 gives.more gives.held few
-    life.turn life.says life.ended life.may life.counted told.2 (fronts life.frames gives.frames (told.0 ++ gives.others) gives.more (all_spelt life.says) (all_spelt gives.says) octets)
+    let counted = subst (λ (writes : ℕ). IsCounted life.cause 0 writes) no_writes (subst (λ (reads : ℕ). IsCounted life.cause reads link.writes) no_reads life.counted) in
+    by_turn setup id.name life.returned gives.returned life.frames frames gives.turn life.cause life.written gives.says (came_in id.server id.generation past) link.left gives.others told.0 gives.more gives.held few
+    life.turn life.says life.came life.may counted told.2 (fronts life.frames frames (told.0 ++ gives.others) gives.more (all_spelt life.says) (all_spelt gives.says) octets)

@@ -1,6 +1,6 @@
--- A life of a server: what its program says, how the life ends, and what shows that (after tpreturn of XATMI, and TPEXIT of Tuxedo; frames and
--- causes are this project's own).
-use Rattle.std.specs.Prelude.{◌≡◌, ◌⊎◌, ℕ, ℤ, ◌+◌, ◌-◌, ◌<◌, ◌^◌, ◌%◌, min, Bool, true, false, List, [], ◌∷◌, ◌++◌, length, take, Option, Some, None, IfSome, if◌then◌else◌}
+-- A life of a server: what its program says, what that comes to, how the life ends, and what shows that (after tpreturn of XATMI, and TPEXIT of
+-- Tuxedo; frames and causes are this project's own).
+use Rattle.std.specs.Prelude.{◌≡◌, ℕ, ℤ, ◌+◌, ◌-◌, ◌<◌, ◌^◌, ◌%◌, min, Bool, true, false, List, [], ◌∷◌, ◌++◌, length, take, Option, Some, None, IfSome, if◌then◌else◌}
 use Rattle.xa_types.specs.declared.data.Data.{Data}
 use Rattle.xa_types.specs.declared.setup.Setup.{Setup}
 use Rattle.xa_types.specs.declared.call.Rval.{Rval}
@@ -9,19 +9,56 @@ use Rattle.xa_types.specs.Kind.{is_sound}
 use Rattle.xa_types.specs.Setup.{queue_of}
 use Rattle.xa_link.specs.Told.{Empty}
 use Rattle.xa_frame.specs.declared.frame.Frame.{Frame}
+use Rattle.xa_frame.specs.declared.frame.Body.{Body}
+use Rattle.xa_frame.specs.declared.frame.Body.TheVariants.{Return as ReturnBody}
 use Rattle.xa_frame.specs.Spelling.{spelled, all_spelled, kind_octet, HasSpelling}
 use Rattle.xa_frame.specs.Stream.{IsPartial, IsMalformed, Begins}
 use Rattle.xa_events.specs.declared.event.Event.{Event}
-use Rattle.xa_events.specs.declared.event.Event.TheVariants.{End, Stop}
+use Rattle.xa_events.specs.declared.event.Event.TheVariants.{Forward, End, Stop}
 use Rattle.xa_events.specs.declared.event.Outcome.{Outcome}
 use Rattle.xa_events.specs.declared.event.Outcome.TheVariants.{Returned, Failed, BadReturn, Died, Starved}
 use Rattle.xa_events.specs.declared.event.StopCause.{StopCause}
 use Rattle.xa_events.specs.declared.event.StopCause.TheVariants.{Shutdown, Exit, EndOfInput, ReadFault, WriteFault, BadBytes, OutOfTurn, Starved as StarvedStop}
 use Rattle.xa_events.specs.Words.{latest, from_each, AtEach}
 use Rattle.xa_events.specs.Queue.{is_closed}
+use Rattle.xa_pipe.specs.declared.hearing.Return.{Return}
 use Rattle.xa_pipe.specs.Frames.{is_of_life, next_frame, ready_frame, shutdown_frame, return_frame, frames_out}
 
 -- ---- what the program says
+
+-- what comes next: READY, NEXT, an INVOKE or SHUTDOWN of the monitor, a RETURN, or nothing after TPEXIT
+pub data Turn : Type 0 where
+  AwaitsReady : Turn
+  AwaitsNext : Turn
+  AwaitsInvoke : Turn
+  Serving : Turn
+  Exited : Turn
+
+-- what comes next behind a RETURN
+abbrev pub turn_behind : Rval → Turn
+turn_behind ExitValue = Exited
+turn_behind value = AwaitsNext
+
+-- the number of the invocation after so many RETURNs, modulo 2^32
+abbrev pub tag_after : ℕ → ℕ
+tag_after n = (n + 1) % 2 ^ 32
+
+-- the program has said these frames, n of them RETURNs, and this comes next: READY and NEXT, and to each INVOKE its RETURN and NEXT; each has a spelling
+pub data Says (name : List ℕ) : ℕ → List Frame → Turn → Type 0 where
+  Silent : Says name 0 [] AwaitsReady
+  Named : HasSpelling (ready_frame name) → Says name 0 (ready_frame name ∷ []) AwaitsNext
+  Free : {n : ℕ} {frames : List Frame} → Says name n frames AwaitsNext → Says name n (frames ++ next_frame ∷ []) AwaitsInvoke
+  Invoked : {n : ℕ} {frames : List Frame} → Says name n frames AwaitsInvoke → Says name n frames Serving
+  Answers : {n : ℕ} {frames : List Frame} (value : Rval) (code : ℤ) (payload : Data) → Says name n frames Serving
+      → HasSpelling (return_frame (tag_after n) value code payload)
+      → Says name (n + 1) (frames ++ return_frame (tag_after n) value code payload ∷ []) (turn_behind value)
+
+-- ---- what that comes to
+
+-- an event, and those before it
+pub record Occurrence : Type 0 where
+  pub event : Event
+  pub before : List Event
 
 -- how a request ends by a RETURN with data that is sound
 abbrev pub outcome_of : Rval → ℤ → Data → Outcome
@@ -32,34 +69,71 @@ outcome_of value code payload = Failed code payload
 abbrev pub outcome_by : Setup → Rval → ℤ → Data → Outcome
 outcome_by setup value code payload = if is_sound setup payload then outcome_of value code payload else BadReturn
 
--- what comes next: READY, NEXT, an INVOKE or SHUTDOWN of the monitor, a RETURN, or nothing after TPEXIT
-pub data Turn : Type 0 where
-  AwaitsReady : Turn
-  AwaitsNext : Turn
-  Idle : Turn
-  Serving : Turn
-  Exited : Turn
+-- the event is the end of a request, with that outcome
+abbrev pub EndsAs : Outcome → Event → Type 0
+EndsAs outcome (End e) = e.outcome ≡ outcome
+EndsAs outcome e = ⊥
 
-abbrev pub turn_behind : Rval → Turn
-turn_behind ExitValue = Exited
-turn_behind value = AwaitsNext
+-- a RETURN comes to that event: the request ends as it says
+abbrev pub ComesTo : Setup → Return → Occurrence → Type 0
+ComesTo setup back came = EndsAs (outcome_by setup back.value back.code back.payload) came.event
 
--- the number of the invocation after so many, modulo 2^32
-abbrev pub tag_after : ℕ → ℕ
-tag_after n = (n + 1) % 2 ^ 32
+-- each comes to one event, in order
+abbrev pub EachCame : Setup → List Return → List Occurrence → Type 0
+EachCame setup [] [] = Unit {0}
+EachCame setup (back ∷ returns) (came ∷ others) = ComesTo setup back came × EachCame setup returns others
+EachCame setup returns others = ⊥
 
--- The program has said these frames, each of which has a spelling, by which requests ended so, and this comes next: READY and
--- NEXT, and to each INVOKE its RETURN and NEXT.
-pub data Says (setup : Setup) (name : List ℕ) : List Outcome → List Frame → Turn → Type 0 where
-  Silent : Says setup name [] [] AwaitsReady
-  Named : HasSpelling (ready_frame name) → Says setup name [] (ready_frame name ∷ []) AwaitsNext
-  Free : {outcomes : List Outcome} {frames : List Frame} → Says setup name outcomes frames AwaitsNext → Says setup name outcomes (frames ++ next_frame ∷ []) Idle
-  Invoked : {outcomes : List Outcome} {frames : List Frame} → Says setup name outcomes frames Idle → Says setup name outcomes frames Serving
-  Answers : {outcomes : List Outcome} {frames : List Frame} (value : Rval) (code : ℤ) (payload : Data) → Says setup name outcomes frames Serving
-      → HasSpelling (return_frame (tag_after (length outcomes)) value code payload)
-      → Says setup name (outcomes ++ outcome_by setup value code payload ∷ []) (frames ++ return_frame (tag_after (length outcomes)) value code payload ∷ []) (turn_behind value)
+-- what the frame returns
+abbrev pub return_of : Body → List Return
+return_of (ReturnBody value code payload) = (record { value = value; code = code; payload = payload }) ∷ []
+return_of body = []
+
+-- the RETURNs of these frames
+abbrev pub returns_in : List Frame → List Return
+returns_in [] = []
+returns_in (f ∷ frames) = return_of f.body ++ returns_in frames
+
+-- the event is what a take of the life came to
+abbrev pub came_at : ℕ → ℕ → Event → List Event → List Occurrence
+came_at server g (End e) before = if is_of_life server g e.server.0 e.generation.0 then (record { event = End e; before = before }) ∷ [] else []
+came_at server g (Forward f) before = if is_of_life server g f.server.0 f.generation.0 then (record { event = Forward f; before = before }) ∷ [] else []
+came_at server g e before = []
+
+-- what the takes of the life came to, the oldest first: the request ended, or was forwarded
+abbrev pub came_in : ℕ → ℕ → List Event → List Occurrence
+came_in server g past = from_each (came_at server g) past
+
+-- how the request in hand ends with the life
+abbrev pub lost_by : StopCause → Outcome
+lost_by StarvedStop = Starved
+lost_by cause = Died
+
+-- each RETURN came to its event, and the request in hand was lost with the life: no more than one ends as Starved
+abbrev pub AllCame : Setup → StopCause → Turn → List Return → List Occurrence → Type 0
+AllCame setup cause Serving returns came =
+    (earlier : List Occurrence) × (last : Occurrence) × (came ≡ earlier ++ last ∷ []) × EachCame setup returns earlier × EndsAs (lost_by cause) last.event
+AllCame setup cause turn returns came = EachCame setup returns came
 
 -- ---- how the life ends
+
+-- whether the link took the last frame that was due to the program: all of it, a front, or nothing
+pub data Written : Type 0 where
+  Whole : Written
+  Cut : Written
+  Missing : Written
+
+-- where a life ended: what the program had said, whose turn it was, the tag that a RETURN had to have, and whether the last frame was written
+pub record LastTurn : Type 0 where
+  pub name : List ℕ
+  pub tag : ℕ
+  pub frames : List Frame
+  pub turn : Turn
+  pub written : Written
+
+-- where a life ended as a frame of the program was to come: all was written
+abbrev pub awaiting : List ℕ → ℕ → List Frame → Turn → LastTurn
+awaiting name tag frames turn = record { name = name; tag = tag; frames = frames; turn = turn; written = Whole }
 
 -- a frame that the program may say in that turn
 abbrev pub MaySay : List ℕ → ℕ → Turn → Frame → Type 0
@@ -68,29 +142,31 @@ MaySay name tag AwaitsNext f = f ≡ next_frame
 MaySay name tag Serving f = (value : Rval) × (code : ℤ) × (payload : Data) × (f ≡ return_frame tag value code payload)
 MaySay name tag turn f = ⊥
 
+-- a frame of the program is to come
 abbrev pub is_reading : Turn → Bool
 is_reading AwaitsReady = true
 is_reading AwaitsNext = true
 is_reading Serving = true
 is_reading turn = false
 
+-- a frame of the monitor is to be written, or was written last
 abbrev pub is_writing : Turn → Bool
-is_writing Idle = true
+is_writing AwaitsInvoke = true
 is_writing Serving = true
 is_writing turn = false
 
--- in which turn a life may end with that cause
-abbrev pub may_end : StopCause → Turn → Bool
-may_end Shutdown Idle = true
-may_end Exit Exited = true
-may_end EndOfInput turn = is_reading turn
-may_end ReadFault turn = is_reading turn
-may_end WriteFault turn = is_writing turn
-may_end (BadBytes place) turn = is_reading turn
-may_end (OutOfTurn kind tag) turn = is_reading turn
-may_end StarvedStop Exited = false
-may_end StarvedStop turn = true
-may_end cause turn = false
+-- in which turn a life may end with that cause: as a frame was to come, with all written, or as one was to be written
+abbrev pub may_end : StopCause → Turn → Written → Bool
+may_end Shutdown AwaitsInvoke Whole = true
+may_end Exit Exited Whole = true
+may_end EndOfInput turn Whole = is_reading turn
+may_end ReadFault turn Whole = is_reading turn
+may_end (BadBytes place) turn Whole = is_reading turn
+may_end (OutOfTurn kind tag) turn Whole = is_reading turn
+may_end StarvedStop turn Whole = is_reading turn
+may_end StarvedStop turn Missing = is_writing turn
+may_end WriteFault turn Cut = is_writing turn
+may_end cause turn _ = false
 
 -- one read failed where that ended the life, or one write, and no other did
 abbrev pub IsCounted : StopCause → ℕ → ℕ → Type 0
@@ -103,41 +179,51 @@ abbrev pub place_behind : List Frame → ℕ
 place_behind frames = min (length (all_spelled frames)) (2 ^ 64 - 1)
 
 -- what stands behind the frames: less than a frame, and with EndOfInput nothing more in the link; with BadBytes no frame; with OutOfTurn a frame
--- that the program may not say; with Starved some octet, where READY or NEXT was to come; else nothing is said
-abbrev pub Shows : List ℕ → ℕ → Turn → StopCause → List Frame → List ℕ → Option (List ℕ) → Type 0
-Shows name tag turn EndOfInput frames rest left = IsPartial rest × Empty left
-Shows name tag turn ReadFault frames rest left = IsPartial rest
-Shows name tag turn (BadBytes place) frames rest left = (place ≡ place_behind frames) × IsMalformed rest
-Shows name tag turn (OutOfTurn kind number) frames rest left =
-    (f : Frame) × (more : List ℕ) × Begins rest f more × (kind ≡ kind_octet f.body) × (number ≡ f.tag) × (MaySay name tag turn f → ⊥)
-Shows name tag AwaitsReady StarvedStop frames rest left = rest ≡ [] → ⊥
-Shows name tag AwaitsNext StarvedStop frames rest left = rest ≡ [] → ⊥
-Shows name tag turn cause frames rest left = Unit {0}
+-- that the program may not say; with Starved some octet that wasn't read as a frame, where all was written; else nothing is said. That memory
+-- had really run out stays free: with Starved the next frame may stand there whole
+abbrev pub Shows : LastTurn → StopCause → List ℕ → Option (List ℕ) → Type 0
+Shows at EndOfInput rest left = IsPartial rest × Empty left
+Shows at ReadFault rest left = IsPartial rest
+Shows at (BadBytes place) rest left = (place ≡ place_behind at.frames) × IsMalformed rest
+Shows at (OutOfTurn kind number) rest left =
+    (f : Frame) × (more : List ℕ) × Begins rest f more × (kind ≡ kind_octet f.body) × (number ≡ f.tag) × (MaySay at.name at.tag at.turn f → ⊥)
+Shows at StarvedStop rest left = at.written ≡ Whole → rest ≡ [] → ⊥
+Shows at cause rest left = Unit {0}
 
--- how the request in hand ends with the life
-abbrev pub lost_by : StopCause → Outcome
-lost_by StarvedStop = Starved
-lost_by cause = Died
+-- where the link tells what it gave, it gave the frames, and what stands behind them shows the cause
+abbrev pub Gave : LastTurn → StopCause → Option (List ℕ) → Option (List ℕ) → Type 0
+Gave at cause gave left = IfSome gave (λ octets. (rest : List ℕ) × (octets ≡ all_spelled at.frames ++ rest) × Shows at cause rest left)
 
--- how the life's requests ended, the one in hand too
-abbrev pub all_outcomes : StopCause → Turn → List Outcome → List Outcome
-all_outcomes cause Serving outcomes = outcomes ++ lost_by cause ∷ []
-all_outcomes cause turn outcomes = outcomes
+-- ---- what the link took
+
+-- all of these frames but the last, and of the last a front that isn't all of it
+abbrev pub IsCut : List Frame → List ℕ → Type 0
+IsCut frames octets = (earlier : List Frame) × (last : Frame) × (n : ℕ) × (frames ≡ earlier ++ last ∷ []) × (n < length (spelled last)) × (octets ≡ all_spelled earlier ++ take n (spelled last))
+
+-- all of these frames but the last
+abbrev pub LacksLast : List Frame → List ℕ → Type 0
+LacksLast frames octets = (earlier : List Frame) × (last : Frame) × (frames ≡ earlier ++ last ∷ []) × (octets ≡ all_spelled earlier)
+
+-- the frames that were due to the program: those that the events say, and SHUTDOWN where it couldn't be written
+abbrev pub due : Written → Turn → List Frame → List Frame
+due Whole turn frames = frames
+due _ AwaitsInvoke frames = frames ++ shutdown_frame ∷ []
+due _ turn frames = frames
+
+-- of the frames that were due the link took the last so
+abbrev pub Took : Written → List Frame → List ℕ → Type 0
+Took Whole frames octets = octets ≡ all_spelled frames
+Took Cut frames octets = IsCut frames octets
+Took Missing frames octets = LacksLast frames octets
 
 -- ---- the life among the events
 
-abbrev pub outcome_at : ℕ → ℕ → Event → List Outcome
-outcome_at server g (End e) = if is_of_life server g e.server.0 e.generation.0 then e.outcome ∷ [] else []
-outcome_at server g _ = []
-
--- how the life's requests ended, the oldest first
-abbrev pub outcomes_in : ℕ → ℕ → List Event → List Outcome
-outcomes_in server g past = from_each (λ e before. outcome_at server g e) past
-
+-- the event ends the life
 abbrev pub stops_life : ℕ → ℕ → Event → Bool
 stops_life server g (Stop x) = is_of_life server g x.server.0 x.generation.0
 stops_life server g _ = false
 
+-- why a life ended with the event
 abbrev pub cause_in : Option Event → Option StopCause
 cause_in (Some (Stop x)) = Some x.cause
 cause_in _ = None
@@ -146,37 +232,36 @@ cause_in _ = None
 abbrev pub cause_of : ℕ → ℕ → List Event → Option StopCause
 cause_of server g past = cause_in (latest (stops_life server g) past)
 
--- all of these frames but the last, and of the last a front that isn't all of it
-abbrev pub IsCut : List Frame → List ℕ → Type 0
-IsCut frames octets = (earlier : List Frame) × (last : Frame) × (n : ℕ) × (frames ≡ earlier ++ last ∷ []) × (n < length (spelled last)) × (octets ≡ all_spelled earlier ++ take n (spelled last))
-
 -- the queue of the server was closed when the life ended
 abbrev pub StopsClosed : Setup → ℕ → ℕ → Event → List Event → Type 0
 StopsClosed setup server g e before = stops_life server g e ≡ true → is_closed (queue_of setup server) before ≡ true
 
--- all of these frames but the last
-abbrev pub LacksLast : List Frame → List ℕ → Type 0
-LacksLast frames octets = (earlier : List Frame) × (last : Frame) × (frames ≡ earlier ++ last ∷ []) × (octets ≡ all_spelled earlier)
+-- a life: its server's name and number, and its generation
+pub record LifeId : Type 0 where
+  pub name : List ℕ
+  pub server : ℕ
+  pub generation : ℕ
 
--- the link took what the monitor wrote: all of it, but that the last frame, an INVOKE or SHUTDOWN, is cut where a write failed, and that
--- the last INVOKE may be left out where memory ran out
-abbrev pub TookBy : StopCause → Turn → List Frame → List ℕ → Type 0
-TookBy WriteFault Serving frames octets = IsCut frames octets
-TookBy WriteFault turn frames octets = IsCut (frames ++ shutdown_frame ∷ []) octets
-TookBy StarvedStop Serving frames octets = (octets ≡ all_spelled frames) ⊎ LacksLast frames octets
-TookBy cause turn frames octets = octets ≡ all_spelled frames
+-- what a link shows: what it took, gave and still holds, where it tells that, and how often its reads and writes failed
+pub record LinkShows : Type 0 where
+  pub took : Option (List ℕ)
+  pub gave : Option (List ℕ)
+  pub left : Option (List ℕ)
+  pub reads : ℕ
+  pub writes : ℕ
 
--- how a life went and why it ended, by its events, by its link's counts, and by what the link took, gave and still holds, where it tells
-pub record IsLife (setup : Setup) (name : List ℕ) (server g : ℕ) (past : List Event) (took gave left : Option (List ℕ)) (reads writes : ℕ) : Type 0 where
+-- how a life went and why it ended, by its events and by what its link shows
+pub record IsLife (setup : Setup) (life : LifeId) (past : List Event) (link : LinkShows) : Type 0 where
   pub cause : StopCause
   pub turn : Turn
-  pub outcomes : List Outcome
+  pub returned : ℕ
   pub frames : List Frame
-  pub stopped : cause_of server g past ≡ Some cause
-  pub ended : outcomes_in server g past ≡ all_outcomes cause turn outcomes
-  pub says : Says setup name outcomes frames turn
-  pub may : may_end cause turn ≡ true
-  pub closed : turn ≡ Idle → AtEach (StopsClosed setup server g) past
-  pub counted : IsCounted cause reads writes
-  pub took_frames : IfSome took (TookBy cause turn (frames_out server g past))
-  pub gave_frames : IfSome gave (λ octets. (rest : List ℕ) × (octets ≡ all_spelled frames ++ rest) × Shows name (tag_after (length outcomes)) turn cause frames rest left)
+  pub written : Written
+  pub stopped : cause_of life.server life.generation past ≡ Some cause
+  pub says : Says life.name returned frames turn
+  pub came : AllCame setup cause turn (returns_in frames) (came_in life.server life.generation past)
+  pub may : may_end cause turn written ≡ true
+  pub closed : turn ≡ AwaitsInvoke → AtEach (StopsClosed setup life.server life.generation) past
+  pub counted : IsCounted cause link.reads link.writes
+  pub took_frames : IfSome link.took (Took written (due written turn (frames_out life.server life.generation past)))
+  pub gave_frames : Gave (record { name = life.name; tag = tag_after returned; frames = frames; turn = turn; written = written }) cause link.gave link.left

@@ -1,7 +1,6 @@
 -- What the monitor's end of the pipes of a life has seen.
-use Rattle.std.specs.Prelude.{◌≡◌, ◌⊎◌, ℕ, List, [], ◌++◌, length, true, Option, IfSome}
+use Rattle.std.specs.Prelude.{◌≡◌, ◌⊎◌, ℕ, List, [], ◌++◌, true, Option, IfSome}
 use Rattle.std.specs.Io.{StartsWith}
-use Rattle.xa_types.specs.declared.setup.Setup.{Setup}
 use Rattle.xa_types.specs.declared.data.Data.{Data}
 use Rattle.xa_types.specs.declared.call.Mode.TheVariants.{Reply}
 use Rattle.xa_link.specs.Told.{Rose, Empty}
@@ -11,11 +10,10 @@ use Rattle.xa_frame.specs.declared.reader.NextRefused.{NextRefused}
 use Rattle.xa_frame.specs.declared.reader.NextRefused.TheVariants.{BadFrame, NoMemory}
 use Rattle.xa_frame.specs.Stream.{IsPartial, IsMalformed}
 use Rattle.xa_frame.specs.Spelling.{all_spelled}
-use Rattle.xa_events.specs.declared.event.Outcome.{Outcome}
 use Rattle.xa_events.specs.declared.event.StopCause.{StopCause}
 use Rattle.xa_events.specs.declared.event.StopCause.TheVariants.{EndOfInput, ReadFault, WriteFault, BadBytes, Starved}
 use Rattle.xa_pipe.specs.Life.Turn.{AwaitsReady, AwaitsNext}
-use Rattle.xa_pipe.specs.Life.{Turn, Says, Shows, may_end, tag_after, place_behind}
+use Rattle.xa_pipe.specs.Life.{Turn, Says, LastTurn, LinkShows, Gave, awaiting, may_end, tag_after, place_behind}
 
 -- the request to a routine that has its service's name
 abbrev pub invoke_frame : List ℕ → ℕ → Data → Frame
@@ -30,6 +28,10 @@ pub record Piped : Type 0 where
   pub writes : ℕ
   pub rest : List ℕ
   pub place : ℕ
+
+-- what the link of the pipe shows
+abbrev pub shown : Piped → LinkShows
+shown pipe = record { took = pipe.took; gave = pipe.gave; left = pipe.left; reads = pipe.reads; writes = pipe.writes }
 
 -- these frames were written
 abbrev pub Wrote : Piped → List Frame → Type 0
@@ -70,15 +72,15 @@ CountsWrites WriteFault before after = Rose before after
 CountsWrites Starved before after = after ≡ before
 CountsWrites cause before after = ⊥
 
--- the life ended so behind these frames, where that was to come
-pub record Ceases (name : List ℕ) (tag : ℕ) (turn : Turn) (frames : List Frame) (pipe : Piped) (cause : StopCause) : Type 0 where
-  pub may : may_end cause turn ≡ true
-  pub gave : IfSome pipe.gave (λ octets. (rest : List ℕ) × (octets ≡ all_spelled frames ++ rest) × Shows name tag turn cause frames rest pipe.left)
+-- the life ended so there
+pub record Ceases (at : LastTurn) (pipe : Piped) (cause : StopCause) : Type 0 where
+  pub may : may_end cause at.turn at.written ≡ true
+  pub gave : Gave at cause pipe.gave pipe.left
 
--- the life ended so as the program was to greet, after requests that ended so
-pub record CutOff (setup : Setup) (name : List ℕ) (outcomes : List Outcome) (pipe : Piped) (cause : StopCause) : Type 0 where
+-- the life ended so as the program was to greet
+pub record CutOff (name : List ℕ) (pipe : Piped) (cause : StopCause) : Type 0 where
   pub turn : Turn
   pub frames : List Frame
   pub greets : (turn ≡ AwaitsReady) ⊎ (turn ≡ AwaitsNext)
-  pub says : Says setup name outcomes frames turn
-  pub ceases : Ceases name (tag_after (length outcomes)) turn frames pipe cause
+  pub says : Says name 0 frames turn
+  pub ceases : Ceases (awaiting name (tag_after 0) frames turn) pipe cause

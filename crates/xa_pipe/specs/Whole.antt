@@ -1,27 +1,27 @@
 -- A life whose link gives all that its program says.
-use Rattle.std.specs.Prelude.{◌≡◌, ◌⊎◌, ℕ, List, [], ◌∷◌, ◌++◌, Option, Some}
+use Rattle.std.specs.Prelude.{◌≡◌, ◌⊎◌, ℕ, List, [], ◌∷◌, ◌++◌, Some}
 use Rattle.xa_types.specs.declared.setup.Setup.{Setup}
 use Rattle.xa_frame.specs.declared.frame.Frame.{Frame}
 use Rattle.xa_frame.specs.Spelling.{all_spelled}
-use Rattle.xa_events.specs.declared.event.Outcome.{Outcome}
 use Rattle.xa_events.specs.declared.event.Outcome.TheVariants.{Starved}
-use Rattle.xa_pipe.specs.Life.{Says, Turn}
+use Rattle.xa_pipe.specs.declared.hearing.Return.{Return}
+use Rattle.xa_pipe.specs.Life.{Says, Turn, LinkShows, Occurrence, EndsAs, ComesTo}
 
--- What the link gave and what it still holds begins with frames that a program says in turn, and by which requests end so; they
--- are whole, and anything may follow them.
-pub record GivesAll (setup : Setup) (name : List ℕ) (outcomes : List Outcome) (gave left : Option (List ℕ)) : Type 0 where
-  pub frames : List Frame
+-- What the link gave and what it still holds begins with these frames, which a program says in turn; they are whole, and anything may follow them.
+pub record GivesAll (name : List ℕ) (frames : List Frame) (link : LinkShows) : Type 0 where
+  pub returned : ℕ
   pub turn : Turn
-  pub says : Says setup name outcomes frames turn
+  pub says : Says name returned frames turn
   pub octets : List ℕ
   pub others : List ℕ
   pub more : List ℕ
-  pub given : gave ≡ Some octets
-  pub held : left ≡ Some others
+  pub given : link.gave ≡ Some octets
+  pub held : link.left ≡ Some others
   pub whole : octets ++ others ≡ all_spelled frames ++ more
 
--- requests ended as the first of these, but that memory ran out for the last
-abbrev pub EndedAs : List Outcome → List Outcome → Type 0
-EndedAs outcomes ended =
-    ((more : List Outcome) × (outcomes ≡ ended ++ more))
-    ⊎ ((front : List Outcome) × (more : List Outcome) × (ended ≡ front ++ Starved ∷ []) × (outcomes ≡ front ++ more))
+-- each take came to what its RETURN says, but that memory may have run out for the last
+abbrev pub CameAsSaid : Setup → List Return → List Occurrence → Type 0
+CameAsSaid setup returns [] = Unit {0}
+CameAsSaid setup [] (came ∷ others) = ⊥
+CameAsSaid setup (back ∷ returns) (came ∷ []) = ComesTo setup back came ⊎ EndsAs Starved came.event
+CameAsSaid setup (back ∷ returns) (came ∷ next ∷ others) = ComesTo setup back came × CameAsSaid setup returns (next ∷ others)

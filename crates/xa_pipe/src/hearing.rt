@@ -1,11 +1,10 @@
 // What the monitor hears of the program of a server.
 ghost use Rattle.std.specs.Prelude.{◌≡◌, ◌++◌, ◌∷◌, [], ℕ, List, IfOk, IfErr, OnOk, true, false};
-ghost use Rattle.xa_types.specs.declared.setup.Setup.{Setup};
 ghost use Rattle.xa_frame.specs.declared.frame.Frame.{Frame};
 ghost use Rattle.xa_frame.specs.Spelling.{HasSpelling, kind_octet};
 ghost use Rattle.xa_pipe.specs.Frames.{ready_frame, next_frame, return_frame};
 ghost use Rattle.xa_events.specs.declared.event.StopCause.TheVariants.{OutOfTurn};
-ghost use Rattle.xa_pipe.specs.Life.{MaySay};
+ghost use Rattle.xa_pipe.specs.Life.{MaySay, awaiting};
 ghost use Rattle.xa_pipe.specs.Life.Turn.{AwaitsReady, AwaitsNext, Serving};
 ghost use Rattle.xa_pipe.specs.Pipe.{HasRead, Ceases, CutOff, CountsReads};
 
@@ -74,7 +73,7 @@ impl<L: Link> Pipe<L> {
         ensures took { self.new.took ≡ self.old.took }
         ensures writes { self.new.writes ≡ self.old.writes }
         ensures well { OnOk result (self.new.reads ≡ self.old.reads) }
-        ensures why { IfErr result (λ cause. (tag : ℕ) (frames : List Frame) → HasRead self.old frames → Ceases server.now tag AwaitsReady frames self.new cause) }
+        ensures why { IfErr result (λ cause. (tag : ℕ) (frames : List Frame) → HasRead self.old frames → Ceases (awaiting server.now tag frames AwaitsReady) self.new cause) }
         ensures counts { IfErr result (λ cause. CountsReads cause self.old.reads self.new.reads) }
     {
         let frame = self.read()?;
@@ -86,13 +85,14 @@ impl<L: Link> Pipe<L> {
     }
 
     /// Reads READY with that server's name, and NEXT. Else it answers why the life ended: EndOfInput, ReadFault,
-    /// BadBytes, OutOfTurn, or Starved, where memory ran out.
+    /// BadBytes, OutOfTurn, or Starved, where memory ran out and octets stood there. Nothing shows that memory had
+    /// really run out.
     pub fn greet(&mut self, server: &Name) -> Result<(), StopCause>
         ensures read { OnOk result (HasRead self.old [] → HasRead self.new (ready_frame server.now ∷ next_frame ∷ [])) }
         ensures took { self.new.took ≡ self.old.took }
         ensures writes { self.new.writes ≡ self.old.writes }
         ensures well { OnOk result (self.new.reads ≡ self.old.reads) }
-        ensures why { IfErr result (λ cause. (setup : Setup) → HasRead self.old [] → CutOff setup server.now [] self.new cause) }
+        ensures why { IfErr result (λ cause. HasRead self.old [] → CutOff server.now self.new cause) }
         ensures counts { IfErr result (λ cause. CountsReads cause self.old.reads self.new.reads) }
     {
         self.read_ready(server)?;
@@ -105,7 +105,7 @@ impl<L: Link> Pipe<L> {
         ensures took { self.new.took ≡ self.old.took }
         ensures writes { self.new.writes ≡ self.old.writes }
         ensures well { OnOk result (self.new.reads ≡ self.old.reads) }
-        ensures why { IfErr result (λ cause. (name : List ℕ) (tag : ℕ) (frames : List Frame) → HasRead self.old frames → Ceases name tag AwaitsNext frames self.new cause) }
+        ensures why { IfErr result (λ cause. (name : List ℕ) (tag : ℕ) (frames : List Frame) → HasRead self.old frames → Ceases (awaiting name tag frames AwaitsNext) self.new cause) }
         ensures counts { IfErr result (λ cause. CountsReads cause self.old.reads self.new.reads) }
     {
         let frame = self.read()?;
@@ -124,7 +124,7 @@ impl<L: Link> Pipe<L> {
         ensures took { self.new.took ≡ self.old.took }
         ensures writes { self.new.writes ≡ self.old.writes }
         ensures well { OnOk result (self.new.reads ≡ self.old.reads) }
-        ensures why { IfErr result (λ cause. (name : List ℕ) (frames : List Frame) → HasRead self.old frames → Ceases name number Serving frames self.new cause) }
+        ensures why { IfErr result (λ cause. (name : List ℕ) (frames : List Frame) → HasRead self.old frames → Ceases (awaiting name number frames Serving) self.new cause) }
         ensures counts { IfErr result (λ cause. CountsReads cause self.old.reads self.new.reads) }
     {
         let frame = self.read()?;

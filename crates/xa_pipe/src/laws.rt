@@ -1,15 +1,17 @@
 // A law of the lives of servers. It is the clause of a function without arguments.
-ghost use Rattle.std.specs.Prelude.{◌≤◌, ℕ, List, length, Option};
+ghost use Rattle.std.specs.Prelude.{◌≡◌, ◌≤◌, ℕ, List, length};
 ghost use Rattle.xa_types.specs.declared.setup.Setup.{Setup};
+ghost use Rattle.xa_frame.specs.declared.frame.Frame.{Frame};
 ghost use Rattle.xa_events.specs.declared.event.Event.{Event};
-ghost use Rattle.xa_events.specs.declared.event.Outcome.{Outcome};
-ghost use Rattle.xa_pipe.specs.Life.{IsLife, outcomes_in};
-ghost use Rattle.xa_pipe.specs.Whole.{GivesAll, EndedAs};
+ghost use Rattle.xa_pipe.specs.Life.{LifeId, LinkShows, IsLife, came_in, returns_in};
+ghost use Rattle.xa_pipe.specs.Whole.{GivesAll, CameAsSaid};
 
 /// Where no read and no write of the link failed, and it gives a RETURN to each request of the life, whole and in turn,
-/// each request ended as its RETURN says, but that memory may have run out for the last.
+/// each request came to what its RETURN says, but that memory may have run out for the last. Nothing shows that it had
+/// really run out.
 pub fn ends_as_said()
-    ensures { (setup : Setup) (name : List ℕ) (server g : ℕ) (past : List Event) (took gave left : Option (List ℕ)) (outcomes : List Outcome)
-        → IsLife setup name server g past took gave left 0 0 → GivesAll setup name outcomes gave left
-        → length (outcomes_in server g past) ≤ length outcomes → EndedAs outcomes (outcomes_in server g past) }
+    ensures { (setup : Setup) (life : LifeId) (past : List Event) (link : LinkShows) (frames : List Frame)
+        → IsLife setup life past link → link.reads ≡ 0 → link.writes ≡ 0 → GivesAll life.name frames link
+        → length (came_in life.server life.generation past) ≤ length (returns_in frames)
+        → CameAsSaid setup (returns_in frames) (came_in life.server life.generation past) }
 {}

@@ -9,12 +9,12 @@ use Rattle.xa_pipe.proofs.pipe.Pipe.greet.Goals as goal
 pub returns-in_err-read_ready-clause-why : goal.returns-in_err-read_ready-clause-why
 returns-in_err-read_ready-clause-why g c =
     err_is c.from_residual.result _ c.in_err-read_ready.field-0.0 c.from_residual.ensures.1
-    (λ setup read. record { turn = AwaitsReady; frames = []; greets = inl refl; says = Silent; ceases = c.in_err-read_ready.ensures.why (tag_after 0) [] read })
+    (λ read. record { turn = AwaitsReady; frames = []; greets = inl refl; says = Silent; ceases = c.in_err-read_ready.ensures.why (tag_after 0) [] read })
 
 pub returns-clause-why : goal.returns-clause-why
 returns-clause-why g c =
     err_more c.read_next.result _ _
-    (λ cause why setup read. record {
+    (λ cause why read. record {
       turn = AwaitsNext;
       frames = ready_frame c.args.server.now ∷ [];
       greets = inr refl;
