@@ -1,3 +1,4 @@
+pub mod Apart
 pub mod Built
 pub mod Carrying
 pub mod Complete
@@ -5,7 +6,6 @@ pub mod Exchanging
 pub mod Over
 pub mod Pipes
 pub mod Played
-pub mod Playing
 pub mod Served
 pub mod Turns
 pub mod Yielding
