@@ -1,102 +1,189 @@
--- What is told of the calls of the one client, while further calls are made.
-use Rattle.std.proofs.Common.{◌≡◌, ℕ, zero, suc, ◌+◌, ◌≤◌, ◌==◌, false, List, [], ◌∷◌, ◌++◌, length, Option, Some, None, refl, sym, ◌∙◌, ap, subst, arith, if◌then◌else◌, add-zero}
-use Rattle.std.specs.Option.{IsSomeAnd}
+-- What is said of the calls of `play` at their events, and what the lines are.
+use Rattle.std.proofs.Common.{◌≡◌, ◌⊎◌, ℕ, zero, suc, ◌+◌, ◌≤◌, ◌==◌, ◌&&◌, true, false, Bool, List, [], ◌∷◌, ◌++◌, length, Option, Some, None, inl, inr, refl, sym, ◌∙◌, ap, subst, arith, eq-eqb, eqb-true, ◌%◌, add-one, le-leb, if◌then◌else◌}
+use Rattle.std.proofs.lemmas.Bool.{ne_eqb, cases_Bool}
+use Rattle.std.specs.Str.{bytes_eq}
+use Rattle.xa_types.specs.declared.data.Data.{Data}
+use Rattle.xa_types.specs.declared.data.Kind.{Kind}
+use Rattle.xa_types.specs.declared.fault.Fault.{Fault}
+use Rattle.xa_types.specs.declared.fault.Fault.TheVariants.{Inval, NoEnt}
 use Rattle.xa_types.specs.declared.ids.RequestId.{RequestId}
-use Rattle.xa_types.specs.declared.setup.Setup.{Setup}
 use Rattle.xa_types.specs.declared.call.Op.{Op}
 use Rattle.xa_types.specs.declared.call.Op.TheVariants.{Call}
 use Rattle.xa_types.specs.declared.call.Ask.{Ask}
-use Rattle.xa_types.specs.declared.fault.Fault.{Fault}
-use Rattle.xa_types.specs.declared.fault.Fault.TheVariants.{Inval, NoEnt}
-use Rattle.xa_events.specs.declared.event.Evidence.{Evidence}
-use Rattle.xa_events.specs.declared.event.Evidence.TheVariants.{Argument, Version}
-use Rattle.xa_types.specs.declared.reply.Reply.TheVariants.{Answered as AnsweredReply}
+use Rattle.xa_types.specs.declared.reply.Answer.{Answer}
+use Rattle.xa_types.specs.declared.reply.Reply.TheVariants.{Answered as AnsweredReply, Fault as FaultReply}
+use Rattle.xa_types.specs.Setup.{numbered}
 use Rattle.xa_events.specs.declared.event.Event.{Event}
 use Rattle.xa_events.specs.declared.event.Event.TheVariants.{Accept, Answer as Answers, Refuse}
-use Rattle.xa_events.specs.declared.event.Answered.{Answered}
+use Rattle.xa_events.specs.declared.event.Evidence.{Evidence}
+use Rattle.xa_events.specs.declared.event.Evidence.TheVariants.{Argument, Version}
 use Rattle.xa_events.specs.declared.event.Outcome.{Outcome}
-use Rattle.xa_events.specs.Words.{latest}
-use Rattle.xa_events.specs.Request.{ended, sent_by_op}
-use Rattle.xa_events.specs.Board.{listed_in}
-use Rattle.xa_events.specs.Answers.{answer_to}
-use Rattle.xa_events.specs.Calls.{is_op, events_of_op, Became, CallRefused, EachBecame}
-use Rattle.xa_events.specs.Said.{reply_at, reply_in}
+use Rattle.xa_events.specs.declared.event.Outcome.TheVariants.{Returned, Failed, BadReturn, BadForward, Died, Starved}
+use Rattle.xa_events.specs.declared.event.StopCause.{StopCause}
+use Rattle.xa_events.specs.Answers.{reply_of, answer_to}
+use Rattle.xa_events.specs.Board.{changes, listed_in}
+use Rattle.xa_events.specs.Caller.{newest_call, op_of, accepted_in}
+use Rattle.xa_events.specs.Calls.{FitsCall, FitsCalls, CallRefused, awaits_answer}
+use Rattle.xa_events.specs.Request.{priority_at}
+use Rattle.xa_events.specs.Request.Settlement.{EndedBy}
+use Rattle.xa_events.specs.Queue.{waiting}
+use Rattle.xa_events.specs.Order.{TakesInOrder, next_of, first_of_highest}
+use Rattle.xa_events.specs.Said.{reply_at}
 use Rattle.xa_text.specs.Line.{line_text}
+use Rattle.xa_play.specs.PlaySetup.{play_setup}
+use Rattle.xa_play.specs.Refusal.{IsAdmitted, IsRefused}
 use Rattle.xa_play.specs.Transcript.{lines_up_to}
-use Rattle.xa_play.specs.Between.{KnowsAnswers}
+use Rattle.xa_play.specs.History.{request, accept, answer_of, refuse}
+use Rattle.xa_play.specs.Between.{Situation, situation, board_at, quiet}
+use Rattle.xa_play.proofs.Newest.{ended_call, served}
+use Rattle.xa_play.proofs.Situations.{behind}
+use Rattle.xa_play.proofs.Falls.{bytes_eq-self}
+use Rattle.xa_play.proofs.Machine.{has_number, newest_ended, was_ended}
 
--- the later list has what the earlier one has of the client's first n calls and m requests: their events, how the requests ended, what the board listed for them
-pub record Keeps (setup : Setup) (n m : ℕ) (before after : List Event) : Type 0 where
-  pub events : (k : ℕ) → k ≤ n → events_of_op 1 k after ≡ events_of_op 1 k before
-  pub newest : (k : ℕ) → k ≤ n → latest (is_op 1 k) after ≡ latest (is_op 1 k) before
-  pub over : (r : RequestId) (o : Outcome) → ended r before ≡ Some o → ended r after ≡ Some o
-  pub sent : (r : RequestId) → r.number ≤ m → sent_by_op r after ≡ sent_by_op r before
-  pub listed : (v : ℕ) (service : List ℕ) → listed_in setup before v service false ≡ [] → listed_in setup after v service false ≡ []
+-- ---- the lines
 
-reply_kept : (setup : Setup) (n m : ℕ) (before after : List Event) → Keeps setup n m before after → (e : Option Event) → ((a : Answered) → e ≡ Some (Answers a) → a.request.number ≤ m) → reply_in after e ≡ reply_in before e
-reply_kept setup n m before after k None own = refl
-reply_kept setup n m before after k (Some (Answers a)) own =
-    ap (λ op. AnsweredReply (if op == a.op then 0 else a.request.number) a.answer) (k.sent a.request (own a refl))
-reply_kept setup n m before after k (Some e) own = refl
+-- the lines of the first calls stay as they are where their replies do
+pub lines_kept : (name : List ℕ) (before after : List Event) (n : ℕ) → ((k : ℕ) → k ≤ n → reply_at after 1 k ≡ reply_at before 1 k) → lines_up_to name 1 after n ≡ lines_up_to name 1 before n
+lines_kept name before after zero kept = refl
+lines_kept name before after (suc n) kept =
+    ap (λ lines. lines ++ line_text name (suc n) (reply_at after 1 (suc n))) (lines_kept name before after n (λ k low. kept k (omega (arith, low))))
+    ∙ ap (λ reply. lines_up_to name 1 before n ++ line_text name (suc n) reply) (kept (suc n) (omega arith))
 
-replies_kept : (setup : Setup) (n m : ℕ) (before after : List Event) → Keeps setup n m before after → KnowsAnswers m before → (i : ℕ) → i ≤ n → reply_at after 1 i ≡ reply_at before 1 i
+other : (k n : ℕ) → k ≤ n → ((n + 1) == k) ≡ false
+other k n low = ne_eqb (n + 1) k (λ e. absurd (omega arith))
+
+last_line : (name : List ℕ) (past : List Event) (n : ℕ) → lines_up_to name 1 past (n + 1) ≡ lines_up_to name 1 past n ++ line_text name (n + 1) (reply_at past 1 (n + 1))
+last_line name past n = rw add-one refl
+
+module _ (name : List ℕ) (n : ℕ) (fault : Fault) (evidence : Evidence) (past : List Event) where
+  abbrev refused : List Event
+  refused = Refuse (refuse (n + 1) fault evidence) ∷ past
+
+  replies_refused : (k : ℕ) → k ≤ n → reply_at refused 1 k ≡ reply_at past 1 k
+  unfolding reply_at
+  replies_refused k low = rw (has_number n, other k n low) refl
+
+  pub newest_refused : newest_call 1 refused ≡ Some (Refuse (refuse (n + 1) fault evidence))
+  unfolding newest_call
+  newest_refused = rw (has_number n) refl
+
+-- a refusal of `play` shows no connection's end
+refused_reply : (service : List ℕ) (version n : ℕ) (ask : Ask) (fault : Fault) (evidence : Evidence) (past : List Event) → IsRefused service version ask fault evidence
+    → reply_at (Refuse (refuse (n + 1) fault evidence) ∷ past) 1 (n + 1) ≡ FaultReply fault
 unfolding reply_at
-replies_kept setup n m before after k own i low =
-    ap (λ e. reply_in after e) (k.newest i low) ∙ reply_kept setup n m before after k (latest (is_op 1 i) before) (own i)
+refused_reply service version n ask Inval Argument past is = rw (has_number n, eq-eqb (n + 1) (n + 1) refl) refl
+refused_reply service version n ask NoEnt (Version v) past is = rw (has_number n, eq-eqb (n + 1) (n + 1) refl) refl
+refused_reply service version n ask fault evidence past is = absurd is
 
--- the lines of the first calls stay as they are
-pub lines_kept : (setup : Setup) (name : List ℕ) (n m : ℕ) (before after : List Event) → Keeps setup n m before after → KnowsAnswers m before → (i : ℕ) → i ≤ n → lines_up_to name 1 after i ≡ lines_up_to name 1 before i
-lines_kept setup name n m before after k own zero low = refl
-lines_kept setup name n m before after k own (suc i) low =
-    ap (λ lines. lines ++ line_text name (suc i) (reply_at after 1 (suc i))) (lines_kept setup name n m before after k own i (omega arith))
-    ∙ ap (λ reply. lines_up_to name 1 before i ++ line_text name (suc i) reply) (replies_kept setup n m before after k own (suc i) low)
+pub lines_refused : (service name : List ℕ) (version n : ℕ) (ask : Ask) (fault : Fault) (evidence : Evidence) (past : List Event) → IsRefused service version ask fault evidence
+    → lines_up_to name 1 (Refuse (refuse (n + 1) fault evidence) ∷ past) (n + 1) ≡ lines_up_to name 1 past n ++ line_text name (n + 1) (FaultReply fault)
+lines_refused service name version n ask fault evidence past is =
+    let now = Refuse (refuse (n + 1) fault evidence) ∷ past in
+    last_line name now n ∙ (ap (λ lines. lines ++ line_text name (n + 1) (reply_at now 1 (n + 1))) (lines_kept name past now n (replies_refused name n fault evidence past))
+    ∙ ap (λ reply. lines_up_to name 1 past n ++ line_text name (n + 1) reply) (refused_reply service version n ask fault evidence past is))
 
-told_kept : (before after : Option Outcome) (P : Outcome → Type 0) → ((o : Outcome) → before ≡ Some o → after ≡ Some o) → IsSomeAnd before P → IsSomeAnd after P
-told_kept None after P over told = absurd told
-told_kept (Some o) after P over told = subst (λ x. IsSomeAnd x P) (sym (over o refl)) told
+module _ (service : List ℕ) (n m : ℕ) (payload : Data) (past : List Event) (is : situation service 1 past ≡ quiet service true n m) (outcome : Outcome) (answer : Answer) where
+  replies_served : (cause : Option StopCause) (k : ℕ) → k ≤ n → reply_at (served service (n + 1) (m + 1) payload outcome cause answer past) 1 k ≡ reply_at past 1 k
+  unfolding reply_at
+  replies_served None k low = rw (has_number n, other k n low) refl
+  replies_served (Some cause) k low = rw (has_number n, other k n low) refl
 
-refused_kept : (setup : Setup) (n m : ℕ) (ask : Ask) (before after : List Event) → Keeps setup n m before after → (fault : Fault) (evidence : Evidence) → CallRefused setup ask before fault evidence → CallRefused setup ask after fault evidence
-refused_kept setup n m ask before after k Inval Argument became = became
-refused_kept setup n m ask before after k NoEnt (Version v) became = (became.0, k.listed v ask.service became.1)
-refused_kept setup n m ask before after k fault evidence became = became
+  served_reply : (cause : Option StopCause) → reply_at (served service (n + 1) (m + 1) payload outcome cause answer past) 1 (n + 1) ≡ AnsweredReply 0 answer
+  unfolding reply_at
+  served_reply cause = rw (has_number n, eq-eqb (n + 1) (n + 1) refl) (rw (newest_ended service n m payload past is outcome cause) (rw (eq-eqb (n + 1) (n + 1) refl) refl))
 
-became_kept : (setup : Setup) (n m : ℕ) (op : Op) (before after : List Event) → Keeps setup n m before after → (events : List Event) → Became setup op before events → Became setup op after events
-became_kept setup n m (Call ask) before after k (Answers b ∷ Accept a ∷ []) became = record {
-  valid = became.valid;
-  service = became.service;
-  payload = became.payload;
-  mode = became.mode;
-  request = became.request;
-  told = told_kept (ended a.request before) (ended a.request after) (λ outcome. b.answer ≡ answer_to ask.expect outcome) (k.over a.request) became.told;
-}
-became_kept setup n m (Call ask) before after k (Refuse r ∷ []) became = refused_kept setup n m ask before after k r.fault r.evidence became
-became_kept setup n m op before after k events became = became
+  pub lines_served : (name : List ℕ) (cause : Option StopCause) → lines_up_to name 1 (served service (n + 1) (m + 1) payload outcome cause answer past) (n + 1) ≡ lines_up_to name 1 past n ++ line_text name (n + 1) (AnsweredReply 0 answer)
+  lines_served name cause =
+      let now = served service (n + 1) (m + 1) payload outcome cause answer past in
+      last_line name now n ∙ (ap (λ lines. lines ++ line_text name (n + 1) (reply_at now 1 (n + 1))) (lines_kept name past now n (replies_served cause))
+      ∙ ap (λ reply. lines_up_to name 1 past n ++ line_text name (n + 1) reply) (served_reply cause))
 
--- the calls from the first-th on stay what they became
-pub each_kept : (setup : Setup) (n m first : ℕ) (ops : List Op) (before after : List Event) → Keeps setup n m before after → first + length ops ≤ n + 1 → EachBecame setup 1 first ops before → EachBecame setup 1 first ops after
-each_kept setup n m first [] before after k low each = tt
-each_kept setup n m first (op ∷ ops) before after k low each = (
-  subst (λ events. Became setup op after events) (sym (k.events first (omega arith))) (became_kept setup n m op before after k (events_of_op 1 first before) each.0),
-  each_kept setup n m (first + 1) ops before after k (omega arith) each.1,
-)
+  -- ---- the call that is served
 
-next_place : (a b : ℕ) → a + suc b ≡ (a + 1) + b
-next_place a b = omega arith
+  pub newest_served : (cause : Option StopCause) → newest_call 1 (served service (n + 1) (m + 1) payload outcome cause answer past) ≡ Some (Answers (answer_of (n + 1) (m + 1) answer))
+  unfolding newest_call
+  newest_served cause = rw (has_number n) refl
 
--- one more call
-pub each_more : (setup : Setup) (first : ℕ) (ops : List Op) (op : Op) (past : List Event) → EachBecame setup 1 first ops past → Became setup op past (events_of_op 1 (first + length ops) past)
-    → EachBecame setup 1 first (ops ++ op ∷ []) past
-each_more setup first [] op past each last = (subst (λ n. Became setup op past (events_of_op 1 n past)) (add-zero first) last, tt)
-each_more setup first (x ∷ ops) op past each last =
-    (each.0, each_more setup (first + 1) ops op past each.1 (subst (λ n. Became setup op past (events_of_op 1 n past)) (next_place first (length ops)) last))
+  module _ (ops : List Op) (ask : Ask) (is_call : numbered (n + 1) ops ≡ Some (Call ask)) where
+    fits_accept : IsAdmitted service 1 ask → ask.payload ≡ payload → awaits_answer ops (newest_call 1 past) ≡ false → FitsCall (play_setup service) 1 ops (Accept (accept service (n + 1) (m + 1) payload)) past
+    fits_accept admitted same over = record {
+      fits = rw is_call (record { valid = admitted.valid; service = sym admitted.named; payload = sym same; mode = refl });
+      turn = λ next. over;
+    }
 
--- ---- what keeps the calls so far
+    fits_answer : (cause : Option StopCause) → answer ≡ answer_to ask.expect (reply_of (EndedBy outcome))
+        → FitsCall (play_setup service) 1 ops (Answers (answer_of (n + 1) (m + 1) answer)) (ended_call service (n + 1) (m + 1) payload outcome cause past)
+    fits_answer cause told =
+        let newest = newest_ended service n m payload past is outcome cause in
+        record {
+          fits = rw is_call (record {
+            same = sym (ap op_of newest);
+            request = ap accepted_in newest;
+            told = was_ended service n m payload past is outcome (λ settlement. answer ≡ answer_to ask.expect (reply_of settlement)) cause told;
+          });
+          turn = λ next. let last : op_of (newest_call 1 (ended_call service (n + 1) (m + 1) payload outcome cause past)) ≡ n + 1 = ap op_of newest in absurd (omega (arith, next, last));
+        }
 
-pub keeps_on : (setup : Setup) (n m : ℕ) (a b c : List Event) → Keeps setup n m a b → Keeps setup n m b c → Keeps setup n m a c
-keeps_on setup n m a b c first second = record {
-  events = λ k low. second.events k low ∙ first.events k low;
-  newest = λ k low. second.newest k low ∙ first.newest k low;
-  over = λ r o over. second.over r o (first.over r o over);
-  sent = λ r low. second.sent r low ∙ first.sent r low;
-  listed = λ v service none. second.listed v service (first.listed v service none);
-}
+    pub fits_served : (cause : Option StopCause) → IsAdmitted service 1 ask → ask.payload ≡ payload → awaits_answer ops (newest_call 1 past) ≡ false → answer ≡ answer_to ask.expect (reply_of (EndedBy outcome))
+        → FitsCalls (play_setup service) 1 ops past → FitsCalls (play_setup service) 1 ops (served service (n + 1) (m + 1) payload outcome cause answer past)
+    fits_served None admitted same over told old = ((λ h. fits_answer None told), ((λ h. cc h), ((λ h. cc h), ((λ h. fits_accept admitted same over), old))))
+    fits_served (Some cause) admitted same over told old =
+        ((λ h. fits_answer (Some cause) told), ((λ h. cc h), ((λ h. cc h), ((λ h. cc h), ((λ h. cc h), ((λ h. cc h), ((λ h. cc h), ((λ h. fits_accept admitted same over), old))))))))
+
+-- without a kind of buffer the caller is told what befell its request
+pub answer_plain : (wanted : Option Kind) (outcome : Outcome) → wanted ≡ None → reply_of (EndedBy outcome) ≡ answer_to wanted (reply_of (EndedBy outcome))
+answer_plain wanted (Returned code payload) none = rw none refl
+answer_plain wanted (Failed code payload) none = rw none refl
+answer_plain wanted BadReturn none = refl
+answer_plain wanted (BadForward version) none = refl
+answer_plain wanted Died none = refl
+answer_plain wanted Starved none = refl
+
+-- ---- the call that is refused
+
+names_differ : (a b : List ℕ) → (a ≡ b → ⊥) → bytes_eq b a ≡ false
+names_differ [] [] other = absurd (other refl)
+names_differ [] (y ∷ ys) other = refl
+names_differ (x ∷ xs) [] other = refl
+names_differ (x ∷ xs) (y ∷ ys) other = elim (y == x) as (λ b. (y == x) ≡ b → (b && bytes_eq ys xs) ≡ false) [
+  | true ↦ λ e. names_differ xs ys (λ rest. other (ap (λ k. k ∷ xs) (sym (eqb-true y x e)) ∙ ap (λ l. y ∷ l) rest))
+  | false ↦ λ e. refl
+] refl
+
+-- what the version that stands lists: nothing of another service, and nothing once the row is withdrawn
+unlisted : (service : List ℕ) (up : Bool) (past : List Event) (name : List ℕ) → changes past ≡ board_at service up → (length (board_at service up) ≡ 2) ⊎ (name ≡ service → ⊥)
+    → listed_in (play_setup service) past (length (board_at service up)) name false ≡ []
+unfolding listed_in
+unlisted service true past name board (inl two) = absurd (omega (arith, two))
+unlisted service true past name board (inr other) = rw board (rw (bytes_eq-self service) (rw (names_differ name service other) refl))
+unlisted service false past name board why = rw board (rw (bytes_eq-self service) (rw (bytes_eq-self service) refl))
+
+call_refused : (service : List ℕ) (up : Bool) (ask : Ask) (past : List Event) → changes past ≡ board_at service up → (fault : Fault) (evidence : Evidence) → IsRefused service (length (board_at service up)) ask fault evidence
+    → CallRefused (play_setup service) ask fault evidence past
+call_refused service up ask past board Inval Argument refused = refused
+call_refused service up ask past board NoEnt (Version v) refused =
+    (refused.0, subst (λ (k : ℕ). listed_in (play_setup service) past k ask.service false ≡ []) (sym refused.1) (unlisted service up past ask.service board refused.2))
+call_refused service up ask past board fault evidence refused = absurd refused
+
+pub fits_refused : (service : List ℕ) (up : Bool) (n : ℕ) (ops : List Op) (ask : Ask) (past : List Event) (fault : Fault) (evidence : Evidence) → numbered (n + 1) ops ≡ Some (Call ask) → changes past ≡ board_at service up
+    → IsRefused service (length (board_at service up)) ask fault evidence → awaits_answer ops (newest_call 1 past) ≡ false → FitsCall (play_setup service) 1 ops (Refuse (refuse (n + 1) fault evidence)) past
+fits_refused service up n ops ask past fault evidence is_call board refused over = record { fits = rw is_call (call_refused service up ask past board fault evidence refused); turn = λ next. over }
+
+-- ---- the order
+
+-- the one request that waits is the next
+pub next_is_one : (priority : RequestId → ℕ) (k : ℕ) → next_of priority (request k ∷ []) k ≡ Some (request k)
+next_is_one priority k = elim (cases_Bool (k % 10 == 0)) [
+  | inl is_so ↦ ap (λ b. if b then Some (request k) else first_of_highest priority (request k ∷ [])) is_so
+  | inr not_so ↦ ap (λ b. if b then Some (request k) else first_of_highest priority (request k ∷ [])) not_so ∙ rw (le-leb (priority (request k)) (priority (request k)) (omega arith)) refl
+]
+
+module _ (service : List ℕ) (n m : ℕ) (payload : Data) (past : List Event) (is : situation service 1 past ≡ quiet service true n m) (outcome : Outcome) (answer : Answer) where
+  takes_one : next_of (priority_at (Accept (accept service (n + 1) (m + 1) payload) ∷ past)) (waiting (play_setup service) 1 (Accept (accept service (n + 1) (m + 1) payload) ∷ past)) (m + 1) ≡ Some (request (m + 1))
+  takes_one =
+      let now = behind service 1 (Accept (accept service (n + 1) (m + 1) payload) ∷ []) past (quiet service true n m) is in
+      ap (λ (v : Situation). next_of (priority_at (Accept (accept service (n + 1) (m + 1) payload) ∷ past)) v.waiting (m + 1)) now ∙ next_is_one (priority_at (Accept (accept service (n + 1) (m + 1) payload) ∷ past)) (m + 1)
+
+  pub order_served : (cause : Option StopCause) → TakesInOrder (play_setup service) past → TakesInOrder (play_setup service) (served service (n + 1) (m + 1) payload outcome cause answer past)
+  order_served None order = (tt, (tt, (takes_one, (tt, order))))
+  order_served (Some cause) order = (tt, (tt, (tt, (tt, (tt, (tt, (takes_one, (tt, order))))))))

@@ -1,73 +1,106 @@
--- What is read off the events of `play` between two calls.
+-- What is known between two calls of `play`.
 -- No public contract of the program rests on this file.
-use Rattle.std.specs.Prelude.{◌≡◌, ℕ, ◌+◌, ◌<◌, ◌≤◌, true, false, List, [], ◌∷◌, Some, None}
+use Rattle.std.specs.Prelude.{◌≡◌, ℕ, ◌+◌, ◌≤◌, Bool, true, false, not, List, [], ◌∷◌, length}
 use Rattle.xa_types.specs.declared.ids.RequestId.{RequestId}
-use Rattle.xa_types.specs.Rows.{Put, Remove}
+use Rattle.xa_types.specs.declared.call.Op.{Op}
+use Rattle.xa_types.specs.Rows.{Change, Put, Remove}
 use Rattle.xa_events.specs.declared.event.Event.{Event}
-use Rattle.xa_events.specs.declared.event.Event.TheVariants.{Answer as Answers}
-use Rattle.xa_events.specs.declared.event.Answered.{Answered}
 use Rattle.xa_events.specs.declared.event.Doing.{Doing}
-use Rattle.xa_events.specs.declared.event.Doing.TheVariants.{Off}
-use Rattle.xa_events.specs.Words.{latest, count}
-use Rattle.xa_events.specs.State.{State}
+use Rattle.xa_events.specs.declared.event.Doing.TheVariants.{Off, Idle}
+use Rattle.xa_events.specs.Words.{count}
+use Rattle.xa_events.specs.State.{State, opening}
+use Rattle.xa_events.specs.Run.{Run}
+use Rattle.xa_events.specs.Order.{TakesInOrder}
 use Rattle.xa_events.specs.Board.{changes}
 use Rattle.xa_events.specs.Queue.{waiting, takes, is_down, is_closed}
 use Rattle.xa_events.specs.Server.{doing, starts, is_gone}
-use Rattle.xa_events.specs.Caller.{last_op, accepted, opened, least_version, has_left, AllLeft}
-use Rattle.xa_events.specs.Request.{ended, is_accept_of, is_end_of}
-use Rattle.xa_events.specs.Calls.{is_op, events_of_op}
+use Rattle.xa_events.specs.Caller.{newest_call, last_op, accepted, open_descriptors, least_version, has_left, is_leaving}
+use Rattle.xa_events.specs.Request.{is_accept_of, is_settled_by}
+use Rattle.xa_events.specs.Calls.{FitsCalls, awaits_answer}
 use Rattle.xa_play.specs.PlaySetup.{play_setup}
-use Rattle.xa_play.specs.History.{request}
+use Rattle.xa_play.specs.Transcript.{lines_up_to}
 
 abbrev pub at : List ℕ → ℕ → List Event → State
 at service clients past = record { setup = play_setup service; clients = clients; past = past }
 
--- after n calls, of which m sent a request: nothing waits, and nothing is open
-pub record IsQuiet (service : List ℕ) (clients n m : ℕ) (past : List Event) : Type 0 where
-  pub made : starts 1 past ≡ 0 ∷ []
-  pub waits : waiting (play_setup service) 1 past ≡ []
-  pub taken : takes (play_setup service) 1 past ≡ m
-  pub op : last_op 1 past ≡ n
-  pub sent : accepted 1 past ≡ m
-  pub open_client : opened 1 past ≡ []
-  pub open_server : opened (clients + 1) past ≡ []
-  pub matched : (r : RequestId) → count (is_end_of r) past ≡ count (is_accept_of r) past
+-- what is read off the events
+pub record Situation : Type 0 where
+  pub board : List Change
+  pub waiting : List RequestId
+  pub takes : ℕ
+  pub down : Bool
+  pub closed : Bool
+  pub doing : Doing
+  pub starts : List ℕ
+  pub gone : Bool
+  pub op : ℕ
+  pub sent : ℕ
+  pub open_client : List RequestId
+  pub open_server : List RequestId
+  pub left : Bool
+  pub leaving : Bool
 
--- no client has left, and the queue isn't closed
-pub record IsOpen (past : List Event) : Type 0 where
-  pub stays : has_left 1 past ≡ false
-  pub still : is_closed 1 past ≡ false
+abbrev pub situation : List ℕ → ℕ → List Event → Situation
+situation service clients past = record {
+  board = changes past;
+  waiting = waiting (play_setup service) 1 past;
+  takes = takes (play_setup service) 1 past;
+  down = is_down 1 past;
+  closed = is_closed 1 past;
+  doing = doing 1 past;
+  starts = starts 1 past;
+  gone = is_gone 1 past;
+  op = last_op 1 past;
+  sent = accepted 1 past;
+  open_client = open_descriptors 1 past;
+  open_server = open_descriptors (clients + 1) past;
+  left = has_left 1 past;
+  leaving = is_leaving 1 past;
+}
 
--- the server does this, and its queue stands
-pub record IsUp (service : List ℕ) (does : Doing) (past : List Event) : Type 0 where
-  pub board : changes past ≡ Put service 1 service ∷ []
-  pub server : doing 1 past ≡ does
-  pub stays : is_gone 1 past ≡ false
-  pub up : is_down 1 past ≡ false
-  pub seen : least_version (play_setup service) 1 past ≤ 1
+-- the board while the server is up, and after
+abbrev pub board_at : List ℕ → Bool → List Change
+board_at service true = Put service 1 service ∷ []
+board_at service false = Remove service 1 ∷ Put service 1 service ∷ []
 
--- the server is gone, and its queue is down
-pub record IsDown (service : List ℕ) (past : List Event) : Type 0 where
-  pub board : changes past ≡ Remove service 1 ∷ Put service 1 service ∷ []
-  pub server : doing 1 past ≡ Off
-  pub gone : is_gone 1 past ≡ true
-  pub down : is_down 1 past ≡ true
-  pub seen : least_version (play_setup service) 1 past ≤ 2
+abbrev pub doing_at : Bool → Doing
+doing_at true = Idle (record { 0 = 1 })
+doing_at false = Off
 
--- each answer to the first calls is of one of the first requests
-abbrev pub KnowsAnswers : ℕ → List Event → Type 0
-KnowsAnswers m past = (k : ℕ) (a : Answered) → latest (is_op 1 k) past ≡ Some (Answers a) → a.request.number ≤ m
+-- after n calls, of which m sent a request, nothing waits and nothing is open; the server waits too, or it is gone and its queue is down
+abbrev pub quiet : List ℕ → Bool → ℕ → ℕ → Situation
+quiet service up n m = record {
+  board = board_at service up;
+  waiting = [];
+  takes = m;
+  down = not up;
+  closed = false;
+  doing = doing_at up;
+  starts = 0 ∷ [];
+  gone = not up;
+  op = n;
+  sent = m;
+  open_client = [];
+  open_server = [];
+  left = false;
+  leaving = false;
+}
 
--- nothing is there of the calls after the n-th, and of the requests after the m-th
-pub record HasNoMore (n m : ℕ) (past : List Event) : Type 0 where
-  pub events : (k : ℕ) → n < k → events_of_op 1 k past ≡ []
-  pub over : (k : ℕ) → m < k → ended (request k) past ≡ None
+-- the client has left
+abbrev pub leave : Situation → Situation
+leave v = record v { left = true }
 
--- all clients have left, and the queue isn't closed yet
-pub record IsLeft (service : List ℕ) (clients : ℕ) (past : List Event) : Type 0 where
-  pub made : starts 1 past ≡ 0 ∷ []
-  pub waits : waiting (play_setup service) 1 past ≡ []
-  pub open_server : opened (clients + 1) past ≡ []
-  pub matched : (r : RequestId) → count (is_end_of r) past ≡ count (is_accept_of r) past
-  pub still : is_closed 1 past ≡ false
-  pub left : AllLeft clients past
+abbrev pub close : Situation → Situation
+close v = record v { closed = true }
+
+-- the events are a run to that situation: each of the client's calls so far fits, the last is over, and the lines are what it was told;
+-- past is the history, the newest event first
+pub record IsPlayedTo (service name : List ℕ) (clients : ℕ) (ops : List Op) (v : Situation) (history past : List Event) (lines : List ℕ) : Type 0 where
+  pub run : Run (opening (play_setup service) clients) history (at service clients past)
+  pub reads : situation service clients past ≡ v
+  pub seen : least_version (play_setup service) 1 1 past ≤ length v.board
+  pub matched : (r : RequestId) → count (is_settled_by r) past ≡ count (is_accept_of r) past
+  pub order : TakesInOrder (play_setup service) past
+  pub fits : FitsCalls (play_setup service) 1 ops past
+  pub over : awaits_answer ops (newest_call 1 past) ≡ false
+  pub said : lines ≡ lines_up_to name 1 past v.op

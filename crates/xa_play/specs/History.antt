@@ -15,7 +15,7 @@ use Rattle.xa_events.specs.declared.event.Taken.{Taken}
 use Rattle.xa_events.specs.declared.event.Started.{Started}
 use Rattle.xa_events.specs.declared.event.Ended.{Ended}
 use Rattle.xa_events.specs.declared.event.Stopped.{Stopped}
-use Rattle.xa_events.specs.declared.event.Answered.{Answered}
+use Rattle.xa_events.specs.declared.event.Replied.{Replied}
 use Rattle.xa_events.specs.declared.event.Refused.{Refused}
 use Rattle.xa_events.specs.declared.event.Evidence.{Evidence}
 use Rattle.xa_events.specs.declared.event.Outcome.{Outcome}
@@ -58,7 +58,7 @@ take_of m = record { request = request m; server = record { 0 = 1 }; generation 
 abbrev pub end_with : ℕ → Outcome → Ended
 end_with m outcome = record { request = request m; server = record { 0 = 1 }; generation = record { 0 = 1 }; outcome = outcome }
 
-abbrev pub answer_of : ℕ → ℕ → Answer → Answered
+abbrev pub answer_of : ℕ → ℕ → Answer → Told
 answer_of n m answer = record { by = record { 0 = 1 }; op = n; request = request m; answer = answer }
 
 abbrev pub refuse : ℕ → Fault → Evidence → Refused

@@ -3,13 +3,14 @@ ghost use Rattle.std.specs.Prelude.{◌≡◌, ◌++◌, ◌∷◌, [], OnOk, If
 ghost use Rattle.xa_types.specs.declared.reply.Reply.TheVariants.{Answered as AnsweredReply, Fault as FaultReply};
 ghost use Rattle.xa_events.specs.declared.event.Event.TheVariants.{Accept, Take, Answer as AnswerEvent, Refuse};
 ghost use Rattle.xa_events.specs.Answers.{reply_of};
+ghost use Rattle.xa_events.specs.Request.Settlement.{EndedBy};
 ghost use Rattle.xa_text.specs.Line.{line_text};
 ghost use Rattle.xa_play.specs.History.{accept, take_of, answer_of, refuse};
 
 use crate::account::{Account, CLIENT, LIFE, QUEUE, SERVER};
 use crate::refusal::Refusal;
 use std::alloc::Global;
-use xa_events::{Accepted, Answered, Event, Outcome, Refused, Taken};
+use xa_events::{Accepted, Event, Outcome, Refused, Taken, Told};
 use xa_text::{push_answer_line, push_line};
 use xa_types::{Answer, Data, Fault, Mode, Name, NoMemory, Reply, RequestId};
 
@@ -56,12 +57,14 @@ pub fn note_taken(
 
 /// What the client is told of a request that ended so.
 pub fn answer_to(alloc: Global, outcome: &Outcome) -> Result<Answer, NoMemory>
-    ensures { IfOk result (λ answer. answer ≡ reply_of outcome.now) }
+    ensures { IfOk result (λ answer. answer ≡ reply_of (EndedBy outcome.now)) }
 {
     match outcome {
         Outcome::Returned(code, payload) => Ok(Answer::Success(*code, payload.copy(alloc)?)),
         Outcome::Failed(code, payload) => Ok(Answer::Failed(*code, payload.copy(alloc)?)),
-        Outcome::BadReturn | Outcome::Died => Ok(Answer::Error(Fault::SvcErr)),
+        Outcome::BadReturn | Outcome::BadForward(_) | Outcome::Died => {
+            Ok(Answer::Error(Fault::SvcErr))
+        }
         Outcome::Starved => Ok(Answer::Error(Fault::NoMemory)),
     }
 }
@@ -79,7 +82,7 @@ pub fn note_answered(
     ensures lines { OnOk result (account.new.lines.items ≡ account.old.lines.items ++ line_text name.now op (AnsweredReply 0 answer)) }
 {
     push_answer_line(&mut account.lines, name, op, 0, &answer)?;
-    account.history.push(Event::Answer(Answered {
+    account.history.push(Event::Answer(Told {
         by: CLIENT,
         op,
         request: request(number),

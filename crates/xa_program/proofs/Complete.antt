@@ -38,7 +38,7 @@ pub nothing_else : (L S : Type 0) (tells : LinkTells L) (shows : S → StarterSh
     → (Rose streams.reads_before streams.reads_after → ⊥) → (Rose streams.writes_before streams.writes_after → ⊥) → (status ≡ Done) ⊎ (status ≡ NoMemory)
 nothing_else L S tells shows streams service Done history lives starters octets script ends told short is_script reads writes = inl refl
 nothing_else L S tells shows streams service NoMemory history lives starters octets script ends told short is_script reads writes = inr refl
-nothing_else L S tells shows streams service WriteFault history lives starters octets script ends told short is_script reads writes = absurd (writes ends.4)
+nothing_else L S tells shows streams service WriteFault history lives starters octets script ends told short is_script reads writes = absurd (writes ends.3)
 nothing_else L S tells shows streams service ScriptRead history lives starters octets script ends told short is_script reads writes = absurd (reads ends.0)
 nothing_else L S tells shows streams service (TooLong inputs.Script) history lives starters octets script ends told short is_script reads writes =
     absurd (not_over streams.input octets ends.0 told short)

@@ -1,19 +1,20 @@
 -- What goes through the pipes at an exchange.
-use Rattle.std.proofs.Common.{◌≡◌, ◌⊎◌, ℕ, ◌+◌, ◌-◌, ◌^◌, min, List, [], ◌∷◌, ◌++◌, Option, Ok, Err, inl, inr, ◌∙◌, subst}
+use Rattle.std.proofs.Common.{◌≡◌, ◌⊎◌, ℕ, ◌+◌, ◌-◌, ◌^◌, min, List, [], ◌∷◌, ◌++◌, Ok, Err, inl, inr, refl, ◌∙◌, subst}
 use Rattle.std.specs.Prelude.{Result, IfOk, IfErr, OnOk}
 use Rattle.xa_types.specs.declared.data.Data.{Data}
-use Rattle.xa_link.specs.Told.{Rose, Grew}
+use Rattle.xa_link.specs.Told.{Rose, Grew, GrewByPart}
 use Rattle.xa_events.specs.declared.event.StopCause.{StopCause}
 use Rattle.xa_events.specs.declared.event.StopCause.TheVariants.{Shutdown, Exit, EndOfInput, ReadFault, WriteFault, BadBytes, OutOfTurn, Starved}
 use Rattle.xa_frame.specs.declared.frame.Frame.{Frame}
 use Rattle.xa_frame.specs.Spelling.{spelled, HasSpelling}
 use Rattle.xa_pipe.specs.Frames.{return_frame}
-use Rattle.xa_pipe.specs.Life.{IsCounted}
+use Rattle.xa_pipe.specs.Life.{IsCounted, awaiting}
+use Rattle.xa_pipe.specs.Life.Written.{Whole, Cut, Missing}
 use Rattle.xa_pipe.specs.Life.Turn.{Serving}
 use Rattle.xa_pipe.specs.Pipe.{invoke_frame, Piped, HasRead, Ceases, CountsReads, CountsWrites}
 use Rattle.xa_pipe.specs.declared.hearing.Return.{Return}
-use Rattle.xa_pipe.proofs.Frames.{read_same}
-use Rattle.xa_program.specs.Progress.{NoneFailed, SameCounts, FailsReading, FailsWriting, Sends, Exchanged}
+use Rattle.xa_pipe.proofs.Frames.{read_same, told_more}
+use Rattle.xa_program.specs.Progress.{NoneFailed, SameCounts, FailsReading, FailsWriting, Exchanged}
 
 -- a count that was 0 and rose is 1
 pub once : (before now : ℕ) → Rose before now → before ≡ 0 → now ≡ 1
@@ -46,29 +47,39 @@ counted_either cause before after none (inr fails) = counted_writing cause befor
 pub none_since : (before after : Piped) → NoneFailed before → SameCounts before after → NoneFailed after
 none_since before after none same = (same.0 ∙ none.0, same.1 ∙ none.1)
 
--- the whole request was sent, whatever came then
-sent_whole : (cause : StopCause) (reads reads_now : ℕ) (before after : Option (List ℕ)) (octets : List ℕ) → CountsReads cause reads reads_now → Grew before after octets → Sends cause before after octets
-sent_whole WriteFault reads reads_now before after octets counts grew = absurd counts
-sent_whole Starved reads reads_now before after octets counts grew = inr grew
-sent_whole Shutdown reads reads_now before after octets counts grew = grew
-sent_whole Exit reads reads_now before after octets counts grew = grew
-sent_whole EndOfInput reads reads_now before after octets counts grew = grew
-sent_whole ReadFault reads reads_now before after octets counts grew = grew
-sent_whole (BadBytes place) reads reads_now before after octets counts grew = grew
-sent_whole (OutOfTurn kind tag) reads reads_now before after octets counts grew = grew
-
+-- the request was sent, and this was heard
 pub heard_so : (service : List ℕ) (number : ℕ) (payload : Data) (before mid after : Piped) (heard : Result Return StopCause)
     → Grew before.took mid.took (spelled (invoke_frame service number payload)) → mid.gave ≡ before.gave → mid.rest ≡ before.rest → mid.place ≡ before.place → SameCounts before mid → after.took ≡ mid.took → after.writes ≡ mid.writes
     → IfOk heard (λ back. (frames : List Frame) → HasRead mid frames → HasRead after (frames ++ return_frame number back.value back.code back.payload ∷ []))
     → IfOk heard (λ back. HasSpelling (return_frame number back.value back.code back.payload))
     → OnOk heard (after.reads ≡ mid.reads)
-    → IfErr heard (λ cause. (name : List ℕ) (frames : List Frame) → HasRead mid frames → Ceases name number Serving frames after cause)
+    → IfErr heard (λ cause. (name : List ℕ) (frames : List Frame) → HasRead mid frames → Ceases (awaiting name number frames Serving) after cause)
     → IfErr heard (λ cause. CountsReads cause mid.reads after.reads)
     → Exchanged service number payload before after heard
 heard_so service number payload before mid after (Ok back) took gave rest place counts same writes read spelling well why counted =
     (same ∙ took, (λ frames old. read frames (read_same before mid frames gave rest place old)), spelling, (well ∙ counts.0, writes ∙ counts.1))
 heard_so service number payload before mid after (Err cause) took gave rest place counts same writes read spelling well why counted = (
-  sent_whole cause mid.reads after.reads before.took after.took (spelled (invoke_frame service number payload)) counted (same ∙ took),
+  Whole,
+  same ∙ took,
   (λ name frames old. why name frames (read_same before mid frames gave rest place old)),
   inl (subst (λ (reads : ℕ). CountsReads cause reads after.reads) counts.0 counted, writes ∙ counts.1),
 )
+
+-- the request wasn't sent whole
+pub not_sent : (service : List ℕ) (number : ℕ) (payload : Data) (before after : Piped) (cause : StopCause)
+    → (cause ≡ WriteFault → GrewByPart before.took after.took (spelled (invoke_frame service number payload))) → (cause ≡ Starved → after.took ≡ before.took)
+    → CountsWrites cause before.writes after.writes → after.gave ≡ before.gave → after.rest ≡ before.rest → after.place ≡ before.place → after.reads ≡ before.reads
+    → Exchanged service number payload before after (Err cause)
+not_sent service number payload before after WriteFault part starved counts gave rest place reads = (
+  Cut,
+  part refl,
+  (λ name frames read. record { may = refl; gave = told_more after.gave _ _ (λ octets e. (after.rest, e, tt)) (read_same before after frames gave rest place read).told }),
+  inr (counts, reads),
+)
+not_sent service number payload before after Starved part starved counts gave rest place reads = (
+  Missing,
+  starved refl,
+  (λ name frames read. record { may = refl; gave = told_more after.gave _ _ (λ octets e. (after.rest, e, λ whole. cc whole)) (read_same before after frames gave rest place read).told }),
+  inr (counts, reads),
+)
+not_sent service number payload before after cause part starved counts gave rest place reads = absurd counts

@@ -1,3 +1,4 @@
+pub mod Apart
 pub mod Asking
 pub mod Built
 pub mod Carrying
@@ -7,7 +8,6 @@ pub mod Given
 pub mod Over
 pub mod Pipes
 pub mod Played
-pub mod Playing
 pub mod Served
 pub mod Turns
 pub mod Yielding

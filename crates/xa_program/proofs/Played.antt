@@ -5,7 +5,7 @@ use Rattle.xa_link.specs.Told.{Rose, Grew, GrewByPart}
 use Rattle.xa_events.specs.declared.event.Event.{Event}
 use Rattle.xa_script.specs.declared.script.Client.{Client}
 use Rattle.xa_pipe.specs.Life.{IsLife}
-use Rattle.xa_pipe.specs.Pipe.{Piped}
+use Rattle.xa_pipe.specs.Pipe.{Piped, shown}
 use Rattle.xa_play.specs.PlaySetup.{play_setup, server_name}
 use Rattle.xa_play.specs.Transcript.{transcript}
 use Rattle.xa_program.specs.declared.outcome.Life.{Life}
@@ -16,9 +16,9 @@ use Rattle.xa_types.specs.declared.memory.NoMemory.{NoMemory as NoMemoryError}
 use Rattle.xa_types.specs.declared.ids.Generation.{Generation}
 use Rattle.xa_link.specs.Starts.{AsksFor}
 use Rattle.xa_events.specs.Server.{starts}
-use Rattle.xa_program.specs.Headline.{Streams, ReadsWell, IsSilent, LinkTells, IsLifeOf, IsTheScript, IsPlayed, StarterShows, starts_of, IsStarterOf, EachStarter, PlayEnds, names_of}
+use Rattle.xa_program.specs.Headline.{Streams, ReadsWell, IsSilent, LinkTells, IsLifeOf, IsTheScript, IsServedRun, StarterShows, starts_of, IsStarterOf, EachStarter, PlayEnds, names_of}
 use Rattle.xa_program.specs.Lives.{failed_starts}
-use Rattle.xa_program.specs.Progress.{IsOver, HasLived, HasNotLived, StartsCount, IsAsked, IsServed, ServingEnds, Printed, Unprinted, ScriptRefusedAs}
+use Rattle.xa_program.specs.Progress.{life_id, IsOver, HasLived, NeverLived, StartsCount, IsAsked, IsServed, ServingEnds, Printed, Unprinted, ScriptRefusedAs}
 
 -- ---- one life
 
@@ -33,7 +33,7 @@ pub record ShowsPipe {L : Type 0} (tells : LinkTells L) (link : L) (pipe : Piped
   pub reads_is : tells.reads link ≡ pipe.reads
   pub writes_is : tells.writes link ≡ pipe.writes
 
-life_shown : {L : Type 0} (tells : LinkTells L) (link : L) (pipe : Piped) (service : List ℕ) (past : List Event) → ShowsPipe tells link pipe → IsLife (play_setup service) server_name 1 1 past pipe.took pipe.gave pipe.left pipe.reads pipe.writes
+life_shown : {L : Type 0} (tells : LinkTells L) (link : L) (pipe : Piped) (service : List ℕ) (past : List Event) → ShowsPipe tells link pipe → IsLife (play_setup service) life_id past (shown pipe)
     → IsLifeOf tells (play_setup service) past (the_life link)
 life_shown tells link pipe service past shows life = rw (shows.took_is, shows.gave_is, shows.left_is, shows.reads_is, shows.writes_is) life
 
@@ -52,7 +52,7 @@ served_life {L} tells link pipe asks asks_after service clients history lines li
     })
 
 served_none : {L : Type 0} (tells : LinkTells L) (asks asks_after : StarterShows) (service : List ℕ) (clients : List Client) (history : List Event) (lines : List ℕ) (lives : List (Life L))
-    → lives ≡ [] → Rose asks.faults asks_after.faults → IsAsked asks asks_after → IsOver service clients history lines → HasNotLived (reverse history) → IsServed tells asks asks_after service clients history lives
+    → lives ≡ [] → Rose asks.faults asks_after.faults → IsAsked asks asks_after → IsOver service clients history lines → NeverLived service (reverse history) → IsServed tells asks asks_after service clients history lives
 served_none {L} tells asks asks_after service clients history lines lives is rose asked over none =
     subst (λ (all : List (Life L)). IsServed tells asks asks_after service clients history all) (sym is) (record {
       machine = over.machine;
@@ -91,7 +91,7 @@ life_ends tells link pipe before after faults faults_after asks asks_after servi
 -- how the transcript ends where no life began
 pub none_ends : {L : Type 0} (tells : LinkTells L) (before after : Option (List ℕ)) (faults faults_after : ℕ) (asks asks_after : StarterShows) (service : List ℕ) (clients : List Client) (history : List Event) (lines : List ℕ) (lives : List (Life L))
     (served : Result (Unit {0}) NoMemoryError) (status : Status)
-    → lives ≡ [] → Rose asks.faults asks_after.faults → IsAsked asks asks_after → OnOk served (IsOver service clients history lines × HasNotLived (reverse history))
+    → lives ≡ [] → Rose asks.faults asks_after.faults → IsAsked asks asks_after → OnOk served (IsOver service clients history lines × NeverLived service (reverse history))
     → MatchResult served (λ _. Printed before after faults faults_after lines status) (λ _. Unprinted before after faults faults_after status)
     → ServingEnds tells before after faults faults_after asks asks_after service clients status history lives
 none_ends tells before after faults faults_after asks asks_after service clients history lines lives (Ok u) status is rose asked over printed =
@@ -132,9 +132,10 @@ still_one (starter ∷ other ∷ starters) now one = absurd (omega (arith, one))
 module _ {L S : Type 0} (tells : LinkTells L) (shows : S → StarterShows) (streams : Streams) (service : List ℕ) (clients : List Client)
     (history : List Event) (lives : List (Life L)) (starters : List S) (old now : S)
     (one : length starters ≡ 1) (none : (shows old).faults ≡ 0) (unasked : IfSome (shows old).asked (λ all. all ≡ [])) (script : IsTheScript streams.input clients) (quiet : ReadsWell streams) where
-  played : IsServed tells (shows old) (shows now) service clients history lives → IsPlayed tells shows streams.input service clients history lives (slice_set starters 0 now)
-  played served = record {
+  served_run : IsServed tells (shows old) (shows now) service clients history lives → IsServedRun tells shows streams service clients history lives (slice_set starters 0 now)
+  served_run served = record {
     script = script;
+    reads = quiet;
     machine = served.machine;
     carried = record {
       all = still_one starters now one;
@@ -147,8 +148,8 @@ module _ {L S : Type 0} (tells : LinkTells L) (shows : S → StarterShows) (stre
   pub play_ends : (status : Status)
       → ServingEnds tells streams.took_before streams.took_after streams.writes_before streams.writes_after (shows old) (shows now) service clients status history lives
       → PlayEnds tells shows streams service status history lives (slice_set starters 0 now)
-  play_ends Done ends = (clients, played ends.0, ends.1, quiet, ends.2)
-  play_ends WriteFault ends = (clients, played ends.0, ends.1, quiet, ends.2)
+  play_ends Done ends = (clients, served_run ends.0, ends.1, ends.2)
+  play_ends WriteFault ends = (clients, served_run ends.0, ends.1, ends.2)
   play_ends NoMemory ends = (quiet, record { took = ends.0; writes = ends.1 })
   play_ends status ends = absurd ends
 

@@ -7,12 +7,13 @@ use Rattle.xa_events.specs.declared.event.Event.TheVariants.{Accept, Take, End, 
 use Rattle.xa_events.specs.declared.event.Outcome.{Outcome}
 use Rattle.xa_events.specs.declared.event.StopCause.{StopCause}
 use Rattle.xa_events.specs.Answers.{reply_of}
+use Rattle.xa_events.specs.Request.Settlement.{EndedBy}
 use Rattle.xa_pipe.specs.Pipe.{Piped}
 use Rattle.xa_play.specs.History.{accept, take_of, end_with, answer_of, after_stop, in_order}
 use Rattle.xa_text.specs.Line.{line_text}
 use Rattle.xa_types.specs.declared.reply.Reply.TheVariants.{Answered as AnsweredReply}
 use Rattle.xa_pipe.specs.declared.hearing.Return.{Return}
-use Rattle.xa_program.specs.Progress.{CarriedTo, IsCarried, Exchanged, Freed, outcome_heard, cause_heard}
+use Rattle.xa_program.specs.Progress.{CarriedTo, CallComesTo, Exchanged, Freed, outcome_heard, cause_heard}
 
 -- what is known of a value, of which more follows
 pub ok_more : {A E : Type 0} (result : Result A E) (is so : A → Type 0) → ((x : A) → is x → so x) → IfOk result is → IfOk result so
@@ -22,19 +23,19 @@ ok_more (Err e) is so follows h = tt
 -- the events of the call, from those of its two halves
 pub in_order_of : (service : List ℕ) (op number : ℕ) (payload : Data) (outcome : Outcome) (cause : Option StopCause) (history taken now : List Event)
     → taken ≡ history ++ Accept (accept service op number payload) ∷ Take (take_of number) ∷ []
-    → now ≡ taken ++ End (end_with number outcome) ∷ (after_stop service cause ++ Answers (answer_of op number (reply_of outcome)) ∷ [])
-    → now ≡ history ++ in_order service op number payload outcome cause (reply_of outcome)
+    → now ≡ taken ++ End (end_with number outcome) ∷ (after_stop service cause ++ Answers (answer_of op number (reply_of (EndedBy outcome))) ∷ [])
+    → now ≡ history ++ in_order service op number payload outcome cause (reply_of (EndedBy outcome))
 in_order_of service op number payload outcome cause history taken now first second =
-    let more = End (end_with number outcome) ∷ (after_stop service cause ++ Answers (answer_of op number (reply_of outcome)) ∷ []) in
+    let more = End (end_with number outcome) ∷ (after_stop service cause ++ Answers (answer_of op number (reply_of (EndedBy outcome))) ∷ []) in
     second ∙ (ap (λ (es : List Event). es ++ more) first ∙ append_assoc history (Accept (accept service op number payload) ∷ Take (take_of number) ∷ []) more)
 
 pub carried_some : (service : List ℕ) (op number : ℕ) (payload : Data) (outcome : Outcome) (cause : Option StopCause) (history now : List Event) (mid : Piped)
-    → is_some cause ≡ true → now ≡ history ++ in_order service op number payload outcome cause (reply_of outcome) → CarriedTo false service op number payload outcome cause history now mid mid
+    → is_some cause ≡ true → now ≡ history ++ in_order service op number payload outcome cause (reply_of (EndedBy outcome)) → CarriedTo false service op number payload outcome cause history now mid mid
 carried_some service op number payload outcome None history now mid some noted = absurd (cc some)
 carried_some service op number payload outcome (Some cause) history now mid some noted = (refl, noted, refl)
 
 pub carried_none : (up : Bool) (service : List ℕ) (op number : ℕ) (payload : Data) (outcome : Outcome) (cause : Option StopCause) (history noted now : List Event) (mid after : Piped)
-    → is_some cause ≡ false → noted ≡ history ++ in_order service op number payload outcome cause (reply_of outcome) → after.took ≡ mid.took → Freed up service noted now mid after
+    → is_some cause ≡ false → noted ≡ history ++ in_order service op number payload outcome cause (reply_of (EndedBy outcome)) → after.took ≡ mid.took → Freed up service noted now mid after
     → CarriedTo up service op number payload outcome cause history now mid after
 carried_none up service op number payload outcome None history noted now mid after none so same freed =
     (same, subst (λ (es : List Event). Freed up service es now mid after) so freed)
@@ -42,13 +43,13 @@ carried_none up service op number payload outcome (Some cause) history noted now
 
 pub carried_so : (up : Bool) (service name : List ℕ) (op number : ℕ) (payload : Data) (history now : List Event) (lines printed : List ℕ) (before mid after : Piped) (heard : Result Return StopCause) (outcome : Outcome) (cause : Option StopCause)
     → outcome ≡ outcome_heard service heard → cause ≡ cause_heard heard → Exchanged service number payload before mid heard
-    → printed ≡ lines ++ line_text name op (AnsweredReply 0 (reply_of outcome)) → CarriedTo up service op number payload outcome cause history now mid after
-    → IsCarried up service name op number payload history now lines printed before after
+    → printed ≡ lines ++ line_text name op (AnsweredReply 0 (reply_of (EndedBy outcome))) → CarriedTo up service op number payload outcome cause history now mid after
+    → CallComesTo up service name op number payload history now lines printed before after
 carried_so up service name op number payload history now lines printed before mid after heard outcome cause is_outcome is_cause exchanged told carried = record {
   heard = heard;
   mid = mid;
   exchanged = exchanged;
-  printed_so = subst (λ (o : Outcome). printed ≡ lines ++ line_text name op (AnsweredReply 0 (reply_of o))) is_outcome told;
+  printed_so = subst (λ (o : Outcome). printed ≡ lines ++ line_text name op (AnsweredReply 0 (reply_of (EndedBy o)))) is_outcome told;
   carried = subst (λ (o : Outcome). CarriedTo up service op number payload o (cause_heard heard) history now mid after) is_outcome
       (subst (λ (c : Option StopCause). CarriedTo up service op number payload outcome c history now mid after) is_cause carried);
 }

@@ -10,7 +10,6 @@ use Rattle.xa_events.specs.Words.{EachNumbered}
 use Rattle.xa_events.specs.State.{opening}
 use Rattle.xa_events.specs.Run.{Run, IsFinal}
 use Rattle.xa_events.specs.Order.{TakesInOrder}
-use Rattle.xa_events.specs.Laws.{LawOfEnds, LawOfAnswers, LawOfVersions}
 use Rattle.xa_events.specs.Calls.{MadeCalls}
 use Rattle.xa_script.specs.declared.script.Client.{Client}
 use Rattle.xa_program.specs.declared.outcome.Life.{Life}
@@ -28,16 +27,13 @@ use Rattle.xa_script.specs.Script.{IsScript, IsFirstFault}
 abbrev pub EachMadeCalls : Setup → ℕ → List Client → List Event → Type 0
 EachMadeCalls setup number clients past = EachNumbered (λ k (client : Client). MadeCalls setup k client.ops past) number clients
 
--- the events are one history of the machine, from its opening to its end: each request is taken at most once and ended at most once,
--- each is answered at most once and as it ended, each queue was taken in order, and each client made exactly its calls.
--- past is the same events, the newest first
+-- the events are one history of the machine, from its opening to its end: each queue was taken in order, and each client made exactly its
+-- calls; past is the same events, the newest first. By the laws of every run each request is settled once and answered once, and what
+-- a caller reads of the board is never older than what it read.
 pub record IsHistoryAt (setup : Setup) (clients : List Client) (history past : List Event) : Type 0 where
   pub run : Run (opening setup (length clients)) history (record { setup = setup; clients = length clients; past = past })
   pub final : IsFinal (record { setup = setup; clients = length clients; past = past })
   pub ordered : TakesInOrder setup past
-  pub once : LawOfEnds past
-  pub answered : LawOfAnswers past
-  pub forward : LawOfVersions past
   pub calls : EachMadeCalls setup 1 clients past
 
 abbrev pub IsHistory : Setup → List Client → List Event → Type 0
@@ -72,14 +68,15 @@ pub record LinkTells (L : Type 0) : Type 0 where
 
 -- the link of the life shows what the events say of it
 abbrev pub IsLifeOf : {L : Type 0} → LinkTells L → Setup → List Event → Life L → Type 0
-IsLifeOf tells setup past life = IsLife setup (server_name_in (numbered life.server.0 setup.servers)) life.server.0 life.generation.0 past
-    (tells.took life.link) (tells.gave life.link) (tells.left life.link) (tells.reads life.link) (tells.writes life.link)
+IsLifeOf tells setup past life =
+    IsLife setup (record { name = server_name_in (numbered life.server.0 setup.servers); server = life.server.0; generation = life.generation.0 }) past
+    (record { took = tells.took life.link; gave = tells.gave life.link; left = tells.left life.link; reads = tells.reads life.link; writes = tells.writes life.link })
 
 -- what went through the pipes is the history's: each server has its starter, which was asked for the server's starts, the lives are the
 -- starts that succeeded, and each link's octets are those of its events
 pub record IsCarried {L S : Type 0} (tells : LinkTells L) (shows : S → StarterShows) (setup : Setup) (past : List Event) (lives : List (Life L)) (starters : List S) : Type 0 where
   pub all : length starters ≡ length setup.servers
-  pub lives_are : map (λ life. (life.server.0, life.generation.0)) lives ≡ lives_of past
+  pub lives_are : map (λ life. (life.server.0, life.generation.0)) lives ≡ lives_of setup past
   pub pipes : All (IsLifeOf tells setup past) lives
   pub each : EachStarter setup shows 1 starters past
 
@@ -94,13 +91,6 @@ IsTheScript input clients = (octets : List ℕ) × CameWhole input octets × (le
 -- what came from the input isn't too long, and its first line at fault is that one
 abbrev pub HasFirstFault : InputTells → ℕ → Type 0
 HasFirstFault input line = (octets : List ℕ) × CameWhole input octets × (length octets ≤ longest_script) × IsFirstFault octets line
-
--- the clients are the script's, and the history and the pipes are theirs
-pub record IsPlayed {L S : Type 0} (tells : LinkTells L) (shows : S → StarterShows) (input : InputTells) (service : List ℕ) (clients : List Client)
-    (history : List Event) (lives : List (Life L)) (starters : List S) : Type 0 where
-  pub script : IsTheScript input clients
-  pub machine : IsHistory (play_setup service) clients history
-  pub carried : IsCarried tells shows (play_setup service) (reverse history) lives starters
 
 -- what the input and the output show of a run: what the input tells of its octets, what the output took, and how often a read or a write
 -- failed
@@ -129,16 +119,22 @@ pub record IsSilent (streams : Streams) : Type 0 where
   pub took : streams.took_after ≡ streams.took_before
   pub writes : WritesWell streams
 
+-- what came from the input, to its end, is the script of these clients, and the history and the pipes are theirs
+pub record IsServedRun {L S : Type 0} (tells : LinkTells L) (shows : S → StarterShows) (streams : Streams) (service : List ℕ) (clients : List Client)
+    (history : List Event) (lives : List (Life L)) (starters : List S) : Type 0 where
+  pub script : IsTheScript streams.input clients
+  pub reads : ReadsWell streams
+  pub machine : IsHistory (play_setup service) clients history
+  pub carried : IsCarried tells shows (play_setup service) (reverse history) lives starters
+
 -- how `play SERVICE` ends, and what that shows
 abbrev pub PlayEnds : {L S : Type 0} → LinkTells L → (S → StarterShows) → Streams → List ℕ → Status → List Event → List (Life L) → List S → Type 0
 PlayEnds tells shows streams service Done history lives starters =
-    (clients : List Client) × IsPlayed tells shows streams.input service clients history lives starters
-    × Grew streams.took_before streams.took_after (transcript (names_of clients) (reverse history))
-    × ReadsWell streams × WritesWell streams
+    (clients : List Client) × IsServedRun tells shows streams service clients history lives starters
+    × Grew streams.took_before streams.took_after (transcript (names_of clients) (reverse history)) × WritesWell streams
 PlayEnds tells shows streams service WriteFault history lives starters =
-    (clients : List Client) × IsPlayed tells shows streams.input service clients history lives starters
-    × GrewByPart streams.took_before streams.took_after (transcript (names_of clients) (reverse history))
-    × ReadsWell streams × Rose streams.writes_before streams.writes_after
+    (clients : List Client) × IsServedRun tells shows streams service clients history lives starters
+    × GrewByPart streams.took_before streams.took_after (transcript (names_of clients) (reverse history)) × Rose streams.writes_before streams.writes_after
 PlayEnds tells shows streams service ScriptRead history lives starters = Rose streams.reads_before streams.reads_after × IsSilent streams
 PlayEnds tells shows streams service (TooLong inputs.Script) history lives starters = CameOver streams.input longest_script × ReadsWell streams × IsSilent streams
 PlayEnds tells shows streams service (BadLine line cause) history lives starters = (cause ≡ 9) × HasFirstFault streams.input line × ReadsWell streams × IsSilent streams

@@ -14,32 +14,28 @@ use Rattle.xa_events.specs.declared.event.Event.{Event}
 use Rattle.xa_events.specs.declared.event.Event.TheVariants.{Close, Stop, Refuse}
 use Rattle.xa_events.specs.declared.event.Evidence.{Evidence}
 use Rattle.xa_events.specs.Answers.{reply_of}
+use Rattle.xa_events.specs.Request.Settlement.{EndedBy}
 use Rattle.xa_text.specs.Line.{line_text}
 use Rattle.xa_events.specs.declared.event.Outcome.{Outcome}
 use Rattle.xa_events.specs.declared.event.StopCause.{StopCause}
 use Rattle.xa_events.specs.declared.event.StopCause.TheVariants.{Shutdown, Exit, WriteFault as WriteFaultStop, Starved as StarvedStop}
-use Rattle.xa_events.specs.declared.event.Doing.TheVariants.{Idle}
 use Rattle.xa_events.specs.Words.{count, AtEach}
-use Rattle.xa_events.specs.State.{opening}
-use Rattle.xa_events.specs.Run.{Run}
-use Rattle.xa_events.specs.Order.{TakesInOrder}
-use Rattle.xa_events.specs.Calls.{EachBecame}
-use Rattle.xa_events.specs.Caller.{last_op}
 use Rattle.xa_events.specs.Server.{starts}
 use Rattle.xa_link.specs.Starts.{AsksFor}
 use Rattle.xa_frame.specs.declared.frame.Frame.{Frame}
 use Rattle.xa_frame.specs.Spelling.{spelled, HasSpelling}
 use Rattle.xa_script.specs.declared.script.Client.{Client}
 use Rattle.xa_pipe.specs.Frames.{is_take_in, frames_out, ready_frame, next_frame, shutdown_frame, return_frame}
-use Rattle.xa_pipe.specs.Life.{Says, IsLife, StopsClosed, outcomes_in, outcome_by, lost_by}
-use Rattle.xa_pipe.specs.Life.Turn.{Idle as IdleTurn, AwaitsNext, Serving}
-use Rattle.xa_pipe.specs.Pipe.{invoke_frame, Piped, Wrote, HasRead, Ceases, CutOff, CountsReads, CountsWrites}
+use Rattle.xa_pipe.specs.Life.{Says, LifeId, IsLife, StopsClosed, EachCame, Written, awaiting, came_in, returns_in, outcome_by, lost_by}
+use Rattle.xa_pipe.specs.Life.Turn.{AwaitsInvoke, AwaitsNext, Serving}
+use Rattle.xa_pipe.specs.Life.Written.{Whole, Cut, Missing}
+use Rattle.xa_pipe.specs.Pipe.{invoke_frame, Piped, shown, Wrote, HasRead, Ceases, CutOff, CountsReads, CountsWrites}
 use Rattle.xa_pipe.specs.declared.hearing.Return.{Return}
 use Rattle.xa_play.specs.PlaySetup.{play_setup, server_name}
-use Rattle.xa_play.specs.Transcript.{lines_up_to, transcript}
+use Rattle.xa_play.specs.Transcript.{transcript}
 use Rattle.xa_play.specs.History.{refuse, stop, after_stop, in_order}
 use Rattle.xa_play.specs.Refusal.{IsRefused}
-use Rattle.xa_play.specs.Between.{at, IsQuiet, IsOpen, IsUp, IsDown, IsLeft, HasNoMore, KnowsAnswers}
+use Rattle.xa_play.specs.Between.{Situation, quiet, IsPlayedTo}
 use Rattle.xa_program.specs.Lives.{lives_of, failed_starts}
 use Rattle.xa_program.specs.Input.{InputTells, CameOver}
 use Rattle.xa_program.specs.Headline.{IsHistory, StarterShows, LinkTells, IsLifeOf, HasFirstFault, longest_script, names_of}
@@ -50,22 +46,15 @@ use Rattle.xa_program.specs.declared.status.Input.TheVariants as inputs
 
 -- ---- the calls and the machine
 
--- n calls were made, of which m sent a request, and nothing is under way; past is the history, the newest event first
-pub record IsPlayingAt (service name : List ℕ) (clients n m : ℕ) (ops : List Op) (history past : List Event) (lines : List ℕ) : Type 0 where
-  pub run : Run (opening (play_setup service) clients) history (at service clients past)
-  pub quiet : IsQuiet service clients n m past
-  pub opens : IsOpen past
-  pub no_more : HasNoMore n m past
-  pub knows : KnowsAnswers m past
-  pub order : TakesInOrder (play_setup service) past
-  pub each : EachBecame (play_setup service) 1 1 ops past
-  pub many : length ops ≡ n
-  pub said : lines ≡ lines_up_to name 1 past n
-
-abbrev pub IsPlaying : List ℕ → List ℕ → ℕ → ℕ → ℕ → List Op → List Event → List ℕ → Type 0
-IsPlaying service name clients n m ops history lines = IsPlayingAt service name clients n m ops history (reverse history) lines
+-- n of these calls were made, of which m sent a request, and nothing is under way; the server is up, or its queue is down
+abbrev pub IsPlaying : Bool → List ℕ → List ℕ → ℕ → ℕ → ℕ → List Op → List Event → List ℕ → Type 0
+IsPlaying up service name clients n m ops history lines = IsPlayedTo service name clients ops (quiet service up n m) history (reverse history) lines
 
 -- ---- the server
+
+-- the life of the server
+abbrev pub life_id : LifeId
+life_id = record { name = server_name; server = 1; generation = 1 }
 
 -- how many requests the one life took
 abbrev pub invocations : List Event → ℕ
@@ -89,35 +78,32 @@ FailsWriting cause before after = CountsWrites cause before.writes after.writes 
 
 -- the server waits for a request, after m of them
 pub record IsServing (service : List ℕ) (m : ℕ) (past : List Event) (pipe : Piped) : Type 0 where
-  pub up : IsUp service (Idle (record { 0 = 1 })) past
   pub frames : List Frame
-  pub says : Says (play_setup service) server_name (outcomes_in 1 1 past) frames IdleTurn
+  pub says : Says server_name m frames AwaitsInvoke
+  pub came : EachCame (play_setup service) (returns_in frames) (came_in 1 1 past)
   pub wrote : Wrote pipe (frames_out 1 1 past)
   pub read : HasRead pipe frames
   pub well : NoneFailed pipe
   pub stops : AtEach (StopsClosed (play_setup service) 1 1) past
   pub invoked : invocations past ≡ m
-  pub ended : length (outcomes_in 1 1 past) ≡ m
-  pub lives : lives_of past ≡ (1, 1) ∷ []
+  pub lives : lives_of (play_setup service) past ≡ (1, 1) ∷ []
   pub failed : failed_starts 1 past ≡ 0
 
--- the server's life has ended, and its queue is down
-pub record HasFallen (service : List ℕ) (past : List Event) (pipe : Piped) : Type 0 where
-  pub down : IsDown service past
-  pub life : IsLife (play_setup service) server_name 1 1 past pipe.took pipe.gave pipe.left pipe.reads pipe.writes
-  pub lives : lives_of past ≡ (1, 1) ∷ []
+-- the server's life has ended
+pub record HasLived (service : List ℕ) (past : List Event) (pipe : Piped) : Type 0 where
+  pub life : IsLife (play_setup service) life_id past (shown pipe)
+  pub lives : lives_of (play_setup service) past ≡ (1, 1) ∷ []
   pub failed : failed_starts 1 past ≡ 0
 
--- the server couldn't be started, and its queue is down
-pub record NeverStarted (service : List ℕ) (past : List Event) : Type 0 where
-  pub down : IsDown service past
-  pub lives : lives_of past ≡ []
+-- the server couldn't be started
+pub record NeverLived (service : List ℕ) (past : List Event) : Type 0 where
+  pub lives : lives_of (play_setup service) past ≡ []
   pub failed : failed_starts 1 past ≡ 1
 
 -- whether the server is up
 abbrev pub IsLive : Bool → List ℕ → ℕ → List Event → Piped → Type 0
 IsLive true service m past pipe = IsServing service m past pipe
-IsLive false service m past pipe = HasFallen service past pipe
+IsLive false service m past pipe = HasLived service past pipe
 
 -- ---- one call
 
@@ -126,11 +112,11 @@ abbrev pub IsBuiltOp : Op → Type 0
 IsBuiltOp (Call ask) = ask.expect ≡ None
 IsBuiltOp op = ⊥
 
--- what the link took of the request: all of it, but where the pipe failed or memory ran out
-abbrev pub Sends : StopCause → Option (List ℕ) → Option (List ℕ) → List ℕ → Type 0
-Sends WriteFaultStop before after octets = GrewByPart before after octets
-Sends StarvedStop before after octets = (after ≡ before) ⊎ Grew before after octets
-Sends cause before after octets = Grew before after octets
+-- what the link took of a frame
+abbrev pub Sends : Written → Option (List ℕ) → Option (List ℕ) → List ℕ → Type 0
+Sends Whole before after octets = Grew before after octets
+Sends Cut before after octets = GrewByPart before after octets
+Sends Missing before after octets = after ≡ before
 
 -- what the exchange with the server's program comes to: it was sent the request, and its RETURN was read, which has a spelling, or its life ended
 abbrev pub Exchanged : List ℕ → ℕ → Data → Piped → Piped → Result Return StopCause → Type 0
@@ -140,8 +126,8 @@ Exchanged service number payload before after (Ok back) =
     × HasSpelling (return_frame number back.value back.code back.payload)
     × SameCounts before after
 Exchanged service number payload before after (Err cause) =
-    Sends cause before.took after.took (spelled (invoke_frame service number payload))
-    × ((name : List ℕ) (frames : List Frame) → HasRead before frames → Ceases name number Serving frames after cause)
+    (written : Written) × Sends written before.took after.took (spelled (invoke_frame service number payload))
+    × ((name : List ℕ) (frames : List Frame) → HasRead before frames → Ceases (record { name = name; tag = number; frames = frames; turn = Serving; written = written }) after cause)
     × (FailsReading cause before after ⊎ FailsWriting cause before after)
 
 -- how the request ends by what was heard
@@ -162,21 +148,21 @@ cause_heard (Err cause) = Some cause
 abbrev pub Freed : Bool → List ℕ → List Event → List Event → Piped → Piped → Type 0
 Freed true service history now before after = (now ≡ history) × ((frames : List Frame) → HasRead before frames → HasRead after (frames ++ next_frame ∷ [])) × SameCounts before after
 Freed false service history now before after = (cause : StopCause) × (now ≡ history ++ after_stop service (Some cause))
-    × ((name : List ℕ) (tag : ℕ) (frames : List Frame) → HasRead before frames → Ceases name tag AwaitsNext frames after cause)
+    × ((name : List ℕ) (tag : ℕ) (frames : List Frame) → HasRead before frames → Ceases (awaiting name tag frames AwaitsNext) after cause)
     × FailsReading cause before after
 
 -- the call came to its answer; then the life ended with it, or the server's program became free, or its life ended behind it
 abbrev pub CarriedTo : Bool → List ℕ → ℕ → ℕ → Data → Outcome → Option StopCause → List Event → List Event → Piped → Piped → Type 0
 CarriedTo up service op number payload outcome (Some cause) history now mid after =
-    (up ≡ false) × (now ≡ history ++ in_order service op number payload outcome (Some cause) (reply_of outcome)) × (after ≡ mid)
+    (up ≡ false) × (now ≡ history ++ in_order service op number payload outcome (Some cause) (reply_of (EndedBy outcome))) × (after ≡ mid)
 CarriedTo up service op number payload outcome None history now mid after =
-    (after.took ≡ mid.took) × Freed up service (history ++ in_order service op number payload outcome None (reply_of outcome)) now mid after
+    (after.took ≡ mid.took) × Freed up service (history ++ in_order service op number payload outcome None (reply_of (EndedBy outcome))) now mid after
 
-pub record IsCarried (up : Bool) (service name : List ℕ) (op number : ℕ) (payload : Data) (history now : List Event) (lines printed : List ℕ) (before after : Piped) : Type 0 where
+pub record CallComesTo (up : Bool) (service name : List ℕ) (op number : ℕ) (payload : Data) (history now : List Event) (lines printed : List ℕ) (before after : Piped) : Type 0 where
   pub heard : Result Return StopCause
   pub mid : Piped
   pub exchanged : Exchanged service number payload before mid heard
-  pub printed_so : printed ≡ lines ++ line_text name op (AnsweredReply 0 (reply_of (outcome_heard service heard)))
+  pub printed_so : printed ≡ lines ++ line_text name op (AnsweredReply 0 (reply_of (EndedBy (outcome_heard service heard))))
   pub carried : CarriedTo up service op number payload (outcome_heard service heard) (cause_heard heard) history now mid after
 
 -- the call was refused while that version of the board stood
@@ -201,34 +187,31 @@ pub record IsOnly (client : Client) (clients : List Client) : Type 0 where
   pub built : All IsBuiltOp client.ops
   pub few : length client.ops < 2 ^ 32
 
--- the clients have made their calls, and what they were told is in the lines
-abbrev pub HasMade : List ℕ → List Client → List Event → List ℕ → Type 0
-HasMade service [] past lines = lines ≡ []
-HasMade service (client ∷ []) past lines = (m : ℕ) × KnowsAnswers m past × EachBecame (play_setup service) 1 1 client.ops past
-    × (last_op 1 past ≡ length client.ops) × (lines ≡ lines_up_to client.name 1 past (length client.ops))
-HasMade service clients past lines = ⊥
+abbrev pub name_in : List Client → List ℕ
+name_in [] = []
+name_in (client ∷ clients) = client.name
 
--- all clients have left; past is the history, the newest event first
-pub record IsLeavingAt (service : List ℕ) (clients : List Client) (history past : List Event) (lines : List ℕ) : Type 0 where
-  pub run : Run (opening (play_setup service) (length clients)) history (at service (length clients) past)
-  pub left : IsLeft service (length clients) past
-  pub order : TakesInOrder (play_setup service) past
-  pub made : HasMade service clients past lines
+abbrev pub ops_in : List Client → List Op
+ops_in [] = []
+ops_in (client ∷ clients) = client.ops
 
-abbrev pub IsLeaving : List ℕ → List Client → List Event → List ℕ → Type 0
-IsLeaving service clients history lines = IsLeavingAt service clients history (reverse history) lines
+-- whether there is a client that has left
+abbrev pub any_left : List Client → Bool
+any_left [] = false
+any_left (client ∷ clients) = true
+
+-- all clients have made their calls and have left; the queue isn't closed
+abbrev pub left_by : List ℕ → Bool → List Client → ℕ → Situation
+left_by service up clients m = record (quiet service up (length (ops_in clients)) m) { left = any_left clients }
+
+abbrev pub IsLeaving : Bool → List ℕ → List Client → ℕ → List Event → List ℕ → Type 0
+IsLeaving up service clients m history lines = IsPlayedTo service (name_in clients) (length clients) (ops_in clients) (left_by service up clients m) history (reverse history) lines
 
 -- the run has come to its end, and all but the printing is done
 pub record IsOver (service : List ℕ) (clients : List Client) (history : List Event) (lines : List ℕ) : Type 0 where
   pub machine : IsHistory (play_setup service) clients history
   pub made : starts 1 (reverse history) ≡ 0 ∷ []
   pub said : lines ≡ transcript (names_of clients) (reverse history)
-
--- the one life, and its link
-pub record HasLived (service : List ℕ) (past : List Event) (pipe : Piped) : Type 0 where
-  pub life : IsLife (play_setup service) server_name 1 1 past pipe.took pipe.gave pipe.left pipe.reads pipe.writes
-  pub lives : lives_of past ≡ (1, 1) ∷ []
-  pub failed : failed_starts 1 past ≡ 0
 
 -- no start failed and its starter counted none, or one failed that its starter counted
 abbrev pub StartsCount : List Event → StarterShows → StarterShows → Type 0
@@ -237,11 +220,6 @@ StartsCount past before after = ((failed_starts 1 past ≡ 0) × (after.faults �
 -- the starter was asked for the one start
 abbrev pub IsAsked : StarterShows → StarterShows → Type 0
 IsAsked before after = AsksFor before.asked after.asked server_name (record { 0 = 1 })
-
--- no life began, and one start failed
-pub record HasNotLived (past : List Event) : Type 0 where
-  pub lives : lives_of past ≡ []
-  pub failed : failed_starts 1 past ≡ 1
 
 -- nothing was read
 pub record ReadNothing (before after : Piped) : Type 0 where
@@ -254,7 +232,7 @@ pub record ReadNothing (before after : Piped) : Type 0 where
 abbrev pub Greets : Bool → List ℕ → List Event → List Event → Piped → Piped → Type 0
 Greets true service history now before after = (now ≡ history) × (HasRead before [] → HasRead after (ready_frame server_name ∷ next_frame ∷ [])) × SameCounts before after
 Greets false service history now before after = (cause : StopCause) × (now ≡ history ++ after_stop service (Some cause))
-    × (HasRead before [] → CutOff (play_setup service) server_name [] after cause)
+    × (HasRead before [] → CutOff server_name after cause)
     × FailsReading cause before after
 
 -- why SHUTDOWN wasn't written, and what the link took of it
@@ -273,7 +251,7 @@ IsDone true service history now before after = ReadNothing before after
 -- the history, its lives and their links, and the starts that failed
 pub record IsServed {L : Type 0} (tells : LinkTells L) (before after : StarterShows) (service : List ℕ) (clients : List Client) (history : List Event) (lives : List (Life L)) : Type 0 where
   pub machine : IsHistory (play_setup service) clients history
-  pub lives_are : map (λ life. (life.server.0, life.generation.0)) lives ≡ lives_of (reverse history)
+  pub lives_are : map (λ life. (life.server.0, life.generation.0)) lives ≡ lives_of (play_setup service) (reverse history)
   pub pipes : All (IsLifeOf tells (play_setup service) (reverse history)) lives
   pub made : starts 1 (reverse history) ≡ 0 ∷ []
   pub failed : StartsCount (reverse history) before after

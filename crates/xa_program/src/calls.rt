@@ -1,16 +1,18 @@
 // The calls of the one client, each carried to its answer before the next begins.
-ghost use Rattle.std.specs.Prelude.{◌≡◌, ◌++◌, ◌∷◌, ◌+◌, ◌^◌, ◌<◌, ◌≤◌, [], ℕ, List, length, reverse, All, true, IfOk, OnOk};
+ghost use Rattle.std.specs.Prelude.{◌≡◌, ◌++◌, ◌∷◌, ◌+◌, ◌^◌, ◌<◌, ◌≤◌, [], ℕ, List, length, reverse, All, true, false, Some, IfOk, OnOk};
 ghost use Rattle.xa_types.specs.declared.call.Op.{Op};
 ghost use Rattle.xa_types.specs.declared.call.Op.TheVariants.{Call as CallOp};
 ghost use Rattle.xa_types.specs.Kind.{is_sound};
+ghost use Rattle.xa_types.specs.Setup.{numbered};
 ghost use Rattle.xa_types.specs.declared.reply.Reply.TheVariants.{Answered as AnsweredReply};
 ghost use Rattle.xa_events.specs.declared.event.Event.TheVariants.{Accept, Take, End, Answer as AnswerEvent};
 ghost use Rattle.xa_events.specs.Answers.{reply_of};
+ghost use Rattle.xa_events.specs.Request.Settlement.{EndedBy};
 ghost use Rattle.xa_text.specs.Line.{line_text};
 ghost use Rattle.xa_pipe.specs.Life.{outcome_by};
 ghost use Rattle.xa_play.specs.History.{accept, take_of, end_with, answer_of, after_stop};
 ghost use Rattle.xa_play.specs.PlaySetup.{play_setup};
-ghost use Rattle.xa_program.specs.Progress.{IsPlaying, IsServing, NeverStarted, IsLive, IsBuiltOp, Exchanged, outcome_heard, cause_heard, Freed, IsCarried, IsTurnedDown};
+ghost use Rattle.xa_program.specs.Progress.{IsPlaying, IsServing, NeverLived, IsLive, IsBuiltOp, Exchanged, outcome_heard, cause_heard, Freed, CallComesTo, IsTurnedDown};
 
 use std::alloc::Global;
 use xa_events::{Event, Outcome, StopCause};
@@ -100,8 +102,8 @@ fn note_call(
     outcome: Outcome,
     cause: Option<StopCause>,
 ) -> Result<(), NoMemory>
-    ensures history { OnOk result (account.new.history.items ≡ account.old.history.items ++ End (end_with number outcome) ∷ (after_stop session.now.service cause ++ AnswerEvent (answer_of op number (reply_of outcome)) ∷ [])) }
-    ensures lines { OnOk result (account.new.lines.items ≡ account.old.lines.items ++ line_text session.now.client op (AnsweredReply 0 (reply_of outcome))) }
+    ensures history { OnOk result (account.new.history.items ≡ account.old.history.items ++ End (end_with number outcome) ∷ (after_stop session.now.service cause ++ AnswerEvent (answer_of op number (reply_of (EndedBy outcome))) ∷ [])) }
+    ensures lines { OnOk result (account.new.lines.items ≡ account.old.lines.items ++ line_text session.now.client op (AnsweredReply 0 (reply_of (EndedBy outcome)))) }
 {
     let answer = answer_to(session.alloc, &outcome)?;
     note_ended(&mut account.history, number, outcome)?;
@@ -140,10 +142,10 @@ fn call<L: Link>(
 ) -> Result<bool, NoMemory>
     requires built { IsBuiltOp (CallOp ask) }
     requires few { sent.old < op }
-    ensures goes { IfOk result (λ up. (n : ℕ) (ops : List Op) → op ≡ n + 1
-        → IsPlaying session.now.service session.now.client 1 n sent.old ops account.old.history.items account.old.lines.items
+    ensures goes { IfOk result (λ up. (n : ℕ) (ops : List Op) → op ≡ n + 1 → numbered (n + 1) ops ≡ Some (CallOp ask)
+        → IsPlaying true session.now.service session.now.client 1 n sent.old ops account.old.history.items account.old.lines.items
         → IsServing session.now.service sent.old (reverse account.old.history.items) pipe.old
-        → IsPlaying session.now.service session.now.client 1 (n + 1) sent.new (ops ++ CallOp ask ∷ []) account.new.history.items account.new.lines.items
+        → IsPlaying up session.now.service session.now.client 1 (n + 1) sent.new ops account.new.history.items account.new.lines.items
         × IsLive up session.now.service sent.new (reverse account.new.history.items) pipe.new) }
     ensures few { IfOk result (λ up. sent.new ≤ op) }
 {
@@ -165,7 +167,7 @@ fn serve_call<L: Link>(
     payload: Data,
 ) -> Result<bool, NoMemory>
     requires { is_sound (play_setup session.now.service) payload ≡ true }
-    ensures { IfOk result (λ up. IsCarried up session.now.service session.now.client op number payload account.old.history.items account.new.history.items
+    ensures { IfOk result (λ up. CallComesTo up session.now.service session.now.client op number payload account.old.history.items account.new.history.items
         account.old.lines.items account.new.lines.items pipe.old pipe.new) }
 {
     let heard = exchange(session, pipe, &mut account.history, op, number, payload)?;
@@ -216,10 +218,10 @@ fn next_call<L: Link>(
 ) -> Result<bool, NoMemory>
     requires built { IsBuiltOp (CallOp ask) }
     requires few { sent.old < op }
-    ensures goes { IfOk result (λ now. (n : ℕ) (ops : List Op) → op ≡ n + 1
-        → IsPlaying session.now.service session.now.client 1 n sent.old ops account.old.history.items account.old.lines.items
+    ensures goes { IfOk result (λ now. (n : ℕ) (ops : List Op) → op ≡ n + 1 → numbered (n + 1) ops ≡ Some (CallOp ask)
+        → IsPlaying up session.now.service session.now.client 1 n sent.old ops account.old.history.items account.old.lines.items
         → IsLive up session.now.service sent.old (reverse account.old.history.items) pipe.old
-        → IsPlaying session.now.service session.now.client 1 (n + 1) sent.new (ops ++ CallOp ask ∷ []) account.new.history.items account.new.lines.items
+        → IsPlaying now session.now.service session.now.client 1 (n + 1) sent.new ops account.new.history.items account.new.lines.items
         × IsLive now session.now.service sent.new (reverse account.new.history.items) pipe.new) }
     ensures few { IfOk result (λ now. sent.new ≤ op) }
 {
@@ -240,9 +242,9 @@ pub fn make_calls<L: Link>(
 ) -> Result<bool, NoMemory>
     requires built { All IsBuiltOp ops.items }
     requires few { length ops.items < 2 ^ 32 }
-    ensures { IfOk result (λ now. IsPlaying session.now.service session.now.client 1 0 0 [] account.old.history.items account.old.lines.items
+    ensures { IfOk result (λ now. IsPlaying up session.now.service session.now.client 1 0 0 ops.items account.old.history.items account.old.lines.items
         → IsLive up session.now.service 0 (reverse account.old.history.items) pipe.old
-        → (m : ℕ) × IsPlaying session.now.service session.now.client 1 (length ops.items) m ops.items account.new.history.items account.new.lines.items
+        → (m : ℕ) × IsPlaying now session.now.service session.now.client 1 (length ops.items) m ops.items account.new.history.items account.new.lines.items
         × IsLive now session.now.service m (reverse account.new.history.items) pipe.new) }
 {
     let mut up = up;
@@ -265,10 +267,10 @@ pub fn refuse_calls(
 ) -> Result<(), NoMemory>
     requires built { All IsBuiltOp ops.items }
     requires few { length ops.items < 2 ^ 32 }
-    ensures { OnOk result (IsPlaying service.now name.now 1 0 0 [] account.old.history.items account.old.lines.items
-        → NeverStarted service.now (reverse account.old.history.items)
-        → IsPlaying service.now name.now 1 (length ops.items) 0 ops.items account.new.history.items account.new.lines.items
-        × NeverStarted service.now (reverse account.new.history.items)) }
+    ensures { OnOk result (IsPlaying false service.now name.now 1 0 0 ops.items account.old.history.items account.old.lines.items
+        → NeverLived service.now (reverse account.old.history.items)
+        → IsPlaying false service.now name.now 1 (length ops.items) 0 ops.items account.new.history.items account.new.lines.items
+        × NeverLived service.now (reverse account.new.history.items)) }
 {
     let mut number = 0u32;
     for op in ops {

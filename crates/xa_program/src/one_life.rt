@@ -1,11 +1,12 @@
 // The one life of the server of `play`, from its start to its end.
-ghost use Rattle.std.specs.Prelude.{◌≡◌, ◌∷◌, [], ℕ, List, reverse, IfOk, OnOk, MatchOption, true};
+ghost use Rattle.std.specs.Prelude.{◌≡◌, ◌∷◌, [], ℕ, List, reverse, IfOk, OnOk, MatchOption, false};
 ghost use Rattle.xa_events.specs.declared.event.Event.{Event};
 ghost use Rattle.xa_events.specs.declared.event.Event.TheVariants.{Advertise};
+ghost use Rattle.xa_types.specs.declared.call.Op.{Op};
 ghost use Rattle.xa_pipe.specs.Pipe.{Wrote, HasRead};
 ghost use Rattle.xa_play.specs.History.{advertise, start};
 ghost use Rattle.xa_play.specs.PlaySetup.{server_name};
-ghost use Rattle.xa_program.specs.Progress.{IsPlaying, NoneFailed, IsLive, IsLeaving, NeverStarted, IsOver, HasLived, HasNotLived, IsBuiltScript, IsOnly, Greets, IsDone};
+ghost use Rattle.xa_program.specs.Progress.{IsPlaying, NoneFailed, IsLive, IsLeaving, NeverLived, IsOver, HasLived, IsBuiltScript, IsOnly, Greets, IsDone};
 
 use crate::calls::{Session, make_calls, refuse_calls};
 use std::alloc::Global;
@@ -56,10 +57,10 @@ fn make_all<L: Link>(
     up: bool,
 ) -> Result<bool, NoMemory>
     requires { IsBuiltScript script.clients }
-    ensures { IfOk result (λ now. ((name : List ℕ) (clients : ℕ) → IsPlaying service.now name clients 0 0 [] account.old.history.items account.old.lines.items)
+    ensures { IfOk result (λ now. ((name : List ℕ) (clients : ℕ) (ops : List Op) → IsPlaying up service.now name clients 0 0 ops account.old.history.items account.old.lines.items)
         → IsLive up service.now 0 (reverse account.old.history.items) pipe.old
-        → IsLeaving service.now script.clients account.new.history.items account.new.lines.items
-        × ((m : ℕ) × IsLive now service.now m (reverse account.new.history.items) pipe.new)) }
+        → (m : ℕ) × IsLeaving now service.now script.clients m account.new.history.items account.new.lines.items
+        × IsLive now service.now m (reverse account.new.history.items) pipe.new) }
 {
     let Some(client) = only_client(script) else {
         return Ok(up);
@@ -123,9 +124,9 @@ pub fn serve<L: Link>(
 // Each call of the client is refused, and it leaves, if there is one.
 fn refuse_all(account: &mut Account, service: &Name, script: Script) -> Result<(), NoMemory>
     requires { IsBuiltScript script.clients }
-    ensures { OnOk result (((name : List ℕ) (clients : ℕ) → IsPlaying service.now name clients 0 0 [] account.old.history.items account.old.lines.items)
-        → NeverStarted service.now (reverse account.old.history.items)
-        → IsLeaving service.now script.clients account.new.history.items account.new.lines.items × NeverStarted service.now (reverse account.new.history.items)) }
+    ensures { OnOk result (((name : List ℕ) (clients : ℕ) (ops : List Op) → IsPlaying false service.now name clients 0 0 ops account.old.history.items account.old.lines.items)
+        → NeverLived service.now (reverse account.old.history.items)
+        → IsLeaving false service.now script.clients 0 account.new.history.items account.new.lines.items × NeverLived service.now (reverse account.new.history.items)) }
 {
     let Some(client) = only_client(script) else {
         return Ok(());
@@ -141,7 +142,7 @@ pub fn serve_none(account: &mut Account, service: &Name, script: Script) -> Resu
     requires booted { account.old.history.items ≡ Advertise (advertise service.now) ∷ [] }
     requires silent { account.old.lines.items ≡ [] }
     ensures { OnOk result (IsOver service.now script.clients account.new.history.items account.new.lines.items
-        × HasNotLived (reverse account.new.history.items)) }
+        × NeverLived service.now (reverse account.new.history.items)) }
 {
     note_not_started(&mut account.history, service)?;
     refuse_all(account, service, script)?;

@@ -1,8 +1,7 @@
-use Rattle.std.proofs.Common.{[], ◌∷◌, ◌++◌, ◌+◌, ◌≡◌, subst, sym, refl, reverse, length, arith}
+use Rattle.std.proofs.Common.{[], ◌∷◌, ◌++◌, ◌+◌, ◌≡◌, Some, ap, ◌∙◌, refl, length, arith}
 use Rattle.std.proofs.lemmas.List.{length_push}
-use Rattle.xa_types.specs.declared.call.Op.{Op}
-use Rattle.xa_program.specs.Progress.{IsPlaying, IsLive, IsBuiltOp}
-use Rattle.xa_program.proofs.Yielding.{one_more, each_left}
+use Rattle.xa_program.specs.Progress.{IsBuiltOp}
+use Rattle.xa_program.proofs.Yielding.{one_more, each_left, next_is}
 use Rattle.xa_program.proofs.calls.make_calls.Goals as goal
 
 pub loop-op-preserved : goal.loop-op-preserved
@@ -17,7 +16,6 @@ loop-op-preserved g c =
       few = c.in_ok-up.ensures.few;
       played = λ begun live.
           let so_far = c.loop-op.invariant.played begun live in
-          subst (λ (op : Op). IsPlaying c.args.session.now.service c.args.session.now.client 1 (c.loop-op.number + 1) c.next_call.new.sent (made ++ op ∷ []) c.next_call.new.account.history.items c.next_call.new.account.lines.items
-          × IsLive c.in_ok-up.up c.args.session.now.service c.next_call.new.sent (reverse c.next_call.new.account.history.items) c.next_call.new.pipe) (sym c.ask_of-ask.ensures.ask)
-          (c.in_ok-up.ensures.goes c.loop-op.number made refl so_far.0 so_far.1);
+          let is_call = next_is c.args.ops.items made rest left c.in-Some.op c.loop-op.number c.loop-op.invariant.split c.in-Some.ensures.steps.0 c.loop-op.invariant.counted in
+          c.in_ok-up.ensures.goes c.loop-op.number c.args.ops.items refl (is_call ∙ ap Some c.ask_of-ask.ensures.ask) so_far.0 so_far.1;
     }

@@ -1,5 +1,5 @@
-use Rattle.std.proofs.Common.{◌≡◌, ◌++◌, [], length, reverse, All}
-use Rattle.xa_program.specs.Progress.{IsPlaying, NeverStarted, IsBuiltOp}
+use Rattle.std.proofs.Common.{◌≡◌, ◌++◌, false, length, reverse, All}
+use Rattle.xa_program.specs.Progress.{IsPlaying, NeverLived, IsBuiltOp}
 use Rattle.xa_program.proofs.calls.refuse_calls.Given as goal
 
 abbrev pub invariant-loop-op : goal.invariant-loop-op
@@ -7,6 +7,6 @@ invariant-loop-op l = record {
   split : l.yielded ++ l.op-iterator.rest.items ≡ l.fn.ops.items;
   built : All IsBuiltOp l.op-iterator.rest.items;
   counted : l.number ≡ length l.yielded;
-  played : IsPlaying l.service l.name 1 0 0 [] l.fn.account.history.items l.fn.account.lines.items → NeverStarted l.service (reverse l.fn.account.history.items)
-      → IsPlaying l.service l.name 1 l.number 0 l.yielded l.account.history.items l.account.lines.items × NeverStarted l.service (reverse l.account.history.items);
+  played : IsPlaying false l.service l.name 1 0 0 l.fn.ops.items l.fn.account.history.items l.fn.account.lines.items → NeverLived l.service (reverse l.fn.account.history.items)
+      → IsPlaying false l.service l.name 1 l.number 0 l.fn.ops.items l.account.history.items l.account.lines.items × NeverLived l.service (reverse l.account.history.items);
 }
