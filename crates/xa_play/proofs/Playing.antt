@@ -1,6 +1,5 @@
 -- The run of `play` so far, behind its boot, a call, and the end of the server's life.
 use Rattle.std.proofs.Common.{◌≡◌, ℕ, ◌+◌, ◌≤◌, ◌||◌, not, Bool, true, false, cond, List, [], ◌∷◌, ◌++◌, length, Option, Some, None, refl, sym, ◌∙◌, ap, arith}
-use Rattle.std.proofs.Math.Bool.{or-false}
 use Rattle.xa_types.specs.declared.call.Op.{Op}
 use Rattle.xa_types.specs.declared.call.Op.TheVariants.{Call}
 use Rattle.xa_types.specs.declared.call.Ask.{Ask}
@@ -167,10 +166,9 @@ module _ (service name : List ℕ) (n m : ℕ) (ops : List Op) (ask : Ask) (hist
   seen_served None = omega (arith, old.seen)
   seen_served (Some cause) = omega (arith, old.seen)
 
-  settled_as : (r : RequestId) → cond (same_request (request (m + 1)) r || false) (count (is_settled_by r) past + 1) (count (is_settled_by r) past)
+  settled_as : (r : RequestId) → cond (same_request (request (m + 1)) r) (count (is_settled_by r) past + 1) (count (is_settled_by r) past)
       ≡ cond (same_request (request (m + 1)) r) (count (is_accept_of r) past + 1) (count (is_accept_of r) past)
-  settled_as r = ap (λ k. cond (same_request (request (m + 1)) r || false) (k + 1) k) (old.matched r)
-      ∙ ap (λ b. cond b (count (is_accept_of r) past + 1) (count (is_accept_of r) past)) (or-false (same_request (request (m + 1)) r))
+  settled_as r = ap (λ k. cond (same_request (request (m + 1)) r) (k + 1) k) (old.matched r)
 
   matched_served : (cause : Option StopCause) (r : RequestId) → count (is_settled_by r) (served service (n + 1) (m + 1) ask.payload outcome cause answer past) ≡ count (is_accept_of r) (served service (n + 1) (m + 1) ask.payload outcome cause answer past)
   matched_served None r = settled_as r

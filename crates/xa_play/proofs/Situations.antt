@@ -5,7 +5,7 @@ use Rattle.xa_events.specs.declared.event.Event.{Event}
 use Rattle.xa_events.specs.declared.event.Doing.{Doing}
 use Rattle.xa_events.specs.Words.{latest, added, without}
 use Rattle.xa_events.specs.Board.{changes, change_in}
-use Rattle.xa_events.specs.Queue.{waiting, enters, leaves, takes, takes_from, is_down, is_down_of, is_closed, is_close_of}
+use Rattle.xa_events.specs.Queue.{waiting, comes_in, goes_out, takes, takes_from, is_down, is_down_of, is_closed, is_close_of}
 use Rattle.xa_events.specs.Server.{doing, doing_after, moves_server, starts, start_in, is_gone, is_gone_of}
 use Rattle.xa_events.specs.Caller.{newest_call, is_call_of, op_of, op_in, accepted, accepts_for, open_descriptors, opens_descriptor, closes_descriptor, has_left, is_leave_of, is_leaving, gives_up}
 use Rattle.xa_play.specs.PlaySetup.{play_setup}
@@ -15,7 +15,7 @@ use Rattle.xa_play.specs.Between.{Situation, situation}
 abbrev pub after : List ℕ → ℕ → Event → Situation → Situation
 after service clients e v = record {
   board = cons_option (change_in e) v.board;
-  waiting = added (enters 1 e) (without (leaves (play_setup service) 1 e) v.waiting);
+  waiting = added (comes_in 1 e) (without (goes_out (play_setup service) 1 e) v.waiting);
   takes = cond (takes_from (play_setup service) 1 e) (v.takes + 1) v.takes;
   down = is_down_of 1 e || v.down;
   closed = is_close_of 1 e || v.closed;

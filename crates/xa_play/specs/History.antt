@@ -58,7 +58,7 @@ take_of m = record { request = request m; server = record { 0 = 1 }; generation 
 abbrev pub end_with : ℕ → Outcome → Ended
 end_with m outcome = record { request = request m; server = record { 0 = 1 }; generation = record { 0 = 1 }; outcome = outcome }
 
-abbrev pub answer_of : ℕ → ℕ → Answer → Told
+abbrev pub answer_of : ℕ → ℕ → Answer → Replied
 answer_of n m answer = record { by = record { 0 = 1 }; op = n; request = request m; answer = answer }
 
 abbrev pub refuse : ℕ → Fault → Evidence → Refused

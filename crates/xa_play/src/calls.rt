@@ -10,7 +10,7 @@ ghost use Rattle.xa_play.specs.History.{accept, take_of, answer_of, refuse};
 use crate::account::{Account, CLIENT, LIFE, QUEUE, SERVER};
 use crate::refusal::Refusal;
 use std::alloc::Global;
-use xa_events::{Accepted, Event, Outcome, Refused, Taken, Told};
+use xa_events::{Accepted, Event, Outcome, Refused, Replied, Taken};
 use xa_text::{push_answer_line, push_line};
 use xa_types::{Answer, Data, Fault, Mode, Name, NoMemory, Reply, RequestId};
 
@@ -82,7 +82,7 @@ pub fn note_answered(
     ensures lines { OnOk result (account.new.lines.items ≡ account.old.lines.items ++ line_text name.now op (AnsweredReply 0 answer)) }
 {
     push_answer_line(&mut account.lines, name, op, 0, &answer)?;
-    account.history.push(Event::Answer(Told {
+    account.history.push(Event::Answer(Replied {
         by: CLIENT,
         op,
         request: request(number),
