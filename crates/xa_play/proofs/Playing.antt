@@ -47,11 +47,11 @@ module _ (service : List ℕ) (clients : ℕ) where
   abbrev boot : List Event
   boot = Advertise (advertise service) ∷ []
 
-  advertise_case : Case (at service clients []) (Advertise (advertise service))
+  pub advertise_case : Case (at service clients []) (Advertise (advertise service))
   unfolding published changes
   advertise_case = record { home = record { booting = refl; version = refl }; worker = record { domain = refl; op = refl }; before = record { booted = tt; named = tt } }
 
-  start_case : Case (at service clients boot) (Start start)
+  pub start_case : Case (at service clients boot) (Start start)
   unfolding published changes doing is_gone was_shut_down starts ticks is_shown
   start_case = record {
     home = tt;
@@ -59,7 +59,7 @@ module _ (service : List ℕ) (clients : ℕ) where
     before = record { booted = omega arith; named = refl };
   }
 
-  failed_case : Case (at service clients boot) (StartFailed start)
+  pub failed_case : Case (at service clients boot) (StartFailed start)
   unfolding published changes doing is_gone was_shut_down starts ticks is_shown
   failed_case = record {
     home = tt;

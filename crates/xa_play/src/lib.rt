@@ -13,6 +13,6 @@ pub use calls::{answer_to, note_answered, note_refused, note_taken};
 pub use refusal::{Refusal, check, is_plain};
 pub use server::{
     note_boot, note_closed, note_ended, note_fallen, note_left, note_not_started, note_shut_down,
-    note_started,
+    note_start_failed, note_started,
 };
 pub use setup::{play_setup, server_name};

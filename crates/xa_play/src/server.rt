@@ -1,5 +1,5 @@
 // What is noted of the server and of the queue.
-ghost use Rattle.std.specs.Prelude.{◌≡◌, ◌++◌, ◌∷◌, [], OnOk};
+ghost use Rattle.std.specs.Prelude.{◌≡◌, ◌++◌, ◌∷◌, ◌+◌, ◌<◌, ◌≤◌, [], vec_len, vec_capacity, OnOk, IsOk};
 ghost use Rattle.xa_events.specs.declared.event.Event.TheVariants.{Advertise, Withdraw, Gone, Down, Close, Start, StartFailed, End, Stop, Leave};
 ghost use Rattle.xa_events.specs.declared.event.StopCause.TheVariants.{Shutdown};
 ghost use Rattle.xa_play.specs.History.{advertise, withdraw, start, stop, end_with};
@@ -19,7 +19,9 @@ const STARTED: Started = Started {
 
 /// Notes that the boot advertises the service. Where memory runs out, nothing is said of the events.
 pub fn note_boot(history: &mut Vec<Event>, service: &Name) -> Result<(), NoMemory>
-    ensures { OnOk result (history.new.items ≡ history.old.items ++ Advertise (advertise service.now) ∷ []) }
+    ensures noted { OnOk result (history.new.items ≡ history.old.items ++ Advertise (advertise service.now) ∷ []) }
+    ensures one { OnOk result (vec_len history.new ≡ vec_len history.old + 1) }
+    ensures room { vec_capacity history.old ≤ vec_capacity history.new }
 {
     history.push(Event::Advertise(Advertised {
         by: DOMAIN,
@@ -32,9 +34,11 @@ pub fn note_boot(history: &mut Vec<Event>, service: &Name) -> Result<(), NoMemor
     Ok(())
 }
 
-/// Notes that the server was started. Where memory runs out, nothing is said of the events.
+/// Notes that the server was started. Where memory runs out, nothing is said of the events; it doesn't where there is
+/// room.
 pub fn note_started(history: &mut Vec<Event>) -> Result<(), NoMemory>
-    ensures { OnOk result (history.new.items ≡ history.old.items ++ Start start ∷ []) }
+    ensures noted { OnOk result (history.new.items ≡ history.old.items ++ Start start ∷ []) }
+    ensures succeeds { vec_len history.old < vec_capacity history.old → IsOk result }
 {
     history.push(Event::Start(STARTED))?;
     Ok(())
@@ -69,11 +73,21 @@ fn note_gone(history: &mut Vec<Event>, service: &Name) -> Result<(), NoMemory>
     Ok(())
 }
 
+/// Notes that the server's start failed. Where memory runs out, nothing is said of the events; it doesn't where there is
+/// room.
+pub fn note_start_failed(history: &mut Vec<Event>) -> Result<(), NoMemory>
+    ensures noted { OnOk result (history.new.items ≡ history.old.items ++ StartFailed start ∷ []) }
+    ensures succeeds { vec_len history.old < vec_capacity history.old → IsOk result }
+{
+    history.push(Event::StartFailed(STARTED))?;
+    Ok(())
+}
+
 /// Notes that the server couldn't be started. Where memory runs out, nothing is said of the events.
 pub fn note_not_started(history: &mut Vec<Event>, service: &Name) -> Result<(), NoMemory>
     ensures { OnOk result (history.new.items ≡ history.old.items ++ StartFailed start ∷ Gone (record { 0 = 1 }) ∷ Withdraw (withdraw service.now) ∷ Down (record { 0 = 1 }) ∷ []) }
 {
-    history.push(Event::StartFailed(STARTED))?;
+    note_start_failed(history)?;
     note_gone(history, service)
 }
 

@@ -1,24 +1,26 @@
 -- How a run of `play` ends, by how its script was served.
-use Rattle.std.proofs.Common.{◌≡◌, ◌⊎◌, ℕ, ◌+◌, ◌-◌, ◌^◌, min, List, [], ◌∷◌, ◌++◌, length, reverse, Option, Some, None, Ok, Err, ap, inl, inr, refl, sym, ◌∙◌, subst, arith, slice_set, slice_index_or}
-use Rattle.std.specs.Prelude.{Result, IfSome, OnOk, MatchResult}
+use Rattle.std.proofs.Common.{◌≡◌, ◌⊎◌, ℕ, ◌+◌, ◌-◌, ◌^◌, min, List, [], ◌∷◌, ◌++◌, length, reverse, Option, Some, None, ap, inl, inr, refl, sym, ◌∙◌, subst, arith, slice_set, slice_index_or}
+use Rattle.std.specs.Prelude.{IfSome}
 use Rattle.xa_link.specs.Told.{Rose, Grew, GrewByPart}
 use Rattle.xa_events.specs.declared.event.Event.{Event}
+use Rattle.xa_events.specs.declared.event.Event.TheVariants.{Advertise, Start, StartFailed}
 use Rattle.xa_script.specs.declared.script.Client.{Client}
 use Rattle.xa_pipe.specs.Life.{IsLife}
 use Rattle.xa_pipe.specs.Pipe.{Piped, shown}
 use Rattle.xa_play.specs.PlaySetup.{play_setup, server_name}
+use Rattle.xa_play.specs.History.{advertise, start}
+use Rattle.xa_play.proofs.Playing.{advertise_case, start_case, failed_case}
 use Rattle.xa_play.specs.Transcript.{transcript}
 use Rattle.xa_program.specs.declared.outcome.Life.{Life}
 use Rattle.xa_program.specs.declared.status.Status.{Status}
 use Rattle.xa_program.specs.declared.status.Status.TheVariants.{Done, ScriptRead, TooLong, BadLine, WriteFault, NoMemory}
 use Rattle.xa_program.specs.declared.status.Input.TheVariants as inputs
-use Rattle.xa_types.specs.declared.memory.NoMemory.{NoMemory as NoMemoryError}
 use Rattle.xa_types.specs.declared.ids.Generation.{Generation}
 use Rattle.xa_link.specs.Starts.{AsksFor}
 use Rattle.xa_events.specs.Server.{starts}
-use Rattle.xa_program.specs.Headline.{Streams, ReadsWell, IsSilent, LinkTells, IsLifeOf, IsTheScript, IsServedRun, StarterShows, starts_of, IsStarterOf, EachStarter, PlayEnds, names_of}
+use Rattle.xa_program.specs.Headline.{Streams, ReadsWell, IsSilent, LinkTells, IsLifeOf, IsTheScript, IsServedRun, IsBegun, HandsNothing, StarterShows, starts_of, IsStarterOf, EachStarter, PlayEnds, names_of}
 use Rattle.xa_program.specs.Lives.{failed_starts}
-use Rattle.xa_program.specs.Progress.{life_id, IsOver, HasLived, NeverLived, StartsCount, IsAsked, IsServed, ServingEnds, Printed, Unprinted, ScriptRefusedAs}
+use Rattle.xa_program.specs.Progress.{life_id, IsOver, HasLived, NeverLived, StartsCount, IsAsked, IsServed, ServingEnds, Printed, BeginsSo, ScriptRefusedAs}
 
 -- ---- one life
 
@@ -72,32 +74,49 @@ printed_ends tells before after faults faults_after asks asks_after service clie
 printed_ends tells before after faults faults_after asks asks_after service clients history lines lives WriteFault served said printed = (served, subst (λ text. GrewByPart before after text) said printed.0, printed.1)
 printed_ends tells before after faults faults_after asks asks_after service clients history lines lives status served said printed = absurd printed
 
-no_memory : {L : Type 0} (tells : LinkTells L) (before after : Option (List ℕ)) (faults faults_after : ℕ) (asks asks_after : StarterShows) (service : List ℕ) (clients : List Client) (history : List Event) (lives : List (Life L)) (status : Status)
-    → Unprinted before after faults faults_after status → ServingEnds tells before after faults faults_after asks asks_after service clients status history lives
-no_memory tells before after faults faults_after asks asks_after service clients history lives status unprinted =
-    subst (λ s. ServingEnds tells before after faults faults_after asks asks_after service clients s history lives) (sym unprinted.stands) (unprinted.took, unprinted.writes)
-
 -- how a life and its transcript end
-pub life_ends : {L : Type 0} (tells : LinkTells L) (link : L) (pipe : Piped) (before after : Option (List ℕ)) (faults faults_after : ℕ) (asks asks_after : StarterShows) (service : List ℕ) (clients : List Client) (history : List Event) (lines : List ℕ) (lives : List (Life L))
-    (served : Result (Unit {0}) NoMemoryError) (status : Status)
-    → lives ≡ the_life link ∷ [] → ShowsPipe tells link pipe → asks_after.faults ≡ asks.faults → IsAsked asks asks_after → OnOk served (IsOver service clients history lines × HasLived service (reverse history) pipe)
-    → MatchResult served (λ _. Printed before after faults faults_after lines status) (λ _. Unprinted before after faults faults_after status)
-    → ServingEnds tells before after faults faults_after asks asks_after service clients status history lives
-life_ends tells link pipe before after faults faults_after asks asks_after service clients history lines lives (Ok u) status is shows quiet asked over printed =
-    printed_ends tells before after faults faults_after asks asks_after service clients history lines lives status (served_life tells link pipe asks asks_after service clients history lines lives is shows quiet asked over.0 over.1) over.0.said printed
-life_ends tells link pipe before after faults faults_after asks asks_after service clients history lines lives (Err e) status is shows quiet asked over printed =
-    no_memory tells before after faults faults_after asks asks_after service clients history lives status printed
+pub life_ends : {L : Type 0} (tells : LinkTells L) (link : L) (pipe : Piped) (before after : Option (List ℕ)) (faults faults_after : ℕ) (asks asks_after : StarterShows) (service : List ℕ) (clients : List Client) (history handed : List Event) (lines : List ℕ) (lives : List (Life L)) (status : Status)
+    → handed ≡ history → lives ≡ the_life link ∷ [] → ShowsPipe tells link pipe → asks_after.faults ≡ asks.faults → IsAsked asks asks_after → IsOver service clients history lines × HasLived service (reverse history) pipe
+    → Printed before after faults faults_after lines status → ServingEnds tells before after faults faults_after asks asks_after service clients status handed lives
+life_ends tells link pipe before after faults faults_after asks asks_after service clients history handed lines lives status same is shows quiet asked over printed =
+    subst (λ es. ServingEnds tells before after faults faults_after asks asks_after service clients status es lives) (sym same)
+    (printed_ends tells before after faults faults_after asks asks_after service clients history lines lives status (served_life tells link pipe asks asks_after service clients history lines lives is shows quiet asked over.0 over.1) over.0.said printed)
 
 -- how the transcript ends where no life began
-pub none_ends : {L : Type 0} (tells : LinkTells L) (before after : Option (List ℕ)) (faults faults_after : ℕ) (asks asks_after : StarterShows) (service : List ℕ) (clients : List Client) (history : List Event) (lines : List ℕ) (lives : List (Life L))
-    (served : Result (Unit {0}) NoMemoryError) (status : Status)
-    → lives ≡ [] → Rose asks.faults asks_after.faults → IsAsked asks asks_after → OnOk served (IsOver service clients history lines × NeverLived service (reverse history))
-    → MatchResult served (λ _. Printed before after faults faults_after lines status) (λ _. Unprinted before after faults faults_after status)
-    → ServingEnds tells before after faults faults_after asks asks_after service clients status history lives
-none_ends tells before after faults faults_after asks asks_after service clients history lines lives (Ok u) status is rose asked over printed =
-    printed_ends tells before after faults faults_after asks asks_after service clients history lines lives status (served_none tells asks asks_after service clients history lines lives is rose asked over.0 over.1) over.0.said printed
-none_ends tells before after faults faults_after asks asks_after service clients history lines lives (Err e) status is rose asked over printed =
-    no_memory tells before after faults faults_after asks asks_after service clients history lives status printed
+pub none_ends : {L : Type 0} (tells : LinkTells L) (before after : Option (List ℕ)) (faults faults_after : ℕ) (asks asks_after : StarterShows) (service : List ℕ) (clients : List Client) (history handed : List Event) (lines : List ℕ) (lives : List (Life L)) (status : Status)
+    → handed ≡ history → lives ≡ [] → Rose asks.faults asks_after.faults → IsAsked asks asks_after → IsOver service clients history lines × NeverLived service (reverse history)
+    → Printed before after faults faults_after lines status → ServingEnds tells before after faults faults_after asks asks_after service clients status handed lives
+none_ends tells before after faults faults_after asks asks_after service clients history handed lines lives status same is rose asked over printed =
+    subst (λ es. ServingEnds tells before after faults faults_after asks asks_after service clients status es lives) (sym same)
+    (printed_ends tells before after faults faults_after asks asks_after service clients history lines lives status (served_none tells asks asks_after service clients history lines lives is rose asked over.0 over.1) over.0.said printed)
+
+-- ---- where memory ran out
+
+module _ {L : Type 0} (service : List ℕ) (clients : List Client) (asks asks_after : StarterShows) where
+  pub begins_not : (history : List Event) (lives : List (Life L)) → history ≡ [] → lives ≡ [] → asks_after.faults ≡ asks.faults → asks_after.asked ≡ asks.asked → BeginsSo asks asks_after service clients history lives
+  unfolding starts
+  begins_not history lives is none quiet unasked = rw (is, none) (record { run = refl; lives_are = refl; started = inl (refl, refl, quiet, unasked) })
+
+  pub begins_booted : (history : List Event) (lives : List (Life L)) → history ≡ Advertise (advertise service) ∷ [] → lives ≡ [] → asks_after.faults ≡ asks.faults → asks_after.asked ≡ asks.asked → BeginsSo asks asks_after service clients history lives
+  unfolding starts
+  begins_booted history lives is none quiet unasked = rw (is, none) (record { run = (advertise_case service (length clients), refl); lives_are = refl; started = inl (refl, refl, quiet, unasked) })
+
+  pub begins_live : (link : L) (history : List Event) (lives : List (Life L)) → history ≡ Advertise (advertise service) ∷ Start start ∷ [] → lives ≡ the_life link ∷ [] → asks_after.faults ≡ asks.faults → IsAsked asks asks_after
+      → BeginsSo asks asks_after service clients history lives
+  unfolding starts
+  begins_live link history lives is one quiet asked =
+      rw (is, one) (record { run = (advertise_case service (length clients), (start_case service (length clients), refl)); lives_are = refl; started = inr (refl, inl (refl, quiet), asked) })
+
+  pub begins_failed : (history : List Event) (lives : List (Life L)) → history ≡ Advertise (advertise service) ∷ StartFailed start ∷ [] → lives ≡ [] → Rose asks.faults asks_after.faults → IsAsked asks asks_after
+      → BeginsSo asks asks_after service clients history lives
+  unfolding starts
+  begins_failed history lives is none rose asked =
+      rw (is, none) (record { run = (advertise_case service (length clients), (failed_case service (length clients), refl)); lives_are = refl; started = inr (refl, inr (refl, rose), asked) })
+
+  pub starved_ends : (tells : LinkTells L) (before after : Option (List ℕ)) (faults faults_after : ℕ) (history : List Event) (lives : List (Life L)) (status : Status) → status ≡ NoMemory → after ≡ before → faults_after ≡ faults
+      → BeginsSo asks asks_after service clients history lives → ServingEnds tells before after faults faults_after asks asks_after service clients status history lives
+  starved_ends tells before after faults faults_after history lives status is took writes begins =
+      subst (λ s. ServingEnds tells before after faults faults_after asks asks_after service clients s history lives) (sym is) (took, writes, begins)
 
 -- ---- the run
 
@@ -116,6 +135,14 @@ the_starter : (service : List ℕ) (before after : StarterShows) (past : List Ev
 the_starter service before after past none unasked made count asked = record {
   counts = counts_exactly (failed_starts 1 past) before.faults after.faults none count;
   each = subst (λ (n : ℕ). IfSome after.asked (λ all. all ≡ starts_of server_name n)) (sym (ap length made)) (asked_once before.asked after.asked unasked asked);
+}
+
+-- a starter that was asked for nothing
+idle_starter : (service : List ℕ) (before after : StarterShows) (past : List Event) → before.faults ≡ 0 → IfSome before.asked (λ all. all ≡ []) → starts 1 past ≡ [] → failed_starts 1 past ≡ 0 → after.faults ≡ before.faults → after.asked ≡ before.asked
+    → IsStarterOf (play_setup service) 1 after past
+idle_starter service before after past none unasked made failed quiet same = record {
+  counts = subst (λ (n : ℕ). after.faults ≡ min n (2 ^ 64 - 1)) (sym failed) (quiet ∙ none);
+  each = subst (λ (n : ℕ). IfSome after.asked (λ all. all ≡ starts_of server_name n)) (sym (ap length made)) (subst (λ (told : Option (List (List ℕ × Generation))). IfSome told (λ all. all ≡ [])) (sym same) unasked);
 }
 
 each_starter : {S : Type 0} (shows : S → StarterShows) (service : List ℕ) (starters : List S) (now : S) (past : List Event) → length starters ≡ 1 → IsStarterOf (play_setup service) 1 (shows now) past
@@ -145,19 +172,35 @@ module _ {L S : Type 0} (tells : LinkTells L) (shows : S → StarterShows) (stre
     };
   }
 
+  begun : BeginsSo (shows old) (shows now) service clients history lives → IsBegun shows (play_setup service) clients history lives (slice_set starters 0 now)
+  begun begins = record {
+    run = begins.run;
+    all = still_one starters now one;
+    lives_are = begins.lives_are;
+    each = each_starter shows service starters now (reverse history) one (elim begins.started [
+      | inl (made, failed, same, asked) ↦ idle_starter service (shows old) (shows now) (reverse history) none unasked made failed same asked
+      | inr (made, count, asked) ↦ the_starter service (shows old) (shows now) (reverse history) none unasked made count asked
+    ]);
+  }
+
   pub play_ends : (status : Status)
       → ServingEnds tells streams.took_before streams.took_after streams.writes_before streams.writes_after (shows old) (shows now) service clients status history lives
       → PlayEnds tells shows streams service status history lives (slice_set starters 0 now)
   play_ends Done ends = (clients, served_run ends.0, ends.1, ends.2)
   play_ends WriteFault ends = (clients, served_run ends.0, ends.1, ends.2)
-  play_ends NoMemory ends = (quiet, record { took = ends.0; writes = ends.1 })
+  play_ends NoMemory ends = (quiet, record { took = ends.0; writes = ends.1 }, inr (clients, script, begun ends.2))
   play_ends status ends = absurd ends
 
 -- a run whose script was refused, and that left the output alone
-pub refused_ends : {L S : Type 0} (tells : LinkTells L) (shows : S → StarterShows) (streams : Streams) (service : List ℕ) (status : Status) (history : List Event) (lives : List (Life L)) (starters : List S)
-    → ScriptRefusedAs streams.input streams.reads_before streams.reads_after status → IsSilent streams → PlayEnds tells shows streams service status history lives starters
-refused_ends tells shows streams service ScriptRead history lives starters why silent = (why, silent)
-refused_ends tells shows streams service (TooLong inputs.Script) history lives starters why silent = (why.0, why.1, silent)
-refused_ends tells shows streams service (BadLine line cause) history lives starters why silent = (why.0, why.1, why.2, silent)
-refused_ends tells shows streams service NoMemory history lives starters why silent = (why, silent)
-refused_ends tells shows streams service status history lives starters why silent = absurd why
+refused_ends : {L S : Type 0} (tells : LinkTells L) (shows : S → StarterShows) (streams : Streams) (service : List ℕ) (status : Status) (history : List Event) (lives : List (Life L)) (starters : List S)
+    → ScriptRefusedAs streams.input streams.reads_before streams.reads_after status → IsSilent streams → HandsNothing history lives starters → PlayEnds tells shows streams service status history lives starters
+refused_ends tells shows streams service ScriptRead history lives starters why silent nothing = (why, silent)
+refused_ends tells shows streams service (TooLong inputs.Script) history lives starters why silent nothing = (why.0, why.1, silent)
+refused_ends tells shows streams service (BadLine line cause) history lives starters why silent nothing = (why.0, why.1, why.2, silent)
+refused_ends tells shows streams service NoMemory history lives starters why silent nothing = (why, silent, inl nothing)
+refused_ends tells shows streams service status history lives starters why silent nothing = absurd why
+
+pub refused_so : {L S : Type 0} (tells : LinkTells L) (shows : S → StarterShows) (streams : Streams) (service : List ℕ) (status refused : Status) (history : List Event) (lives : List (Life L)) (starters : List S) → status ≡ refused
+    → ScriptRefusedAs streams.input streams.reads_before streams.reads_after refused → IsSilent streams → HandsNothing history lives starters → PlayEnds tells shows streams service status history lives starters
+refused_so tells shows streams service status refused history lives starters is why silent nothing =
+    subst (λ (s : Status). PlayEnds tells shows streams service s history lives starters) (sym is) (refused_ends tells shows streams service refused history lives starters why silent nothing)

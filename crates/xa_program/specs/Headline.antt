@@ -1,5 +1,5 @@
 -- What a run of `play` comes to (this project's own).
-use Rattle.std.specs.Prelude.{◌≡◌, ◌≤◌, ◌^◌, ◌-◌, min, ℕ, zero, suc, List, [], ◌∷◌, ◌++◌, length, reverse, map, Option, IfSome, All, ⊤}
+use Rattle.std.specs.Prelude.{◌≡◌, ◌⊎◌, ◌≤◌, ◌^◌, ◌-◌, min, ℕ, zero, suc, List, [], ◌∷◌, ◌++◌, length, reverse, map, Option, IfSome, All, ⊤}
 use Rattle.xa_types.specs.declared.setup.Setup.{Setup}
 use Rattle.xa_types.specs.Setup.{numbered}
 use Rattle.xa_link.specs.Told.{Rose, Grew, GrewByPart}
@@ -127,6 +127,17 @@ pub record IsServedRun {L S : Type 0} (tells : LinkTells L) (shows : S → Start
   pub machine : IsHistory (play_setup service) clients history
   pub carried : IsCarried tells shows (play_setup service) (reverse history) lives starters
 
+-- nothing is handed back
+abbrev pub HandsNothing : {L S : Type 0} → List Event → List (Life L) → List S → Type 0
+HandsNothing history lives starters = (history ≡ []) × (lives ≡ []) × (starters ≡ [])
+
+-- the events begin a run of the machine, and the lives and the starts are those of these events
+pub record IsBegun {L S : Type 0} (shows : S → StarterShows) (setup : Setup) (clients : List Client) (history : List Event) (lives : List (Life L)) (starters : List S) : Type 0 where
+  pub run : Run (opening setup (length clients)) history (record { setup = setup; clients = length clients; past = reverse history })
+  pub all : length starters ≡ length setup.servers
+  pub lives_are : map (λ life. (life.server.0, life.generation.0)) lives ≡ lives_of setup (reverse history)
+  pub each : EachStarter setup shows 1 starters (reverse history)
+
 -- how `play SERVICE` ends, and what that shows
 abbrev pub PlayEnds : {L S : Type 0} → LinkTells L → (S → StarterShows) → Streams → List ℕ → Status → List Event → List (Life L) → List S → Type 0
 PlayEnds tells shows streams service Done history lives starters =
@@ -138,12 +149,10 @@ PlayEnds tells shows streams service WriteFault history lives starters =
 PlayEnds tells shows streams service ScriptRead history lives starters = Rose streams.reads_before streams.reads_after × IsSilent streams
 PlayEnds tells shows streams service (TooLong inputs.Script) history lives starters = CameOver streams.input longest_script × ReadsWell streams × IsSilent streams
 PlayEnds tells shows streams service (BadLine line cause) history lives starters = (cause ≡ 9) × HasFirstFault streams.input line × ReadsWell streams × IsSilent streams
-PlayEnds tells shows streams service NoMemory history lives starters = ReadsWell streams × IsSilent streams
+PlayEnds tells shows streams service NoMemory history lives starters =
+    ReadsWell streams × IsSilent streams
+    × (HandsNothing history lives starters ⊎ ((clients : List Client) × IsTheScript streams.input clients × IsBegun shows (play_setup service) clients history lives starters))
 PlayEnds tells shows streams service status history lives starters = ⊥
-
--- nothing is handed back
-abbrev pub HandsNothing : {L S : Type 0} → List Event → List (Life L) → List S → Type 0
-HandsNothing history lives starters = (history ≡ []) × (lives ≡ []) × (starters ≡ [])
 
 -- where the words, the input or the script were refused, nothing is handed back
 abbrev pub EndsEarly : {L S : Type 0} → Status → List Event → List (Life L) → List S → Type 0

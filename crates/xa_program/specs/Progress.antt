@@ -20,7 +20,9 @@ use Rattle.xa_events.specs.declared.event.Outcome.{Outcome}
 use Rattle.xa_events.specs.declared.event.StopCause.{StopCause}
 use Rattle.xa_events.specs.declared.event.StopCause.TheVariants.{Shutdown, Exit, WriteFault as WriteFaultStop, Starved as StarvedStop}
 use Rattle.xa_events.specs.Words.{count, AtEach}
+use Rattle.xa_events.specs.Run.{Run}
 use Rattle.xa_events.specs.Server.{starts}
+use Rattle.xa_events.specs.State.{opening}
 use Rattle.xa_link.specs.Starts.{AsksFor}
 use Rattle.xa_frame.specs.declared.frame.Frame.{Frame}
 use Rattle.xa_frame.specs.Spelling.{spelled, HasSpelling}
@@ -35,7 +37,7 @@ use Rattle.xa_play.specs.PlaySetup.{play_setup, server_name}
 use Rattle.xa_play.specs.Transcript.{transcript}
 use Rattle.xa_play.specs.History.{refuse, stop, after_stop, in_order}
 use Rattle.xa_play.specs.Refusal.{IsRefused}
-use Rattle.xa_play.specs.Between.{Situation, quiet, IsPlayedTo}
+use Rattle.xa_play.specs.Between.{at, Situation, quiet, IsPlayedTo}
 use Rattle.xa_program.specs.Lives.{lives_of, failed_starts}
 use Rattle.xa_program.specs.Input.{InputTells, CameOver}
 use Rattle.xa_program.specs.Headline.{IsHistory, StarterShows, LinkTells, IsLifeOf, HasFirstFault, longest_script, names_of}
@@ -257,13 +259,20 @@ pub record IsServed {L : Type 0} (tells : LinkTells L) (before after : StarterSh
   pub failed : StartsCount (reverse history) before after
   pub asked : IsAsked before after
 
+-- the events begin a run, in which the server wasn't started, or was, or its start failed
+pub record BeginsSo {L : Type 0} (before after : StarterShows) (service : List ℕ) (clients : List Client) (history : List Event) (lives : List (Life L)) : Type 0 where
+  pub run : Run (opening (play_setup service) (length clients)) history (at service (length clients) (reverse history))
+  pub lives_are : map (λ life. (life.server.0, life.generation.0)) lives ≡ lives_of (play_setup service) (reverse history)
+  pub started : ((starts 1 (reverse history) ≡ []) × (failed_starts 1 (reverse history) ≡ 0) × (after.faults ≡ before.faults) × (after.asked ≡ before.asked))
+      ⊎ ((starts 1 (reverse history) ≡ 0 ∷ []) × StartsCount (reverse history) before after × IsAsked before after)
+
 -- how serving a script ends, and what that shows; the output and the starter are seen before and after
 abbrev pub ServingEnds : {L : Type 0} → LinkTells L → Option (List ℕ) → Option (List ℕ) → ℕ → ℕ → StarterShows → StarterShows → List ℕ → List Client → Status → List Event → List (Life L) → Type 0
 ServingEnds tells before after faults faults_after asks asks_after service clients Done history lives =
     IsServed tells asks asks_after service clients history lives × Grew before after (transcript (names_of clients) (reverse history)) × (faults_after ≡ faults)
 ServingEnds tells before after faults faults_after asks asks_after service clients WriteFault history lives =
     IsServed tells asks asks_after service clients history lives × GrewByPart before after (transcript (names_of clients) (reverse history)) × Rose faults faults_after
-ServingEnds tells before after faults faults_after asks asks_after service clients NoMemory history lives = (after ≡ before) × (faults_after ≡ faults)
+ServingEnds tells before after faults faults_after asks asks_after service clients NoMemory history lives = (after ≡ before) × (faults_after ≡ faults) × BeginsSo asks asks_after service clients history lives
 ServingEnds tells before after faults faults_after asks asks_after service clients status history lives = ⊥
 
 -- the lines were written whole, or in part and the output failed
@@ -271,12 +280,6 @@ abbrev pub Printed : Option (List ℕ) → Option (List ℕ) → ℕ → ℕ →
 Printed before after writes writes_after lines Done = Grew before after lines × (writes_after ≡ writes)
 Printed before after writes writes_after lines WriteFault = GrewByPart before after lines × Rose writes writes_after
 Printed before after writes writes_after lines status = ⊥
-
--- memory had run out, and the output was left alone
-pub record Unprinted (before after : Option (List ℕ)) (faults faults_after : ℕ) (status : Status) : Type 0 where
-  pub stands : status ≡ NoMemory
-  pub took : after ≡ before
-  pub writes : faults_after ≡ faults
 
 -- why there is no script
 abbrev pub ScriptRefusedAs : InputTells → ℕ → ℕ → Status → Type 0

@@ -1,13 +1,18 @@
-use Rattle.std.proofs.Common.{subst}
-use Rattle.std.specs.Prelude.{MatchResult}
-use Rattle.xa_program.specs.Progress.{Printed, Unprinted}
-use Rattle.xa_program.proofs.Played.{none_ends}
+use Rattle.std.proofs.Common.{[], ◌∷◌, ◌++◌, ◌∙◌, ap, refl}
+use Rattle.xa_events.specs.declared.event.Event.TheVariants.{StartFailed}
+use Rattle.xa_play.specs.History.{start}
+use Rattle.xa_program.proofs.Played.{none_ends, begins_failed, starved_ends}
 use Rattle.xa_program.proofs.performing.never_live.Goals as goal
 
-pub returns : goal.returns
-returns g c starts starts_after rose asked =
-    none_ends _ (g.O.Sink.took c.args.out.now) (g.O.Sink.took c.conclude-status.new.out) (g.O.Sink.write_faults c.args.out.now) (g.O.Sink.write_faults c.conclude-status.new.out) starts starts_after
-    c.args.service.now c.args.script.clients c.serve_none-served.new.account.history.items c.serve_none-served.new.account.lines.items c.args.lives.items c.serve_none-served.result c.conclude-status.result
-    c.requires.none rose asked c.serve_none-served.ensures
-    (subst (λ lines. MatchResult c.serve_none-served.result (λ _. Printed (g.O.Sink.took c.args.out.now) (g.O.Sink.took c.conclude-status.new.out) (g.O.Sink.write_faults c.args.out.now) (g.O.Sink.write_faults c.conclude-status.new.out) lines c.conclude-status.result) (λ _. Unprinted (g.O.Sink.took c.args.out.now) (g.O.Sink.took c.conclude-status.new.out) (g.O.Sink.write_faults c.args.out.now) (g.O.Sink.write_faults c.conclude-status.new.out) c.conclude-status.result))
-    c.as_slice.ensures.value c.conclude-status.ensures)
+pub returns-in-Ok : goal.returns-in-Ok
+returns-in-Ok g c starts starts_after rose asked =
+    none_ends _ (g.O.Sink.took c.args.out.now) (g.O.Sink.took c.print.new.out) (g.O.Sink.write_faults c.args.out.now) (g.O.Sink.write_faults c.print.new.out) starts starts_after
+    c.args.service.now c.args.script.clients c.serve_none.new.account.history.items c.print.result.history.items c.serve_none.new.account.lines.items c.print.result.lives.items c.print.result.status
+    c.print.ensures.history (c.print.ensures.lives ∙ c.requires.none) rose asked c.in-Ok.ensures c.print.ensures.printed
+
+pub returns-in-Err : goal.returns-in-Err
+returns-in-Err g c starts starts_after rose asked =
+    starved_ends c.args.service.now c.args.script.clients starts starts_after _ (g.O.Sink.took c.args.out.now) (g.O.Sink.took c.args.out.now) (g.O.Sink.write_faults c.args.out.now) (g.O.Sink.write_faults c.args.out.now)
+    c.out_of_memory.result.history.items c.out_of_memory.result.lives.items c.out_of_memory.result.status c.out_of_memory.ensures.status refl refl
+    (begins_failed c.args.service.now c.args.script.clients starts starts_after c.out_of_memory.result.history.items c.out_of_memory.result.lives.items
+    (c.out_of_memory.ensures.history ∙ (c.with_failed_start.ensures ∙ ap (λ es. es ++ StartFailed start ∷ []) c.requires.begun)) (c.out_of_memory.ensures.lives ∙ c.requires.none) rose asked)

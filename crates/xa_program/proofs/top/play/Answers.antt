@@ -1,10 +1,10 @@
-use Rattle.std.proofs.Common.{◌≡◌, [], Some, arith, length, sym, subst}
+use Rattle.std.proofs.Common.{◌≡◌, [], Some, refl, arith, length, sym, subst}
 use Rattle.std.specs.Prelude.{IfSome}
 use Rattle.xa_program.specs.declared.status.Status.{Status}
 use Rattle.xa_program.specs.declared.words.Command.TheVariants.{Play}
 use Rattle.xa_program.specs.Yard.{AsksYard}
 use Rattle.xa_program.proofs.Asking.{served_asks, refused_asks}
-use Rattle.xa_program.proofs.Played.{play_ends}
+use Rattle.xa_program.proofs.Played.{play_ends, refused_so}
 use Rattle.xa_program.proofs.top.play.Goals as goal
 
 pub returns-in-Ok-starters_of-clause-play : goal.returns-in-Ok-starters_of-clause-play
@@ -25,3 +25,8 @@ pub returns-in-Err-clause-yard : goal.returns-in-Err-clause-yard
 returns-in-Err-clause-yard g c =
     subst (λ (status : Status). AsksYard (Some (Play c.args.service.now)) status (g.Y.Yard.asked c.args.yard.now) (g.Y.Yard.asked c.args.yard.now)) (sym c.nothing.ensures.status)
     (refused_asks _ _ _ c.args.service.now c.in-Err.status (g.Y.Yard.asked c.args.yard.now) c.in-Err.ensures.refused)
+
+pub returns-in-Err-clause-play : goal.returns-in-Err-clause-play
+returns-in-Err-clause-play g c =
+    refused_so _ (λ s. record { faults = g.Y.Start.Starter.start_faults s; asked = g.Y.Start.Starter.asked s }) _ c.args.service.now c.nothing.result.status c.in-Err.status c.nothing.result.history.items c.nothing.result.lives.items c.nothing.result.starters.items
+    c.nothing.ensures.status c.in-Err.ensures.refused (record { took = refl; writes = refl }) (c.nothing.ensures.history, c.nothing.ensures.lives, c.nothing.ensures.starters)
