@@ -14,8 +14,8 @@ use Rattle.xa_events.specs.declared.event.Event.{Event}
 use Rattle.xa_events.specs.declared.event.Event.TheVariants.{Advertise, Withdraw, Accept, Take, Forward, Gone, Down, Close, Start, StartFailed, End, Stop, Answer, Refuse, Leave}
 use Rattle.xa_events.specs.declared.event.Started.{Started}
 use Rattle.xa_events.specs.Words.{AtEach, IsEarlier, has, without, added, greatest}
-use Rattle.xa_events.specs.State.{State, opening, noted}
-use Rattle.xa_events.specs.Homes.{Home, same_home, home_of, worker_of, at_home, of_worker, caller_of}
+use Rattle.xa_events.specs.State.{State, opening, noted, caller_of}
+use Rattle.xa_events.specs.Homes.{Home, same_home, home_of, worker_of, at_home, of_worker}
 use Rattle.xa_events.specs.Homes.Home.{BoardHome, QueueHome, ClockHome, CallerHome}
 use Rattle.xa_events.specs.Board.{changes, published, boot, rows_of_version}
 use Rattle.xa_events.specs.Queue.{waiting, takes, is_down, is_closed, comes_in, goes_out, is_close_of}

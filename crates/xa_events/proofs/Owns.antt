@@ -6,7 +6,8 @@ use Rattle.xa_types.specs.declared.setup.Setup.{Setup}
 use Rattle.xa_events.specs.declared.event.Event.{Event}
 use Rattle.xa_events.specs.declared.event.Event.TheVariants.{Advertise, Withdraw, Accept, Take, Forward, Sweep, Gone, Down, Close, Tick, Start, StartFailed, End, Stop, Answer, Cancel, Lapse, Refuse, NotYet, Leave, Send, Receive, Break, Priority}
 use Rattle.xa_events.specs.Words.{added, without}
-use Rattle.xa_events.specs.Homes.{at_home, of_worker, caller_of}
+use Rattle.xa_events.specs.State.{caller_of}
+use Rattle.xa_events.specs.Homes.{at_home, of_worker}
 use Rattle.xa_events.specs.Homes.Home.{BoardHome, QueueHome}
 use Rattle.xa_events.specs.Board.{changes}
 use Rattle.xa_events.specs.Queue.{waiting, takes, is_down, is_closed}

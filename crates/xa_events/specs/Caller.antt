@@ -13,7 +13,7 @@ use Rattle.xa_events.specs.declared.event.Evidence.TheVariants.{Version, AllDown
 use Rattle.xa_events.specs.declared.event.Outcome.{Outcome}
 use Rattle.xa_events.specs.declared.event.Outcome.TheVariants.{BadForward}
 use Rattle.xa_events.specs.Words.{latest, count, kept, greatest}
-use Rattle.xa_events.specs.Homes.{caller_of}
+use Rattle.xa_events.specs.State.{caller_of}
 use Rattle.xa_events.specs.Board.{boot}
 
 -- ---- calls

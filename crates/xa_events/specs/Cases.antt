@@ -30,8 +30,7 @@ use Rattle.xa_events.specs.declared.event.StopCause.{StopCause}
 use Rattle.xa_events.specs.declared.event.StopCause.TheVariants.{Shutdown, Exit, EndOfInput, ReadFault, WriteFault, BadBytes, OutOfTurn, Starved as StarvedStop}
 use Rattle.xa_events.specs.declared.event.Doing.TheVariants.{Off, Idle, Busy, Dying}
 use Rattle.xa_events.specs.Words.{has}
-use Rattle.xa_events.specs.State.{State}
-use Rattle.xa_events.specs.Homes.{caller_of}
+use Rattle.xa_events.specs.State.{State, caller_of}
 use Rattle.xa_events.specs.Board.{published, boot, rows_of_version}
 use Rattle.xa_events.specs.Queue.{waiting, takes, is_down, is_closed}
 use Rattle.xa_events.specs.Server.{doing, starts, is_gone, was_shut_down, last_outcome, may_start, AllGone}

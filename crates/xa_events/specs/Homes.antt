@@ -1,8 +1,9 @@
 -- Where an event stands, and whose activity it is (this project's own). Each event is one step at one home: at the board, a queue or the clock,
 -- or in the record of a caller. It is made by one worker: the domain itself, a client or a server.
-use Rattle.std.specs.Prelude.{ℕ, ◌+◌, ◌==◌, Bool, true, false}
+use Rattle.std.specs.Prelude.{ℕ, ◌==◌, Bool, true, false}
 use Rattle.xa_types.specs.declared.setup.Setup.{Setup}
 use Rattle.xa_types.specs.Setup.{queue_of}
+use Rattle.xa_events.specs.State.{caller_of}
 use Rattle.xa_events.specs.declared.event.Event.{Event}
 use Rattle.xa_events.specs.declared.event.Event.TheVariants.{Advertise, Withdraw, Accept, Take, Forward, Sweep, Gone, Down, Close, Tick, Start, StartFailed, End, Stop, Answer, Cancel, Lapse, Refuse, NotYet, Leave, Send, Receive, Break, Priority}
 
@@ -18,10 +19,6 @@ same_home (QueueHome a) (QueueHome b) = a == b
 same_home ClockHome ClockHome = true
 same_home (CallerHome a) (CallerHome b) = a == b
 same_home _ _ = false
-
--- callers are numbered: 0 is the domain itself, then come the clients, and then the servers
-abbrev pub caller_of : ℕ → ℕ → ℕ
-caller_of clients server = clients + server
 
 -- where the event stands; a server's own events stand in the record of its caller
 abbrev pub home_of : Setup → ℕ → Event → Home

@@ -65,6 +65,7 @@ fn texts_of(alloc: Global, words: &[Octets]) -> Result<Vec<String>, Status>
 fn text_of(alloc: Global, word: &Octets) -> Result<String, Status>
     ensures text { IfOk result (λ text. string_bytes text ≡ word.now) }
     ensures usage { IsErrOf result Status.Usage → IsUtf8 word.now → ⊥ }
+    ensures starved { IsErrOf result Status.NoMemory → IsUtf8 word.now }
     ensures refused { IfErr result (λ status. (status ≡ Status.Usage) ⊎ (status ≡ Status.NoMemory)) }
 {
     let Ok(text) = str::from_utf8(word.slice()) else {

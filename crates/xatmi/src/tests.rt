@@ -4,8 +4,8 @@ use std::alloc::Global;
 use std::fmt::Display;
 use std::test::Fail;
 use std::{fs, io};
-use xa_link::{ChildYard, MemoryShelf, MemorySink, MemorySource, OpenGate};
-use xa_program::{Input, Outcome, Status, run};
+use xa_link::{ChildYard, MemoryArguments, MemoryShelf, MemorySink, MemorySource, OpenGate};
+use xa_program::{Input, Outcome, Status, all_words, run, words_behind};
 use xa_types::Octets;
 
 // READY and NEXT of the server S, in the words of the shell's printf.
@@ -115,4 +115,43 @@ fn each_status_has_its_line(rt: HostRuntime) {
         assert!(rt; report(&taking, status).is_ok(), "{line}");
         assert_eq!(rt; status.number(), number);
     }
+}
+
+// What a command line gives: its words, and what they are behind the first.
+type Line = (
+    &'static [&'static [u8]],
+    Result<&'static [&'static str], Status>,
+);
+
+const COMMAND_LINES: [Line; 3] = [
+    (&[], Ok(&[])),
+    (&[b"\xff", b"play", b"ECHO"], Ok(&["play", "ECHO"])),
+    (&[b"xatmi", b"play", b"\xff"], Err(Status::Usage)),
+];
+
+fn gives_words(alloc: Global, line: &Line) -> Result<bool, Fail> {
+    let mut words = Vec::new(alloc);
+    for word in line.0 {
+        words.push(Octets::of(alloc, word)?)?;
+    }
+    let all = all_words(alloc, &MemoryArguments::new(alloc, words))?;
+    Ok(match (words_behind(alloc, all.as_slice()), line.1) {
+        (Ok(words), Ok(want)) => {
+            words.len() == want.len()
+                && words
+                    .iter()
+                    .zip(want)
+                    .all(|(word, want)| word.as_str() == *want)
+        }
+        (Err(status), Err(want)) => status == want,
+        _ => false,
+    })
+}
+
+#[test]
+fn words_that_are_no_text_are_no_command(rt: HostRuntime) -> Result<(), Fail> {
+    for line in COMMAND_LINES {
+        assert!(rt; gives_words(rt.alloc(), &line)?);
+    }
+    Ok(())
 }
