@@ -31,6 +31,9 @@ const LONGEST_SCRIPT: usize = 1_048_576;
 ///
 /// `play SERVICE` reads a script of at most one client from the input, serves it by one server, and writes the client's
 /// transcript. `server NAME` is the program of a server, on the input and the output.
+///
+/// The history of `play` is a run of the machine, so the laws `ends_once`, `answers_once`, `reads_forward` and
+/// `ended_servers_are_off` of `xa_events` hold of it.
 pub fn run<R, S: Shelf, I: Source, O: Sink, Y: Yard, G: Gate>(
     _rt: &R,
     alloc: Global,
