@@ -210,7 +210,7 @@ due Whole turn frames = frames
 due _ AwaitsInvoke frames = frames ++ shutdown_frame ∷ []
 due _ turn frames = frames
 
--- of the frames that were due the link took the last so
+-- what the link took of these frames: all; all but an end of the last; or all but the last
 abbrev pub Took : Written → List Frame → List ℕ → Type 0
 Took Whole frames octets = octets ≡ all_spelled frames
 Took Cut frames octets = IsCut frames octets
@@ -232,7 +232,7 @@ cause_in _ = None
 abbrev pub cause_of : ℕ → ℕ → List Event → Option StopCause
 cause_of server g past = cause_in (latest (stops_life server g) past)
 
--- the queue of the server was closed when the life ended
+-- where the event ends the life, the server's queue was closed before it
 abbrev pub StopsClosed : Setup → ℕ → ℕ → Event → List Event → Type 0
 StopsClosed setup server g e before = stops_life server g e ≡ true → is_closed (queue_of setup server) before ≡ true
 

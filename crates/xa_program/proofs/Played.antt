@@ -18,7 +18,7 @@ use Rattle.xa_program.specs.declared.status.Input.TheVariants as inputs
 use Rattle.xa_types.specs.declared.ids.Generation.{Generation}
 use Rattle.xa_link.specs.Starts.{AsksFor}
 use Rattle.xa_events.specs.Server.{starts}
-use Rattle.xa_program.specs.Headline.{Streams, ReadsWell, IsSilent, LinkTells, IsLifeOf, IsTheScript, IsServedRun, IsBegun, HandsNothing, StarterShows, starts_of, IsStarterOf, EachStarter, PlayEnds, names_of}
+use Rattle.xa_program.specs.Headline.{Streams, ReadsWell, IsSilent, LinkTells, IsLifeOf, IsTheScript, IsServedRun, IsBeginning, HandsNothing, StarterShows, starts_of, IsStarterOf, EachStarter, PlayEnds, names_of}
 use Rattle.xa_program.specs.Lives.{failed_starts}
 use Rattle.xa_program.specs.Progress.{life_id, IsOver, HasLived, NeverLived, StartsCount, IsAsked, IsServed, ServingEnds, Printed, BeginsSo, ScriptRefusedAs}
 
@@ -95,23 +95,23 @@ none_ends tells before after faults faults_after asks asks_after service clients
 module _ {L : Type 0} (service : List ℕ) (clients : List Client) (asks asks_after : StarterShows) where
   pub begins_not : (history : List Event) (lives : List (Life L)) → history ≡ [] → lives ≡ [] → asks_after.faults ≡ asks.faults → asks_after.asked ≡ asks.asked → BeginsSo asks asks_after service clients history lives
   unfolding starts
-  begins_not history lives is none quiet unasked = rw (is, none) (record { run = refl; lives_are = refl; started = inl (refl, refl, quiet, unasked) })
+  begins_not history lives is none quiet unasked = rw (is, none) (record { run = refl; first = refl; lives_are = refl; started = inl (refl, refl, quiet, unasked) })
 
   pub begins_booted : (history : List Event) (lives : List (Life L)) → history ≡ Advertise (advertise service) ∷ [] → lives ≡ [] → asks_after.faults ≡ asks.faults → asks_after.asked ≡ asks.asked → BeginsSo asks asks_after service clients history lives
   unfolding starts
-  begins_booted history lives is none quiet unasked = rw (is, none) (record { run = (advertise_case service (length clients), refl); lives_are = refl; started = inl (refl, refl, quiet, unasked) })
+  begins_booted history lives is none quiet unasked = rw (is, none) (record { run = (advertise_case service (length clients), refl); first = refl; lives_are = refl; started = inl (refl, refl, quiet, unasked) })
 
   pub begins_live : (link : L) (history : List Event) (lives : List (Life L)) → history ≡ Advertise (advertise service) ∷ Start start ∷ [] → lives ≡ the_life link ∷ [] → asks_after.faults ≡ asks.faults → IsAsked asks asks_after
       → BeginsSo asks asks_after service clients history lives
   unfolding starts
   begins_live link history lives is one quiet asked =
-      rw (is, one) (record { run = (advertise_case service (length clients), (start_case service (length clients), refl)); lives_are = refl; started = inr (refl, inl (refl, quiet), asked) })
+      rw (is, one) (record { run = (advertise_case service (length clients), (start_case service (length clients), refl)); first = refl; lives_are = refl; started = inr (refl, inl (refl, quiet), asked) })
 
   pub begins_failed : (history : List Event) (lives : List (Life L)) → history ≡ Advertise (advertise service) ∷ StartFailed start ∷ [] → lives ≡ [] → Rose asks.faults asks_after.faults → IsAsked asks asks_after
       → BeginsSo asks asks_after service clients history lives
   unfolding starts
   begins_failed history lives is none rose asked =
-      rw (is, none) (record { run = (advertise_case service (length clients), (failed_case service (length clients), refl)); lives_are = refl; started = inr (refl, inr (refl, rose), asked) })
+      rw (is, none) (record { run = (advertise_case service (length clients), (failed_case service (length clients), refl)); first = refl; lives_are = refl; started = inr (refl, inr (refl, rose), asked) })
 
   pub starved_ends : (tells : LinkTells L) (before after : Option (List ℕ)) (faults faults_after : ℕ) (history : List Event) (lives : List (Life L)) (status : Status) → status ≡ NoMemory → after ≡ before → faults_after ≡ faults
       → BeginsSo asks asks_after service clients history lives → ServingEnds tells before after faults faults_after asks asks_after service clients status history lives
@@ -172,9 +172,10 @@ module _ {L S : Type 0} (tells : LinkTells L) (shows : S → StarterShows) (stre
     };
   }
 
-  begun : BeginsSo (shows old) (shows now) service clients history lives → IsBegun shows (play_setup service) clients history lives (slice_set starters 0 now)
+  begun : BeginsSo (shows old) (shows now) service clients history lives → IsBeginning shows (play_setup service) clients history lives (slice_set starters 0 now)
   begun begins = record {
     run = begins.run;
+    first = begins.first;
     all = still_one starters now one;
     lives_are = begins.lives_are;
     each = each_starter shows service starters now (reverse history) one (elim begins.started [

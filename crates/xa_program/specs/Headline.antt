@@ -1,9 +1,11 @@
 -- What a run of `play` comes to (this project's own).
-use Rattle.std.specs.Prelude.{◌≡◌, ◌⊎◌, ◌≤◌, ◌^◌, ◌-◌, min, ℕ, zero, suc, List, [], ◌∷◌, ◌++◌, length, reverse, map, Option, IfSome, All, ⊤}
+use Rattle.std.specs.Prelude.{◌≡◌, ◌⊎◌, ◌≤◌, ◌^◌, ◌-◌, min, ℕ, zero, suc, true, false, Bool, List, [], ◌∷◌, ◌++◌, length, reverse, map, Option, IfSome, All, ⊤}
+use Rattle.std.specs.List.{list_all}
 use Rattle.xa_types.specs.declared.setup.Setup.{Setup}
 use Rattle.xa_types.specs.Setup.{numbered}
 use Rattle.xa_link.specs.Told.{Rose, Grew, GrewByPart}
 use Rattle.xa_events.specs.declared.event.Event.{Event}
+use Rattle.xa_events.specs.declared.event.Event.TheVariants.{Advertise, Start, StartFailed}
 use Rattle.xa_types.specs.declared.ids.Generation.{Generation}
 use Rattle.xa_events.specs.Server.{starts}
 use Rattle.xa_events.specs.Words.{EachNumbered}
@@ -29,7 +31,7 @@ EachMadeCalls setup number clients past = EachNumbered (λ k (client : Client). 
 
 -- the events are one history of the machine, from its opening to its end: each queue was taken in order, and each client made exactly its
 -- calls; past is the same events, the newest first. By the laws of every run each request is settled once and answered once, and what
--- a caller reads of the board is never older than what it read.
+-- a caller reads of the board is never older than what it read before.
 pub record IsHistoryAt (setup : Setup) (clients : List Client) (history past : List Event) : Type 0 where
   pub run : Run (opening setup (length clients)) history (record { setup = setup; clients = length clients; past = past })
   pub final : IsFinal (record { setup = setup; clients = length clients; past = past })
@@ -131,9 +133,18 @@ pub record IsServedRun {L S : Type 0} (tells : LinkTells L) (shows : S → Start
 abbrev pub HandsNothing : {L S : Type 0} → List Event → List (Life L) → List S → Type 0
 HandsNothing history lives starters = (history ≡ []) × (lives ≡ []) × (starters ≡ [])
 
--- the events begin a run of the machine, and the lives and the starts are those of these events
-pub record IsBegun {L S : Type 0} (shows : S → StarterShows) (setup : Setup) (clients : List Client) (history : List Event) (lives : List (Life L)) (starters : List S) : Type 0 where
+-- the event is the boot's, or a start
+abbrev pub is_first : Event → Bool
+is_first (Advertise a) = true
+is_first (Start b) = true
+is_first (StartFailed b) = true
+is_first _ = false
+
+-- the events are the first of a run of the machine, no others than the boot and starts, and the lives and the starters' starts are those of
+-- these events; of the clients only their number counts, and of the links nothing is said
+pub record IsBeginning {L S : Type 0} (shows : S → StarterShows) (setup : Setup) (clients : List Client) (history : List Event) (lives : List (Life L)) (starters : List S) : Type 0 where
   pub run : Run (opening setup (length clients)) history (record { setup = setup; clients = length clients; past = reverse history })
+  pub first : list_all is_first history ≡ true
   pub all : length starters ≡ length setup.servers
   pub lives_are : map (λ life. (life.server.0, life.generation.0)) lives ≡ lives_of setup (reverse history)
   pub each : EachStarter setup shows 1 starters (reverse history)
@@ -151,7 +162,7 @@ PlayEnds tells shows streams service (TooLong inputs.Script) history lives start
 PlayEnds tells shows streams service (BadLine line cause) history lives starters = (cause ≡ 9) × HasFirstFault streams.input line × ReadsWell streams × IsSilent streams
 PlayEnds tells shows streams service NoMemory history lives starters =
     ReadsWell streams × IsSilent streams
-    × (HandsNothing history lives starters ⊎ ((clients : List Client) × IsTheScript streams.input clients × IsBegun shows (play_setup service) clients history lives starters))
+    × (HandsNothing history lives starters ⊎ ((clients : List Client) × IsTheScript streams.input clients × IsBeginning shows (play_setup service) clients history lives starters))
 PlayEnds tells shows streams service status history lives starters = ⊥
 
 -- where the words, the input or the script were refused, nothing is handed back

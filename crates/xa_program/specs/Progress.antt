@@ -1,6 +1,7 @@
 -- What is known between two calls of `play`, and how its parts end.
 -- Contracts inside this crate rest on this file, and no public one.
 use Rattle.std.specs.Prelude.{◌≡◌, ◌⊎◌, ℕ, ◌<◌, ◌^◌, ⊤, All, Bool, true, false, List, [], ◌∷◌, ◌++◌, length, map, reverse, Option, Some, None, Result, Ok, Err}
+use Rattle.std.specs.List.{list_all}
 use Rattle.xa_types.specs.declared.data.Data.{Data}
 use Rattle.xa_types.specs.declared.call.Op.{Op}
 use Rattle.xa_types.specs.declared.call.Op.TheVariants.{Call}
@@ -40,7 +41,7 @@ use Rattle.xa_play.specs.Refusal.{IsRefused}
 use Rattle.xa_play.specs.Between.{at, Situation, quiet, IsPlayedTo}
 use Rattle.xa_program.specs.Lives.{lives_of, failed_starts}
 use Rattle.xa_program.specs.Input.{InputTells, CameOver}
-use Rattle.xa_program.specs.Headline.{IsHistory, StarterShows, LinkTells, IsLifeOf, HasFirstFault, longest_script, names_of}
+use Rattle.xa_program.specs.Headline.{IsHistory, StarterShows, LinkTells, IsLifeOf, is_first, HasFirstFault, longest_script, names_of}
 use Rattle.xa_program.specs.declared.outcome.Life.{Life}
 use Rattle.xa_program.specs.declared.status.Status.{Status}
 use Rattle.xa_program.specs.declared.status.Status.TheVariants.{Done, ScriptRead, TooLong, BadLine, WriteFault, NoMemory}
@@ -262,6 +263,7 @@ pub record IsServed {L : Type 0} (tells : LinkTells L) (before after : StarterSh
 -- the events begin a run, in which the server wasn't started, or was, or its start failed
 pub record BeginsSo {L : Type 0} (before after : StarterShows) (service : List ℕ) (clients : List Client) (history : List Event) (lives : List (Life L)) : Type 0 where
   pub run : Run (opening (play_setup service) (length clients)) history (at service (length clients) (reverse history))
+  pub first : list_all is_first history ≡ true
   pub lives_are : map (λ life. (life.server.0, life.generation.0)) lives ≡ lives_of (play_setup service) (reverse history)
   pub started : ((starts 1 (reverse history) ≡ []) × (failed_starts 1 (reverse history) ≡ 0) × (after.faults ≡ before.faults) × (after.asked ≡ before.asked))
       ⊎ ((starts 1 (reverse history) ≡ 0 ∷ []) × StartsCount (reverse history) before after × IsAsked before after)

@@ -12,7 +12,8 @@ pub struct Life<L> {
 }
 
 /// What a run hands back: how it ended, the events in the order in which they were made, the lives of the servers, and
-/// their starters. There are none of these of `server`, and where the words, the input or the script were refused.
+/// their starters. There are none of these of `server`, and where the words, the input or the script were refused. Where
+/// memory ran out there are none, or the events up to the server's start.
 pub struct Outcome<Y: Yard> {
     pub status: Status,
     pub history: Vec<Event>,
