@@ -2,6 +2,7 @@
 //! of every run, and what a call may have become. The definitions stand in `specs/`.
 #![tactic(auto)]
 
+mod copy;
 mod event;
 pub mod laws;
 

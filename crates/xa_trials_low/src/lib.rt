@@ -21,4 +21,6 @@ mod scripts;
 #[cfg(test)]
 mod shelves;
 #[cfg(test)]
+mod stamps;
+#[cfg(test)]
 mod yards;

@@ -1,0 +1,137 @@
+//! Homes that are merged, stamps at their end, and many events against a plain order.
+use std::alloc::Global;
+use std::test::Fail;
+use xa_events::Event;
+use xa_stamp::{Home, Record, merge};
+use xa_types::{NoMemory, QueueId, Sequence, Stamp, Worn};
+
+// What was seen before an event is noted, and the event, by its number.
+type Note = (u32, u16);
+
+// The notes of each home, and the merged events. The first row is homes with stamps 1, 4 (1, 2) and 2, 4 (3, 4).
+const ROWS: [(&[&[Note]], &[u16]); 5] = [
+    (&[&[(0, 1), (3, 2)], &[(1, 3), (3, 4)]], &[1, 3, 2, 4]),
+    (&[], &[]),
+    (&[&[], &[(0, 1)], &[]], &[1]),
+    (&[&[(0, 1)], &[(0, 2)], &[(0, 3)]], &[1, 2, 3]),
+    (&[&[(9, 1), (0, 2)], &[(0, 3), (0, 4)]], &[3, 4, 1, 2]),
+];
+
+fn add(home: &mut Home, seen: u32, number: u16) -> Result<(), NoMemory> {
+    home.reserve(1)?;
+    match home.note(Stamp(u64::from(seen)), Event::Close(QueueId(number))) {
+        Ok(_) => Ok(()),
+        Err(Worn(_)) => Err(NoMemory),
+    }
+}
+
+fn record_of(alloc: Global, notes: &[&[Note]]) -> Result<Record, NoMemory> {
+    let mut homes = Vec::new(alloc);
+    for noted in notes {
+        let mut home = Home::new(alloc, Stamp(0));
+        for (seen, number) in *noted {
+            add(&mut home, *seen, *number)?;
+        }
+        homes.push(home)?;
+    }
+    Ok(Record {
+        homes: Sequence::from_vec(homes),
+    })
+}
+
+fn number(event: &Event) -> Option<u16> {
+    match event {
+        Event::Close(queue) => Some(queue.0),
+        _ => None,
+    }
+}
+
+fn merges(alloc: Global, notes: &[&[Note]], want: &[u16]) -> Result<bool, NoMemory> {
+    let record = record_of(alloc, notes)?;
+    let merged = merge(alloc, &record)?;
+    let same = merged
+        .iter()
+        .zip(want)
+        .all(|(event, want)| number(event) == Some(*want));
+    Ok(same && merged.len() == want.len())
+}
+
+#[test]
+fn events_merge_by_stamp_then_home_then_place(rt: HostRuntime) -> Result<(), Fail> {
+    for (notes, want) in ROWS {
+        assert!(rt; merges(rt.alloc(), notes, want)?);
+    }
+    Ok(())
+}
+
+fn is_worn(alloc: Global) -> Result<bool, NoMemory> {
+    let mut home = Home::new(alloc, Stamp((1 << 63) - 1));
+    home.reserve(2)?;
+    let last = home.note(Stamp(7), Event::Close(QueueId(1)));
+    if last != Ok(Stamp::LAST) {
+        return Ok(false);
+    }
+    home.reserve(1)?;
+    let worn = home.note(Stamp(7), Event::Close(QueueId(2)));
+    Ok(worn == Err(Worn(Stamp::LAST)) && home.entries().len() == 1)
+}
+
+#[test]
+fn stamps_end(rt: HostRuntime) -> Result<(), Fail> {
+    assert!(rt; is_worn(rt.alloc())?);
+    Ok(())
+}
+
+fn many(alloc: Global) -> Result<Record, NoMemory> {
+    let mut homes = Vec::new(alloc);
+    for _ in 0..5 {
+        homes.push(Home::new(alloc, Stamp(0)))?;
+    }
+    let mut draw = 1u32;
+    for number in 0..20_000u16 {
+        draw = draw.wrapping_mul(75).wrapping_add(74) % 65_537;
+        if let Some(home) = homes.get_mut(draw as usize % 5) {
+            add(home, u32::from(number / 5) + draw % 50, number)?;
+        }
+    }
+    Ok(Record {
+        homes: Sequence::from_vec(homes),
+    })
+}
+
+// Of the homes' next events the one with the least stamp, of the first such home: the home, and the event's number.
+fn least(record: &Record, next: &[usize]) -> Option<(usize, u16)> {
+    let mut least: Option<(Stamp, usize, u16)> = None;
+    for (at, (home, place)) in record.homes.slice().iter().zip(next).enumerate() {
+        if let Some(noted) = home.entries().get(*place) {
+            if least.is_none_or(|found| noted.stamp < found.0) {
+                least = number(&noted.event).map(|number| (noted.stamp, at, number));
+            }
+        }
+    }
+    least.map(|found| (found.1, found.2))
+}
+
+fn is_plain_order(record: &Record, merged: &[Event]) -> bool {
+    let mut next = [0usize; 5];
+    for event in merged {
+        let Some((home, number)) = least(record, &next) else {
+            return false;
+        };
+        if self::number(event) != Some(number) {
+            return false;
+        }
+        if let Some(place) = next.get_mut(home) {
+            *place = place.saturating_add(1);
+        }
+    }
+    least(record, &next).is_none()
+}
+
+#[test]
+fn many_events_merge_in_the_plain_order(rt: HostRuntime) -> Result<(), Fail> {
+    let record = many(rt.alloc())?;
+    let merged = merge(rt.alloc(), &record)?;
+    assert!(rt; merged.len() == 20_000 && is_plain_order(&record, &merged));
+    Ok(())
+}
