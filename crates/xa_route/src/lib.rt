@@ -2,9 +2,11 @@
 #![tactic(auto)]
 
 mod choice;
+mod laws;
 mod priorities;
 mod rows;
 
 pub use choice::choose;
+pub use laws::each_queue_is_listed_once;
 pub use priorities::priority;
 pub use rows::{admits, row_for};

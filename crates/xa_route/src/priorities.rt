@@ -1,3 +1,4 @@
+// The priority of a request.
 ghost use Rattle.std.specs.Prelude.{◌≡◌};
 ghost use Rattle.xa_types.specs.Priority.{clamped, priority_of};
 

@@ -1,3 +1,4 @@
+// The rows of the board: which kinds of data they take, and what they have of the setup.
 ghost use Rattle.std.specs.Prelude.{◌≡◌, ◌+◌, position};
 ghost use Rattle.std.specs.Option.{option_copied};
 ghost use Rattle.std.specs.Str.{bytes_eq};
