@@ -17,6 +17,8 @@ mod pipes;
 #[cfg(test)]
 mod programs;
 #[cfg(test)]
+mod routes;
+#[cfg(test)]
 mod scripts;
 #[cfg(test)]
 mod shelves;

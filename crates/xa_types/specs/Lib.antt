@@ -1,4 +1,5 @@
 pub mod Fault
+pub mod Found
 pub mod Kind
 pub mod Name
 pub mod Padded

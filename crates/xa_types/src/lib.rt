@@ -4,6 +4,7 @@
 mod call;
 mod data;
 mod fault;
+mod found;
 mod ids;
 mod memory;
 mod name;
@@ -17,6 +18,7 @@ mod stamp;
 pub use call::{Ask, CallFlags, Direction, Mode, Op, Rval};
 pub use data::{Data, Kind};
 pub use fault::{ConvEvent, Fault};
+pub use found::Found;
 pub use ids::{CallerId, Generation, QueueId, RequestId, ServerId};
 pub use memory::NoMemory;
 pub use name::{BadName, Name};

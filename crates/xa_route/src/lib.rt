@@ -1,0 +1,12 @@
+//! Where a call goes: which queue its request is put on, whether a row takes its data, and with which priority.
+#![tactic(auto)]
+
+mod choice;
+mod laws;
+mod priorities;
+mod rows;
+
+pub use choice::choose;
+pub use laws::each_queue_is_listed_once;
+pub use priorities::priority;
+pub use rows::{admits, row_for};
