@@ -1,5 +1,5 @@
 //! A home: where the events of one object or of one caller are noted, each with its stamp.
-ghost use Rattle.std.specs.Prelude.{◌≡◌, ◌+◌, ◌-◌, ◌^◌, ◌≤◌, ◌<◌, ◌∷◌, ◌++◌, [], max, OnOk, OnErr, IfOk, IfErr};
+ghost use Rattle.std.specs.Prelude.{◌≡◌, ◌+◌, ◌-◌, ◌^◌, ◌≤◌, ◌<◌, ◌∷◌, ◌++◌, [], max, OnOk, OnErr, IfOk, IfErr, IsOk};
 ghost use Rattle.xa_stamp.specs.Home.{Rises, last_stamp};
 
 use std::alloc::Global;
@@ -68,12 +68,14 @@ impl Home {
         }
     }
 
-    /// Makes room for so many more.
+    /// Makes room for so many more, where there isn't already. Where it fails nothing changes.
     pub fn reserve(&mut self, more: u32) -> Result<(), NoMemory>
         ensures first { self.new.first ≡ self.old.first }
         ensures entries { self.new.entries ≡ self.old.entries }
         ensures room { OnOk result (more ≤ self.new.room) }
-        ensures kept { self.old.room ≤ self.new.room }
+        ensures more { self.old.room ≤ self.new.room }
+        ensures ready { more ≤ self.old.room → IsOk result }
+        ensures kept { OnErr result (self.new ≡ self.old) }
     {
         self.entries.reserve(more as usize)?;
         Ok(())
