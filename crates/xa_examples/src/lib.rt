@@ -1,5 +1,6 @@
 //! Worked examples of the machine's definitions: histories written out event by event, of which the checker computes
-//! that they are runs, that the calls became what they may, and what the client was told. No crate stands on this one.
+//! that they are runs, that the calls became what they may, and what the client was told; and homes and their merge. No
+//! crate stands on this one.
 #![tactic(auto)]
 
 ghost use Rattle.std.specs.Prelude.{◌≡◌, pos, reverse, [], ◌∷◌};
@@ -11,6 +12,8 @@ ghost use Rattle.xa_events.specs.Run.{Run, IsFinal};
 ghost use Rattle.xa_events.specs.State.{opening};
 ghost use Rattle.xa_events.specs.Calls.{MadeCalls};
 ghost use Rattle.xa_events.specs.Said.{reply_at};
+ghost use Rattle.xa_stamp.specs.Merge.{IsMerged, IsDense};
+ghost use Rattle.xa_examples.specs.Homes.{left, down, gone, closed, at_zero, apart, close_by};
 ghost use Rattle.xa_examples.specs.Histories.{bank, after, answered, died, refused, hello, none, dotted, greeting, town, town_after, parted, length_of};
 
 /// A tpcall of ECHO with `hello` comes back with its data.
@@ -48,4 +51,12 @@ pub fn one_of_two_servers_dies()
     ensures first_told { reply_at (reverse parted) 1 1 ≡ Answered 0 (Error SvcErr) }
     ensures then_told { reply_at (reverse parted) 1 2 ≡ Fault NoEnt }
     ensures second_told { reply_at (reverse parted) 2 1 ≡ Answered 0 (Success (pos 5) Absent) }
+{}
+
+/// Homes with the stamps 1 and 4, and 2 and 4: of the events with stamp 4 that of the first home stands first. No event has
+/// the stamp 3, so their stamps aren't dense; the stamps 1 and 3, and 2 and 3, are.
+pub fn two_homes_merge()
+    ensures merged { IsMerged apart (left ∷ gone ∷ down ∷ closed ∷ []) }
+    ensures gap { IsDense at_zero apart → ⊥ }
+    ensures dense { IsDense at_zero close_by }
 {}
