@@ -49,18 +49,19 @@ pub struct Taken {
     pub k: u64,
 }
 
-/// A server passed its request on to another service, for the `hop`-th time.
+/// A server passed its request on to another service, for the `hop`-th time. Its small fields stand together, so that
+/// it takes no more room than `Accepted`, and no event does.
 #[derive(Debug, Drop)]
 pub struct Forwarded {
     pub request: RequestId,
-    pub server: ServerId,
     pub generation: Generation,
-    pub hop: u8,
     pub version: u64,
-    pub service: Name,
+    pub server: ServerId,
     pub queue: QueueId,
-    pub routine: Name,
+    pub hop: u8,
     pub priority: u8,
+    pub service: Name,
+    pub routine: Name,
     pub payload: Data,
 }
 

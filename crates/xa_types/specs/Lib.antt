@@ -1,3 +1,4 @@
+pub mod Configured
 pub mod Fault
 pub mod Found
 pub mod Kind
