@@ -1,8 +1,10 @@
 // Servers as processes.
-ghost use Rattle.std.specs.Prelude.{◌≡◌, ◌≤◌, ◌<◌, ◌⊎◌, [], length, None, IfOk, OnOk, IsErr, IsSome, unwrap_or};
+ghost use Rattle.std.specs.Prelude.{◌≡◌, ◌≤◌, ◌<◌, ◌⊎◌, [], length, None, IfOk, OnOk, IsErr, IsSome, MatchResult, unwrap_or};
+ghost use Rattle.std.specs.Str.{IsUtf8};
 ghost use Rattle.std.specs.Process.{child_status};
 ghost use Rattle.std.specs.Io.KnownBytes.{ReadConsumes, WriteAppends};
 ghost use Rattle.xa_link.specs.Told.{Rose};
+ghost use Rattle.xa_link.specs.declared.starter.StartRefused.TheVariants.{Failed as NotStarted};
 ghost use Rattle.xa_link.specs.Processes.{StartsServer, IsChosen};
 
 use crate::count::raise;
@@ -39,7 +41,8 @@ fn finish<P: OpenProcess>(
     from: ReadSource<P::Stdout>,
     to: WriteSink<PipeWriter>,
 ) -> io::Result<()>
-    ensures { OnOk result (IsSome (child_status child.new)) }
+    ensures waited { OnOk result (IsSome (child_status child.new)) }
+    ensures closed { child.new.stdin ≡ None }
 {
     drop(to);
     drop(from);
@@ -161,7 +164,7 @@ impl<R: Processes + Files + AllocGlobal> ChildStarter<R> {
 }
 
 fn text(octets: &[u8]) -> Result<&str, StartRefused>
-    ensures { IfOk result (λ text. text.now ≡ octets.now) }
+    ensures { MatchResult result (λ text. text.now ≡ octets.now) (λ why. (why ≡ NotStarted) × (IsUtf8 octets.now → ⊥)) }
 {
     match str::from_utf8(octets) {
         Ok(text) => Ok(text),
@@ -252,7 +255,9 @@ pub struct ChildYard<R: Processes + Files + AllocGlobal> {
 impl<R: Processes + Files + AllocGlobal> ChildYard<R> {
     /// `monitor` is the word by which the monitor was itself started. Where that can't be started, as where it isn't
     /// text, the system is asked for the path of the monitor's program.
-    pub fn new(rt: R, monitor: Octets) -> ChildYard<R> {
+    pub fn new(rt: R, monitor: Octets) -> ChildYard<R>
+        ensures { result.monitor ≡ monitor }
+    {
         ChildYard { rt, monitor }
     }
 }

@@ -1,5 +1,6 @@
 // How servers are started.
-ghost use Rattle.std.specs.Prelude.{◌≡◌, ◌≤◌, ◌<◌, ℕ, List, [], length, All, Option, IfSome, IfOk, OnOk, OnErr, IsErrOf};
+ghost use Rattle.std.specs.Prelude.{◌≡◌, ◌≤◌, ◌<◌, ℕ, true, List, [], length, All, Option, IfSome, IfOk, OnOk, OnErr, IsErrOf};
+ghost use Rattle.xa_types.specs.Configured.{is_configured};
 ghost use Rattle.xa_types.specs.declared.ids.Generation.{Generation};
 ghost use Rattle.xa_types.specs.declared.setup.Setup.{Setup};
 ghost use Rattle.xa_link.specs.Told.{Rose, Empty};
@@ -55,10 +56,10 @@ pub trait Yard {
 
     /// One starter for each server of the setup, in its order. None of them was asked for a start.
     fn starters(&mut self, setup: &Setup) -> Result<Vec<Self::Start>, NoMemory>
+        requires { is_configured setup.now ≡ true }
         ensures each { IfOk result (λ all. length all.items ≡ length setup.now.servers) }
         ensures counts { IfOk result (λ all. All (λ s. Self.Start.start_faults s ≡ 0) all.items) }
         ensures none { IfOk result (λ all. All (λ s. IfSome (Self.Start.asked s) (λ starts. starts ≡ [])) all.items) }
-
         ensures asked { OnOk result (AsksStarters (asked self.old) (asked self.new) setup.now) }
         ensures starved { OnErr result (asked self.new ≡ asked self.old) };
 }

@@ -1,5 +1,6 @@
 // The setup of `play`.
-ghost use Rattle.std.specs.Prelude.{◌≡◌, IfOk};
+ghost use Rattle.std.specs.Prelude.{◌≡◌, true, IfOk};
+ghost use Rattle.xa_types.specs.Configured.{is_configured};
 ghost use Rattle.xa_types.specs.Name.{IsName};
 ghost use Rattle.xa_play.specs.PlaySetup.{play_setup, server_name};
 
@@ -26,7 +27,8 @@ pub fn server_name() -> Name
 
 /// One queue, one server on it without restart, and one service with the routine of its name.
 pub fn play_setup(alloc: Global, service: &Name) -> Result<Setup, NoMemory>
-    ensures { IfOk result (λ setup. setup ≡ play_setup service.now) }
+    ensures setup { IfOk result (λ setup. setup ≡ play_setup service.now) }
+    ensures configured { IfOk result (λ setup. is_configured setup ≡ true) }
 {
     let queue = name_of(b"Q");
     let queues = vec![in alloc;

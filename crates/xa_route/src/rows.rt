@@ -1,7 +1,8 @@
 // The rows of the board: which kinds of data they take, and what they have of the setup.
-ghost use Rattle.std.specs.Prelude.{◌≡◌, ◌+◌, position};
+ghost use Rattle.std.specs.Prelude.{◌≡◌, ◌+◌, true, position};
 ghost use Rattle.std.specs.Option.{option_copied};
 ghost use Rattle.std.specs.Str.{bytes_eq};
+ghost use Rattle.xa_types.specs.Configured.{is_configured};
 ghost use Rattle.xa_types.specs.Kind.{has_bit, is_accepted};
 ghost use Rattle.xa_types.specs.Rows.{row_for};
 ghost use Rattle.xa_types.specs.Setup.{service_named};
@@ -31,6 +32,7 @@ fn has_bit(bits: u64, place: usize) -> bool
 
 /// Whether the row's service accepts data of that kind; data without a kind is absent.
 pub fn admits(row: &Row, kind: &Option<Kind>, setup: &Setup) -> bool
+    requires { is_configured setup.now ≡ true }
     ensures { result ≡ is_accepted setup.now row.now.accepts kind.now }
 {
     match kind {
@@ -52,6 +54,7 @@ fn service_named<'a>(setup: &'a Setup, name: &Name) -> Option<&'a ServiceSetup>
 
 /// The row with which a service is advertised on a queue, with that routine.
 pub fn row_for(setup: &Setup, queue: QueueId, service: Name, routine: Name) -> Row
+    requires { is_configured setup.now ≡ true }
     ensures { result ≡ row_for setup.now service queue.0 routine }
 {
     match service_named(setup, &service) {
