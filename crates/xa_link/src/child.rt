@@ -123,40 +123,44 @@ impl<R: Processes + Files + AllocGlobal> ChildStarter<R> {
     fn launch(&self, server: &Name) -> Result<ChildLink<R::Started>, StartRefused>
         ensures { IfOk result (λ l. (l.from.faults ≡ 0) × (l.to.faults ≡ 0)) }
     {
-        let name = text(server.octets())?;
-        let started = self.run_chosen(chosen(&self.program, &self.monitor), name);
+        let started = self.run_chosen(chosen(&self.program, &self.monitor), server);
         match (&self.program, started) {
-            (None, Err(StartRefused::Failed)) => self.run_found(name),
+            (None, Err(StartRefused::Failed)) => self.run_found(server),
             (_, started) => started,
         }
     }
 
-    fn run_chosen(&self, program: &[u8], name: &str) -> Result<ChildLink<R::Started>, StartRefused>
+    fn run_chosen(
+        &self,
+        program: &[u8],
+        server: &Name,
+    ) -> Result<ChildLink<R::Started>, StartRefused>
         requires { program.now ≡ unwrap_or self.now.program self.now.monitor }
         ensures { IfOk result (λ l. (l.from.faults ≡ 0) × (l.to.faults ≡ 0)) }
     {
-        self.run(text(program)?, name)
+        self.run(text(program)?, server)
     }
 
     // By the path that the system gives of the monitor's program.
-    fn run_found(&self, name: &str) -> Result<ChildLink<R::Started>, StartRefused>
+    fn run_found(&self, server: &Name) -> Result<ChildLink<R::Started>, StartRefused>
         requires { self.now.program ≡ None }
         ensures { IfOk result (λ l. (l.from.faults ≡ 0) × (l.to.faults ≡ 0)) }
     {
         let Ok(monitor) = env::current_exe(&self.rt) else {
             return Err(StartRefused::Failed);
         };
-        self.run(monitor.as_str(), name)
+        self.run(monitor.as_str(), server)
     }
 
-    fn run(&self, program: &str, name: &str) -> Result<ChildLink<R::Started>, StartRefused>
+    fn run(&self, program: &str, server: &Name) -> Result<ChildLink<R::Started>, StartRefused>
         requires { IsChosen self.now.program program.now }
         ensures { IfOk result (λ l. (l.from.faults ≡ 0) × (l.to.faults ≡ 0)) }
     {
+        let name = text(server.octets())?;
         let Ok(command) = command(self.rt.alloc(), program, name) else {
             return Err(StartRefused::NoMemory);
         };
-        spawn(&self.rt, command, program, name).map_err(|error| match error.kind() {
+        spawn(&self.rt, command, program, server).map_err(|error| match error.kind() {
             io::ErrorKind::OutOfMemory => StartRefused::NoMemory,
             _ => StartRefused::Failed,
         })
@@ -181,9 +185,9 @@ fn command(alloc: Global, program: &str, name: &str) -> Result<Command, AllocErr
 }
 
 // The command with its input from that pipe and its output to a new one. Its standard error stays the monitor's.
-fn connected(mut command: Command, input: PipeReader, program: &str, name: &str) -> Command
-    requires { StartsServer program.now name.now command }
-    ensures { StartsServer program.now name.now result }
+fn connected(mut command: Command, input: PipeReader, program: &str, server: &Name) -> Command
+    requires { StartsServer program.now server.now command }
+    ensures { StartsServer program.now server.now result }
 {
     command.stdin(Stdio::from(input)).stdout(Stdio::piped());
     command
@@ -194,9 +198,9 @@ fn spawn_connected<R: Processes>(
     rt: &R,
     command: &mut Command,
     program: &str,
-    name: &str,
+    server: &Name,
 ) -> io::Result<Child<R::Started>>
-    requires { StartsServer program.now name.now command.old }
+    requires { StartsServer program.now server.now command.old }
 {
     command.spawn(rt)
 }
@@ -206,14 +210,14 @@ fn spawn<R: Processes + Files>(
     rt: &R,
     command: Command,
     program: &str,
-    name: &str,
+    server: &Name,
 ) -> io::Result<ChildLink<R::Started>>
-    requires { StartsServer program.now name.now command }
+    requires { StartsServer program.now server.now command }
     ensures { IfOk result (λ l. (l.from.faults ≡ 0) × (l.to.faults ≡ 0)) }
 {
     let (theirs, to) = io::pipe(rt)?;
-    let mut command = connected(command, theirs, program, name);
-    let mut child = spawn_connected(rt, &mut command, program, name)?;
+    let mut command = connected(command, theirs, program, server);
+    let mut child = spawn_connected(rt, &mut command, program, server)?;
     let Some(from) = child.stdout.take() else {
         drop(to);
         let _ = child.wait();
