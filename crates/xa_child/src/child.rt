@@ -13,7 +13,7 @@ use xa_types::{Data, Name, NoMemory, Rval};
 const UNKNOWN: i32 = 99;
 
 /// One life of a server's program: how many INVOKEs it took, and whether it has ended.
-#[derive(Debug, Drop)]
+#[derive(Drop)]
 pub struct Child {
     invocations: u32,
     ended: bool,
@@ -28,7 +28,7 @@ impl Model for Child {
 }
 
 /// Why a program takes no frame.
-#[derive(Clone, Copy, Debug, PartialEq, Eq)]
+#[derive(Clone, Copy)]
 pub enum ChildRefused {
     /// It doesn't admit the frame.
     OutOfTurn,
@@ -44,7 +44,7 @@ impl From<NoMemory> for ChildRefused {
 }
 
 /// A RETURN, whose data stays where it is.
-#[derive(Clone, Copy, Debug)]
+#[derive(Clone, Copy)]
 pub struct Returned<'a> {
     pub tag: u32,
     pub value: Rval,

@@ -20,7 +20,7 @@ const PIECE: usize = 8192;
 /// The two pipes of a server's program in memory. It answers what is written to it within the write, and tells all. A
 /// write fails where memory runs out, or with what the program doesn't admit; no later write goes to the program then,
 /// as none does once it has ended.
-#[derive(Debug, Drop)]
+#[derive(Drop)]
 pub struct LocalLink {
     name: Name,
     serving: Serving,
@@ -218,7 +218,7 @@ impl Link for LocalLink {
 }
 
 /// Starts a server's program in memory, and tells what it was asked for.
-#[derive(Debug, Drop)]
+#[derive(Drop)]
 pub struct LocalStarter {
     alloc: Global,
     asked: Vec<(Name, Generation)>,
@@ -243,7 +243,7 @@ impl Starter<LocalLink> for LocalStarter {
 }
 
 /// Servers' programs in memory, for any setup. It tells for which it was asked.
-#[derive(Debug, Drop)]
+#[derive(Drop)]
 pub struct LocalYard {
     alloc: Global,
     asked: Vec<Setup>,

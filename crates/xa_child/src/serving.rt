@@ -14,7 +14,7 @@ use xa_types::{Data, NoMemory};
 const MOST_ANSWERS: usize = 512;
 
 /// A program, and what it has read and not taken.
-#[derive(Debug, Drop)]
+#[derive(Drop)]
 pub struct Serving {
     pub alloc: Global,
     pub child: Child,
@@ -22,7 +22,7 @@ pub struct Serving {
 }
 
 /// Why no further frame is taken.
-#[derive(Clone, Copy, Debug, PartialEq, Eq)]
+#[derive(Clone, Copy)]
 pub enum Halt {
     /// More octets are to come.
     Waits,

@@ -20,7 +20,7 @@ use xa_types::{Name, NoMemory};
 const PIECE: usize = 8192;
 
 /// How the work of a server's program ended otherwise than well.
-#[derive(Clone, Copy, Debug, PartialEq, Eq)]
+#[derive(Clone, Copy)]
 pub enum WorkRefused {
     /// Its input failed.
     ReadFault,

@@ -5,7 +5,7 @@ use xa_types::{
 };
 
 /// A service was advertised on a queue. `op` is 0 at the boot.
-#[derive(Clone, Copy, Debug, PartialEq, Eq)]
+#[derive(Clone, Copy)]
 pub struct Advertised {
     pub by: CallerId,
     pub op: u32,
@@ -16,7 +16,7 @@ pub struct Advertised {
 }
 
 /// A service was withdrawn from a queue.
-#[derive(Clone, Copy, Debug, PartialEq, Eq)]
+#[derive(Clone, Copy)]
 pub struct Withdrawn {
     pub by: CallerId,
     pub op: u32,
@@ -26,7 +26,7 @@ pub struct Withdrawn {
 }
 
 /// A queue accepted a request, by the version of the board that its caller read.
-#[derive(Debug, Drop)]
+#[derive(Drop)]
 pub struct Accepted {
     pub by: CallerId,
     pub op: u32,
@@ -41,7 +41,7 @@ pub struct Accepted {
 }
 
 /// A server took a request; it is the `k`-th take from its queue.
-#[derive(Clone, Copy, Debug, PartialEq, Eq)]
+#[derive(Clone, Copy)]
 pub struct Taken {
     pub request: RequestId,
     pub server: ServerId,
@@ -51,7 +51,7 @@ pub struct Taken {
 
 /// A server passed its request on to another service, for the `hop`-th time. Its small fields stand together, so that
 /// it takes no more room than `Accepted`, and no event does.
-#[derive(Debug, Drop)]
+#[derive(Drop)]
 pub struct Forwarded {
     pub request: RequestId,
     pub generation: Generation,
@@ -66,14 +66,14 @@ pub struct Forwarded {
 }
 
 /// A request that waited at a queue that is down was given up.
-#[derive(Clone, Copy, Debug, PartialEq, Eq)]
+#[derive(Clone, Copy)]
 pub struct Swept {
     pub request: RequestId,
     pub queue: QueueId,
 }
 
 /// The clock was moved on, and shows `now`.
-#[derive(Clone, Copy, Debug, PartialEq, Eq)]
+#[derive(Clone, Copy)]
 pub struct Ticked {
     pub by: CallerId,
     pub op: u32,
@@ -81,7 +81,7 @@ pub struct Ticked {
 }
 
 /// A server was started, or its start failed.
-#[derive(Clone, Copy, Debug, PartialEq, Eq)]
+#[derive(Clone, Copy)]
 pub struct Started {
     pub server: ServerId,
     pub generation: Generation,
@@ -90,7 +90,7 @@ pub struct Started {
 
 /// How a request ended at its server. `BadForward` has the version of the board that was looked up, or 0 where neither
 /// the board nor a queue is the reason.
-#[derive(Debug, Drop)]
+#[derive(Drop)]
 pub enum Outcome {
     Returned(i32, Data),
     Failed(i32, Data),
@@ -101,7 +101,7 @@ pub enum Outcome {
 }
 
 /// A request ended.
-#[derive(Debug, Drop)]
+#[derive(Drop)]
 pub struct Ended {
     pub request: RequestId,
     pub server: ServerId,
@@ -111,7 +111,7 @@ pub struct Ended {
 
 /// Why a life of a server ended. `BadBytes` has the place among the octets that the server wrote, `OutOfTurn` the
 /// kind and the tag of the frame.
-#[derive(Clone, Copy, Debug, PartialEq, Eq)]
+#[derive(Clone, Copy)]
 pub enum StopCause {
     Shutdown,
     Exit,
@@ -124,7 +124,7 @@ pub enum StopCause {
 }
 
 /// A life of a server ended.
-#[derive(Clone, Copy, Debug, PartialEq, Eq)]
+#[derive(Clone, Copy)]
 pub struct Stopped {
     pub server: ServerId,
     pub generation: Generation,
@@ -132,7 +132,7 @@ pub struct Stopped {
 }
 
 /// A caller was told what became of its request.
-#[derive(Debug, Drop)]
+#[derive(Drop)]
 pub struct Replied {
     pub by: CallerId,
     pub op: u32,
@@ -141,7 +141,7 @@ pub struct Replied {
 }
 
 /// A caller gave up its descriptor. `op` is 0 where no call asked for it.
-#[derive(Clone, Copy, Debug, PartialEq, Eq)]
+#[derive(Clone, Copy)]
 pub struct Cancelled {
     pub by: CallerId,
     pub op: u32,
@@ -150,7 +150,7 @@ pub struct Cancelled {
 
 /// The time of a call for a reply ran out. `requests` are those that were looked at, and `of_call` says whether it was
 /// a tpcall, whose request lapses with it.
-#[derive(Debug, Drop)]
+#[derive(Drop)]
 pub struct Lapsed {
     pub by: CallerId,
     pub op: u32,
@@ -161,7 +161,7 @@ pub struct Lapsed {
 }
 
 /// No reply had come to a call that doesn't wait. `requests` are those that were looked at.
-#[derive(Debug, Drop)]
+#[derive(Drop)]
 pub struct Unready {
     pub by: CallerId,
     pub op: u32,
@@ -169,7 +169,7 @@ pub struct Unready {
 }
 
 /// A message was sent in the conversation that `request` began. `passes` says whether it gives control away.
-#[derive(Debug, Drop)]
+#[derive(Drop)]
 pub struct Sent {
     pub by: CallerId,
     pub op: u32,
@@ -179,14 +179,14 @@ pub struct Sent {
 }
 
 /// What an end of a conversation received: a message, and whether it gives control; or how the other end ended.
-#[derive(Debug, Drop)]
+#[derive(Drop)]
 pub enum Item {
     Message(Data, bool),
     Ending(ConvEvent, i32, Data),
 }
 
 /// An end of a conversation received something.
-#[derive(Debug, Drop)]
+#[derive(Drop)]
 pub struct Received {
     pub by: CallerId,
     pub op: u32,
@@ -195,7 +195,7 @@ pub struct Received {
 }
 
 /// The originator broke its conversation. `op` is 0 where no call asked for it.
-#[derive(Clone, Copy, Debug, PartialEq, Eq)]
+#[derive(Clone, Copy)]
 pub struct Broken {
     pub by: CallerId,
     pub op: u32,
@@ -203,7 +203,7 @@ pub struct Broken {
 }
 
 /// A caller set the priority of its next request.
-#[derive(Clone, Copy, Debug, PartialEq, Eq)]
+#[derive(Clone, Copy)]
 pub struct Prioritized {
     pub by: CallerId,
     pub op: u32,
@@ -212,7 +212,7 @@ pub struct Prioritized {
 }
 
 /// What shows that a refusal is right.
-#[derive(Clone, Copy, Debug, PartialEq, Eq)]
+#[derive(Clone, Copy)]
 pub enum Evidence {
     /// The call alone.
     Argument,
@@ -251,7 +251,7 @@ pub enum Evidence {
 }
 
 /// A call was refused.
-#[derive(Clone, Copy, Debug, PartialEq, Eq)]
+#[derive(Clone, Copy)]
 pub struct Refused {
     pub by: CallerId,
     pub op: u32,
@@ -260,7 +260,7 @@ pub struct Refused {
 }
 
 /// One atomic step of the machine.
-#[derive(Debug, Drop)]
+#[derive(Drop)]
 pub enum Event {
     Advertise(Advertised),
     Withdraw(Withdrawn),
@@ -293,7 +293,7 @@ pub enum Event {
 }
 
 /// What a server does.
-#[derive(Clone, Copy, Debug, PartialEq, Eq)]
+#[derive(Clone, Copy)]
 pub enum Doing {
     Off,
     Idle(Generation),

@@ -7,7 +7,7 @@ use xa_types::{BadName, Mode, Name, Rval};
 const MOST_DATA: u32 = 65_536;
 
 /// The octets are no field, header or body.
-#[derive(Clone, Copy, Debug, PartialEq, Eq)]
+#[derive(Clone, Copy)]
 pub struct NoFrame;
 
 impl From<BadName> for NoFrame {

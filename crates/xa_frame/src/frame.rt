@@ -1,7 +1,7 @@
 use xa_types::{Data, Mode, Name, Rval};
 
 /// What a frame says.
-#[derive(Debug, Drop)]
+#[derive(Drop)]
 pub enum Body {
     /// A program is ready, and this is its server's name.
     Ready(Name),
@@ -16,7 +16,7 @@ pub enum Body {
 }
 
 /// A frame: a tag, and what it says.
-#[derive(Debug, Drop)]
+#[derive(Drop)]
 pub struct Frame {
     pub tag: u32,
     pub body: Body,

@@ -10,7 +10,7 @@ pub const HEADER: usize = 12;
 pub const MARK: [u8; 3] = [0x58, 0x41, 0x01];
 
 /// The kind of a frame.
-#[derive(Clone, Copy, Debug, PartialEq, Eq)]
+#[derive(Clone, Copy)]
 pub enum FrameKind {
     Ready,
     Next,
@@ -20,7 +20,7 @@ pub enum FrameKind {
 }
 
 /// A header: the kind, how many octets the body has, and the tag.
-#[derive(Clone, Copy, Debug, PartialEq, Eq)]
+#[derive(Clone, Copy)]
 pub struct Header {
     pub kind: FrameKind,
     pub size: u32,

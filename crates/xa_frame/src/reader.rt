@@ -10,7 +10,7 @@ use std::marker::Model;
 use xa_types::NoMemory;
 
 /// Why a reader gives no frame.
-#[derive(Clone, Copy, Debug, PartialEq, Eq)]
+#[derive(Clone, Copy)]
 pub enum NextRefused {
     /// What stands at this place is no frame. The place counts the octets of the frames before it.
     BadFrame(u64),
@@ -18,7 +18,7 @@ pub enum NextRefused {
 }
 
 /// Reads frames from a stream of octets that comes in pieces.
-#[derive(Debug, Drop)]
+#[derive(Drop)]
 pub struct Reader {
     alloc: Global,
     octets: Vec<u8>,

@@ -13,7 +13,7 @@ use std::alloc::Global;
 use xa_types::{Data, NoMemory, Octets};
 
 /// Why no body is read. Memory runs out only where the octets are one.
-#[derive(Clone, Copy, Debug, PartialEq, Eq)]
+#[derive(Clone, Copy)]
 pub enum ReadError {
     NoFrame,
     NoMemory,

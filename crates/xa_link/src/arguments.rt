@@ -21,7 +21,7 @@ pub trait Arguments {
 }
 
 /// Has prepared words, and tells all.
-#[derive(Debug, Drop)]
+#[derive(Drop)]
 pub struct MemoryArguments {
     alloc: Global,
     words: Vec<Octets>,

@@ -5,7 +5,7 @@ use xa_types::{CallerId, RequestId, ServerId};
 
 /// A point that a worker comes to: before or after that operation of a caller, before a server takes a request, or
 /// after the reply of a request was put where its caller finds it.
-#[derive(Clone, Copy, Debug, PartialEq, Eq)]
+#[derive(Clone, Copy)]
 pub enum Point {
     BeforeOp(CallerId, u32),
     AfterOp(CallerId, u32),
@@ -23,7 +23,7 @@ pub trait Gate: Sync {
 }
 
 /// Holds nobody.
-#[derive(Clone, Copy, Debug, Default, PartialEq, Eq)]
+#[derive(Clone, Copy, Default)]
 pub struct OpenGate;
 
 impl Gate for OpenGate {

@@ -15,7 +15,7 @@ use xa_link::Link;
 use xa_types::{Data, Name, Rval};
 
 /// What a service returned: how, with which code, and with which data.
-#[derive(Debug, Drop)]
+#[derive(Drop)]
 pub struct Return {
     pub value: Rval,
     pub code: i32,

@@ -10,7 +10,7 @@ use xa_events::Evidence;
 use xa_types::{Ask, Data, Fault, Name};
 
 /// Why a call is refused, and what shows it.
-#[derive(Clone, Copy, Debug, PartialEq, Eq)]
+#[derive(Clone, Copy)]
 pub struct Refusal {
     pub fault: Fault,
     pub evidence: Evidence,

@@ -78,7 +78,7 @@ fn text_of(alloc: Global, word: &Octets) -> Result<String, Status>
 }
 
 /// What the program is asked to do.
-#[derive(Clone, Copy, Debug, PartialEq, Eq)]
+#[derive(Clone, Copy)]
 pub enum Command {
     /// Plays a script whose calls go to this service.
     Play(Name),

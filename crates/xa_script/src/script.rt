@@ -16,14 +16,14 @@ use std::marker::Model;
 use xa_types::{Name, NoMemory, Octets, Op, Sequence};
 
 /// A client of a script: its name and its calls, in order.
-#[derive(Debug, Drop)]
+#[derive(Drop)]
 pub struct Client {
     pub name: Name,
     pub ops: Sequence<Op>,
 }
 
 /// A script: its clients, in order.
-#[derive(Debug, Drop)]
+#[derive(Drop)]
 pub struct Script {
     pub clients: Sequence<Client>,
 }

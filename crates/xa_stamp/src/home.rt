@@ -8,14 +8,14 @@ use xa_events::Event;
 use xa_types::{NoMemory, Stamp, Worn};
 
 /// An event with its stamp.
-#[derive(Debug, Drop)]
+#[derive(Drop)]
 pub struct Stamped {
     pub stamp: Stamp,
     pub event: Event,
 }
 
 /// The events of one object or of one caller, in the order noted. Their stamps rise.
-#[derive(Debug, Drop)]
+#[derive(Drop)]
 pub struct Home {
     first: Stamp,
     entries: Vec<Stamped>,

@@ -9,14 +9,14 @@ use xa_events::Event;
 use xa_types::{NoMemory, Sequence, Stamp};
 
 /// All homes of a run, in their order.
-#[derive(Debug, Drop)]
+#[derive(Drop)]
 pub struct Record {
     pub homes: Sequence<Home>,
 }
 
 /// Where an event stands: its stamp, the number of its home, and its place there; both count from 0. Places compare in
 /// this order.
-#[derive(Clone, Copy, Debug, PartialEq, Eq, PartialOrd, Ord)]
+#[derive(Clone, Copy, PartialEq, Eq, PartialOrd, Ord)]
 pub struct Place {
     pub stamp: Stamp,
     pub home: usize,

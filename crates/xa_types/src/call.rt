@@ -1,7 +1,7 @@
 use crate::{Data, Kind, Octets};
 
 /// The flags of a call (XATMI, TPNOBLOCK, TPNOTIME, TPNOREPLY, TPNOTRAN, TPSIGRSTRT).
-#[derive(Clone, Copy, Debug, Default, PartialEq, Eq)]
+#[derive(Clone, Copy, Default)]
 pub struct CallFlags {
     pub no_block: bool,
     pub no_time: bool,
@@ -11,7 +11,7 @@ pub struct CallFlags {
 }
 
 /// Which of TPSENDONLY and TPRECVONLY a tpconnect has.
-#[derive(Clone, Copy, Debug, PartialEq, Eq)]
+#[derive(Clone, Copy)]
 pub enum Direction {
     Neither,
     SendOnly,
@@ -21,7 +21,7 @@ pub enum Direction {
 
 /// What a call sends: the service's name as it was written, the data, and the kind of the reply buffer where
 /// TPNOCHANGE is set, for tpcall alone.
-#[derive(Debug, Drop)]
+#[derive(Drop)]
 pub struct Ask {
     pub service: Octets,
     pub payload: Data,
@@ -31,7 +31,7 @@ pub struct Ask {
 }
 
 /// A call. The `bool` of `Send` is TPRECVONLY, that of `Priority` TPABSOLUTE.
-#[derive(Debug, Drop)]
+#[derive(Drop)]
 pub enum Op {
     Call(Ask),
     Acall(Ask),
@@ -49,7 +49,7 @@ pub enum Op {
 }
 
 /// What a service is invoked for, and for a conversation what it does first.
-#[derive(Clone, Copy, Debug, PartialEq, Eq)]
+#[derive(Clone, Copy)]
 pub enum Mode {
     Reply,
     NoReply,
@@ -58,7 +58,7 @@ pub enum Mode {
 }
 
 /// How a service returns: TPSUCCESS, TPFAIL, or Tuxedo's TPEXIT (XATMI, tpreturn).
-#[derive(Clone, Copy, Debug, PartialEq, Eq)]
+#[derive(Clone, Copy)]
 pub enum Rval {
     Success,
     Fail,

@@ -5,7 +5,7 @@ use crate::{Name, NoMemory, Octets};
 use std::alloc::Global;
 
 /// The type of typed data: X_OCTET, or X_C_TYPE with its subtype (XATMI, typed buffers).
-#[derive(Clone, Copy, Debug, PartialEq, Eq)]
+#[derive(Clone, Copy)]
 pub enum Kind {
     Octet,
     Struct(Name),
@@ -13,7 +13,7 @@ pub enum Kind {
 
 /// Typed data: absent, X_OCTET, or X_C_TYPE with its subtype. X_OCTET that is sound has at most 65,536 octets, and
 /// X_C_TYPE the size of its shape.
-#[derive(Debug, Drop)]
+#[derive(Drop)]
 pub enum Data {
     Absent,
     Octet(Octets),

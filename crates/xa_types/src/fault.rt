@@ -2,7 +2,7 @@ ghost use Rattle.std.specs.Prelude.{◌≡◌};
 ghost use Rattle.xa_types.specs.Fault.{fault_text, event_text};
 
 /// An error of a call, by the standard's name for it (XATMI, tperrno). `NoMemory` is want of memory.
-#[derive(Clone, Copy, Debug, PartialEq, Eq)]
+#[derive(Clone, Copy)]
 pub enum Fault {
     Inval,
     NoEnt,
@@ -47,7 +47,7 @@ impl Fault {
 }
 
 /// An event of a conversation (XATMI, tprecv). `NoMemory` is want of memory.
-#[derive(Clone, Copy, Debug, PartialEq, Eq)]
+#[derive(Clone, Copy)]
 pub enum ConvEvent {
     DisconImm,
     SendOnly,

@@ -3,7 +3,7 @@ use std::marker::Model;
 
 /// What a lookup of a service found: a version of the board with its stamp, and the rows of that service there, in the
 /// board's order. It is seen as a record in which the rows are a list.
-#[derive(Debug, Drop)]
+#[derive(Drop)]
 pub struct Found {
     pub version: u64,
     pub stamp: Stamp,

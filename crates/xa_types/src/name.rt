@@ -6,7 +6,7 @@ use std::marker::Model;
 
 /// A name of a service, a queue, a server, a shape or a client: 1 to 31 octets from 0x21 to 0x7E, of which the
 /// first is no dot. It is seen as the list of its octets.
-#[derive(Clone, Copy, Debug, PartialEq, Eq)]
+#[derive(Clone, Copy, PartialEq, Eq)]
 pub struct Name {
     octets: [u8; 31],
     len: u8,

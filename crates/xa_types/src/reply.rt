@@ -1,7 +1,7 @@
 use crate::{ConvEvent, Data, Fault};
 
 /// What becomes of a request: the code and data of TPSUCCESS, those of TPFAIL, or an error.
-#[derive(Debug, Drop)]
+#[derive(Drop)]
 pub enum Answer {
     Success(i32, Data),
     Failed(i32, Data),
@@ -9,7 +9,7 @@ pub enum Answer {
 }
 
 /// What a call is told. `Answered` has the descriptor, which is 0 for tpcall.
-#[derive(Debug, Drop)]
+#[derive(Drop)]
 pub enum Reply {
     Done,
     Descriptor(u64),

@@ -5,7 +5,7 @@ use crate::{Accepts, Name, NoMemory, Octets, Sequence};
 use std::alloc::Global;
 
 /// The kind of a field of X_C_TYPE: signed numbers of 2, 4 and 8 octets, a number of one, or so many octets of text.
-#[derive(Clone, Copy, Debug, PartialEq, Eq)]
+#[derive(Clone, Copy)]
 pub enum FieldKind {
     Short,
     Int,
@@ -15,14 +15,14 @@ pub enum FieldKind {
 }
 
 /// A field of X_C_TYPE.
-#[derive(Clone, Copy, Debug, PartialEq, Eq)]
+#[derive(Clone, Copy)]
 pub struct FieldSetup {
     pub name: Name,
     pub kind: FieldKind,
 }
 
 /// A subtype of X_C_TYPE: its fields in the order in which they lie.
-#[derive(Debug, Drop)]
+#[derive(Drop)]
 pub struct ShapeSetup {
     pub name: Name,
     pub fields: Sequence<FieldSetup>,
@@ -40,7 +40,7 @@ impl ShapeSetup {
 }
 
 /// A queue, at which `capacity` requests may wait, and the group that it is of.
-#[derive(Clone, Copy, Debug, PartialEq, Eq)]
+#[derive(Clone, Copy)]
 pub struct QueueSetup {
     pub name: Name,
     pub group: Name,
@@ -49,7 +49,7 @@ pub struct QueueSetup {
 
 /// A server, with Tuxedo's RESTART, MAXGEN and GRACE (UBBCONFIG). GRACE counts ticks. `program` is `None` where the
 /// monitor's own program serves.
-#[derive(Debug, Drop)]
+#[derive(Drop)]
 pub struct ServerSetup {
     pub name: Name,
     pub queue: Name,
@@ -85,7 +85,7 @@ impl ServerSetup {
 
 /// A service: its routine, the queues on which it is advertised, the priority of its requests, the kinds of data that
 /// it accepts, and whether it is for conversations.
-#[derive(Debug, Drop)]
+#[derive(Drop)]
 pub struct ServiceSetup {
     pub name: Name,
     pub routine: Name,
@@ -111,7 +111,7 @@ impl ServiceSetup {
 }
 
 /// A domain as it is configured. `block_time` is in ticks, and `blocks` is a number of blocks; `play` needs neither.
-#[derive(Debug, Drop)]
+#[derive(Drop)]
 pub struct Setup {
     pub block_time: u32,
     pub blocks: u32,

@@ -5,7 +5,7 @@ use super::{MemorySink, MemorySource};
 use crate::{Failed, Link, Sink, Source};
 
 /// The two pipes of a life in memory. It tells all.
-#[derive(Debug, Drop)]
+#[derive(Drop)]
 pub struct MemoryLink {
     source: MemorySource,
     sink: MemorySink,

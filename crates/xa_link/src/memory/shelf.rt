@@ -8,7 +8,7 @@ use std::alloc::Global;
 use xa_types::Octets;
 
 /// Has prepared files, and tells all.
-#[derive(Debug, Drop)]
+#[derive(Drop)]
 pub struct MemoryShelf {
     files: Vec<(Octets, Octets)>,
     fails: Vec<u64>,

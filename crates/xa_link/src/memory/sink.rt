@@ -6,7 +6,7 @@ use crate::{Failed, Sink};
 use std::alloc::Global;
 
 /// Keeps the octets that it takes, and tells all. Where memory runs out, a write fails.
-#[derive(Debug, Drop)]
+#[derive(Drop)]
 pub struct MemorySink {
     taken: Vec<u8>,
     fails: Vec<u64>,

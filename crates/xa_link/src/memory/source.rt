@@ -6,7 +6,7 @@ use crate::{Failed, Source};
 use xa_types::Octets;
 
 /// Gives prepared octets, and tells all.
-#[derive(Debug, Drop)]
+#[derive(Drop)]
 pub struct MemorySource {
     octets: Octets,
     at: usize,

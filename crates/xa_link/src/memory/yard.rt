@@ -10,7 +10,7 @@ use std::mem;
 use xa_types::{Generation, Name, NoMemory, Setup};
 
 /// Gives the prepared lives of one server.
-#[derive(Debug, Drop)]
+#[derive(Drop)]
 pub struct MemoryStarter {
     lives: Vec<Option<MemoryLink>>,
     asked: Vec<(Name, Generation)>,
@@ -49,7 +49,7 @@ impl Starter<MemoryLink> for MemoryStarter {
 }
 
 /// Prepared lives of the servers. A server beyond the last one has none.
-#[derive(Debug, Drop)]
+#[derive(Drop)]
 pub struct MemoryYard {
     alloc: Global,
     lives: Vec<Vec<Option<MemoryLink>>>,
