@@ -32,7 +32,7 @@ use Rattle.xa_events.specs.Said.{reply_at}
 use Rattle.xa_text.specs.Line.{line_text}
 use Rattle.xa_play.specs.PlaySetup.{play_setup}
 use Rattle.xa_play.specs.Refusal.{IsAdmitted, IsRefused}
-use Rattle.xa_play.specs.Transcript.{lines_up_to}
+use Rattle.xa_text.specs.Transcript.{lines_up_to}
 use Rattle.xa_play.specs.History.{request, accept, answer_of, refuse}
 use Rattle.xa_play.specs.Between.{Situation, situation, board_at, quiet}
 use Rattle.xa_play.proofs.Newest.{ended_call, served}

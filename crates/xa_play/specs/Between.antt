@@ -18,7 +18,7 @@ use Rattle.xa_events.specs.Caller.{newest_call, last_op, accepted, open_descript
 use Rattle.xa_events.specs.Request.{is_accept_of, is_settled_by}
 use Rattle.xa_events.specs.Calls.{FitsCalls, awaits_answer}
 use Rattle.xa_play.specs.PlaySetup.{play_setup}
-use Rattle.xa_play.specs.Transcript.{lines_up_to}
+use Rattle.xa_text.specs.Transcript.{lines_up_to}
 
 abbrev pub at : List ℕ → ℕ → List Event → State
 at service clients past = record { setup = play_setup service; clients = clients; past = past }

@@ -24,7 +24,7 @@ use Rattle.xa_pipe.specs.Pipe.{Piped, Wrote, HasRead, CutOff}
 use Rattle.xa_pipe.proofs.Coming.{came_cut_off}
 use Rattle.xa_pipe.proofs.Frames.{read_same, told_more}
 use Rattle.xa_play.specs.PlaySetup.{play_setup, server_name}
-use Rattle.xa_play.specs.Transcript.{transcript, lines_up_to}
+use Rattle.xa_text.specs.Transcript.{transcript, lines_up_to}
 use Rattle.xa_play.specs.History.{advertise, withdraw, start, stop, after_stop}
 use Rattle.xa_play.specs.Between.{Situation, situation, quiet, close, IsPlayedTo}
 use Rattle.xa_play.proofs.Newest.{gone, begun, closed}

@@ -10,7 +10,7 @@ use Rattle.xa_pipe.specs.Pipe.{Piped, shown}
 use Rattle.xa_play.specs.PlaySetup.{play_setup, server_name}
 use Rattle.xa_play.specs.History.{advertise, start}
 use Rattle.xa_play.proofs.Playing.{advertise_case, start_case, failed_case}
-use Rattle.xa_play.specs.Transcript.{transcript}
+use Rattle.xa_text.specs.Transcript.{transcript}
 use Rattle.xa_program.specs.declared.outcome.Life.{Life}
 use Rattle.xa_program.specs.declared.status.Status.{Status}
 use Rattle.xa_program.specs.declared.status.Status.TheVariants.{Done, ScriptRead, TooLong, BadLine, WriteFault, NoMemory}

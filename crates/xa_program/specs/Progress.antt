@@ -35,7 +35,7 @@ use Rattle.xa_pipe.specs.Life.Written.{Whole, Cut, Missing}
 use Rattle.xa_pipe.specs.Pipe.{invoke_frame, Piped, shown, Wrote, HasRead, Ceases, CutOff, CountsReads, CountsWrites}
 use Rattle.xa_pipe.specs.declared.hearing.Return.{Return}
 use Rattle.xa_play.specs.PlaySetup.{play_setup, server_name}
-use Rattle.xa_play.specs.Transcript.{transcript}
+use Rattle.xa_text.specs.Transcript.{transcript}
 use Rattle.xa_play.specs.History.{refuse, stop, after_stop, in_order}
 use Rattle.xa_play.specs.Refusal.{IsRefused}
 use Rattle.xa_play.specs.Between.{at, Situation, quiet, IsPlayedTo}
