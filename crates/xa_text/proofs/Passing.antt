@@ -9,7 +9,8 @@ use Rattle.xa_events.specs.Said.{reply_at, reply_shown_by}
 use Rattle.xa_events.specs.Words.{AtEach}
 use Rattle.xa_text.specs.Line.{line_text}
 use Rattle.xa_text.specs.Telling.{IsTold}
-use Rattle.xa_text.specs.Transcript.{lines_up_to, IsInTurn, CallsInTurn}
+use Rattle.xa_text.specs.InTurn.{IsInTurn, CallsInTurn}
+use Rattle.xa_text.specs.Transcript.{lines_up_to}
 use Rattle.xa_text.proofs.InTurn.{both}
 
 -- ---- the replies

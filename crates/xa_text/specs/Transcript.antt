@@ -1,9 +1,8 @@
 -- The transcript of a run (this project's own): each client's lines, one for each of its calls, in script order of clients.
-use Rattle.std.specs.Prelude.{◌≡◌, ◌⊎◌, ℕ, zero, suc, ◌+◌, ◌<◌, true, List, [], ◌∷◌, ◌++◌}
+use Rattle.std.specs.Prelude.{ℕ, zero, suc, ◌+◌, List, [], ◌∷◌, ◌++◌}
 use Rattle.xa_events.specs.declared.event.Event.{Event}
-use Rattle.xa_events.specs.Caller.{is_call_of, op_in, last_op}
+use Rattle.xa_events.specs.Caller.{last_op}
 use Rattle.xa_events.specs.Said.{reply_at}
-use Rattle.xa_events.specs.Words.{AtEach}
 use Rattle.xa_text.specs.Line.{line_text}
 
 -- the lines of a client's first calls, so many of them
@@ -19,15 +18,3 @@ transcript_from client (name ∷ names) past = lines_up_to name client past (las
 -- the lines of the clients with these names
 abbrev pub transcript : List (List ℕ) → List Event → List ℕ
 transcript names past = transcript_from 1 names past
-
--- an event of a call of the client is of its last call, as the answer to a tpcall is, or of the next
-abbrev pub IsInTurn : ℕ → Event → List Event → Type 0
-IsInTurn client e before = is_call_of client e ≡ true → (op_in e ≡ last_op client before) ⊎ (op_in e ≡ last_op client before + 1)
-
--- the client's calls are numbered one by one
-abbrev pub CallsInTurn : ℕ → List Event → Type 0
-CallsInTurn client past = AtEach (IsInTurn client) past
-
--- the calls of each of so many clients are
-abbrev pub AllInTurn : ℕ → List Event → Type 0
-AllInTurn clients past = (client : ℕ) → 0 < client → client < clients + 1 → CallsInTurn client past

@@ -5,7 +5,8 @@ ghost use Rattle.xa_events.specs.Caller.{call_in, is_call_of, op_in, last_op};
 ghost use Rattle.xa_events.specs.Said.{descriptor_given, descriptor_of, refusal_reply, item_reply, reply_shown_by};
 ghost use Rattle.xa_text.specs.Line.{reply_text, line_text};
 ghost use Rattle.xa_text.specs.Telling.{IsTold};
-ghost use Rattle.xa_text.specs.Transcript.{lines_up_to, transcript, IsInTurn, CallsInTurn, AllInTurn};
+ghost use Rattle.xa_text.specs.InTurn.{IsInTurn, CallsInTurn, AllInTurn};
+ghost use Rattle.xa_text.specs.Transcript.{lines_up_to, transcript};
 
 use crate::line::{push_answered, push_call, push_event, push_message, push_reply, push_text};
 use std::alloc::Global;

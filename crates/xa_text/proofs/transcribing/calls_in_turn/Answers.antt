@@ -1,6 +1,6 @@
 use Rattle.std.proofs.Common.{rules, ◌≡◌, ℕ, inl, inr, reverse, subst, arith}
 use Rattle.std.proofs.lemmas.Bool.{cases_lt}
-use Rattle.xa_text.specs.Transcript.{CallsInTurn}
+use Rattle.xa_text.specs.InTurn.{CallsInTurn}
 use Rattle.xa_text.proofs.transcribing.calls_in_turn.Goals as goal
 
 pub returns-then-not-client_in_turn : goal.returns-then-not-client_in_turn

@@ -1,5 +1,5 @@
 use Rattle.std.proofs.Common.{ℕ, ◌<◌, reverse}
-use Rattle.xa_text.specs.Transcript.{CallsInTurn}
+use Rattle.xa_text.specs.InTurn.{CallsInTurn}
 use Rattle.xa_text.proofs.transcribing.calls_in_turn.Given as goal
 
 abbrev pub invariant-loop-client : goal.invariant-loop-client
