@@ -13,7 +13,6 @@ use Rattle.xa_events.specs.Cases.{idle_stops}
 use Rattle.xa_events.specs.Queue.{is_down, is_closed}
 use Rattle.xa_events.specs.Request.{is_accept_of, is_settled_by}
 use Rattle.xa_events.specs.Run.{IsFinal}
-use Rattle.xa_events.specs.Said.{reply_at}
 use Rattle.xa_events.specs.Server.{is_gone, is_shutdown, was_shut_down, last_outcome}
 use Rattle.xa_events.specs.Words.{count}
 use Rattle.xa_play.specs.History.{stop}
@@ -22,7 +21,6 @@ use Rattle.xa_play.proofs.Newest.{closed}
 use Rattle.xa_play.proofs.Situations.{after, behind}
 use Rattle.xa_play.proofs.Falls.{MayStop, only, booted}
 use Rattle.xa_play.proofs.Machine.{run_append, some_board}
-use Rattle.xa_play.proofs.Told.{lines_kept}
 
 -- a server that is idle may stop by any cause but a shutdown and TPEXIT
 idle_any : (cause : StopCause) (last : Option Outcome) → is_shutdown cause ≡ false → (cause ≡ Exit → ⊥) → idle_stops cause last ≡ true
@@ -39,10 +37,10 @@ pub may_stop_idle : (cause : StopCause) (past : List Event) (v : Situation) → 
 may_stop_idle cause past v idle kind other = inl (idle, idle_any cause (last_outcome 1 past) kind other)
 
 -- the client leaves
-pub playing_left : (service name : List ℕ) (up : Bool) (n m : ℕ) (ops : List Op) (history past : List Event) (lines : List ℕ) → IsPlayedTo service name 1 ops (quiet service up n m) history past lines
-    → IsPlayedTo service name 1 ops (leave (quiet service up n m)) (history ++ Leave (record { 0 = 1 }) ∷ []) (Leave (record { 0 = 1 }) ∷ past) lines
-unfolding newest_call versions reply_at
-playing_left service name up n m ops history past lines old = record {
+pub playing_left : (service : List ℕ) (up : Bool) (n m : ℕ) (ops : List Op) (history past : List Event) → IsPlayedTo service 1 ops (quiet service up n m) history past
+    → IsPlayedTo service 1 ops (leave (quiet service up n m)) (history ++ Leave (record { 0 = 1 }) ∷ []) (Leave (record { 0 = 1 }) ∷ past)
+unfolding newest_call versions
+playing_left service up n m ops history past old = record {
   run = run_append history (Leave (record { 0 = 1 }) ∷ []) _ (at service 1 past) _ old.run (
     record {
       home = tt;
@@ -57,14 +55,13 @@ playing_left service name up n m ops history past lines old = record {
   order = (tt, old.order);
   fits = ((λ h. cc h), old.fits);
   over = old.over;
-  said = old.said ∙ sym (lines_kept name past (Leave (record { 0 = 1 }) ∷ past) n (λ k low. refl));
 }
 
 -- the queue is closed
-pub playing_closed : (service name : List ℕ) (clients : ℕ) (ops : List Op) (v : Situation) (history past : List Event) (lines : List ℕ) → IsPlayedTo service name clients ops (record v { closed = false }) history past lines
-    → AllLeft clients past → 1 ≤ length v.board → IsPlayedTo service name clients ops (close v) (history ++ Close (record { 0 = 1 }) ∷ []) (closed past) lines
-unfolding newest_call versions reply_at
-playing_closed service name clients ops v history past lines old left some = record {
+pub playing_closed : (service : List ℕ) (clients : ℕ) (ops : List Op) (v : Situation) (history past : List Event) → IsPlayedTo service clients ops (record v { closed = false }) history past
+    → AllLeft clients past → 1 ≤ length v.board → IsPlayedTo service clients ops (close v) (history ++ Close (record { 0 = 1 }) ∷ []) (closed past)
+unfolding newest_call versions
+playing_closed service clients ops v history past old left some = record {
   run = run_append history (Close (record { 0 = 1 }) ∷ []) _ (at service clients past) _ old.run (
     record {
       home = record { known = omega arith; not_closed = ap (λ (u : Situation). u.closed) old.reads };
@@ -79,7 +76,6 @@ playing_closed service name clients ops v history past lines old left some = rec
   order = (tt, old.order);
   fits = ((λ h. cc h), old.fits);
   over = old.over;
-  said = old.said ∙ sym (lines_kept name past (closed past) v.op (λ k low. refl));
 }
 
 -- the queue is closed, nothing waits there, and the server waits
@@ -87,11 +83,11 @@ abbrev pub done_serving : List ℕ → Situation → Situation
 done_serving service v = record v { board = board_at service true; doing = Idle (record { 0 = 1 }); open_server = []; closed = true; waiting = [] }
 
 -- the server is shut down
-pub playing_shut : (service name : List ℕ) (clients : ℕ) (ops : List Op) (v : Situation) (history past : List Event) (lines : List ℕ)
-    → IsPlayedTo service name clients ops (done_serving service v) history past lines
-    → IsPlayedTo service name clients ops (after service clients (Stop (stop Shutdown)) (done_serving service v)) (history ++ Stop (stop Shutdown) ∷ []) (Stop (stop Shutdown) ∷ past) lines
-unfolding newest_call versions reply_at
-playing_shut service name clients ops v history past lines old = record {
+pub playing_shut : (service : List ℕ) (clients : ℕ) (ops : List Op) (v : Situation) (history past : List Event)
+    → IsPlayedTo service clients ops (done_serving service v) history past
+    → IsPlayedTo service clients ops (after service clients (Stop (stop Shutdown)) (done_serving service v)) (history ++ Stop (stop Shutdown) ∷ []) (Stop (stop Shutdown) ∷ past)
+unfolding newest_call versions
+playing_shut service clients ops v history past old = record {
   run = run_append history (Stop (stop Shutdown) ∷ []) _ (at service clients past) _ old.run (
     record {
       home = tt;
@@ -109,7 +105,6 @@ playing_shut service name clients ops v history past lines old = record {
   order = (tt, old.order);
   fits = ((λ h. cc h), old.fits);
   over = old.over;
-  said = old.said ∙ sym (lines_kept name past (Stop (stop Shutdown) ∷ past) v.op (λ k low. refl));
 }
 
 pub all_left : (past : List Event) → has_left 1 past ≡ true → AllLeft 1 past

@@ -1,5 +1,5 @@
 -- The run of `play` so far, behind its boot, a call, and the end of the server's life.
-use Rattle.std.proofs.Common.{◌≡◌, ℕ, ◌+◌, ◌≤◌, ◌||◌, not, Bool, true, false, cond, List, [], ◌∷◌, ◌++◌, length, Option, Some, None, refl, sym, ◌∙◌, ap, arith}
+use Rattle.std.proofs.Common.{◌≡◌, ℕ, ◌+◌, ◌≤◌, ◌||◌, not, Bool, true, false, cond, List, [], ◌∷◌, ◌++◌, length, Option, Some, None, refl, ◌∙◌, ap, arith}
 use Rattle.xa_types.specs.declared.call.Op.{Op}
 use Rattle.xa_types.specs.declared.call.Op.TheVariants.{Call}
 use Rattle.xa_types.specs.declared.call.Ask.{Ask}
@@ -7,7 +7,6 @@ use Rattle.xa_types.specs.declared.fault.Fault.{Fault}
 use Rattle.xa_types.specs.declared.fault.Fault.TheVariants.{Inval, NoEnt}
 use Rattle.xa_types.specs.declared.ids.RequestId.{RequestId}
 use Rattle.xa_types.specs.declared.reply.Answer.{Answer}
-use Rattle.xa_types.specs.declared.reply.Reply.TheVariants.{Answered as AnsweredReply, Fault as FaultReply}
 use Rattle.xa_types.specs.Kind.{is_sound}
 use Rattle.xa_types.specs.Name.{is_name}
 use Rattle.xa_types.specs.Setup.{numbered}
@@ -27,10 +26,8 @@ use Rattle.xa_events.specs.Clock.{is_shown}
 use Rattle.xa_events.specs.Request.{is_accept_of, is_settled_by}
 use Rattle.xa_events.specs.Request.Settlement.{EndedBy}
 use Rattle.xa_events.specs.Run.{Run}
-use Rattle.xa_events.specs.Said.{reply_at}
 use Rattle.xa_events.specs.Server.{doing, starts, is_gone, is_shutdown, was_shut_down}
 use Rattle.xa_events.specs.Words.{count, same_request}
-use Rattle.xa_text.specs.Line.{line_text}
 use Rattle.xa_play.specs.PlaySetup.{play_setup}
 use Rattle.xa_play.specs.Refusal.{IsAdmitted, IsRefused}
 use Rattle.xa_play.specs.History.{advertise, withdraw, start, stop, request, refuse, after_stop, in_order}
@@ -39,7 +36,7 @@ use Rattle.xa_play.proofs.Newest.{gone, begun, not_begun, served}
 use Rattle.xa_play.proofs.Situations.{after_all, behind}
 use Rattle.xa_play.proofs.Falls.{standing, MayStop, run_gone, run_fallen}
 use Rattle.xa_play.proofs.Machine.{EndsSo, goes_on, IsShown, has_number, run_append, refuse_case, run_served, reads_served}
-use Rattle.xa_play.proofs.Told.{lines_kept, lines_refused, newest_refused, fits_refused, lines_served, newest_served, fits_served, answer_plain, order_served}
+use Rattle.xa_play.proofs.Told.{newest_refused, fits_refused, newest_served, fits_served, answer_plain, order_served}
 
 -- ---- the beginning
 
@@ -72,9 +69,9 @@ module _ (service : List ℕ) (clients : ℕ) where
   run_not_begun = run_gone service clients (StartFailed start ∷ boot) (situation service clients (StartFailed start ∷ boot)) refl refl
 
   -- the server has started, or it couldn't be
-  pub playing_begun : (name : List ℕ) (ops : List Op) → IsPlayedTo service name clients ops (quiet service true 0 0) (Advertise (advertise service) ∷ Start start ∷ []) (begun service) []
+  pub playing_begun : (ops : List Op) → IsPlayedTo service clients ops (quiet service true 0 0) (Advertise (advertise service) ∷ Start start ∷ []) (begun service)
   unfolding changes waiting takes is_down is_closed doing starts is_gone newest_call accepted open_descriptors has_left is_leaving versions
-  playing_begun name ops = record {
+  playing_begun ops = record {
     run = (advertise_case, (start_case, refl));
     reads = refl;
     seen = omega arith;
@@ -82,13 +79,12 @@ module _ (service : List ℕ) (clients : ℕ) where
     order = (tt, (tt, tt));
     fits = ((λ h. cc h), ((λ h. cc h), tt));
     over = refl;
-    said = refl;
   }
 
-  pub playing_not_begun : (name : List ℕ) (ops : List Op)
-      → IsPlayedTo service name clients ops (quiet service false 0 0) (Advertise (advertise service) ∷ StartFailed start ∷ Gone (record { 0 = 1 }) ∷ Withdraw (withdraw service) ∷ Down (record { 0 = 1 }) ∷ []) (not_begun service) []
+  pub playing_not_begun : (ops : List Op)
+      → IsPlayedTo service clients ops (quiet service false 0 0) (Advertise (advertise service) ∷ StartFailed start ∷ Gone (record { 0 = 1 }) ∷ Withdraw (withdraw service) ∷ Down (record { 0 = 1 }) ∷ []) (not_begun service)
   unfolding changes waiting takes is_down is_closed doing starts is_gone newest_call accepted open_descriptors has_left is_leaving versions
-  playing_not_begun name ops = record {
+  playing_not_begun ops = record {
     run = (advertise_case, (failed_case, run_not_begun));
     reads = refl;
     seen = omega arith;
@@ -96,16 +92,15 @@ module _ (service : List ℕ) (clients : ℕ) where
     order = (tt, (tt, (tt, (tt, (tt, tt)))));
     fits = ((λ h. cc h), ((λ h. cc h), ((λ h. cc h), ((λ h. cc h), ((λ h. cc h), tt)))));
     over = refl;
-    said = refl;
   }
 
 -- ---- the life ends between two calls
 
-pub playing_fallen : (service name : List ℕ) (clients : ℕ) (ops : List Op) (v : Situation) (history past : List Event) (lines : List ℕ) (cause : StopCause) → IsPlayedTo service name clients ops (standing service v) history past lines
+pub playing_fallen : (service : List ℕ) (clients : ℕ) (ops : List Op) (v : Situation) (history past : List Event) (cause : StopCause) → IsPlayedTo service clients ops (standing service v) history past
     → is_shutdown cause ≡ false → MayStop cause past v
-    → IsPlayedTo service name clients ops (after_all service clients (gone service (Stop (stop cause) ∷ [])) (standing service v)) (history ++ after_stop service (Some cause)) (gone service (Stop (stop cause) ∷ past)) lines
-unfolding newest_call versions reply_at
-playing_fallen service name clients ops v history past lines cause old other may = record {
+    → IsPlayedTo service clients ops (after_all service clients (gone service (Stop (stop cause) ∷ [])) (standing service v)) (history ++ after_stop service (Some cause)) (gone service (Stop (stop cause) ∷ past))
+unfolding newest_call versions
+playing_fallen service clients ops v history past cause old other may = record {
   run = run_append history (after_stop service (Some cause)) _ (at service clients past) _ old.run (run_fallen service clients cause past v old.reads other may);
   reads = behind service clients (gone service (Stop (stop cause) ∷ [])) past (standing service v) old.reads;
   seen = omega (arith, old.seen);
@@ -113,7 +108,6 @@ playing_fallen service name clients ops v history past lines cause old other may
   order = (tt, (tt, (tt, (tt, old.order))));
   fits = ((λ h. cc h), ((λ h. cc h), ((λ h. cc h), ((λ h. cc h), old.fits))));
   over = old.over;
-  said = old.said ∙ sym (lines_kept name past (gone service (Stop (stop cause) ∷ past)) v.op (λ k low. refl));
 }
 
 -- ---- a call that is refused
@@ -131,10 +125,10 @@ seen_refused service n version past seen Inval Argument shown = seen
 seen_refused service n version past seen NoEnt (Version v) shown = omega (arith, seen, shown)
 seen_refused service n version past seen fault evidence shown = absurd shown
 
-pub playing_refused : (service name : List ℕ) (up : Bool) (n m : ℕ) (ops : List Op) (ask : Ask) (history past : List Event) (lines : List ℕ) (fault : Fault) (evidence : Evidence)
-    → IsPlayedTo service name 1 ops (quiet service up n m) history past lines → numbered (n + 1) ops ≡ Some (Call ask) → IsRefused service (length (board_at service up)) ask fault evidence
-    → IsPlayedTo service name 1 ops (quiet service up (n + 1) m) (history ++ Refuse (refuse (n + 1) fault evidence) ∷ []) (Refuse (refuse (n + 1) fault evidence) ∷ past) (lines ++ line_text name (n + 1) (FaultReply fault))
-playing_refused service name up n m ops ask history past lines fault evidence old is_call refused =
+pub playing_refused : (service : List ℕ) (up : Bool) (n m : ℕ) (ops : List Op) (ask : Ask) (history past : List Event) (fault : Fault) (evidence : Evidence)
+    → IsPlayedTo service 1 ops (quiet service up n m) history past → numbered (n + 1) ops ≡ Some (Call ask) → IsRefused service (length (board_at service up)) ask fault evidence
+    → IsPlayedTo service 1 ops (quiet service up (n + 1) m) (history ++ Refuse (refuse (n + 1) fault evidence) ∷ []) (Refuse (refuse (n + 1) fault evidence) ∷ past)
+playing_refused service up n m ops ask history past fault evidence old is_call refused =
     let shown = shown_by service (length (board_at service up)) ask fault evidence refused in
     record {
       run = run_append history (Refuse (refuse (n + 1) fault evidence) ∷ []) _ (at service 1 past) _ old.run (refuse_case service up n m past old.reads fault evidence shown old.seen, refl);
@@ -143,8 +137,7 @@ playing_refused service name up n m ops ask history past lines fault evidence ol
       matched = old.matched;
       order = (tt, old.order);
       fits = ((λ h. fits_refused service up n ops ask past fault evidence is_call (ap (λ (v : Situation). v.board) old.reads) refused old.over), old.fits);
-      over = ap (λ e. awaits_answer ops e) (newest_refused name n fault evidence past);
-      said = ap (λ front. front ++ line_text name (n + 1) (FaultReply fault)) old.said ∙ sym (lines_refused service name (length (board_at service up)) n ask fault evidence past refused);
+      over = ap (λ e. awaits_answer ops e) (newest_refused n fault evidence past);
     }
 
 -- ---- a call that is carried to its answer
@@ -157,7 +150,7 @@ valid_sound false false c h = absurd (cc h)
 pub admitted_sound : (service : List ℕ) (ask : Ask) → is_invalid_call (play_setup service) ask ≡ false → is_sound (play_setup service) ask.payload ≡ true
 admitted_sound service ask valid = valid_sound (is_name ask.service) (is_sound (play_setup service) ask.payload) ask.flags.no_reply valid
 
-module _ (service name : List ℕ) (n m : ℕ) (ops : List Op) (ask : Ask) (history past : List Event) (lines : List ℕ) (outcome : Outcome) (old : IsPlayedTo service name 1 ops (quiet service true n m) history past lines) where
+module _ (service : List ℕ) (n m : ℕ) (ops : List Op) (ask : Ask) (history past : List Event) (outcome : Outcome) (old : IsPlayedTo service 1 ops (quiet service true n m) history past) where
   abbrev answer : Answer
   answer = reply_of (EndedBy outcome)
 
@@ -175,8 +168,7 @@ module _ (service name : List ℕ) (n m : ℕ) (ops : List Op) (ask : Ask) (hist
   matched_served (Some cause) r = settled_as r
 
   pub playing_served : (cause : Option StopCause) → numbered (n + 1) ops ≡ Some (Call ask) → IsAdmitted service 1 ask → ask.expect ≡ None → may_end_so (play_setup service) outcome ≡ true → EndsSo outcome cause
-      → IsPlayedTo service name 1 ops (quiet service (goes_on cause) (n + 1) (m + 1)) (history ++ in_order service (n + 1) (m + 1) ask.payload outcome cause answer) (served service (n + 1) (m + 1) ask.payload outcome cause answer past)
-      (lines ++ line_text name (n + 1) (AnsweredReply 0 answer))
+      → IsPlayedTo service 1 ops (quiet service (goes_on cause) (n + 1) (m + 1)) (history ++ in_order service (n + 1) (m + 1) ask.payload outcome cause answer) (served service (n + 1) (m + 1) ask.payload outcome cause answer past)
   playing_served cause is_call admitted plain sound so = record {
     run = run_append history (in_order service (n + 1) (m + 1) ask.payload outcome cause answer) _ (at service 1 past) _ old.run
         (run_served service n m ask.payload past old.reads outcome cause answer old.seen (admitted_sound service ask admitted.valid) sound so refl);
@@ -186,5 +178,4 @@ module _ (service name : List ℕ) (n m : ℕ) (ops : List Op) (ask : Ask) (hist
     order = order_served service n m ask.payload past old.reads outcome answer cause old.order;
     fits = fits_served service n m ask.payload past old.reads outcome answer ops ask is_call cause admitted refl old.over (answer_plain ask.expect outcome plain) old.fits;
     over = ap (λ e. awaits_answer ops e) (newest_served service n m ask.payload past old.reads outcome answer cause);
-    said = ap (λ front. front ++ line_text name (n + 1) (AnsweredReply 0 answer)) old.said ∙ sym (lines_served service n m ask.payload past old.reads outcome answer name cause);
   }

@@ -1,6 +1,6 @@
--- What is said of the calls of `play` at their events, and what the lines are.
-use Rattle.std.proofs.Common.{◌≡◌, ◌⊎◌, ℕ, zero, suc, ◌+◌, ◌≤◌, ◌==◌, ◌&&◌, true, false, Bool, List, [], ◌∷◌, ◌++◌, length, Option, Some, None, inl, inr, refl, sym, ◌∙◌, ap, subst, arith, eq-eqb, eqb-true, ◌%◌, add-one, le-leb, if◌then◌else◌}
-use Rattle.std.proofs.lemmas.Bool.{ne_eqb, cases_Bool}
+-- What is said of the calls of `play` at their events.
+use Rattle.std.proofs.Common.{◌≡◌, ◌⊎◌, ℕ, ◌+◌, ◌==◌, ◌&&◌, true, false, Bool, List, [], ◌∷◌, length, Option, Some, None, inl, inr, refl, sym, ◌∙◌, ap, subst, arith, eqb-true, ◌%◌, le-leb, if◌then◌else◌}
+use Rattle.std.proofs.lemmas.Bool.{cases_Bool}
 use Rattle.std.specs.Str.{bytes_eq}
 use Rattle.xa_types.specs.declared.data.Data.{Data}
 use Rattle.xa_types.specs.declared.data.Kind.{Kind}
@@ -11,7 +11,6 @@ use Rattle.xa_types.specs.declared.call.Op.{Op}
 use Rattle.xa_types.specs.declared.call.Op.TheVariants.{Call}
 use Rattle.xa_types.specs.declared.call.Ask.{Ask}
 use Rattle.xa_types.specs.declared.reply.Answer.{Answer}
-use Rattle.xa_types.specs.declared.reply.Reply.TheVariants.{Answered as AnsweredReply, Fault as FaultReply}
 use Rattle.xa_types.specs.Setup.{numbered}
 use Rattle.xa_events.specs.declared.event.Event.{Event}
 use Rattle.xa_events.specs.declared.event.Event.TheVariants.{Accept, Answer as Answers, Refuse}
@@ -28,11 +27,8 @@ use Rattle.xa_events.specs.Request.{priority_at}
 use Rattle.xa_events.specs.Request.Settlement.{EndedBy}
 use Rattle.xa_events.specs.Queue.{waiting}
 use Rattle.xa_events.specs.Order.{TakesInOrder, next_of, first_of_highest}
-use Rattle.xa_events.specs.Said.{reply_at}
-use Rattle.xa_text.specs.Line.{line_text}
 use Rattle.xa_play.specs.PlaySetup.{play_setup}
 use Rattle.xa_play.specs.Refusal.{IsAdmitted, IsRefused}
-use Rattle.xa_play.specs.Transcript.{lines_up_to}
 use Rattle.xa_play.specs.History.{request, accept, answer_of, refuse}
 use Rattle.xa_play.specs.Between.{Situation, situation, board_at, quiet}
 use Rattle.xa_play.proofs.Newest.{ended_call, served}
@@ -40,66 +36,9 @@ use Rattle.xa_play.proofs.Situations.{behind}
 use Rattle.xa_play.proofs.Falls.{bytes_eq-self}
 use Rattle.xa_play.proofs.Machine.{has_number, newest_ended, was_ended}
 
--- ---- the lines
-
--- the lines of the first calls stay as they are where their replies do
-pub lines_kept : (name : List ℕ) (before after : List Event) (n : ℕ) → ((k : ℕ) → k ≤ n → reply_at after 1 k ≡ reply_at before 1 k) → lines_up_to name 1 after n ≡ lines_up_to name 1 before n
-lines_kept name before after zero kept = refl
-lines_kept name before after (suc n) kept =
-    ap (λ lines. lines ++ line_text name (suc n) (reply_at after 1 (suc n))) (lines_kept name before after n (λ k low. kept k (omega (arith, low))))
-    ∙ ap (λ reply. lines_up_to name 1 before n ++ line_text name (suc n) reply) (kept (suc n) (omega arith))
-
-other : (k n : ℕ) → k ≤ n → ((n + 1) == k) ≡ false
-other k n low = ne_eqb (n + 1) k (λ e. absurd (omega arith))
-
-last_line : (name : List ℕ) (past : List Event) (n : ℕ) → lines_up_to name 1 past (n + 1) ≡ lines_up_to name 1 past n ++ line_text name (n + 1) (reply_at past 1 (n + 1))
-last_line name past n = rw add-one refl
-
-module _ (name : List ℕ) (n : ℕ) (fault : Fault) (evidence : Evidence) (past : List Event) where
-  abbrev refused : List Event
-  refused = Refuse (refuse (n + 1) fault evidence) ∷ past
-
-  replies_refused : (k : ℕ) → k ≤ n → reply_at refused 1 k ≡ reply_at past 1 k
-  unfolding reply_at
-  replies_refused k low = rw (has_number n, other k n low) refl
-
-  pub newest_refused : newest_call 1 refused ≡ Some (Refuse (refuse (n + 1) fault evidence))
-  unfolding newest_call
-  newest_refused = rw (has_number n) refl
-
--- a refusal of `play` shows no connection's end
-refused_reply : (service : List ℕ) (version n : ℕ) (ask : Ask) (fault : Fault) (evidence : Evidence) (past : List Event) → IsRefused service version ask fault evidence
-    → reply_at (Refuse (refuse (n + 1) fault evidence) ∷ past) 1 (n + 1) ≡ FaultReply fault
-unfolding reply_at
-refused_reply service version n ask Inval Argument past is = rw (has_number n, eq-eqb (n + 1) (n + 1) refl) refl
-refused_reply service version n ask NoEnt (Version v) past is = rw (has_number n, eq-eqb (n + 1) (n + 1) refl) refl
-refused_reply service version n ask fault evidence past is = absurd is
-
-pub lines_refused : (service name : List ℕ) (version n : ℕ) (ask : Ask) (fault : Fault) (evidence : Evidence) (past : List Event) → IsRefused service version ask fault evidence
-    → lines_up_to name 1 (Refuse (refuse (n + 1) fault evidence) ∷ past) (n + 1) ≡ lines_up_to name 1 past n ++ line_text name (n + 1) (FaultReply fault)
-lines_refused service name version n ask fault evidence past is =
-    let now = Refuse (refuse (n + 1) fault evidence) ∷ past in
-    last_line name now n ∙ (ap (λ lines. lines ++ line_text name (n + 1) (reply_at now 1 (n + 1))) (lines_kept name past now n (replies_refused name n fault evidence past))
-    ∙ ap (λ reply. lines_up_to name 1 past n ++ line_text name (n + 1) reply) (refused_reply service version n ask fault evidence past is))
+-- ---- the call that is served
 
 module _ (service : List ℕ) (n m : ℕ) (payload : Data) (past : List Event) (is : situation service 1 past ≡ quiet service true n m) (outcome : Outcome) (answer : Answer) where
-  replies_served : (cause : Option StopCause) (k : ℕ) → k ≤ n → reply_at (served service (n + 1) (m + 1) payload outcome cause answer past) 1 k ≡ reply_at past 1 k
-  unfolding reply_at
-  replies_served None k low = rw (has_number n, other k n low) refl
-  replies_served (Some cause) k low = rw (has_number n, other k n low) refl
-
-  served_reply : (cause : Option StopCause) → reply_at (served service (n + 1) (m + 1) payload outcome cause answer past) 1 (n + 1) ≡ AnsweredReply 0 answer
-  unfolding reply_at
-  served_reply cause = rw (has_number n, eq-eqb (n + 1) (n + 1) refl) (rw (newest_ended service n m payload past is outcome cause) (rw (eq-eqb (n + 1) (n + 1) refl) refl))
-
-  pub lines_served : (name : List ℕ) (cause : Option StopCause) → lines_up_to name 1 (served service (n + 1) (m + 1) payload outcome cause answer past) (n + 1) ≡ lines_up_to name 1 past n ++ line_text name (n + 1) (AnsweredReply 0 answer)
-  lines_served name cause =
-      let now = served service (n + 1) (m + 1) payload outcome cause answer past in
-      last_line name now n ∙ (ap (λ lines. lines ++ line_text name (n + 1) (reply_at now 1 (n + 1))) (lines_kept name past now n (replies_served cause))
-      ∙ ap (λ reply. lines_up_to name 1 past n ++ line_text name (n + 1) reply) (served_reply cause))
-
-  -- ---- the call that is served
-
   pub newest_served : (cause : Option StopCause) → newest_call 1 (served service (n + 1) (m + 1) payload outcome cause answer past) ≡ Some (Answers (answer_of (n + 1) (m + 1) answer))
   unfolding newest_call
   newest_served cause = rw (has_number n) refl
@@ -140,6 +79,10 @@ answer_plain wanted Died none = refl
 answer_plain wanted Starved none = refl
 
 -- ---- the call that is refused
+
+pub newest_refused : (n : ℕ) (fault : Fault) (evidence : Evidence) (past : List Event) → newest_call 1 (Refuse (refuse (n + 1) fault evidence) ∷ past) ≡ Some (Refuse (refuse (n + 1) fault evidence))
+unfolding newest_call
+newest_refused n fault evidence past = rw (has_number n) refl
 
 names_differ : (a b : List ℕ) → (a ≡ b → ⊥) → bytes_eq b a ≡ false
 names_differ [] [] other = absurd (other refl)

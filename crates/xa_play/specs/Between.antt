@@ -18,7 +18,6 @@ use Rattle.xa_events.specs.Caller.{newest_call, last_op, accepted, open_descript
 use Rattle.xa_events.specs.Request.{is_accept_of, is_settled_by}
 use Rattle.xa_events.specs.Calls.{FitsCalls, awaits_answer}
 use Rattle.xa_play.specs.PlaySetup.{play_setup}
-use Rattle.xa_play.specs.Transcript.{lines_up_to}
 
 abbrev pub at : List ℕ → ℕ → List Event → State
 at service clients past = record { setup = play_setup service; clients = clients; past = past }
@@ -93,9 +92,9 @@ leave v = record v { left = true }
 abbrev pub close : Situation → Situation
 close v = record v { closed = true }
 
--- the events are a run to that situation: each of the client's calls so far fits, the last is over, and the lines are what it was told;
--- past is the history, the newest event first
-pub record IsPlayedTo (service name : List ℕ) (clients : ℕ) (ops : List Op) (v : Situation) (history past : List Event) (lines : List ℕ) : Type 0 where
+-- the events are a run to that situation: each of the client's calls so far fits, and the last is over; past is the history, the newest event
+-- first
+pub record IsPlayedTo (service : List ℕ) (clients : ℕ) (ops : List Op) (v : Situation) (history past : List Event) : Type 0 where
   pub run : Run (opening (play_setup service) clients) history (at service clients past)
   pub reads : situation service clients past ≡ v
   pub seen : least_version (play_setup service) 1 1 past ≤ length v.board
@@ -103,4 +102,3 @@ pub record IsPlayedTo (service name : List ℕ) (clients : ℕ) (ops : List Op) 
   pub order : TakesInOrder (play_setup service) past
   pub fits : FitsCalls (play_setup service) 1 ops past
   pub over : awaits_answer ops (newest_call 1 past) ≡ false
-  pub said : lines ≡ lines_up_to name 1 past v.op

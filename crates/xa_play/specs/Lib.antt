@@ -2,4 +2,3 @@ pub mod Between
 pub mod History
 pub mod PlaySetup
 pub mod Refusal
-pub mod Transcript

@@ -1,18 +1,15 @@
 // What is noted of a call, and what its client is told.
 ghost use Rattle.std.specs.Prelude.{◌≡◌, ◌++◌, ◌∷◌, [], OnOk, IfOk};
-ghost use Rattle.xa_types.specs.declared.reply.Reply.TheVariants.{Answered as AnsweredReply, Fault as FaultReply};
 ghost use Rattle.xa_events.specs.declared.event.Event.TheVariants.{Accept, Take, Answer as AnswerEvent, Refuse};
 ghost use Rattle.xa_events.specs.Answers.{reply_of};
 ghost use Rattle.xa_events.specs.Request.Settlement.{EndedBy};
-ghost use Rattle.xa_text.specs.Line.{line_text};
 ghost use Rattle.xa_play.specs.History.{accept, take_of, answer_of, refuse};
 
-use crate::account::{Account, CLIENT, LIFE, QUEUE, SERVER};
+use crate::parts::{CLIENT, LIFE, QUEUE, SERVER};
 use crate::refusal::Refusal;
 use std::alloc::Global;
 use xa_events::{Accepted, Event, Outcome, Refused, Replied, Taken};
-use xa_text::{push_answer_line, push_line};
-use xa_types::{Answer, Data, Fault, Mode, Name, NoMemory, Reply, RequestId};
+use xa_types::{Answer, Data, Fault, Mode, Name, NoMemory, RequestId};
 
 pub(crate) fn request(number: u32) -> RequestId
     ensures { result ≡ record { caller = record { 0 = 1 }; number = number } }
@@ -69,20 +66,16 @@ pub fn answer_to(alloc: Global, outcome: &Outcome) -> Result<Answer, NoMemory>
     }
 }
 
-/// Notes that the client was told that answer to its call `op`, and puts the line of the call behind the lines. Where
-/// memory runs out, nothing is said of the events and the lines.
+/// Notes that the client was told that answer to its call `op`. Where memory runs out, nothing is said of the events.
 pub fn note_answered(
-    account: &mut Account,
-    name: &Name,
+    history: &mut Vec<Event>,
     op: u32,
     number: u32,
     answer: Answer,
 ) -> Result<(), NoMemory>
-    ensures history { OnOk result (account.new.history.items ≡ account.old.history.items ++ AnswerEvent (answer_of op number answer) ∷ []) }
-    ensures lines { OnOk result (account.new.lines.items ≡ account.old.lines.items ++ line_text name.now op (AnsweredReply 0 answer)) }
+    ensures { OnOk result (history.new.items ≡ history.old.items ++ AnswerEvent (answer_of op number answer) ∷ []) }
 {
-    push_answer_line(&mut account.lines, name, op, 0, &answer)?;
-    account.history.push(Event::Answer(Replied {
+    history.push(Event::Answer(Replied {
         by: CLIENT,
         op,
         request: request(number),
@@ -91,19 +84,11 @@ pub fn note_answered(
     Ok(())
 }
 
-/// Notes that the client's call `op` was refused, and puts its line behind the lines. Where memory runs out, nothing is
-/// said of the events and the lines.
-pub fn note_refused(
-    account: &mut Account,
-    name: &Name,
-    op: u32,
-    refusal: Refusal,
-) -> Result<(), NoMemory>
-    ensures history { OnOk result (account.new.history.items ≡ account.old.history.items ++ Refuse (refuse op refusal.fault refusal.evidence) ∷ []) }
-    ensures lines { OnOk result (account.new.lines.items ≡ account.old.lines.items ++ line_text name.now op (FaultReply refusal.fault)) }
+/// Notes that the client's call `op` was refused. Where memory runs out, nothing is said of the events.
+pub fn note_refused(history: &mut Vec<Event>, op: u32, refusal: Refusal) -> Result<(), NoMemory>
+    ensures { OnOk result (history.new.items ≡ history.old.items ++ Refuse (refuse op refusal.fault refusal.evidence) ∷ []) }
 {
-    push_line(&mut account.lines, name, op, &Reply::Fault(refusal.fault))?;
-    account.history.push(Event::Refuse(Refused {
+    history.push(Event::Refuse(Refused {
         by: CLIENT,
         op,
         fault: refusal.fault,

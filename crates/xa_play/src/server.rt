@@ -4,8 +4,8 @@ ghost use Rattle.xa_events.specs.declared.event.Event.TheVariants.{Advertise, Wi
 ghost use Rattle.xa_events.specs.declared.event.StopCause.TheVariants.{Shutdown};
 ghost use Rattle.xa_play.specs.History.{advertise, withdraw, start, stop, end_with};
 
-use crate::account::{CLIENT, LIFE, QUEUE, SERVER};
 use crate::calls::request;
+use crate::parts::{CLIENT, LIFE, QUEUE, SERVER};
 use xa_events::{Advertised, Ended, Event, Outcome, Started, StopCause, Stopped, Withdrawn};
 use xa_types::{CallerId, Name, NoMemory};
 

@@ -23,8 +23,9 @@ use Rattle.xa_pipe.specs.Life.Written.{Whole, Cut, Missing}
 use Rattle.xa_pipe.specs.Pipe.{Piped, Wrote, HasRead, CutOff}
 use Rattle.xa_pipe.proofs.Coming.{came_cut_off}
 use Rattle.xa_pipe.proofs.Frames.{read_same, told_more}
+use Rattle.xa_text.specs.InTurn.{AllInTurn}
+use Rattle.xa_text.proofs.InTurn.{run_in_turn}
 use Rattle.xa_play.specs.PlaySetup.{play_setup, server_name}
-use Rattle.xa_play.specs.Transcript.{transcript, lines_up_to}
 use Rattle.xa_play.specs.History.{advertise, withdraw, start, stop, after_stop}
 use Rattle.xa_play.specs.Between.{Situation, situation, quiet, close, IsPlayedTo}
 use Rattle.xa_play.proofs.Newest.{gone, begun, closed}
@@ -32,8 +33,8 @@ use Rattle.xa_play.proofs.Machine.{some_board}
 use Rattle.xa_play.proofs.Situations.{after, after_all}
 use Rattle.xa_play.proofs.Playing.{playing_begun, playing_not_begun, playing_fallen}
 use Rattle.xa_play.proofs.Closing.{may_stop_idle, playing_left, playing_closed, playing_shut, all_left, final_so}
-use Rattle.xa_program.specs.Headline.{EachMadeCalls, names_of}
-use Rattle.xa_program.specs.Progress.{IsPlaying, NoneFailed, IsServing, HasLived, NeverLived, IsLive, IsBuiltScript, name_in, ops_in, any_left, left_by, IsLeaving, IsOver, ReadNothing, SendFails, IsDone, Greets}
+use Rattle.xa_program.specs.Headline.{EachMadeCalls}
+use Rattle.xa_program.specs.Progress.{IsPlaying, NoneFailed, IsServing, HasLived, NeverLived, IsLive, IsBuiltScript, ops_in, any_left, left_by, IsLeaving, IsOver, ReadNothing, SendFails, IsDone, Greets}
 use Rattle.xa_program.proofs.Apart.{IsApart, live_kept, never_kept}
 use Rattle.xa_program.proofs.Carrying.{reverse_after_stop}
 use Rattle.xa_program.proofs.Exchanging.{once, counted_since, none_since}
@@ -93,30 +94,30 @@ lived_begun service pipe cause wrote cut counted = record {
 }
 
 -- behind the greeting
-pub greeted : (up : Bool) (service : List ℕ) (history now : List Event) (lines : List ℕ) (before after : Piped) → history ≡ Advertise (advertise service) ∷ Start start ∷ [] → lines ≡ [] → Wrote before [] → HasRead before [] → NoneFailed before → after.took ≡ before.took
-    → Greets up service history now before after → ((name : List ℕ) (clients : ℕ) (ops : List Op) → IsPlaying up service name clients 0 0 ops now lines) × IsLive up service 0 (reverse now) after
-greeted true service history now lines before after is silent wrote read well took (same, greets, kept) =
+pub greeted : (up : Bool) (service : List ℕ) (history now : List Event) (before after : Piped) → history ≡ Advertise (advertise service) ∷ Start start ∷ [] → Wrote before [] → HasRead before [] → NoneFailed before → after.took ≡ before.took
+    → Greets up service history now before after → ((clients : ℕ) (ops : List Op) → IsPlaying up service clients 0 0 ops now) × IsLive up service 0 (reverse now) after
+greeted true service history now before after is wrote read well took (same, greets, kept) =
     let events : now ≡ Advertise (advertise service) ∷ Start start ∷ [] = same ∙ is in (
-      λ name clients ops. rw (events, silent) (playing_begun service clients name ops),
+      λ clients ops. rw events (playing_begun service clients ops),
       rw events (serving_begun service after (subst (λ (t : Option (List ℕ)). IfSome t (λ octets. octets ≡ [])) (sym took) wrote) (greets read) (none_since before after well kept)),
     )
-greeted false service history now lines before after is silent wrote read well took (cause, noted, cut, fails) =
+greeted false service history now before after is wrote read well took (cause, noted, cut, fails) =
     let first = Advertise (advertise service) ∷ Start start ∷ [] in
     let events : now ≡ first ++ after_stop service (Some cause) = noted ∙ ap (λ (es : List Event). es ++ after_stop service (Some cause)) is in
     let other = greeting_ends after cause (cut read) in (
-      λ name clients ops. rw (events, silent) (playing_fallen service name clients ops (quiet service true 0 0) first (begun service) [] cause (playing_begun service clients name ops) other.0
+      λ clients ops. rw events (playing_fallen service clients ops (quiet service true 0 0) first (begun service) cause (playing_begun service clients ops) other.0
           (may_stop_idle cause (begun service) (quiet service true 0 0) refl other.0 other.1)),
       rw events (lived_begun service after cause (subst (λ (t : Option (List ℕ)). IfSome t (λ octets. octets ≡ [])) (sym took) wrote) (cut read) (counted_since cause before after well fails)),
     )
 
 -- behind a start that failed
-pub not_started : (service : List ℕ) (history now : List Event) (lines : List ℕ) → history ≡ Advertise (advertise service) ∷ [] → lines ≡ []
+pub not_started : (service : List ℕ) (history now : List Event) → history ≡ Advertise (advertise service) ∷ []
     → now ≡ history ++ StartFailed start ∷ Gone (record { 0 = 1 }) ∷ Withdraw (withdraw service) ∷ Down (record { 0 = 1 }) ∷ []
-    → ((name : List ℕ) (clients : ℕ) (ops : List Op) → IsPlaying false service name clients 0 0 ops now lines) × NeverLived service (reverse now)
-not_started service history now lines is silent noted =
+    → ((clients : ℕ) (ops : List Op) → IsPlaying false service clients 0 0 ops now) × NeverLived service (reverse now)
+not_started service history now is noted =
     let events : now ≡ Advertise (advertise service) ∷ StartFailed start ∷ Gone (record { 0 = 1 }) ∷ Withdraw (withdraw service) ∷ Down (record { 0 = 1 }) ∷ [] =
     noted ∙ ap (λ (es : List Event). es ++ StartFailed start ∷ Gone (record { 0 = 1 }) ∷ Withdraw (withdraw service) ∷ Down (record { 0 = 1 }) ∷ []) is in
-    (λ name clients ops. rw (events, silent) (playing_not_begun service clients name ops), rw events (record { lives = refl; failed = refl }))
+    (λ clients ops. rw events (playing_not_begun service clients ops), rw events (record { lives = refl; failed = refl }))
 
 -- ---- the client leaves
 
@@ -124,30 +125,23 @@ reverse_one : (history : List Event) (e : Event) → reverse (history ++ e ∷ [
 reverse_one history e = reverse-append history (e ∷ [])
 
 -- the one client of the script, whose calls were made, has left
-pub leaving_all : (P : List Event → Type 0) (up : Bool) (service : List ℕ) (client : Client) (clients : List Client) (m : ℕ) (ops : List Op) (history now : List Event) (lines : List ℕ) → clients ≡ client ∷ [] → ops ≡ client.ops
-    → ((e : Event) (past : List Event) → IsApart e → P past → P (e ∷ past)) → IsPlaying up service client.name 1 (length ops) m ops history lines → P (reverse history) → now ≡ history ++ Leave (record { 0 = 1 }) ∷ []
-    → IsLeaving up service clients m now lines × P (reverse now)
-leaving_all P up service client clients m ops history now lines alone same kept playing live noted =
+pub leaving_all : (P : List Event → Type 0) (up : Bool) (service : List ℕ) (client : Client) (clients : List Client) (m : ℕ) (ops : List Op) (history now : List Event) → clients ≡ client ∷ [] → ops ≡ client.ops
+    → ((e : Event) (past : List Event) → IsApart e → P past → P (e ∷ past)) → IsPlaying up service 1 (length ops) m ops history → P (reverse history) → now ≡ history ++ Leave (record { 0 = 1 }) ∷ []
+    → IsLeaving up service clients m now × P (reverse now)
+leaving_all P up service client clients m ops history now alone same kept playing live noted =
     let leave = Leave (record { 0 = 1 }) in
-    let whole = subst (λ (xs : List Op). IsPlaying up service client.name 1 (length xs) m xs history lines) same playing in
-    let left = playing_left service client.name up (length client.ops) m client.ops history (reverse history) lines whole in
-    rw (noted, alone) (subst (λ (es : List Event). IsPlayedTo service client.name 1 client.ops (left_by service up (client ∷ []) m) (history ++ leave ∷ []) es lines × P es) (sym (reverse_one history leave))
+    let whole = subst (λ (xs : List Op). IsPlaying up service 1 (length xs) m xs history) same playing in
+    let left = playing_left service up (length client.ops) m client.ops history (reverse history) whole in
+    rw (noted, alone) (subst (λ (es : List Event). IsPlayedTo service 1 client.ops (left_by service up (client ∷ []) m) (history ++ leave ∷ []) es × P es) (sym (reverse_one history leave))
     (left, kept leave (reverse history) (record { writes = λ past. refl; comes = λ past. refl; stops = refl; takes = refl; begins = refl; fails = refl }) live))
 
 -- ---- the end
 
-made_calls : (service : List ℕ) (clients : List Client) (v : Situation) (history past : List Event) (lines : List ℕ) → IsBuiltScript clients → IsPlayedTo service (name_in clients) (length clients) (ops_in clients) v history past lines → v.op ≡ length (ops_in clients)
+made_calls : (service : List ℕ) (clients : List Client) (v : Situation) (history past : List Event) → IsBuiltScript clients → IsPlayedTo service (length clients) (ops_in clients) v history past → v.op ≡ length (ops_in clients)
     → EachMadeCalls (play_setup service) 1 clients past
-made_calls service [] v history past lines built played all = tt
-made_calls service (client ∷ []) v history past lines built played all = (record { all = ap (λ (u : Situation). u.op) played.reads ∙ all; each = played.fits; over = played.over }, tt)
-made_calls service (client ∷ other ∷ clients) v history past lines built played all = absurd built
-
-made_lines : (service : List ℕ) (clients : List Client) (v : Situation) (history past : List Event) (lines : List ℕ) → IsBuiltScript clients → IsPlayedTo service (name_in clients) (length clients) (ops_in clients) v history past lines → v.op ≡ length (ops_in clients)
-    → lines ≡ transcript (names_of clients) past
-made_lines service [] v history past lines built played all = played.said ∙ ap (λ n. lines_up_to [] 1 past n) all
-made_lines service (client ∷ []) v history past lines built played all =
-    played.said ∙ (ap (λ n. lines_up_to client.name 1 past n) (sym (ap (λ (u : Situation). u.op) played.reads)) ∙ sym (append-nil _))
-made_lines service (client ∷ other ∷ clients) v history past lines built played all = absurd built
+made_calls service [] v history past built played all = tt
+made_calls service (client ∷ []) v history past built played all = (record { all = ap (λ (u : Situation). u.op) played.reads ∙ all; each = played.fits; over = played.over }, tt)
+made_calls service (client ∷ other ∷ clients) v history past built played all = absurd built
 
 everyone_left : (clients : List Client) (service : List ℕ) (v : Situation) (past : List Event) → IsBuiltScript clients → situation service (length clients) past ≡ v → v.left ≡ any_left clients → AllLeft (length clients) past
 everyone_left [] service v past built is left = λ client low high. absurd (omega arith)
@@ -155,26 +149,30 @@ everyone_left (client ∷ []) service v past built is left = all_left past (ap (
 everyone_left (client ∷ other ∷ clients) service v past built is left = absurd built
 
 -- the run is over where nothing is left to do
-over_at : (service : List ℕ) (clients : List Client) (v : Situation) (history past : List Event) (lines : List ℕ) → IsBuiltScript clients
-    → IsPlayedTo service (name_in clients) (length clients) (ops_in clients) (record v { op = length (ops_in clients); starts = 0 ∷ []; left = any_left clients; closed = true; down = v.gone }) history past lines
-    → (was_shut_down 1 past ≡ true) ⊎ (v.gone ≡ true) → reverse history ≡ past → IsOver service clients history lines
-over_at service clients v history past lines built played over reversed =
+over_at : (service : List ℕ) (clients : List Client) (v : Situation) (history past : List Event) → IsBuiltScript clients
+    → IsPlayedTo service (length clients) (ops_in clients) (record v { op = length (ops_in clients); starts = 0 ∷ []; left = any_left clients; closed = true; down = v.gone }) history past
+    → (was_shut_down 1 past ≡ true) ⊎ (v.gone ≡ true) → reverse history ≡ past → IsOver service clients history
+over_at service clients v history past built played over reversed =
     let final = record v { op = length (ops_in clients); starts = 0 ∷ []; left = any_left clients; closed = true; down = v.gone } in
     record {
       machine = rw reversed (record {
         run = played.run;
         final = final_so service (length clients) past final played.reads (everyone_left clients service final past built played.reads refl) played.matched over;
         ordered = played.order;
-        calls = made_calls service clients final history past lines built played refl;
+        calls = made_calls service clients final history past built played refl;
       });
       made = rw reversed (ap (λ (u : Situation). u.starts) played.reads);
-      said = rw reversed (made_lines service clients final history past lines built played refl);
     }
 
+-- the calls of a run that is over are in turn
+pub all_in_turn : (service : List ℕ) (clients : List Client) (history shown : List Event) (n : ℕ) → shown ≡ history → IsOver service clients history → AllInTurn n (reverse shown)
+all_in_turn service clients history shown n same over =
+    subst (λ (es : List Event). AllInTurn n (reverse es)) (sym same) (λ client low high. run_in_turn (play_setup service) (length clients) history _ over.machine.run client)
+
 -- what is known of the run that is over, and of its life
-ends_with : (P : List Event → Type 0) (service : List ℕ) (clients : List Client) (history final now : List Event) (lines : List ℕ) → now ≡ history → reverse history ≡ final → IsOver service clients history lines → P final
-    → IsOver service clients now lines × P (reverse now)
-ends_with P service clients history final now lines noted reversed over known = rw noted (over, rw reversed known)
+ends_with : (P : List Event → Type 0) (service : List ℕ) (clients : List Client) (history final now : List Event) → now ≡ history → reverse history ≡ final → IsOver service clients history → P final
+    → IsOver service clients now × P (reverse now)
+ends_with P service clients history final now noted reversed over known = rw noted (over, rw reversed known)
 
 -- behind its close the queue is closed
 closed_now : (service : List ℕ) (past : List Event) → is_closed (queue_of (play_setup service) 1) (closed past) ≡ true
@@ -254,49 +252,49 @@ shut_now : (past : List Event) → was_shut_down 1 (Stop (stop Shutdown) ∷ pas
 unfolding was_shut_down
 shut_now past = refl
 
-module _ (service : List ℕ) (clients : List Client) (m : ℕ) (history : List Event) (lines : List ℕ) (built : IsBuiltScript clients) where
+module _ (service : List ℕ) (clients : List Client) (m : ℕ) (history : List Event) (built : IsBuiltScript clients) where
   abbrev past : List Event
   past = reverse history
 
-  module _ (up : Bool) (old : IsLeaving up service clients m history lines) where
-    shut_off : IsPlayedTo service (name_in clients) (length clients) (ops_in clients) (close (left_by service up clients m)) (history ++ closing ∷ []) (closed past) lines
-    shut_off = playing_closed service (name_in clients) (length clients) (ops_in clients) (left_by service up clients m) history past lines old
+  module _ (up : Bool) (old : IsLeaving up service clients m history) where
+    shut_off : IsPlayedTo service (length clients) (ops_in clients) (close (left_by service up clients m)) (history ++ closing ∷ []) (closed past)
+    shut_off = playing_closed service (length clients) (ops_in clients) (left_by service up clients m) history past old
         (everyone_left clients service (left_by service up clients m) past built old.reads refl) (some_board service up)
 
   -- no server was up
-  over_closed : IsLeaving false service clients m history lines → IsOver service clients (history ++ closing ∷ []) lines
-  over_closed old = over_at service clients (close (left_by service false clients m)) (history ++ closing ∷ []) (closed past) lines built (shut_off false old) (inr refl) (reverse_one history closing)
+  over_closed : IsLeaving false service clients m history → IsOver service clients (history ++ closing ∷ [])
+  over_closed old = over_at service clients (close (left_by service false clients m)) (history ++ closing ∷ []) (closed past) built (shut_off false old) (inr refl) (reverse_one history closing)
 
-  over_shut : IsLeaving true service clients m history lines → IsOver service clients ((history ++ closing ∷ []) ++ Stop (stop Shutdown) ∷ []) lines
+  over_shut : IsLeaving true service clients m history → IsOver service clients ((history ++ closing ∷ []) ++ Stop (stop Shutdown) ∷ [])
   over_shut old =
-      over_at service clients (after service (length clients) (Stop (stop Shutdown)) (close (left_by service true clients m))) ((history ++ closing ∷ []) ++ Stop (stop Shutdown) ∷ []) (Stop (stop Shutdown) ∷ closed past) lines built
-      (playing_shut service (name_in clients) (length clients) (ops_in clients) (close (left_by service true clients m)) (history ++ closing ∷ []) (closed past) lines (shut_off true old)) (inl (shut_now (closed past)))
+      over_at service clients (after service (length clients) (Stop (stop Shutdown)) (close (left_by service true clients m))) ((history ++ closing ∷ []) ++ Stop (stop Shutdown) ∷ []) (Stop (stop Shutdown) ∷ closed past) built
+      (playing_shut service (length clients) (ops_in clients) (close (left_by service true clients m)) (history ++ closing ∷ []) (closed past) (shut_off true old)) (inl (shut_now (closed past)))
       (reverse_one (history ++ closing ∷ []) (Stop (stop Shutdown)) ∙ ap (λ (es : List Event). Stop (stop Shutdown) ∷ es) (reverse_one history closing))
 
-  over_dropped : (cause : StopCause) → is_shutdown cause ≡ false → (cause ≡ Exit → ⊥) → IsLeaving true service clients m history lines → IsOver service clients ((history ++ closing ∷ []) ++ after_stop service (Some cause)) lines
+  over_dropped : (cause : StopCause) → is_shutdown cause ≡ false → (cause ≡ Exit → ⊥) → IsLeaving true service clients m history → IsOver service clients ((history ++ closing ∷ []) ++ after_stop service (Some cause))
   over_dropped cause other no_exit old =
       let v = close (left_by service true clients m) in
-      over_at service clients (after_all service (length clients) (gone service (Stop (stop cause) ∷ [])) v) ((history ++ closing ∷ []) ++ after_stop service (Some cause)) (gone service (Stop (stop cause) ∷ closed past)) lines built
-      (playing_fallen service (name_in clients) (length clients) (ops_in clients) v (history ++ closing ∷ []) (closed past) lines cause (shut_off true old) other (may_stop_idle cause (closed past) v refl other no_exit)) (inr refl)
+      over_at service clients (after_all service (length clients) (gone service (Stop (stop cause) ∷ [])) v) ((history ++ closing ∷ []) ++ after_stop service (Some cause)) (gone service (Stop (stop cause) ∷ closed past)) built
+      (playing_fallen service (length clients) (ops_in clients) v (history ++ closing ∷ []) (closed past) cause (shut_off true old) other (may_stop_idle cause (closed past) v refl other no_exit)) (inr refl)
       (reverse_after_stop (history ++ closing ∷ []) service cause ∙ ap (λ (es : List Event). gone service (Stop (stop cause) ∷ es)) (reverse_one history closing))
 
   -- what the end of the run comes to
-  pub done : (up : Bool) (now : List Event) (before after : Piped) → IsLeaving up service clients m history lines → IsLive up service m past before → IsDone up service history now before after
-      → IsOver service clients now lines × HasLived service (reverse now) after
+  pub done : (up : Bool) (now : List Event) (before after : Piped) → IsLeaving up service clients m history → IsLive up service m past before → IsDone up service history now before after
+      → IsOver service clients now × HasLived service (reverse now) after
   done false now before after old live (noted, same) =
-      ends_with (λ es. HasLived service es after) service clients (history ++ closing ∷ []) (closed past) now lines noted (reverse_one history closing) (over_closed old)
+      ends_with (λ es. HasLived service es after) service clients (history ++ closing ∷ []) (closed past) now noted (reverse_one history closing) (over_closed old)
       (subst (λ (p : Piped). HasLived service (closed past) p) (sym same) (live_kept service closing close_apart past false m before live))
   done true now before after old live (same, inl (noted, grew, writes)) =
-      ends_with (λ es. HasLived service es after) service clients ((history ++ closing ∷ []) ++ Stop (stop Shutdown) ∷ []) (Stop (stop Shutdown) ∷ closed past) now lines
+      ends_with (λ es. HasLived service es after) service clients ((history ++ closing ∷ []) ++ Stop (stop Shutdown) ∷ []) (Stop (stop Shutdown) ∷ closed past) now
       (noted ∙ sym (append_assoc history (closing ∷ []) (Stop (stop Shutdown) ∷ []))) (reverse_one (history ++ closing ∷ []) (Stop (stop Shutdown)) ∙ ap (λ (es : List Event). Stop (stop Shutdown) ∷ es) (reverse_one history closing)) (over_shut old)
       (lived_shut service m past before after (live_kept service closing close_apart past true m before live) same grew writes)
   done true now before after old live (same, inr (cause, noted, fails)) =
       let other = send_fails cause before after (spelled shutdown_frame) fails in
-      ends_with (λ es. HasLived service es after) service clients ((history ++ closing ∷ []) ++ after_stop service (Some cause)) (gone service (Stop (stop cause) ∷ closed past)) now lines
+      ends_with (λ es. HasLived service es after) service clients ((history ++ closing ∷ []) ++ after_stop service (Some cause)) (gone service (Stop (stop cause) ∷ closed past)) now
       (noted ∙ sym (append_assoc history (closing ∷ []) (after_stop service (Some cause)))) (reverse_after_stop (history ++ closing ∷ []) service cause ∙ ap (λ (es : List Event). gone service (Stop (stop cause) ∷ es)) (reverse_one history closing))
       (over_dropped cause other.0 other.1 old) (lived_dropped service m past before after cause (live_kept service closing close_apart past true m before live) same fails)
 
   -- the run is over where no server was started
-  pub done_without : (now : List Event) → IsLeaving false service clients m history lines → NeverLived service past → now ≡ history ++ closing ∷ [] → IsOver service clients now lines × NeverLived service (reverse now)
+  pub done_without : (now : List Event) → IsLeaving false service clients m history → NeverLived service past → now ≡ history ++ closing ∷ [] → IsOver service clients now × NeverLived service (reverse now)
   done_without now old never noted =
-      ends_with (λ es. NeverLived service es) service clients (history ++ closing ∷ []) (closed past) now lines noted (reverse_one history closing) (over_closed old) (never_kept service closing close_apart past never)
+      ends_with (λ es. NeverLived service es) service clients (history ++ closing ∷ []) (closed past) now noted (reverse_one history closing) (over_closed old) (never_kept service closing close_apart past never)

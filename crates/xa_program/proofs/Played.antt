@@ -10,7 +10,7 @@ use Rattle.xa_pipe.specs.Pipe.{Piped, shown}
 use Rattle.xa_play.specs.PlaySetup.{play_setup, server_name}
 use Rattle.xa_play.specs.History.{advertise, start}
 use Rattle.xa_play.proofs.Playing.{advertise_case, start_case, failed_case}
-use Rattle.xa_play.specs.Transcript.{transcript}
+use Rattle.xa_text.specs.Transcript.{transcript}
 use Rattle.xa_program.specs.declared.outcome.Life.{Life}
 use Rattle.xa_program.specs.declared.status.Status.{Status}
 use Rattle.xa_program.specs.declared.status.Status.TheVariants.{Done, ScriptRead, TooLong, BadLine, WriteFault, NoMemory}
@@ -39,9 +39,9 @@ life_shown : {L : Type 0} (tells : LinkTells L) (link : L) (pipe : Piped) (servi
     → IsLifeOf tells (play_setup service) past (the_life link)
 life_shown tells link pipe service past shows life = rw (shows.took_is, shows.gave_is, shows.left_is, shows.reads_is, shows.writes_is) life
 
-served_life : {L : Type 0} (tells : LinkTells L) (link : L) (pipe : Piped) (asks asks_after : StarterShows) (service : List ℕ) (clients : List Client) (history : List Event) (lines : List ℕ) (lives : List (Life L))
-    → lives ≡ the_life link ∷ [] → ShowsPipe tells link pipe → asks_after.faults ≡ asks.faults → IsAsked asks asks_after → IsOver service clients history lines → HasLived service (reverse history) pipe → IsServed tells asks asks_after service clients history lives
-served_life {L} tells link pipe asks asks_after service clients history lines lives is shows quiet asked over lived =
+served_life : {L : Type 0} (tells : LinkTells L) (link : L) (pipe : Piped) (asks asks_after : StarterShows) (service : List ℕ) (clients : List Client) (history : List Event) (lives : List (Life L))
+    → lives ≡ the_life link ∷ [] → ShowsPipe tells link pipe → asks_after.faults ≡ asks.faults → IsAsked asks asks_after → IsOver service clients history → HasLived service (reverse history) pipe → IsServed tells asks asks_after service clients history lives
+served_life {L} tells link pipe asks asks_after service clients history lives is shows quiet asked over lived =
     subst (λ (all : List (Life L)). IsServed tells asks asks_after service clients history all) (sym is) (record {
       machine = over.machine;
       lives_are = sym lived.lives;
@@ -53,9 +53,9 @@ served_life {L} tells link pipe asks asks_after service clients history lines li
       asked = asked;
     })
 
-served_none : {L : Type 0} (tells : LinkTells L) (asks asks_after : StarterShows) (service : List ℕ) (clients : List Client) (history : List Event) (lines : List ℕ) (lives : List (Life L))
-    → lives ≡ [] → Rose asks.faults asks_after.faults → IsAsked asks asks_after → IsOver service clients history lines → NeverLived service (reverse history) → IsServed tells asks asks_after service clients history lives
-served_none {L} tells asks asks_after service clients history lines lives is rose asked over none =
+served_none : {L : Type 0} (tells : LinkTells L) (asks asks_after : StarterShows) (service : List ℕ) (clients : List Client) (history : List Event) (lives : List (Life L))
+    → lives ≡ [] → Rose asks.faults asks_after.faults → IsAsked asks asks_after → IsOver service clients history → NeverLived service (reverse history) → IsServed tells asks asks_after service clients history lives
+served_none {L} tells asks asks_after service clients history lives is rose asked over none =
     subst (λ (all : List (Life L)). IsServed tells asks asks_after service clients history all) (sym is) (record {
       machine = over.machine;
       lives_are = sym none.lives;
@@ -76,19 +76,19 @@ printed_ends tells before after faults faults_after asks asks_after service clie
 
 -- how a life and its transcript end
 pub life_ends : {L : Type 0} (tells : LinkTells L) (link : L) (pipe : Piped) (before after : Option (List ℕ)) (faults faults_after : ℕ) (asks asks_after : StarterShows) (service : List ℕ) (clients : List Client) (history handed : List Event) (lines : List ℕ) (lives : List (Life L)) (status : Status)
-    → handed ≡ history → lives ≡ the_life link ∷ [] → ShowsPipe tells link pipe → asks_after.faults ≡ asks.faults → IsAsked asks asks_after → IsOver service clients history lines × HasLived service (reverse history) pipe
-    → Printed before after faults faults_after lines status → ServingEnds tells before after faults faults_after asks asks_after service clients status handed lives
-life_ends tells link pipe before after faults faults_after asks asks_after service clients history handed lines lives status same is shows quiet asked over printed =
+    → handed ≡ history → lives ≡ the_life link ∷ [] → ShowsPipe tells link pipe → asks_after.faults ≡ asks.faults → IsAsked asks asks_after → IsOver service clients history × HasLived service (reverse history) pipe
+    → lines ≡ transcript (names_of clients) (reverse history) → Printed before after faults faults_after lines status → ServingEnds tells before after faults faults_after asks asks_after service clients status handed lives
+life_ends tells link pipe before after faults faults_after asks asks_after service clients history handed lines lives status same is shows quiet asked over said printed =
     subst (λ es. ServingEnds tells before after faults faults_after asks asks_after service clients status es lives) (sym same)
-    (printed_ends tells before after faults faults_after asks asks_after service clients history lines lives status (served_life tells link pipe asks asks_after service clients history lines lives is shows quiet asked over.0 over.1) over.0.said printed)
+    (printed_ends tells before after faults faults_after asks asks_after service clients history lines lives status (served_life tells link pipe asks asks_after service clients history lives is shows quiet asked over.0 over.1) said printed)
 
 -- how the transcript ends where no life began
 pub none_ends : {L : Type 0} (tells : LinkTells L) (before after : Option (List ℕ)) (faults faults_after : ℕ) (asks asks_after : StarterShows) (service : List ℕ) (clients : List Client) (history handed : List Event) (lines : List ℕ) (lives : List (Life L)) (status : Status)
-    → handed ≡ history → lives ≡ [] → Rose asks.faults asks_after.faults → IsAsked asks asks_after → IsOver service clients history lines × NeverLived service (reverse history)
-    → Printed before after faults faults_after lines status → ServingEnds tells before after faults faults_after asks asks_after service clients status handed lives
-none_ends tells before after faults faults_after asks asks_after service clients history handed lines lives status same is rose asked over printed =
+    → handed ≡ history → lives ≡ [] → Rose asks.faults asks_after.faults → IsAsked asks asks_after → IsOver service clients history × NeverLived service (reverse history)
+    → lines ≡ transcript (names_of clients) (reverse history) → Printed before after faults faults_after lines status → ServingEnds tells before after faults faults_after asks asks_after service clients status handed lives
+none_ends tells before after faults faults_after asks asks_after service clients history handed lines lives status same is rose asked over said printed =
     subst (λ es. ServingEnds tells before after faults faults_after asks asks_after service clients status es lives) (sym same)
-    (printed_ends tells before after faults faults_after asks asks_after service clients history lines lives status (served_none tells asks asks_after service clients history lines lives is rose asked over.0 over.1) over.0.said printed)
+    (printed_ends tells before after faults faults_after asks asks_after service clients history lines lives status (served_none tells asks asks_after service clients history lives is rose asked over.0 over.1) said printed)
 
 -- ---- where memory ran out
 

@@ -10,8 +10,6 @@ use Rattle.xa_events.specs.Answers.{reply_of}
 use Rattle.xa_events.specs.Request.Settlement.{EndedBy}
 use Rattle.xa_pipe.specs.Pipe.{Piped}
 use Rattle.xa_play.specs.History.{accept, take_of, end_with, answer_of, after_stop, in_order}
-use Rattle.xa_text.specs.Line.{line_text}
-use Rattle.xa_types.specs.declared.reply.Reply.TheVariants.{Answered as AnsweredReply}
 use Rattle.xa_pipe.specs.declared.hearing.Return.{Return}
 use Rattle.xa_program.specs.Progress.{CarriedTo, CallComesTo, Exchanged, Freed, outcome_heard, cause_heard}
 
@@ -41,15 +39,14 @@ carried_none up service op number payload outcome None history noted now mid aft
     (same, subst (λ (es : List Event). Freed up service es now mid after) so freed)
 carried_none up service op number payload outcome (Some cause) history noted now mid after none so same freed = absurd (cc none)
 
-pub carried_so : (up : Bool) (service name : List ℕ) (op number : ℕ) (payload : Data) (history now : List Event) (lines printed : List ℕ) (before mid after : Piped) (heard : Result Return StopCause) (outcome : Outcome) (cause : Option StopCause)
+pub carried_so : (up : Bool) (service : List ℕ) (op number : ℕ) (payload : Data) (history now : List Event) (before mid after : Piped) (heard : Result Return StopCause) (outcome : Outcome) (cause : Option StopCause)
     → outcome ≡ outcome_heard service heard → cause ≡ cause_heard heard → Exchanged service number payload before mid heard
-    → printed ≡ lines ++ line_text name op (AnsweredReply 0 (reply_of (EndedBy outcome))) → CarriedTo up service op number payload outcome cause history now mid after
-    → CallComesTo up service name op number payload history now lines printed before after
-carried_so up service name op number payload history now lines printed before mid after heard outcome cause is_outcome is_cause exchanged told carried = record {
+    → CarriedTo up service op number payload outcome cause history now mid after
+    → CallComesTo up service op number payload history now before after
+carried_so up service op number payload history now before mid after heard outcome cause is_outcome is_cause exchanged carried = record {
   heard = heard;
   mid = mid;
   exchanged = exchanged;
-  printed_so = subst (λ (o : Outcome). printed ≡ lines ++ line_text name op (AnsweredReply 0 (reply_of (EndedBy o)))) is_outcome told;
   carried = subst (λ (o : Outcome). CarriedTo up service op number payload o (cause_heard heard) history now mid after) is_outcome
       (subst (λ (c : Option StopCause). CarriedTo up service op number payload outcome c history now mid after) is_cause carried);
 }

@@ -20,7 +20,7 @@ use Rattle.xa_program.specs.declared.status.Status.TheVariants.{Done, Usage, Scr
 use Rattle.xa_program.specs.declared.status.Input.TheVariants as inputs
 use Rattle.xa_pipe.specs.Life.{IsLife}
 use Rattle.xa_play.specs.PlaySetup.{play_setup}
-use Rattle.xa_play.specs.Transcript.{transcript}
+use Rattle.xa_text.specs.Transcript.{transcript}
 use Rattle.xa_program.specs.Input.{InputTells, CameWhole, CameOver}
 use Rattle.xa_program.specs.Lives.{server_name_in, lives_of, failed_starts}
 use Rattle.xa_script.specs.Script.{IsScript, IsFirstFault}

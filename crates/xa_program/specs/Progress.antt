@@ -10,13 +10,11 @@ use Rattle.xa_types.specs.declared.call.Rval.{Rval}
 use Rattle.xa_types.specs.declared.call.Rval.TheVariants.{Exit as ExitValue}
 use Rattle.xa_link.specs.Told.{Rose, Grew, GrewByPart}
 use Rattle.xa_types.specs.declared.fault.Fault.{Fault}
-use Rattle.xa_types.specs.declared.reply.Reply.TheVariants.{Answered as AnsweredReply, Fault as FaultReply}
 use Rattle.xa_events.specs.declared.event.Event.{Event}
 use Rattle.xa_events.specs.declared.event.Event.TheVariants.{Close, Stop, Refuse}
 use Rattle.xa_events.specs.declared.event.Evidence.{Evidence}
 use Rattle.xa_events.specs.Answers.{reply_of}
 use Rattle.xa_events.specs.Request.Settlement.{EndedBy}
-use Rattle.xa_text.specs.Line.{line_text}
 use Rattle.xa_events.specs.declared.event.Outcome.{Outcome}
 use Rattle.xa_events.specs.declared.event.StopCause.{StopCause}
 use Rattle.xa_events.specs.declared.event.StopCause.TheVariants.{Shutdown, Exit, WriteFault as WriteFaultStop, Starved as StarvedStop}
@@ -35,7 +33,7 @@ use Rattle.xa_pipe.specs.Life.Written.{Whole, Cut, Missing}
 use Rattle.xa_pipe.specs.Pipe.{invoke_frame, Piped, shown, Wrote, HasRead, Ceases, CutOff, CountsReads, CountsWrites}
 use Rattle.xa_pipe.specs.declared.hearing.Return.{Return}
 use Rattle.xa_play.specs.PlaySetup.{play_setup, server_name}
-use Rattle.xa_play.specs.Transcript.{transcript}
+use Rattle.xa_text.specs.Transcript.{transcript}
 use Rattle.xa_play.specs.History.{refuse, stop, after_stop, in_order}
 use Rattle.xa_play.specs.Refusal.{IsRefused}
 use Rattle.xa_play.specs.Between.{at, Situation, quiet, IsPlayedTo}
@@ -50,8 +48,8 @@ use Rattle.xa_program.specs.declared.status.Input.TheVariants as inputs
 -- ---- the calls and the machine
 
 -- n of these calls were made, of which m sent a request, and nothing is under way; the server is up, or its queue is down
-abbrev pub IsPlaying : Bool → List ℕ → List ℕ → ℕ → ℕ → ℕ → List Op → List Event → List ℕ → Type 0
-IsPlaying up service name clients n m ops history lines = IsPlayedTo service name clients ops (quiet service up n m) history (reverse history) lines
+abbrev pub IsPlaying : Bool → List ℕ → ℕ → ℕ → ℕ → List Op → List Event → Type 0
+IsPlaying up service clients n m ops history = IsPlayedTo service clients ops (quiet service up n m) history (reverse history)
 
 -- ---- the server
 
@@ -161,20 +159,18 @@ CarriedTo up service op number payload outcome (Some cause) history now mid afte
 CarriedTo up service op number payload outcome None history now mid after =
     (after.took ≡ mid.took) × Freed up service (history ++ in_order service op number payload outcome None (reply_of (EndedBy outcome))) now mid after
 
-pub record CallComesTo (up : Bool) (service name : List ℕ) (op number : ℕ) (payload : Data) (history now : List Event) (lines printed : List ℕ) (before after : Piped) : Type 0 where
+pub record CallComesTo (up : Bool) (service : List ℕ) (op number : ℕ) (payload : Data) (history now : List Event) (before after : Piped) : Type 0 where
   pub heard : Result Return StopCause
   pub mid : Piped
   pub exchanged : Exchanged service number payload before mid heard
-  pub printed_so : printed ≡ lines ++ line_text name op (AnsweredReply 0 (reply_of (EndedBy (outcome_heard service heard))))
   pub carried : CarriedTo up service op number payload (outcome_heard service heard) (cause_heard heard) history now mid after
 
 -- the call was refused while that version of the board stood
-pub record IsTurnedDown (service name : List ℕ) (version op : ℕ) (ask : Ask) (history now : List Event) (lines printed : List ℕ) : Type 0 where
+pub record IsTurnedDown (service : List ℕ) (version op : ℕ) (ask : Ask) (history now : List Event) : Type 0 where
   pub fault : Fault
   pub evidence : Evidence
   pub refused : IsRefused service version ask fault evidence
   pub noted : now ≡ history ++ Refuse (refuse op fault evidence) ∷ []
-  pub printed_so : printed ≡ lines ++ line_text name op (FaultReply fault)
 
 -- ---- the end
 
@@ -190,10 +186,6 @@ pub record IsOnly (client : Client) (clients : List Client) : Type 0 where
   pub built : All IsBuiltOp client.ops
   pub few : length client.ops < 2 ^ 32
 
-abbrev pub name_in : List Client → List ℕ
-name_in [] = []
-name_in (client ∷ clients) = client.name
-
 abbrev pub ops_in : List Client → List Op
 ops_in [] = []
 ops_in (client ∷ clients) = client.ops
@@ -207,14 +199,13 @@ any_left (client ∷ clients) = true
 abbrev pub left_by : List ℕ → Bool → List Client → ℕ → Situation
 left_by service up clients m = record (quiet service up (length (ops_in clients)) m) { left = any_left clients }
 
-abbrev pub IsLeaving : Bool → List ℕ → List Client → ℕ → List Event → List ℕ → Type 0
-IsLeaving up service clients m history lines = IsPlayedTo service (name_in clients) (length clients) (ops_in clients) (left_by service up clients m) history (reverse history) lines
+abbrev pub IsLeaving : Bool → List ℕ → List Client → ℕ → List Event → Type 0
+IsLeaving up service clients m history = IsPlayedTo service (length clients) (ops_in clients) (left_by service up clients m) history (reverse history)
 
 -- the run has come to its end, and all but the printing is done
-pub record IsOver (service : List ℕ) (clients : List Client) (history : List Event) (lines : List ℕ) : Type 0 where
+pub record IsOver (service : List ℕ) (clients : List Client) (history : List Event) : Type 0 where
   pub machine : IsHistory (play_setup service) clients history
   pub made : starts 1 (reverse history) ≡ 0 ∷ []
-  pub said : lines ≡ transcript (names_of clients) (reverse history)
 
 -- no start failed and its starter counted none, or one failed that its starter counted
 abbrev pub StartsCount : List Event → StarterShows → StarterShows → Type 0

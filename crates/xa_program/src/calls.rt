@@ -4,11 +4,9 @@ ghost use Rattle.xa_types.specs.declared.call.Op.{Op};
 ghost use Rattle.xa_types.specs.declared.call.Op.TheVariants.{Call as CallOp};
 ghost use Rattle.xa_types.specs.Kind.{is_sound};
 ghost use Rattle.xa_types.specs.Setup.{numbered};
-ghost use Rattle.xa_types.specs.declared.reply.Reply.TheVariants.{Answered as AnsweredReply};
 ghost use Rattle.xa_events.specs.declared.event.Event.TheVariants.{Accept, Take, End, Answer as AnswerEvent};
 ghost use Rattle.xa_events.specs.Answers.{reply_of};
 ghost use Rattle.xa_events.specs.Request.Settlement.{EndedBy};
-ghost use Rattle.xa_text.specs.Line.{line_text};
 ghost use Rattle.xa_pipe.specs.Life.{outcome_by};
 ghost use Rattle.xa_play.specs.History.{accept, take_of, end_with, answer_of, after_stop};
 ghost use Rattle.xa_play.specs.PlaySetup.{play_setup};
@@ -19,17 +17,15 @@ use xa_events::{Event, Outcome, StopCause};
 use xa_link::Link;
 use xa_pipe::{Pipe, Return};
 use xa_play::{
-    Account, answer_to, check, is_plain, note_answered, note_ended, note_fallen, note_refused,
-    note_taken,
+    answer_to, check, is_plain, note_answered, note_ended, note_fallen, note_refused, note_taken,
 };
 use xa_types::{Ask, Data, Name, NoMemory, Op, Rval};
 
-/// What stays the same from call to call: where memory comes from, the service that is played, and the client.
+/// What stays the same from call to call: where memory comes from, and the service that is played.
 #[derive(Clone, Copy)]
 pub struct Session {
     pub alloc: Global,
     pub service: Name,
-    pub client: Name,
 }
 
 // Sends the request and hears what its service returns, or why the life of the server ended.
@@ -96,21 +92,20 @@ fn cause_heard(heard: &Result<Return, StopCause>) -> Option<StopCause>
 // Notes how the request ended, that the life of the server ended with it, where it did, and what the client is told.
 fn note_call(
     session: &Session,
-    account: &mut Account,
+    history: &mut Vec<Event>,
     op: u32,
     number: u32,
     outcome: Outcome,
     cause: Option<StopCause>,
 ) -> Result<(), NoMemory>
-    ensures history { OnOk result (account.new.history.items ≡ account.old.history.items ++ End (end_with number outcome) ∷ (after_stop session.now.service cause ++ AnswerEvent (answer_of op number (reply_of (EndedBy outcome))) ∷ [])) }
-    ensures lines { OnOk result (account.new.lines.items ≡ account.old.lines.items ++ line_text session.now.client op (AnsweredReply 0 (reply_of (EndedBy outcome)))) }
+    ensures { OnOk result (history.new.items ≡ history.old.items ++ End (end_with number outcome) ∷ (after_stop session.now.service cause ++ AnswerEvent (answer_of op number (reply_of (EndedBy outcome))) ∷ [])) }
 {
     let answer = answer_to(session.alloc, &outcome)?;
-    note_ended(&mut account.history, number, outcome)?;
+    note_ended(history, number, outcome)?;
     if let Some(cause) = cause {
-        note_fallen(&mut account.history, &session.service, cause)?;
+        note_fallen(history, &session.service, cause)?;
     }
-    note_answered(account, &session.client, op, number, answer)
+    note_answered(history, op, number, answer)
 }
 
 // Waits until the server's program is free, and answers whether it is; else its life ended.
@@ -135,7 +130,7 @@ fn await_next<L: Link>(
 fn call<L: Link>(
     session: &Session,
     pipe: &mut Pipe<L>,
-    account: &mut Account,
+    history: &mut Vec<Event>,
     sent: &mut u32,
     op: u32,
     ask: Ask,
@@ -143,55 +138,49 @@ fn call<L: Link>(
     requires built { IsBuiltOp (CallOp ask) }
     requires few { sent.old < op }
     ensures goes { IfOk result (λ up. (n : ℕ) (ops : List Op) → op ≡ n + 1 → numbered (n + 1) ops ≡ Some (CallOp ask)
-        → IsPlaying true session.now.service session.now.client 1 n sent.old ops account.old.history.items account.old.lines.items
-        → IsServing session.now.service sent.old (reverse account.old.history.items) pipe.old
-        → IsPlaying up session.now.service session.now.client 1 (n + 1) sent.new ops account.new.history.items account.new.lines.items
-        × IsLive up session.now.service sent.new (reverse account.new.history.items) pipe.new) }
+        → IsPlaying true session.now.service 1 n sent.old ops history.old.items
+        → IsServing session.now.service sent.old (reverse history.old.items) pipe.old
+        → IsPlaying up session.now.service 1 (n + 1) sent.new ops history.new.items
+        × IsLive up session.now.service sent.new (reverse history.new.items) pipe.new) }
     ensures few { IfOk result (λ up. sent.new ≤ op) }
 {
     if let Some(refusal) = check(&ask, &session.service, 1) {
-        note_refused(account, &session.client, op, refusal)?;
+        note_refused(history, op, refusal)?;
         return Ok(true);
     }
     *sent += 1;
-    serve_call(session, pipe, account, op, *sent, ask.payload)
+    serve_call(session, pipe, history, op, *sent, ask.payload)
 }
 
 // Carries a call that isn't refused to its answer.
 fn serve_call<L: Link>(
     session: &Session,
     pipe: &mut Pipe<L>,
-    account: &mut Account,
+    history: &mut Vec<Event>,
     op: u32,
     number: u32,
     payload: Data,
 ) -> Result<bool, NoMemory>
     requires { is_sound (play_setup session.now.service) payload ≡ true }
-    ensures { IfOk result (λ up. CallComesTo up session.now.service session.now.client op number payload account.old.history.items account.new.history.items
-        account.old.lines.items account.new.lines.items pipe.old pipe.new) }
+    ensures { IfOk result (λ up. CallComesTo up session.now.service op number payload history.old.items history.new.items
+        pipe.old pipe.new) }
 {
-    let heard = exchange(session, pipe, &mut account.history, op, number, payload)?;
+    let heard = exchange(session, pipe, history, op, number, payload)?;
     let cause = cause_heard(&heard);
     let outcome = outcome_heard(heard);
-    note_call(session, account, op, number, outcome, cause)?;
+    note_call(session, history, op, number, outcome, cause)?;
     if cause.is_some() {
         return Ok(false);
     }
-    await_next(pipe, &mut account.history, &session.service)
+    await_next(pipe, history, &session.service)
 }
 
 // Makes one call once the queue is down.
-fn refuse_call(
-    account: &mut Account,
-    service: &Name,
-    name: &Name,
-    op: u32,
-    ask: Ask,
-) -> Result<(), NoMemory>
-    ensures { OnOk result (IsTurnedDown service.now name.now 2 op ask account.old.history.items account.new.history.items account.old.lines.items account.new.lines.items) }
+fn refuse_call(history: &mut Vec<Event>, service: &Name, op: u32, ask: Ask) -> Result<(), NoMemory>
+    ensures { OnOk result (IsTurnedDown service.now 2 op ask history.old.items history.new.items) }
 {
     match check(&ask, service, 2) {
-        Some(refusal) => note_refused(account, name, op, refusal),
+        Some(refusal) => note_refused(history, op, refusal),
         None => unreachable!(),
     }
 }
@@ -210,7 +199,7 @@ fn ask_of(op: Op) -> Ask
 fn next_call<L: Link>(
     session: &Session,
     pipe: &mut Pipe<L>,
-    account: &mut Account,
+    history: &mut Vec<Event>,
     sent: &mut u32,
     op: u32,
     up: bool,
@@ -219,16 +208,16 @@ fn next_call<L: Link>(
     requires built { IsBuiltOp (CallOp ask) }
     requires few { sent.old < op }
     ensures goes { IfOk result (λ now. (n : ℕ) (ops : List Op) → op ≡ n + 1 → numbered (n + 1) ops ≡ Some (CallOp ask)
-        → IsPlaying up session.now.service session.now.client 1 n sent.old ops account.old.history.items account.old.lines.items
-        → IsLive up session.now.service sent.old (reverse account.old.history.items) pipe.old
-        → IsPlaying now session.now.service session.now.client 1 (n + 1) sent.new ops account.new.history.items account.new.lines.items
-        × IsLive now session.now.service sent.new (reverse account.new.history.items) pipe.new) }
+        → IsPlaying up session.now.service 1 n sent.old ops history.old.items
+        → IsLive up session.now.service sent.old (reverse history.old.items) pipe.old
+        → IsPlaying now session.now.service 1 (n + 1) sent.new ops history.new.items
+        × IsLive now session.now.service sent.new (reverse history.new.items) pipe.new) }
     ensures few { IfOk result (λ now. sent.new ≤ op) }
 {
     if up {
-        return call(session, pipe, account, sent, op, ask);
+        return call(session, pipe, history, sent, op, ask);
     }
-    refuse_call(account, &session.service, &session.client, op, ask)?;
+    refuse_call(history, &session.service, op, ask)?;
     Ok(false)
 }
 
@@ -236,16 +225,16 @@ fn next_call<L: Link>(
 pub fn make_calls<L: Link>(
     session: &Session,
     pipe: &mut Pipe<L>,
-    account: &mut Account,
+    history: &mut Vec<Event>,
     up: bool,
     ops: Vec<Op>,
 ) -> Result<bool, NoMemory>
     requires built { All IsBuiltOp ops.items }
     requires few { length ops.items < 2 ^ 32 }
-    ensures { IfOk result (λ now. IsPlaying up session.now.service session.now.client 1 0 0 ops.items account.old.history.items account.old.lines.items
-        → IsLive up session.now.service 0 (reverse account.old.history.items) pipe.old
-        → (m : ℕ) × IsPlaying now session.now.service session.now.client 1 (length ops.items) m ops.items account.new.history.items account.new.lines.items
-        × IsLive now session.now.service m (reverse account.new.history.items) pipe.new) }
+    ensures { IfOk result (λ now. IsPlaying up session.now.service 1 0 0 ops.items history.old.items
+        → IsLive up session.now.service 0 (reverse history.old.items) pipe.old
+        → (m : ℕ) × IsPlaying now session.now.service 1 (length ops.items) m ops.items history.new.items
+        × IsLive now session.now.service m (reverse history.new.items) pipe.new) }
 {
     let mut up = up;
     let mut number = 0u32;
@@ -253,29 +242,24 @@ pub fn make_calls<L: Link>(
     for op in ops {
         number += 1;
         let ask = ask_of(op);
-        up = next_call(session, pipe, account, &mut sent, number, up, ask)?;
+        up = next_call(session, pipe, history, &mut sent, number, up, ask)?;
     }
     Ok(up)
 }
 
 /// Makes these calls of a service whose server was never started.
-pub fn refuse_calls(
-    account: &mut Account,
-    service: &Name,
-    name: &Name,
-    ops: Vec<Op>,
-) -> Result<(), NoMemory>
+pub fn refuse_calls(history: &mut Vec<Event>, service: &Name, ops: Vec<Op>) -> Result<(), NoMemory>
     requires built { All IsBuiltOp ops.items }
     requires few { length ops.items < 2 ^ 32 }
-    ensures { OnOk result (IsPlaying false service.now name.now 1 0 0 ops.items account.old.history.items account.old.lines.items
-        → NeverLived service.now (reverse account.old.history.items)
-        → IsPlaying false service.now name.now 1 (length ops.items) 0 ops.items account.new.history.items account.new.lines.items
-        × NeverLived service.now (reverse account.new.history.items)) }
+    ensures { OnOk result (IsPlaying false service.now 1 0 0 ops.items history.old.items
+        → NeverLived service.now (reverse history.old.items)
+        → IsPlaying false service.now 1 (length ops.items) 0 ops.items history.new.items
+        × NeverLived service.now (reverse history.new.items)) }
 {
     let mut number = 0u32;
     for op in ops {
         number += 1;
-        refuse_call(account, service, name, number, ask_of(op))?;
+        refuse_call(history, service, number, ask_of(op))?;
     }
     Ok(())
 }

@@ -14,7 +14,7 @@ use xa_events::Event;
 use xa_link::Link;
 use xa_pipe::Pipe;
 use xa_play::{
-    Account, note_closed, note_fallen, note_left, note_not_started, note_shut_down, note_started,
+    note_closed, note_fallen, note_left, note_not_started, note_shut_down, note_started,
 };
 use xa_script::{Client, Script};
 use xa_types::{Name, NoMemory};
@@ -51,28 +51,26 @@ fn only_client(script: Script) -> Option<Client>
 fn make_all<L: Link>(
     alloc: Global,
     pipe: &mut Pipe<L>,
-    account: &mut Account,
+    history: &mut Vec<Event>,
     service: &Name,
     script: Script,
     up: bool,
 ) -> Result<bool, NoMemory>
     requires { IsBuiltScript script.clients }
-    ensures { IfOk result (λ now. ((name : List ℕ) (clients : ℕ) (ops : List Op) → IsPlaying up service.now name clients 0 0 ops account.old.history.items account.old.lines.items)
-        → IsLive up service.now 0 (reverse account.old.history.items) pipe.old
-        → (m : ℕ) × IsLeaving now service.now script.clients m account.new.history.items account.new.lines.items
-        × IsLive now service.now m (reverse account.new.history.items) pipe.new) }
+    ensures { IfOk result (λ now. ((clients : ℕ) (ops : List Op) → IsPlaying up service.now clients 0 0 ops history.old.items)
+        → IsLive up service.now 0 (reverse history.old.items) pipe.old
+        → (m : ℕ) × IsLeaving now service.now script.clients m history.new.items
+        × IsLive now service.now m (reverse history.new.items) pipe.new) }
 {
     let Some(client) = only_client(script) else {
         return Ok(up);
     };
-    let Client { name, ops } = client;
     let session = Session {
         alloc,
         service: *service,
-        client: name,
     };
-    let up = make_calls(&session, pipe, account, up, ops.into_vec())?;
-    note_left(&mut account.history)?;
+    let up = make_calls(&session, pipe, history, up, client.ops.into_vec())?;
+    note_left(history)?;
     Ok(up)
 }
 
@@ -100,51 +98,48 @@ fn close<L: Link>(
 pub fn serve<L: Link>(
     alloc: Global,
     pipe: &mut Pipe<L>,
-    account: &mut Account,
+    history: &mut Vec<Event>,
     service: &Name,
     server: &Name,
     script: Script,
 ) -> Result<(), NoMemory>
     requires built { IsBuiltScript script.clients }
     requires server { server.now ≡ server_name }
-    requires booted { account.old.history.items ≡ Advertise (advertise service.now) ∷ [] }
-    requires silent { account.old.lines.items ≡ [] }
+    requires booted { history.old.items ≡ Advertise (advertise service.now) ∷ [] }
     requires wrote { Wrote pipe.old [] }
     requires read { HasRead pipe.old [] }
     requires well { NoneFailed pipe.old }
-    ensures { OnOk result (IsOver service.now script.clients account.new.history.items account.new.lines.items
-        × HasLived service.now (reverse account.new.history.items) pipe.new) }
+    ensures { OnOk result (IsOver service.now script.clients history.new.items
+        × HasLived service.now (reverse history.new.items) pipe.new) }
 {
-    note_started(&mut account.history)?;
-    let up = greet(pipe, &mut account.history, service, server)?;
-    let up = make_all(alloc, pipe, account, service, script, up)?;
-    close(pipe, &mut account.history, service, up)
+    note_started(history)?;
+    let up = greet(pipe, history, service, server)?;
+    let up = make_all(alloc, pipe, history, service, script, up)?;
+    close(pipe, history, service, up)
 }
 
 // Each call of the client is refused, and it leaves, if there is one.
-fn refuse_all(account: &mut Account, service: &Name, script: Script) -> Result<(), NoMemory>
+fn refuse_all(history: &mut Vec<Event>, service: &Name, script: Script) -> Result<(), NoMemory>
     requires { IsBuiltScript script.clients }
-    ensures { OnOk result (((name : List ℕ) (clients : ℕ) (ops : List Op) → IsPlaying false service.now name clients 0 0 ops account.old.history.items account.old.lines.items)
-        → NeverLived service.now (reverse account.old.history.items)
-        → IsLeaving false service.now script.clients 0 account.new.history.items account.new.lines.items × NeverLived service.now (reverse account.new.history.items)) }
+    ensures { OnOk result (((clients : ℕ) (ops : List Op) → IsPlaying false service.now clients 0 0 ops history.old.items)
+        → NeverLived service.now (reverse history.old.items)
+        → IsLeaving false service.now script.clients 0 history.new.items × NeverLived service.now (reverse history.new.items)) }
 {
     let Some(client) = only_client(script) else {
         return Ok(());
     };
-    let Client { name, ops } = client;
-    refuse_calls(account, service, &name, ops.into_vec())?;
-    note_left(&mut account.history)
+    refuse_calls(history, service, client.ops.into_vec())?;
+    note_left(history)
 }
 
 /// Serves the script where the server couldn't be started: the queue is down, and each call is refused.
-pub fn serve_none(account: &mut Account, service: &Name, script: Script) -> Result<(), NoMemory>
+pub fn serve_none(history: &mut Vec<Event>, service: &Name, script: Script) -> Result<(), NoMemory>
     requires built { IsBuiltScript script.clients }
-    requires booted { account.old.history.items ≡ Advertise (advertise service.now) ∷ [] }
-    requires silent { account.old.lines.items ≡ [] }
-    ensures { OnOk result (IsOver service.now script.clients account.new.history.items account.new.lines.items
-        × NeverLived service.now (reverse account.new.history.items)) }
+    requires booted { history.old.items ≡ Advertise (advertise service.now) ∷ [] }
+    ensures { OnOk result (IsOver service.now script.clients history.new.items
+        × NeverLived service.now (reverse history.new.items)) }
 {
-    note_not_started(&mut account.history, service)?;
-    refuse_all(account, service, script)?;
-    note_closed(&mut account.history)
+    note_not_started(history, service)?;
+    refuse_all(history, service, script)?;
+    note_closed(history)
 }

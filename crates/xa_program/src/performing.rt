@@ -1,10 +1,12 @@
 // A script is served, and its transcript is written.
-ghost use Rattle.std.specs.Prelude.{◌≡◌, ◌∷◌, ◌++◌, ◌<◌, [], vec_len, vec_capacity, IfOk};
+ghost use Rattle.std.specs.Prelude.{◌≡◌, ◌∷◌, ◌++◌, ◌<◌, [], vec_len, vec_capacity, reverse, IfOk};
 ghost use Rattle.xa_link.specs.Told.{Empty, Rose};
 ghost use Rattle.xa_events.specs.declared.event.Event.TheVariants.{Advertise, Start, StartFailed};
 ghost use Rattle.xa_play.specs.History.{advertise, start};
-ghost use Rattle.xa_program.specs.Headline.{StarterShows};
-ghost use Rattle.xa_program.specs.Progress.{IsBuiltScript, IsAsked, Printed, ServingEnds};
+ghost use Rattle.xa_text.specs.Transcript.{transcript};
+ghost use Rattle.xa_pipe.specs.Pipe.{Wrote, HasRead};
+ghost use Rattle.xa_program.specs.Headline.{StarterShows, names_of};
+ghost use Rattle.xa_program.specs.Progress.{IsBuiltScript, NoneFailed, IsOver, HasLived, NeverLived, IsAsked, Printed, ServingEnds};
 
 use crate::one_life::{serve, serve_none};
 use crate::outcome::Life;
@@ -13,9 +15,10 @@ use std::alloc::Global;
 use xa_events::Event;
 use xa_link::{Link, Sink, StartRefused, Starter, put};
 use xa_pipe::Pipe;
-use xa_play::{Account, LIFE, SERVER, note_boot, note_start_failed, note_started, server_name};
-use xa_script::Script;
-use xa_types::{Data, Name, NoMemory, Op};
+use xa_play::{LIFE, SERVER, note_boot, note_start_failed, note_started, server_name};
+use xa_script::{Client, Script};
+use xa_text::transcript;
+use xa_types::{Name, NoMemory, Octets};
 
 /// How a script was served.
 pub struct Served<L> {
@@ -24,44 +27,32 @@ pub struct Served<L> {
     pub lives: Vec<Life<L>>,
 }
 
-// About how many octets the line of a call takes.
-fn line_room(op: &Op) -> usize {
-    let Op::Call(ask) = op else {
-        return 0;
-    };
-    let octets = match &ask.payload {
-        Data::Absent => 0,
-        Data::Octet(octets) | Data::Struct(_, octets) => octets.slice().len(),
-    };
-    octets.saturating_mul(2).saturating_add(48)
-}
-
-// Room for the events and the lines of a script, so that the events don't move as they grow, nor do the lines while
-// replies are about as long as what was sent. The lines take the memory of the script's octets, which were read.
-fn account_for(alloc: Global, script: &Script, mut octets: Vec<u8>) -> Result<Account, NoMemory>
-    ensures history { IfOk result (λ account. account.history.items ≡ []) }
-    ensures lines { IfOk result (λ account. account.lines.items ≡ []) }
+// Room for the events of a script, so that they don't move as they grow.
+fn history_for(alloc: Global, script: &Script) -> Result<Vec<Event>, NoMemory>
+    ensures { IfOk result (λ history. history.items ≡ []) }
 {
     let mut events = 10usize;
-    let mut room = 0usize;
     for client in script.clients.slice() {
-        for op in client.ops.slice() {
-            events = events.saturating_add(4);
-            room = room.saturating_add(line_room(op));
-        }
+        events = events.saturating_add(client.ops.slice().len().saturating_mul(4));
     }
-    octets.clear();
-    octets.reserve(room)?;
-    Ok(Account {
-        history: Vec::with_capacity(alloc, events)?,
-        lines: octets,
-    })
+    Ok(Vec::with_capacity(alloc, events)?)
 }
 
-// What there is before the server is started: room for the events and the lines of the script and for the life, and the
-// beginning of the events with room for the start. That is handed back where memory runs out later.
+fn names_of(alloc: Global, clients: &[Client]) -> Result<Vec<Name>, NoMemory>
+    ensures { IfOk result (λ names. names.items ≡ names_of clients.now) }
+{
+    let mut names = Vec::new(alloc);
+    for client in clients {
+        names.push(client.name)?;
+    }
+    Ok(names)
+}
+
+// What there is before the server is started: room for the events of the script and for the life, the names of its
+// clients, and the beginning of the events with room for the start. That is handed back where memory runs out later.
 struct Prepared<L> {
-    account: Account,
+    history: Vec<Event>,
+    names: Vec<Name>,
     begun: Vec<Event>,
     lives: Vec<Life<L>>,
 }
@@ -75,36 +66,32 @@ fn boot(alloc: Global, service: &Name) -> Result<Vec<Event>, NoMemory>
     Ok(begun)
 }
 
-fn prepare<L>(
-    alloc: Global,
-    service: &Name,
-    script: &Script,
-    octets: Vec<u8>,
-) -> Result<Prepared<L>, NoMemory>
-    ensures booted { IfOk result (λ prepared. prepared.account.history.items ≡ Advertise (advertise service.now) ∷ []) }
-    ensures silent { IfOk result (λ prepared. prepared.account.lines.items ≡ []) }
+fn prepare<L>(alloc: Global, service: &Name, script: &Script) -> Result<Prepared<L>, NoMemory>
+    ensures booted { IfOk result (λ prepared. prepared.history.items ≡ Advertise (advertise service.now) ∷ []) }
+    ensures names { IfOk result (λ prepared. prepared.names.items ≡ names_of script.now.clients) }
     ensures begun { IfOk result (λ prepared. prepared.begun.items ≡ Advertise (advertise service.now) ∷ []) }
     ensures start { IfOk result (λ prepared. vec_len prepared.begun < vec_capacity prepared.begun) }
     ensures none { IfOk result (λ prepared. prepared.lives.items ≡ []) }
     ensures room { IfOk result (λ prepared. vec_len prepared.lives < vec_capacity prepared.lives) }
 {
-    let mut account = account_for(alloc, script, octets)?;
-    note_boot(&mut account.history, service)?;
+    let mut history = history_for(alloc, script)?;
+    note_boot(&mut history, service)?;
+    let names = names_of(alloc, script.clients.slice())?;
     let begun = boot(alloc, service)?;
     let lives = Vec::with_capacity(alloc, 1)?;
     Ok(Prepared {
-        account,
+        history,
+        names,
         begun,
         lives,
     })
 }
 
-/// Starts the server, serves the script, which had these octets, and writes the transcript.
+/// Starts the server, serves the script, and writes the transcript.
 pub fn perform<O: Sink, L: Link, S: Starter<L>>(
     alloc: Global,
     service: &Name,
     script: Script,
-    octets: Vec<u8>,
     out: &mut O,
     starter: &mut S,
 ) -> Served<L>
@@ -113,15 +100,16 @@ pub fn perform<O: Sink, L: Link, S: Starter<L>>(
         (record { faults = S.start_faults starter.old; asked = S.asked starter.old }) (record { faults = S.start_faults starter.new; asked = S.asked starter.new })
         service.now script.clients result.status result.history.items result.lives.items }
 {
-    let Ok(prepared) = prepare(alloc, service, &script, octets) else {
+    let Ok(prepared) = prepare(alloc, service, &script) else {
         return out_of_memory(Vec::new(alloc), Vec::new(alloc));
     };
     match starter.start(&server_name(), LIFE) {
         Ok(link) => live(alloc, service, script, out, prepared, link),
-        Err(StartRefused::Failed) => never_live(service, script, out, prepared),
+        Err(StartRefused::Failed) => never_live(alloc, service, script, out, prepared),
         Err(StartRefused::NoMemory) => {
             let Prepared {
-                account: _account,
+                history: _history,
+                names: _names,
                 begun,
                 lives,
             } = prepared;
@@ -163,6 +151,46 @@ fn with_failed_start(mut begun: Vec<Event>) -> Vec<Event>
     }
 }
 
+// Serves the script by a server that was just started, and answers the transcript.
+fn serve_and_tell<L: Link>(
+    alloc: Global,
+    pipe: &mut Pipe<L>,
+    history: &mut Vec<Event>,
+    names: &[Name],
+    service: &Name,
+    script: Script,
+) -> Result<Octets, NoMemory>
+    requires built { IsBuiltScript script.clients }
+    requires names { names.now ≡ names_of script.clients }
+    requires booted { history.old.items ≡ Advertise (advertise service.now) ∷ [] }
+    requires wrote { Wrote pipe.old [] }
+    requires read { HasRead pipe.old [] }
+    requires well { NoneFailed pipe.old }
+    ensures over { IfOk result (λ lines. IsOver service.now script.clients history.new.items × HasLived service.now (reverse history.new.items) pipe.new) }
+    ensures said { IfOk result (λ lines. lines ≡ transcript (names_of script.clients) (reverse history.new.items)) }
+{
+    serve(alloc, pipe, history, service, &server_name(), script)?;
+    transcript(alloc, history.as_slice(), names)
+}
+
+// Refuses the calls of the script, whose server couldn't be started, and answers the transcript.
+fn refuse_and_tell(
+    alloc: Global,
+    history: &mut Vec<Event>,
+    names: &[Name],
+    service: &Name,
+    script: Script,
+) -> Result<Octets, NoMemory>
+    requires built { IsBuiltScript script.clients }
+    requires names { names.now ≡ names_of script.clients }
+    requires booted { history.old.items ≡ Advertise (advertise service.now) ∷ [] }
+    ensures over { IfOk result (λ lines. IsOver service.now script.clients history.new.items × NeverLived service.now (reverse history.new.items)) }
+    ensures said { IfOk result (λ lines. lines ≡ transcript (names_of script.clients) (reverse history.new.items)) }
+{
+    serve_none(history, service, script)?;
+    transcript(alloc, history.as_slice(), names)
+}
+
 // The life of a server that was just started, and the transcript.
 fn live<O: Sink, L: Link>(
     alloc: Global,
@@ -173,8 +201,8 @@ fn live<O: Sink, L: Link>(
     link: L,
 ) -> Served<L>
     requires built { IsBuiltScript script.clients }
-    requires booted { prepared.account.history.items ≡ Advertise (advertise service.now) ∷ [] }
-    requires silent { prepared.account.lines.items ≡ [] }
+    requires booted { prepared.history.items ≡ Advertise (advertise service.now) ∷ [] }
+    requires names { prepared.names.items ≡ names_of script.clients }
     requires begun { prepared.begun.items ≡ Advertise (advertise service.now) ∷ [] }
     requires start { vec_len prepared.begun < vec_capacity prepared.begun }
     requires none { prepared.lives.items ≡ [] }
@@ -187,36 +215,38 @@ fn live<O: Sink, L: Link>(
         service.now script.clients result.status result.history.items result.lives.items }
 {
     let Prepared {
-        mut account,
+        mut history,
+        names,
         begun,
         mut lives,
     } = prepared;
     let mut pipe = Pipe::new(alloc, link);
-    let served = serve(
+    let told = serve_and_tell(
         alloc,
         &mut pipe,
-        &mut account,
+        &mut history,
+        names.as_slice(),
         service,
-        &server_name(),
         script,
     );
     keep_life(&mut lives, pipe.into_link());
-    match served {
-        Ok(()) => print(account, lives, out),
+    match told {
+        Ok(lines) => print(history, &lines, lives, out),
         Err(NoMemory) => out_of_memory(with_start(begun), lives),
     }
 }
 
 // The transcript where the server couldn't be started.
 fn never_live<O: Sink, L: Link>(
+    alloc: Global,
     service: &Name,
     script: Script,
     out: &mut O,
     prepared: Prepared<L>,
 ) -> Served<L>
     requires built { IsBuiltScript script.clients }
-    requires booted { prepared.account.history.items ≡ Advertise (advertise service.now) ∷ [] }
-    requires silent { prepared.account.lines.items ≡ [] }
+    requires booted { prepared.history.items ≡ Advertise (advertise service.now) ∷ [] }
+    requires names { prepared.names.items ≡ names_of script.clients }
     requires begun { prepared.begun.items ≡ Advertise (advertise service.now) ∷ [] }
     requires start { vec_len prepared.begun < vec_capacity prepared.begun }
     requires none { prepared.lives.items ≡ [] }
@@ -225,12 +255,13 @@ fn never_live<O: Sink, L: Link>(
         service.now script.clients result.status result.history.items result.lives.items }
 {
     let Prepared {
-        mut account,
+        mut history,
+        names,
         begun,
         lives,
     } = prepared;
-    match serve_none(&mut account, service, script) {
-        Ok(()) => print(account, lives, out),
+    match refuse_and_tell(alloc, &mut history, names.as_slice(), service, script) {
+        Ok(lines) => print(history, &lines, lives, out),
         Err(NoMemory) => out_of_memory(with_failed_start(begun), lives),
     }
 }
@@ -251,18 +282,23 @@ fn keep_life<L>(lives: &mut Vec<Life<L>>, link: L)
 }
 
 // The script was served: its lines are written.
-fn print<O: Sink, L>(account: Account, lives: Vec<Life<L>>, out: &mut O) -> Served<L>
-    ensures printed { Printed (O.took out.old) (O.took out.new) (O.write_faults out.old) (O.write_faults out.new) account.lines.items result.status }
-    ensures history { result.history.items ≡ account.history.items }
+fn print<O: Sink, L>(
+    history: Vec<Event>,
+    lines: &Octets,
+    lives: Vec<Life<L>>,
+    out: &mut O,
+) -> Served<L>
+    ensures printed { Printed (O.took out.old) (O.took out.new) (O.write_faults out.old) (O.write_faults out.new) lines.now result.status }
+    ensures history { result.history.items ≡ history.items }
     ensures lives { result.lives.items ≡ lives.items }
 {
-    let status = match put(out, account.lines.as_slice()) {
+    let status = match put(out, lines.slice()) {
         Ok(()) => Status::Done,
         Err(_) => Status::WriteFault,
     };
     Served {
         status,
-        history: account.history,
+        history,
         lives,
     }
 }

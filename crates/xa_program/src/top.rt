@@ -179,7 +179,7 @@ fn play<I: Source, O: Sink, Y: Yard>(
     ensures yard { AsksYard (Some (Play service.now)) result.status (Y.asked yard.old) (Y.asked yard.new) }
     ensures early { EndsEarly result.status result.history.items result.lives.items result.starters.items }
 {
-    let (script, octets) = match script_of(alloc, input) {
+    let (script, _) = match script_of(alloc, input) {
         Ok(read) => read,
         Err(status) => return nothing(alloc, status),
     };
@@ -189,7 +189,7 @@ fn play<I: Source, O: Sink, Y: Yard>(
                 status,
                 history,
                 lives,
-            } = perform(alloc, service, script, octets, out, &mut starters[0]);
+            } = perform(alloc, service, script, out, &mut starters[0]);
             Outcome {
                 status,
                 history,

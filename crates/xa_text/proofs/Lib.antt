@@ -1,2 +1,4 @@
+pub mod InTurn
 pub mod Lines
 pub mod Pairs
+pub mod Passing

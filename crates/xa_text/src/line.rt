@@ -1,14 +1,14 @@
 ghost use Rattle.std.specs.Prelude.{◌≡◌, ◌++◌, ◌+◌, ◌==◌, ◌<◌, [], if◌then◌else◌, OnOk, OnErr, codes, decimal};
 ghost use Rattle.std.specs.Fmt.{signed_decimal};
 ghost use Rattle.std.specs.List.{flat_map};
-ghost use Rattle.xa_types.specs.declared.reply.Reply.TheVariants.{Answered};
+ghost use Rattle.xa_types.specs.declared.reply.Reply.TheVariants.{Answered, Message, Event};
 ghost use Rattle.xa_text.specs.Line.{hex_pair, hex, data_text, coded, answer_text, event_rest, reply_text, call_text, line_text};
 ghost use Rattle.std.specs.Io.{StartsWith};
 
 use itoa::Buffer;
 use xa_types::{Answer, ConvEvent, Data, Name, NoMemory, Reply};
 
-fn push_text(out: &mut Vec<u8>, text: &[u8]) -> Result<(), NoMemory>
+pub(crate) fn push_text(out: &mut Vec<u8>, text: &[u8]) -> Result<(), NoMemory>
     ensures ok { OnOk result (out.new.items ≡ out.old.items ++ text.now) }
     ensures err { OnErr result (StartsWith out.new.items out.old.items) }
 {
@@ -110,12 +110,24 @@ fn push_descriptor(out: &mut Vec<u8>, descriptor: u64) -> Result<(), NoMemory>
     push_text(out, b" ")
 }
 
-fn push_answered(out: &mut Vec<u8>, descriptor: u64, answer: &Answer) -> Result<(), NoMemory>
+pub(crate) fn push_answered(
+    out: &mut Vec<u8>,
+    descriptor: u64,
+    answer: &Answer,
+) -> Result<(), NoMemory>
     ensures ok { OnOk result (out.new.items ≡ out.old.items ++ reply_text (Answered descriptor answer.now)) }
     ensures err { OnErr result (StartsWith out.new.items out.old.items) }
 {
     push_descriptor(out, descriptor)?;
     push_answer(out, answer)
+}
+
+pub(crate) fn push_message(out: &mut Vec<u8>, payload: &Data) -> Result<(), NoMemory>
+    ensures ok { OnOk result (out.new.items ≡ out.old.items ++ reply_text (Message payload.now)) }
+    ensures err { OnErr result (StartsWith out.new.items out.old.items) }
+{
+    push_text(out, b"DATA ")?;
+    push_data(out, payload)
 }
 
 fn push_event_rest(
@@ -137,7 +149,21 @@ fn push_event_rest(
     }
 }
 
-fn push_reply(out: &mut Vec<u8>, reply: &Reply) -> Result<(), NoMemory>
+pub(crate) fn push_event(
+    out: &mut Vec<u8>,
+    event: ConvEvent,
+    code: i32,
+    payload: &Data,
+) -> Result<(), NoMemory>
+    ensures ok { OnOk result (out.new.items ≡ out.old.items ++ reply_text (Event event code payload.now)) }
+    ensures err { OnErr result (StartsWith out.new.items out.old.items) }
+{
+    push_text(out, b"TPEEVENT ")?;
+    push_text(out, event.text().as_bytes())?;
+    push_event_rest(out, event, code, payload)
+}
+
+pub(crate) fn push_reply(out: &mut Vec<u8>, reply: &Reply) -> Result<(), NoMemory>
     ensures ok { OnOk result (out.new.items ≡ out.old.items ++ reply_text reply.now) }
     ensures err { OnErr result (StartsWith out.new.items out.old.items) }
 {
@@ -152,20 +178,13 @@ fn push_reply(out: &mut Vec<u8>, reply: &Reply) -> Result<(), NoMemory>
             push_number(out, *tick)
         }
         Reply::Answered(descriptor, answer) => push_answered(out, *descriptor, answer),
-        Reply::Message(payload) => {
-            push_text(out, b"DATA ")?;
-            push_data(out, payload)
-        }
-        Reply::Event(event, code, payload) => {
-            push_text(out, b"TPEEVENT ")?;
-            push_text(out, event.text().as_bytes())?;
-            push_event_rest(out, *event, *code, payload)
-        }
+        Reply::Message(payload) => push_message(out, payload),
+        Reply::Event(event, code, payload) => push_event(out, *event, *code, payload),
         Reply::Fault(fault) => push_text(out, fault.text().as_bytes()),
     }
 }
 
-fn push_call(out: &mut Vec<u8>, name: &Name, op: u32) -> Result<(), NoMemory>
+pub(crate) fn push_call(out: &mut Vec<u8>, name: &Name, op: u32) -> Result<(), NoMemory>
     ensures ok { OnOk result (out.new.items ≡ out.old.items ++ call_text name.now op) }
     ensures err { OnErr result (StartsWith out.new.items out.old.items) }
 {

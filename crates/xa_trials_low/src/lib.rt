@@ -25,4 +25,6 @@ mod shelves;
 #[cfg(test)]
 mod stamps;
 #[cfg(test)]
+mod transcripts;
+#[cfg(test)]
 mod yards;

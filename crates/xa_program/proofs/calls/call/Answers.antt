@@ -8,14 +8,14 @@ use Rattle.xa_program.proofs.calls.call.Goals as goal
 pub returns-in-Some-clause-goes : goal.returns-in-Some-clause-goes
 returns-in-Some-clause-goes g c n ops first is_call old serving =
     let service = c.args.session.now.service in
-    turned (λ es. IsLive true service c.args.sent.now es c.args.pipe.now) true service c.args.session.now.client n c.args.sent.now c.args.op ops c.args.ask c.args.account.now.history.items c.note_refused.new.account.history.items c.args.account.now.lines.items c.note_refused.new.account.lines.items
-    c.in-Some.refusal.fault c.in-Some.refusal.evidence first is_call (λ e past apart. live_kept service e apart past true c.args.sent.now c.args.pipe.now) (old, serving) c.in-Some.ensures c.in_ok-note_refused.ensures.history c.in_ok-note_refused.ensures.lines
+    turned (λ es. IsLive true service c.args.sent.now es c.args.pipe.now) true service n c.args.sent.now c.args.op ops c.args.ask c.args.history.now.items c.note_refused.new.history.items
+    c.in-Some.refusal.fault c.in-Some.refusal.evidence first is_call (λ e past apart. live_kept service e apart past true c.args.sent.now c.args.pipe.now) (old, serving) c.in-Some.ensures c.in_ok-note_refused.ensures
 
 pub returns-clause-goes : goal.returns-clause-goes
 returns-clause-goes g c =
     ok_more c.serve_call.result _ _
     (λ up carried n ops first is_call old serving.
     let small : c.args.sent.now + 1 < 2 ^ 32 = omega (arith, c.requires.few, c.ranges.op.fits) in
-    carried_at up c.args.session.now.service c.args.session.now.client n c.args.sent.now c.args.op ops c.args.ask c.args.account.now.history.items c.serve_call.new.account.history.items c.args.account.now.lines.items c.serve_call.new.account.lines.items
+    carried_at up c.args.session.now.service n c.args.sent.now c.args.op ops c.args.ask c.args.history.now.items c.serve_call.new.history.items
     c.args.pipe.now c.serve_call.new.pipe first small is_call old serving c.in_default.ensures c.requires.built carried)
     c.serve_call.ensures

@@ -8,6 +8,6 @@ invariant-loop-op g l = record {
   built : All IsBuiltOp l.op-iterator.rest.items;
   counted : l.number ≡ length l.yielded;
   few : l.sent ≤ l.number;
-  played : IsPlaying l.fn.up l.session.service l.session.client 1 0 0 l.fn.ops.items l.fn.account.history.items l.fn.account.lines.items → IsLive l.fn.up l.session.service 0 (reverse l.fn.account.history.items) l.fn.pipe
-      → IsPlaying l.up l.session.service l.session.client 1 l.number l.sent l.fn.ops.items l.account.history.items l.account.lines.items × IsLive l.up l.session.service l.sent (reverse l.account.history.items) l.pipe;
+  played : IsPlaying l.fn.up l.session.service 1 0 0 l.fn.ops.items l.fn.history.items → IsLive l.fn.up l.session.service 0 (reverse l.fn.history.items) l.fn.pipe
+      → IsPlaying l.up l.session.service 1 l.number l.sent l.fn.ops.items l.history.items × IsLive l.up l.session.service l.sent (reverse l.history.items) l.pipe;
 }

@@ -10,15 +10,15 @@ returns-then-up-clause-goes g c =
     ok_more c.call.result _ _
     (λ now goes n ops first is_call old live.
     let service = c.args.session.now.service in
-    goes n ops first is_call (subst (λ (b : Bool). IsPlaying b service c.args.session.now.client 1 n c.args.sent.now ops c.args.account.now.history.items c.args.account.now.lines.items) c.if-up.true old)
-    (subst (λ (b : Bool). IsLive b service c.args.sent.now (reverse c.args.account.now.history.items) c.args.pipe.now) c.if-up.true live))
+    goes n ops first is_call (subst (λ (b : Bool). IsPlaying b service 1 n c.args.sent.now ops c.args.history.now.items) c.if-up.true old)
+    (subst (λ (b : Bool). IsLive b service c.args.sent.now (reverse c.args.history.now.items) c.args.pipe.now) c.if-up.true live))
     c.call.ensures.goes
 
 pub returns-clause-goes : goal.returns-clause-goes
 returns-clause-goes g c n ops first is_call old live =
     let service = c.args.session.now.service in
-    turned_down (λ es. IsLive false service c.args.sent.now es c.args.pipe.now) service c.args.session.now.client n c.args.sent.now c.args.op ops c.args.ask c.args.account.now.history.items c.refuse_call.new.account.history.items c.args.account.now.lines.items c.refuse_call.new.account.lines.items
+    turned_down (λ es. IsLive false service c.args.sent.now es c.args.pipe.now) service n c.args.sent.now c.args.op ops c.args.ask c.args.history.now.items c.refuse_call.new.history.items
     first is_call (λ e past apart. live_kept service e apart past false c.args.sent.now c.args.pipe.now) (
-      subst (λ (b : Bool). IsPlaying b service c.args.session.now.client 1 n c.args.sent.now ops c.args.account.now.history.items c.args.account.now.lines.items) c.if-up.false old,
-      subst (λ (b : Bool). IsLive b service c.args.sent.now (reverse c.args.account.now.history.items) c.args.pipe.now) c.if-up.false live,
+      subst (λ (b : Bool). IsPlaying b service 1 n c.args.sent.now ops c.args.history.now.items) c.if-up.false old,
+      subst (λ (b : Bool). IsLive b service c.args.sent.now (reverse c.args.history.now.items) c.args.pipe.now) c.if-up.false live,
     ) c.in_ok-refuse_call.ensures

@@ -18,6 +18,6 @@ loop-op-preserved c =
       counted = omega (arith, c.loop-op.invariant.counted, longer);
       played = λ begun never.
           let is_call = next_is c.args.ops.items made rest left c.in-Some.op c.loop-op.number c.loop-op.invariant.split c.in-Some.ensures.steps.0 c.loop-op.invariant.counted in
-          turned_down (λ es. NeverLived service es) service c.args.name.now c.loop-op.number 0 (c.loop-op.number + 1) c.args.ops.items c.ask_of.result c.loop-op.account.history.items c.refuse_call.new.account.history.items
-          c.loop-op.account.lines.items c.refuse_call.new.account.lines.items refl (is_call ∙ ap Some c.ask_of.ensures.ask) (λ e past apart. never_kept service e apart past) (c.loop-op.invariant.played begun never) c.in_ok-refuse_call.ensures;
+          turned_down (λ es. NeverLived service es) service c.loop-op.number 0 (c.loop-op.number + 1) c.args.ops.items c.ask_of.result c.loop-op.history.items c.refuse_call.new.history.items
+          refl (is_call ∙ ap Some c.ask_of.ensures.ask) (λ e past apart. never_kept service e apart past) (c.loop-op.invariant.played begun never) c.in_ok-refuse_call.ensures;
     }

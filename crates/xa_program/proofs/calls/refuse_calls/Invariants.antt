@@ -7,6 +7,6 @@ invariant-loop-op l = record {
   split : l.yielded ++ l.op-iterator.rest.items ≡ l.fn.ops.items;
   built : All IsBuiltOp l.op-iterator.rest.items;
   counted : l.number ≡ length l.yielded;
-  played : IsPlaying false l.service l.name 1 0 0 l.fn.ops.items l.fn.account.history.items l.fn.account.lines.items → NeverLived l.service (reverse l.fn.account.history.items)
-      → IsPlaying false l.service l.name 1 l.number 0 l.fn.ops.items l.account.history.items l.account.lines.items × NeverLived l.service (reverse l.account.history.items);
+  played : IsPlaying false l.service 1 0 0 l.fn.ops.items l.fn.history.items → NeverLived l.service (reverse l.fn.history.items)
+      → IsPlaying false l.service 1 l.number 0 l.fn.ops.items l.history.items × NeverLived l.service (reverse l.history.items);
 }

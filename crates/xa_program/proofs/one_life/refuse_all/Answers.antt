@@ -8,7 +8,7 @@ use Rattle.xa_program.proofs.one_life.refuse_all.Goals as goal
 
 pub returns-in_default : goal.returns-in_default
 returns-in_default c begun never = (
-  subst (λ (all : List Client). IsLeaving false c.args.service.now all 0 c.args.account.now.history.items c.args.account.now.lines.items) (sym c.in_default.ensures) (begun [] 0 []),
+  subst (λ (all : List Client). IsLeaving false c.args.service.now all 0 c.args.history.now.items) (sym c.in_default.ensures) (begun 0 []),
   never,
 )
 
@@ -18,7 +18,7 @@ returns c =
     (λ noted begun never.
     let service = c.args.service.now in
     let client = c.in-Some.client in
-    let made = c.in_ok-refuse_calls.ensures (begun client.name 1 c.into_vec.result.items) never in
-    leaving_all (λ es. NeverLived service es) false service client c.args.script.clients 0 c.into_vec.result.items c.refuse_calls.new.account.history.items c.note_left.new.history.items c.refuse_calls.new.account.lines.items
+    let made = c.in_ok-refuse_calls.ensures (begun 1 c.into_vec.result.items) never in
+    leaving_all (λ es. NeverLived service es) false service client c.args.script.clients 0 c.into_vec.result.items c.refuse_calls.new.history.items c.note_left.new.history.items
     c.in-Some.ensures.alone c.into_vec.ensures (λ e past apart. never_kept service e apart past) made.0 made.1 noted)
     c.note_left.ensures

@@ -7,7 +7,7 @@ returns c =
     done_more c.note_closed.result _ _
     (λ noted.
     let service = c.args.service.now in
-    let begun = not_started service c.args.account.now.history.items c.note_not_started.new.history.items c.args.account.now.lines.items c.requires.booted c.requires.silent c.in_ok-note_not_started.ensures in
+    let begun = not_started service c.args.history.now.items c.note_not_started.new.history.items c.requires.booted c.in_ok-note_not_started.ensures in
     let made = c.in_ok-refuse_all.ensures begun.0 begun.1 in
-    done_without service c.args.script.clients 0 c.refuse_all.new.account.history.items c.refuse_all.new.account.lines.items c.requires.built c.note_closed.new.history.items made.0 made.1 noted)
+    done_without service c.args.script.clients 0 c.refuse_all.new.history.items c.requires.built c.note_closed.new.history.items made.0 made.1 noted)
     c.note_closed.ensures

@@ -6,12 +6,12 @@ use Rattle.xa_program.proofs.performing.live.Goals as goal
 
 pub returns-in-Ok : goal.returns-in-Ok
 returns-in-Ok g c starts starts_after quiet asked =
-    life_ends _ c.into_link.result c.serve-served.new.pipe (g.O.Sink.took c.args.out.now) (g.O.Sink.took c.print.new.out) (g.O.Sink.write_faults c.args.out.now) (g.O.Sink.write_faults c.print.new.out) starts starts_after
-    c.args.service.now c.args.script.clients c.serve-served.new.account.history.items c.print.result.history.items c.serve-served.new.account.lines.items c.print.result.lives.items c.print.result.status
+    life_ends _ c.into_link.result c.serve_and_tell-told.new.pipe (g.O.Sink.took c.args.out.now) (g.O.Sink.took c.print.new.out) (g.O.Sink.write_faults c.args.out.now) (g.O.Sink.write_faults c.print.new.out) starts starts_after
+    c.args.service.now c.args.script.clients c.serve_and_tell-told.new.history.items c.print.result.history.items c.in-Ok.lines c.print.result.lives.items c.print.result.status
     c.print.ensures.history
     (c.print.ensures.lives ∙ (c.keep_life.ensures ∙ ap (λ lives. lives ++ (record { server = record { 0 = 1 }; generation = record { 0 = 1 }; link = c.into_link.result }) ∷ []) c.requires.none))
     (record { took_is = c.into_link.ensures.took; gave_is = c.into_link.ensures.gave; left_is = c.into_link.ensures.left; reads_is = c.into_link.ensures.reads; writes_is = c.into_link.ensures.writes }) quiet asked
-    c.in-Ok.ensures c.print.ensures.printed
+    c.in-Ok.ensures.over c.in-Ok.ensures.said c.print.ensures.printed
 
 pub returns-in-Err : goal.returns-in-Err
 returns-in-Err g c starts starts_after quiet asked =

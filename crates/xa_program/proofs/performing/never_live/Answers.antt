@@ -7,8 +7,8 @@ use Rattle.xa_program.proofs.performing.never_live.Goals as goal
 pub returns-in-Ok : goal.returns-in-Ok
 returns-in-Ok g c starts starts_after rose asked =
     none_ends _ (g.O.Sink.took c.args.out.now) (g.O.Sink.took c.print.new.out) (g.O.Sink.write_faults c.args.out.now) (g.O.Sink.write_faults c.print.new.out) starts starts_after
-    c.args.service.now c.args.script.clients c.serve_none.new.account.history.items c.print.result.history.items c.serve_none.new.account.lines.items c.print.result.lives.items c.print.result.status
-    c.print.ensures.history (c.print.ensures.lives ∙ c.requires.none) rose asked c.in-Ok.ensures c.print.ensures.printed
+    c.args.service.now c.args.script.clients c.refuse_and_tell.new.history.items c.print.result.history.items c.in-Ok.lines c.print.result.lives.items c.print.result.status
+    c.print.ensures.history (c.print.ensures.lives ∙ c.requires.none) rose asked c.in-Ok.ensures.over c.in-Ok.ensures.said c.print.ensures.printed
 
 pub returns-in-Err : goal.returns-in-Err
 returns-in-Err g c starts starts_after rose asked =

@@ -1,4 +1,3 @@
-use xa_events::Event;
 use xa_types::{CallerId, Generation, QueueId, ServerId};
 
 /// The one client.
@@ -12,10 +11,3 @@ pub const QUEUE: QueueId = QueueId(1);
 
 /// The one life of the server.
 pub const LIFE: Generation = Generation(1);
-
-/// What a run has come to: its events, and the lines that are due to the output.
-#[derive(Drop)]
-pub struct Account {
-    pub history: Vec<Event>,
-    pub lines: Vec<u8>,
-}
