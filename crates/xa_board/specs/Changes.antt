@@ -48,26 +48,30 @@ withdrawals stamp version (row ∷ rest) =
 -- the board once all rows of the queue are withdrawn
 abbrev pub cleared : Stamp → ℕ → Standing → Standing
 cleared seen queue board =
-    record { first = board.first; entries = board.entries ++ withdrawals (larger seen board) (version_of board) (rows_on queue board.rows); rows = filter (λ row. not (is_on queue row)) board.rows }
+    record {
+      first = board.first;
+      entries = board.entries ++ withdrawals (larger seen board) (version_of board) (rows_on queue board.rows);
+      rows = filter (λ row. not (is_on queue row)) board.rows;
+    }
 
--- so many changes more would pass the last stamp
+-- what bars so many changes more: they would pass the last stamp, 2^63
 abbrev pub worn_by : ℕ → Stamp → Standing → Option BoardRefused
 worn_by count seen board = if nat_lt (2 ^ 63) (larger seen board + count) then Some (Worn (record { 0 = larger seen board })) else None
 
--- why a row isn't put where that row of its service and queue stands among those
+-- what bars a row, beside the row of its service and queue: that has another routine (TPEMATCH), or there is none and 256 rows stand (TPELIMIT)
 abbrev pub bars_put : Row → List Row → Option Row → Option BoardRefused
 bars_put row rows (Some standing) = if bytes_eq standing.routine row.routine then None else Some (Match standing.routine)
 bars_put row rows None = if length rows == 256 then Some Full else None
 
--- why a row isn't withdrawn
+-- what bars a withdrawal: there is no such row (TPENOENT)
 abbrev pub bars_withdrawal : Option Row → Option BoardRefused
 bars_withdrawal (Some standing) = None
 bars_withdrawal None = Some NoEnt
 
--- the first reason for which the row isn't advertised, where there is one
+-- why the row isn't advertised, by the first that bars it
 abbrev pub advertise_refused : Stamp → Row → Standing → Option BoardRefused
 advertise_refused seen row board = option_or (bars_put row board.rows (row_of row.service row.queue.0 board.rows)) (worn_by 1 seen board)
 
--- the first reason for which the service isn't withdrawn from the queue, where there is one
+-- why the service isn't withdrawn from the queue, by the first that bars it
 abbrev pub withdraw_refused : Stamp → List ℕ → ℕ → Standing → Option BoardRefused
 withdraw_refused seen service queue board = option_or (bars_withdrawal (row_of service queue board.rows)) (worn_by 1 seen board)
