@@ -11,9 +11,15 @@ pub struct Found {
 }
 
 impl Model for Found {
+    ghost use Rattle.std.specs.Prelude.{◌-◌, vec_len, vec_capacity};
     ghost use Rattle.xa_types.specs.Found.{FoundRows};
 
     ghost Value = { FoundRows };
 
-    ghost view = { λ found. record { version = found.version; stamp = found.stamp; rows = found.rows.items } };
+    ghost view = { λ found. record {
+      version = found.version;
+      stamp = found.stamp;
+      rows = found.rows.items;
+      room = vec_capacity found.rows - vec_len found.rows;
+    } };
 }

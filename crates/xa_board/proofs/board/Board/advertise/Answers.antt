@@ -1,0 +1,37 @@
+use Rattle.std.proofs.Common.{◌≡◌, ◌+◌, ◌<◌, ◌≤◌, [], ◌∷◌, ◌++◌, length, length-append, arith, ◌∙◌, sym, refl, None}
+use Rattle.xa_types.specs.Rows.{row_of}
+use Rattle.xa_events.specs.declared.event.Advertised.{Advertised}
+use Rattle.xa_board.specs.Changes.{without, bars_put}
+use Rattle.xa_board.specs.Kept.{standing_of}
+use Rattle.xa_board.proofs.Noted.{advertised-noted}
+use Rattle.xa_board.proofs.Room.{room-to_put}
+use Rattle.xa_board.proofs.board.Board.advertise.Goals as goal
+
+pub unreachable-requires : goal.unreachable-requires
+unreachable-requires c =
+    let free : bars_put c.args.row c.self.inside.rows.items (row_of c.args.row.service c.args.row.queue.0 c.self.inside.rows.items) ≡ None = rw (← c.deref.ensures.value) (sym c.put_refused.ensures ∙ c.in_default.is) in
+    let less = room-to_put c.args.row c.self.inside.rows.items c.self.invariant.board.few free in
+    let kept = c.take_out.ensures.rows in
+    grind (arith, less, kept, c.take_out.ensures.capacity, c.in_default-push.ensures.full, c.self.invariant.room)
+
+pub invariant_of-self-2 : goal.invariant_of-self-2
+invariant_of-self-2 c =
+    let old = standing_of c.self.inside in
+    let row = c.args.row in
+    let a : Advertised = record { by = c.args.by; op = c.args.op; service = row.service; queue = row.queue; routine = row.routine; version = c.version-version.result + 1 } in
+    let free : bars_put c.args.row c.self.inside.rows.items (row_of c.args.row.service c.args.row.queue.0 c.self.inside.rows.items) ≡ None = rw (← c.deref.ensures.value) (sym c.put_refused.ensures ∙ c.in_default.is) in
+    let few : length (without row.service row.queue.0 old.rows ++ row ∷ []) ≤ 256 = omega (arith, length-append (without row.service row.queue.0 old.rows) (row ∷ []), room-to_put row old.rows c.self.invariant.board.few free) in
+    record {
+      board = rw (c.note.ensures.first, c.reserve.ensures.first, c.in_ok-stamp.ensures.entries, c.reserve.ensures.entries, c.in-Ok.ensures.items, c.take_out.ensures.rows) (advertised-noted old c.in_ok-stamp.stamp a row refl refl refl c.self.invariant.board few);
+      first = c.self.invariant.first ∙ sym (c.note.ensures.first ∙ c.reserve.ensures.first);
+      room = omega (arith, c.push.ensures.capacity, c.take_out.ensures.capacity, c.self.invariant.room);
+    }
+
+pub returns-clause-board : goal.returns-clause-board
+returns-clause-board c =
+    let old = standing_of c.self.inside in
+    let row = c.args.row in
+    let a : Advertised = record { by = c.args.by; op = c.args.op; service = row.service; queue = row.queue; routine = row.routine; version = c.version-version.result + 1 } in
+    let free : bars_put c.args.row c.self.inside.rows.items (row_of c.args.row.service c.args.row.queue.0 c.self.inside.rows.items) ≡ None = rw (← c.deref.ensures.value) (sym c.put_refused.ensures ∙ c.in_default.is) in
+    let few : length (without row.service row.queue.0 old.rows ++ row ∷ []) ≤ 256 = omega (arith, length-append (without row.service row.queue.0 old.rows) (row ∷ []), room-to_put row old.rows c.self.invariant.board.few free) in
+    rw (c.note.ensures.first, c.reserve.ensures.first, c.in_ok-stamp.ensures.entries, c.reserve.ensures.entries, c.in-Ok.ensures.items, c.take_out.ensures.rows) (advertised-noted old c.in_ok-stamp.stamp a row refl refl refl c.self.invariant.board few)

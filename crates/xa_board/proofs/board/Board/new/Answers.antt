@@ -1,0 +1,12 @@
+use Rattle.std.proofs.Common.{◌≡◌, List, [], arith, sym, subst}
+use Rattle.xa_types.specs.declared.row.Row.{Row}
+use Rattle.xa_board.specs.Board.{ReadsAsNoted}
+use Rattle.xa_board.proofs.Noted.{new-noted}
+use Rattle.xa_board.proofs.board.Board.new.Goals as goal
+
+pub invariant_of-result : goal.invariant_of-result
+invariant_of-result c = record {
+  board = rw (c.new.ensures.first, c.new.ensures.entries, c.in_ok-rows.ensures.items) (new-noted c.args.first);
+  first = sym c.new.ensures.first;
+  room = omega (arith, c.in_ok-rows.ensures.capacity);
+}

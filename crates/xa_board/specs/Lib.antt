@@ -1,0 +1,4 @@
+pub mod Board
+pub mod Changes
+pub mod Reader
+pub mod Kept
