@@ -51,7 +51,7 @@ impl From<Worn> for BoardRefused {
 
 /// The board: the rows that stand, at most 256, in the order in which they were advertised, and the home in which its
 /// changes are noted. Its version is the number of its changes.
-#[derive(Debug, Drop)]
+#[derive(Drop)]
 pub struct Board {
     first: Stamp,
     home: Home,

@@ -9,7 +9,7 @@ use std::marker::Model;
 use xa_types::{Found, Name, NoMemory, Row, Stamp};
 
 /// Reads the board, and keeps what it found last, in room for 256 rows.
-#[derive(Debug, Drop)]
+#[derive(Drop)]
 pub struct Reader {
     found: Found,
     least: u64,

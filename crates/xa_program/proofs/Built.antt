@@ -1,13 +1,13 @@
 -- The calls of a script are tpcalls, and are few.
 use Rattle.std.proofs.Common.{◌≡◌, ℕ, zero, suc, ◌+◌, ◌-◌, ◌<◌, ◌≤◌, ◌^◌, List, [], ◌∷◌, length, drop, Option, Some, None, inl, inr, refl, sym, subst, arith, length-drop}
-use Rattle.std.specs.Prelude.{All}
+use Rattle.std.specs.Prelude.{All, ⊤}
 use Rattle.std.specs.List.{position}
 use Rattle.std.specs.Str.Lines.{lines}
 use Rattle.std.proofs.lemmas.List.Elements.{All-cons}
 use Rattle.xa_types.specs.declared.call.Op.{Op}
 use Rattle.xa_script.specs.declared.script.Client.{Client}
 use Rattle.xa_program.specs.Progress.{IsBuiltOp, IsBuiltScript}
-use Rattle.xa_script.specs.Script.{Reads, ReadsCalls}
+use Rattle.xa_script.specs.Script.{IsCallLine, Reads, IsScriptOf}
 use Rattle.xa_script.specs.Draft.{is_line_end}
 use Rattle.xa_script.proofs.ScriptCut.{lines_at, lines_last}
 
@@ -30,25 +30,45 @@ lines_within (suc n) (x ∷ rest) small = lines_from (x ∷ rest) (omega arith) 
 pub few_lines : (octets : List ℕ) → length (lines octets) ≤ length octets
 few_lines octets = lines_within (length octets) octets (omega arith)
 
--- each call is a tpcall without a kind of buffer, and there are no more than lines
-calls_built : (all : List (List ℕ)) (ops : List Op) → ReadsCalls all ops → All IsBuiltOp ops × (length ops ≤ length all)
-calls_built [] ops reads = subst (λ (os : List Op). All IsBuiltOp os × (length os ≤ 0)) (sym reads) ((λ k d low. absurd (omega arith)), omega arith)
-calls_built (line ∷ rest) ops (inl skipped) =
-    let more = calls_built rest ops skipped.1 in
-    (more.0, omega (arith, more.1))
-calls_built (line ∷ rest) ops (inr said) =
-    let op = said.0 in
-    let tail = said.1 in
-    let call = said.3 in
-    let more = calls_built rest tail said.4 in
-    let this : IsBuiltOp op = subst (λ (o : Op). IsBuiltOp o) (sym call.4) refl in
-    subst (λ (os : List Op). All IsBuiltOp os × (length os ≤ length (line ∷ rest))) (sym said.2)
-    (All-cons IsBuiltOp op tail this more.0, omega (arith, more.1))
+-- each call is a tpcall without a kind of buffer, and there are so many at most
+abbrev AreBuilt : ℕ → List Op → Type 0
+AreBuilt most ops = All IsBuiltOp ops × (length ops ≤ most)
 
-pub script_built : (all : List (List ℕ)) (clients : List Client) → length all < 2 ^ 32 → Reads all clients → IsBuiltScript clients
-script_built [] clients few reads = subst (λ (cs : List Client). IsBuiltScript cs) (sym reads) tt
-script_built (line ∷ rest) clients few (inl skipped) = script_built rest clients (omega arith) skipped.1
-script_built (line ∷ rest) clients few (inr said) =
-    let calls = calls_built rest said.1 said.4 in
-    let small : length said.1 < 2 ^ 32 = omega (arith, calls.1) in
-    subst (λ (cs : List Client). IsBuiltScript cs) (sym said.2) (calls.0, small)
+abbrev HaveBuilt : ℕ → List Client → Type 0
+HaveBuilt most [] = ⊤
+HaveBuilt most (client ∷ clients) = AreBuilt most client.ops × HaveBuilt most clients
+
+none_built : (most : ℕ) → AreBuilt most []
+none_built most = (λ k d low. absurd (omega arith), omega arith)
+
+one_built : (most : ℕ) (line : List ℕ) (op : Op) (ops : List Op) → IsCallLine op line → AreBuilt most ops → AreBuilt (suc most) (op ∷ ops)
+one_built most line op ops call built =
+    let this : IsBuiltOp op = subst IsBuiltOp (sym call.4) refl in
+    let few = built.1 in
+    (All-cons IsBuiltOp op ops this built.0, omega (arith, few))
+
+more_built : (less most : ℕ) (ops : List Op) → less ≤ most → AreBuilt less ops → AreBuilt most ops
+more_built less most ops low built = let few = built.1 in (built.0, omega (arith, few, low))
+
+-- no client has more calls than there are lines
+reads_built : (most : ℕ) (all : List (List ℕ)) (ops : List Op) (clients : List Client) → length all ≤ most → Reads all ops clients → AreBuilt (length all) ops × HaveBuilt most clients
+reads_built most [] ops clients low reads =
+    (subst (AreBuilt 0) (sym reads.0) (none_built 0), subst (HaveBuilt most) (sym reads.1) tt)
+reads_built most (line ∷ rest) ops clients low (inl skipped) =
+    let more = reads_built most rest ops clients (omega (arith, low)) skipped.1 in
+    (more_built (length rest) (length (line ∷ rest)) ops (omega arith) more.0, more.1)
+reads_built most (line ∷ rest) ops clients low (inr (inl call)) =
+    let more = reads_built most rest call.1 clients (omega (arith, low)) call.4 in
+    (subst (AreBuilt (length (line ∷ rest))) (sym call.2) (one_built (length rest) line call.0 call.1 call.3 more.0), more.1)
+reads_built most (line ∷ rest) ops clients low (inr (inr begun)) =
+    let more = reads_built most rest begun.1 begun.2 (omega (arith, low)) begun.7 in
+    let calls = more_built (length rest) most begun.1 (omega (arith, low)) more.0 in
+    (subst (AreBuilt (length (line ∷ rest))) (sym begun.3) (none_built (length (line ∷ rest))), subst (HaveBuilt most) (sym begun.4) (calls, more.1))
+
+pub script_built : (all : List (List ℕ)) (clients : List Client) → length all < 2 ^ 32 → IsScriptOf 1 all clients → IsBuiltScript clients
+script_built all [] few script = tt
+script_built all (client ∷ []) few script =
+    let built = (reads_built (length all) all [] (client ∷ []) (omega arith) script.reads).1.0 in
+    let calls = built.1 in
+    (built.0, omega (arith, calls, few))
+script_built all (client ∷ other ∷ clients) few script = let one = script.few in absurd (omega (arith, one))

@@ -34,7 +34,7 @@ same_octets input octets came whole (inr (before, gave, gave_after)) =
 
 pub nothing_else : (L S : Type 0) (tells : LinkTells L) (shows : S → StarterShows) (streams : Streams) (service : List ℕ) (status : Status) (history : List Event) (lives : List (Life L)) (starters : List S)
     (octets : List ℕ) (script : Script) → PlayEnds tells shows streams service status history lives starters
-    → Tells streams.input octets → length octets ≤ longest_script → IsScript octets script
+    → Tells streams.input octets → length octets ≤ longest_script → IsScript 1 octets script
     → (Rose streams.reads_before streams.reads_after → ⊥) → (Rose streams.writes_before streams.writes_after → ⊥) → (status ≡ Done) ⊎ (status ≡ NoMemory)
 nothing_else L S tells shows streams service Done history lives starters octets script ends told short is_script reads writes = inl refl
 nothing_else L S tells shows streams service NoMemory history lives starters octets script ends told short is_script reads writes = inr refl
@@ -43,7 +43,7 @@ nothing_else L S tells shows streams service ScriptRead history lives starters o
 nothing_else L S tells shows streams service (TooLong inputs.Script) history lives starters octets script ends told short is_script reads writes =
     absurd (not_over streams.input octets ends.0 told short)
 nothing_else L S tells shows streams service (BadLine line cause) history lives starters octets script ends told short is_script reads writes =
-    let fault = ends.1 in
+    let fault = ends.0 in
     let same = same_octets streams.input octets fault.0 fault.1 told in
-    absurd (no_fault octets line script is_script (subst (λ (o : List ℕ). IsFirstFault o line) (sym same) fault.3))
+    absurd (no_fault 1 octets line cause script.clients is_script (subst (λ (o : List ℕ). IsFirstFault 1 o line cause) (sym same) fault.3))
 nothing_else L S tells shows streams service status history lives starters octets script ends told short is_script reads writes = absurd ends

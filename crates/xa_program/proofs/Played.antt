@@ -197,7 +197,7 @@ refused_ends : {L S : Type 0} (tells : LinkTells L) (shows : S → StarterShows)
     → ScriptRefusedAs streams.input streams.reads_before streams.reads_after status → IsSilent streams → HandsNothing history lives starters → PlayEnds tells shows streams service status history lives starters
 refused_ends tells shows streams service ScriptRead history lives starters why silent nothing = (why, silent)
 refused_ends tells shows streams service (TooLong inputs.Script) history lives starters why silent nothing = (why.0, why.1, silent)
-refused_ends tells shows streams service (BadLine line cause) history lives starters why silent nothing = (why.0, why.1, why.2, silent)
+refused_ends tells shows streams service (BadLine line cause) history lives starters why silent nothing = (why.0, why.1, silent)
 refused_ends tells shows streams service NoMemory history lives starters why silent nothing = (why, silent, inl nothing)
 refused_ends tells shows streams service status history lives starters why silent nothing = absurd why
 

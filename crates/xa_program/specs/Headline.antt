@@ -86,13 +86,13 @@ pub record IsCarried {L S : Type 0} (tells : LinkTells L) (shows : S → Starter
 abbrev pub longest_script : ℕ
 longest_script = 1_048_576
 
--- what came from the input is a script with these clients, and not too long
+-- what came from the input is a script with these clients, of whom there is one at most, and not too long
 abbrev pub IsTheScript : InputTells → List Client → Type 0
-IsTheScript input clients = (octets : List ℕ) × CameWhole input octets × (length octets ≤ longest_script) × IsScript octets (record { clients = clients })
+IsTheScript input clients = (octets : List ℕ) × CameWhole input octets × (length octets ≤ longest_script) × IsScript 1 octets (record { clients = clients })
 
--- what came from the input isn't too long, and its first line at fault is that one
-abbrev pub HasFirstFault : InputTells → ℕ → Type 0
-HasFirstFault input line = (octets : List ℕ) × CameWhole input octets × (length octets ≤ longest_script) × IsFirstFault octets line
+-- what came from the input isn't too long, and its first line at fault, where one client may be, is that one with that least cause
+abbrev pub HasFirstFault : InputTells → ℕ → ℕ → Type 0
+HasFirstFault input line cause = (octets : List ℕ) × CameWhole input octets × (length octets ≤ longest_script) × IsFirstFault 1 octets line cause
 
 -- what the input and the output show of a run: what the input tells of its octets, what the output took, and how often a read or a write
 -- failed
@@ -159,7 +159,7 @@ PlayEnds tells shows streams service WriteFault history lives starters =
     × GrewByPart streams.took_before streams.took_after (transcript (names_of clients) (reverse history)) × Rose streams.writes_before streams.writes_after
 PlayEnds tells shows streams service ScriptRead history lives starters = Rose streams.reads_before streams.reads_after × IsSilent streams
 PlayEnds tells shows streams service (TooLong inputs.Script) history lives starters = CameOver streams.input longest_script × ReadsWell streams × IsSilent streams
-PlayEnds tells shows streams service (BadLine line cause) history lives starters = (cause ≡ 9) × HasFirstFault streams.input line × ReadsWell streams × IsSilent streams
+PlayEnds tells shows streams service (BadLine line cause) history lives starters = HasFirstFault streams.input line cause × ReadsWell streams × IsSilent streams
 PlayEnds tells shows streams service NoMemory history lives starters =
     ReadsWell streams × IsSilent streams
     × (HandsNothing history lives starters ⊎ ((clients : List Client) × IsTheScript streams.input clients × IsBeginning shows (play_setup service) clients history lives starters))

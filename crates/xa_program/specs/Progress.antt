@@ -278,6 +278,6 @@ Printed before after writes writes_after lines status = ⊥
 abbrev pub ScriptRefusedAs : InputTells → ℕ → ℕ → Status → Type 0
 ScriptRefusedAs input reads reads_after ScriptRead = Rose reads reads_after
 ScriptRefusedAs input reads reads_after (TooLong inputs.Script) = CameOver input longest_script × (reads_after ≡ reads)
-ScriptRefusedAs input reads reads_after (BadLine line cause) = (cause ≡ 9) × HasFirstFault input line × (reads_after ≡ reads)
+ScriptRefusedAs input reads reads_after (BadLine line cause) = HasFirstFault input line cause × (reads_after ≡ reads)
 ScriptRefusedAs input reads reads_after NoMemory = reads_after ≡ reads
 ScriptRefusedAs input reads reads_after status = ⊥

@@ -1,8 +1,7 @@
 // The top call.
-ghost use Rattle.std.specs.Prelude.{◌≡◌, ◌⊎◌, ◌≤◌, ◌↔◌, [], ℕ, List, map, string_bytes, None, Some, All, IfSome, IfOk, IfErr, OnOk, OnErr, length};
+ghost use Rattle.std.specs.Prelude.{◌≡◌, ◌⊎◌, ◌≤◌, ◌↔◌, [], true, ℕ, List, map, string_bytes, None, Some, IfOk, IfErr, OnOk, length};
 ghost use Rattle.xa_link.specs.Told.{Rose};
-ghost use Rattle.xa_link.specs.Starts.{AsksStarters};
-ghost use Rattle.xa_play.specs.PlaySetup.{play_setup};
+ghost use Rattle.xa_types.specs.Configured.{is_configured};
 ghost use Rattle.xa_script.specs.declared.script.Script.{Script};
 ghost use Rattle.xa_script.specs.Script.{IsScript};
 ghost use Rattle.xa_program.specs.declared.words.Command.TheVariants.{Play, Server};
@@ -21,8 +20,8 @@ use crate::words::{Command, read_words};
 use std::alloc::Global;
 use xa_link::{Gate, Shelf, ShelfRefused, Sink, Source, Yard, read_all};
 use xa_play::play_setup;
-use xa_script::{Script, ScriptRefused, read_script};
-use xa_types::{Name, NoMemory};
+use xa_script::{Script, ScriptRefused, read_upto};
+use xa_types::{Name, NoMemory, Setup};
 
 /// How many octets a script may have.
 const LONGEST_SCRIPT: usize = 1_048_576;
@@ -71,7 +70,7 @@ pub fn run<R, S: Shelf, I: Source, O: Sink, Y: Yard, G: Gate>(
     // Where the input tells octets that are a script and not too long, and neither it nor the output fails, `play` ends with Done or
     // NoMemory. That they don't fail is that their counts don't rise: where a count stands at 2^64 - 1 this says nothing.
     ensures complete { (service : List ℕ) (octets : List ℕ) (script : Script) → command_in (map string_bytes words.now) ≡ Some (Play service)
-        → Tells (record { left = I.left input.old; left_after = I.left input.new; gave = I.gave input.old; gave_after = I.gave input.new }) octets → length octets ≤ longest_script → IsScript octets script
+        → Tells (record { left = I.left input.old; left_after = I.left input.new; gave = I.gave input.old; gave_after = I.gave input.new }) octets → length octets ≤ longest_script → IsScript 1 octets script
         → (Rose (I.read_faults input.old) (I.read_faults input.new) → ⊥) → (Rose (O.write_faults out.old) (O.write_faults out.new) → ⊥)
         → (result.status ≡ Status.Done) ⊎ (result.status ≡ Status.NoMemory) }
 
@@ -138,10 +137,11 @@ fn nothing<Y: Yard>(alloc: Global, status: Status) -> Outcome<Y>
     }
 }
 
-// The script that the input holds, to its end, and the octets that it had.
-fn script_of<I: Source>(alloc: Global, input: &mut I) -> Result<(Script, Vec<u8>), Status>
-    ensures script { IfOk result (λ read. IsTheScript (record { left = I.left input.old; left_after = I.left input.new; gave = I.gave input.old; gave_after = I.gave input.new }) read.0.clients) }
-    ensures built { IfOk result (λ read. IsBuiltScript read.0.clients) }
+// The script of at most one client that the input holds, to its end.
+fn script_of<I: Source>(alloc: Global, setup: &Setup, input: &mut I) -> Result<Script, Status>
+    requires { is_configured setup.now ≡ true }
+    ensures script { IfOk result (λ script. IsTheScript (record { left = I.left input.old; left_after = I.left input.new; gave = I.gave input.old; gave_after = I.gave input.new }) script.clients) }
+    ensures built { IfOk result (λ script. IsBuiltScript script.clients) }
     ensures quiet { OnOk result (I.read_faults input.new ≡ I.read_faults input.old) }
     ensures refused { IfErr result (ScriptRefusedAs (record { left = I.left input.old; left_after = I.left input.new; gave = I.gave input.old; gave_after = I.gave input.new }) (I.read_faults input.old) (I.read_faults input.new)) }
 {
@@ -151,8 +151,8 @@ fn script_of<I: Source>(alloc: Global, input: &mut I) -> Result<(Script, Vec<u8>
         Err(ShelfRefused::TooLong) => return Err(Status::TooLong(Input::Script)),
         Err(ShelfRefused::NoMemory) => return Err(Status::NoMemory),
     };
-    match read_script(alloc, octets.as_slice()) {
-        Ok(script) => Ok((script, octets)),
+    match read_upto(alloc, octets.as_slice(), setup, 1) {
+        Ok(script) => Ok(script),
         Err(ScriptRefused::BadLine { line, cause }) => Err(Status::BadLine { line, cause }),
         Err(ScriptRefused::NoMemory) => Err(Status::NoMemory),
     }
@@ -179,11 +179,14 @@ fn play<I: Source, O: Sink, Y: Yard>(
     ensures yard { AsksYard (Some (Play service.now)) result.status (Y.asked yard.old) (Y.asked yard.new) }
     ensures early { EndsEarly result.status result.history.items result.lives.items result.starters.items }
 {
-    let (script, _) = match script_of(alloc, input) {
-        Ok(read) => read,
+    let Ok(setup) = play_setup(alloc, service) else {
+        return nothing(alloc, Status::NoMemory);
+    };
+    let script = match script_of(alloc, &setup, input) {
+        Ok(script) => script,
         Err(status) => return nothing(alloc, status),
     };
-    match starters_of(alloc, service, yard) {
+    match yard.starters(&setup) {
         Ok(mut starters) => {
             let Served {
                 status,
@@ -199,19 +202,4 @@ fn play<I: Source, O: Sink, Y: Yard>(
         }
         Err(NoMemory) => nothing(alloc, Status::NoMemory),
     }
-}
-
-fn starters_of<Y: Yard>(
-    alloc: Global,
-    service: &Name,
-    yard: &mut Y,
-) -> Result<Vec<Y::Start>, NoMemory>
-    ensures one { IfOk result (λ starters. length starters.items ≡ 1) }
-    ensures counts { IfOk result (λ starters. All (λ s. Y.Start.start_faults s ≡ 0) starters.items) }
-    ensures none { IfOk result (λ starters. All (λ s. IfSome (Y.Start.asked s) (λ starts. starts ≡ [])) starters.items) }
-    ensures asked { OnOk result (AsksStarters (Y.asked yard.old) (Y.asked yard.new) (play_setup service.now)) }
-    ensures starved { OnErr result (Y.asked yard.new ≡ Y.asked yard.old) }
-{
-    let setup = play_setup(alloc, service)?;
-    yard.starters(&setup)
 }

@@ -4,14 +4,14 @@ use Rattle.std.proofs.lemmas.Bool.{eqb-true, eqb-false, ne_eqb, leb-true, le-leb
 use Rattle.std.proofs.lemmas.Slice.Eq.{bytes_eq-Decides}
 use Rattle.std.specs.List.{list_all, flat_map}
 use Rattle.std.specs.Str.{bytes_eq}
-use Rattle.xa_types.specs.Name.{IsName, is_name, is_graphic, begins_with_dot}
+use Rattle.xa_types.specs.Name.{IsName, is_graphic, begins_with_dot}
 use Rattle.xa_types.specs.declared.call.Op.{Op}
 use Rattle.xa_types.specs.declared.data.Data.{Data}
 use Rattle.xa_types.specs.declared.data.Data.TheVariants.{Absent, Octet, Struct}
-use Rattle.xa_script.specs.Script.{spaces, IsEnd, HasWords, is_printed, escaped, quoted, IsSkipped, IsClientLine, IsWritten, data_words, call_with, IsServiceWord, IsCallLine}
-use Rattle.xa_script.specs.ScriptLine.{skip_spaces, is_blank, is_skipped, next_word, strip_word, text_in_front, ended, quoted_from, quoted_in, payload_in, call_in, client_in, is_plain}
+use Rattle.xa_script.specs.Script.{spaces, IsEnd, HasWords, is_printed, IsPrinted, escaped, quoted, is_plain, IsWord, IsSkipped, IsClientLine, IsWritten, data_words, call_with, IsServiceWord, IsCallLine}
+use Rattle.xa_script.specs.ScriptLine.{skip_spaces, is_blank, is_skipped, next_word, strip_word, text_in_front, ended, quoted_from, quoted_in, payload_in, call_in, client_in}
 use Rattle.xa_script.proofs.ScriptText.{some_is, or_false, written, text_again, text_takes, printed_text}
-use Rattle.xa_script.proofs.ScriptWords.{and_true, skips, skipped, plain, IsWord, next_word_plain, next_word_takes, words_take, words_again, word_found, word_missed, blank_takes, blank_again, skipped_takes, skipped_again, not_skipped, printed_words, printed_parts, printed-append}
+use Rattle.xa_script.proofs.ScriptWords.{and_true, skips, skipped, plain, next_word_plain, next_word_takes, words_take, words_again, word_found, word_missed, blank_takes, blank_again, skipped_takes, skipped_again, not_skipped, printed_words, printed_parts, printed-append}
 
 pub data Line : Type 0 where
   Skipped : Line
@@ -30,7 +30,7 @@ line_of line =
 -- what the line says
 abbrev pub Says : List ℕ → Line → Type 0
 Says line Skipped = IsSkipped line
-Says line (Client name) = IsClientLine name line
+Says line (Client word) = IsPrinted line × IsClientLine word line
 Says line (Call op) = IsCallLine op line
 
 pub chosen : {A : Type 0} (b : Bool) (x y z : A) → cond b x y ≡ z → ((b ≡ true) × (x ≡ z)) ⊎ ((b ≡ false) × (y ≡ z))
@@ -43,6 +43,10 @@ mapped f (Some x) y h = (x, refl, some_is (f x) y h)
 
 pub some_of_none : {A : Type 0} (x : A) → None ≡ Some x → ⊥
 some_of_none x h = cc
+
+not_false : (b : Bool) → not b ≡ false → b ≡ true
+not_false true h = refl
+not_false false h = absurd cc
 
 -- the quoted text
 
@@ -176,7 +180,7 @@ payload_again xs (Octet text) written has =
     ap payload_of found.1 ∙ quoted_again found.0 text found.2
 payload_again xs (Struct subtype octets) written has = absurd written
 
--- names
+-- words
 
 graphic_plain : (x : ℕ) → is_graphic x ≡ true → is_plain x ≡ true
 graphic_plain x h =
@@ -200,15 +204,6 @@ name_graphic : (name : List ℕ) → IsName name → list_all is_graphic name �
 name_graphic name h =
     (and_true (list_all is_graphic name) (not (begins_with_dot name))
     (and_true (nat_le 1 (length name) && nat_le (length name) 31) (list_all is_graphic name && not (begins_with_dot name)) h).1).0
-
-pub name_is_word : (name : List ℕ) → IsName name → IsWord name
-name_is_word name h =
-    let sized = (and_true (nat_le 1 (length name) && nat_le (length name) 31) (list_all is_graphic name && not (begins_with_dot name)) h).0 in
-    let low = leb-true 1 (length name) (and_true (nat_le 1 (length name)) (nat_le (length name) 31) sized).0 in
-    record { some = omega (arith, low); plain = all_so is_graphic is_plain graphic_plain name (name_graphic name h) }
-
-pub name_printed : (name : List ℕ) → IsName name → list_all is_printed name ≡ true
-name_printed name h = all_so is_graphic is_printed graphic_printed name (name_graphic name h)
 
 -- a call
 
@@ -279,23 +274,31 @@ call_again service xs payload is written has =
 
 -- a client
 
-pub client_takes : (xs name : List ℕ) → client_in xs ≡ Some name → IsName name × HasWords (name ∷ []) xs
-unfolding client_in
-client_takes xs name h = elim (chosen (is_blank (next_word xs).1 && is_name (next_word xs).0) (Some (next_word xs).0) None (Some name) h) [
-  | inl p ↦
-      let both = and_true (is_blank (next_word xs).1) (is_name (next_word xs).0) p.0 in
-      subst (λ w. IsName w × HasWords (w ∷ []) xs) (some_is (next_word xs).0 name p.1) (both.1, words_take xs [] (blank_takes (next_word xs).1 both.0))
-  | inr p ↦ absurd (some_of_none name p.1)
+is_no_word : List ℕ × List ℕ → Bool
+is_no_word word = length word.0 == 0 || not (is_blank word.1)
+
+pub client_takes : (xs word : List ℕ) → client_in xs ≡ Some word → IsWord word × HasWords (word ∷ []) xs
+unfolding client_in is_no_word
+client_takes xs word h = elim (chosen (is_no_word (next_word xs)) None (Some (next_word xs).0) (Some word) h) [
+  | inl p ↦ absurd (some_of_none word p.1)
+  | inr p ↦
+      let both = or_false (length (next_word xs).0 == 0) (not (is_blank (next_word xs).1)) p.0 in
+      let some = eqb-false (length (next_word xs).0) 0 both.0 in
+      let is : IsWord (next_word xs).0 = record { some = omega (arith, some); plain = next_word_plain xs } in
+      subst (λ w. IsWord w × HasWords (w ∷ []) xs) (some_is (next_word xs).0 word p.1)
+      (is, words_take xs [] (blank_takes (next_word xs).1 (not_false (is_blank (next_word xs).1) both.1)))
 ]
 
 abbrev client_of : List ℕ × List ℕ → Option (List ℕ)
-client_of word = cond (is_blank word.1 && is_name word.0) (Some word.0) None
+client_of word = cond (length word.0 == 0 || not (is_blank word.1)) None (Some word.0)
 
-pub client_again : (xs name : List ℕ) → IsName name → HasWords (name ∷ []) xs → client_in xs ≡ Some name
+pub client_again : (xs word : List ℕ) → IsWord word → HasWords (word ∷ []) xs → client_in xs ≡ Some word
 unfolding client_in
-client_again xs name named has =
-    let found = words_again xs name [] has (name_is_word name named) in
-    ap client_of found.1 ∙ ap (λ b. cond (b && is_name name) (Some name) None) (blank_again found.0 found.2) ∙ ap (λ b. cond b (Some name) None) named
+client_again xs word is has =
+    let found = words_again xs word [] has is in
+    let some = is.some in
+    ap client_of found.1 ∙ ap (λ b. cond (b || not (is_blank found.0)) None (Some word)) (ne_eqb (length word) 0 (λ e. absurd (omega (arith, some, e))))
+    ∙ ap (λ b. cond (not b) None (Some word)) (blank_again found.0 found.2)
 
 -- a line
 
@@ -311,7 +314,7 @@ word_takes line said printed h = elim (chosen (bytes_eq (next_word line).0 (code
           let made = mapped (λ name. Client name) (client_in (next_word line).1) said p.1 in
           let found = client_takes (next_word line).1 made.0 made.1 in
           let word = (bytes_eq-Decides (next_word line).0 (codes "client")).0 p.0 in
-          subst (Says line) made.2 (found.0, subst (λ w. HasWords (w ∷ made.0 ∷ []) line) word (words_take line (made.0 ∷ []) found.1))
+          subst (Says line) made.2 (printed, (found.0, subst (λ w. HasWords (w ∷ made.0 ∷ []) line) word (words_take line (made.0 ∷ []) found.1)))
       | inr q ↦ elim (chosen (bytes_eq (next_word line).0 (codes "call")) (option_map (λ op. Call op) (call_in (next_word line).1)) None (Some said) q.1) [
         | inl p ↦
             let made = mapped (λ op. Call op) (call_in (next_word line).1) said p.1 in
@@ -328,10 +331,6 @@ printed_takes line said printed h = elim (chosen (is_skipped line) (Some Skipped
   | inl p ↦ subst (Says line) (some_is Skipped said p.1) (printed, skipped_takes line p.0)
   | inr p ↦ word_takes line said printed p.1
 ]
-
-not_false : (b : Bool) → not b ≡ false → b ≡ true
-not_false true h = refl
-not_false false h = absurd cc
 
 -- what is read is what the line says
 pub line_takes : (line : List ℕ) (said : Line) → line_of line ≡ Some said → Says line said
@@ -362,13 +361,12 @@ data_printed (Struct subtype octets) written = absurd written
 -- what the line says is what is read
 pub line_again : (line : List ℕ) (said : Line) → Says line said → line_of line ≡ Some said
 line_again line Skipped says = skipped_line line says.0 (skipped_again line says.1)
-line_again line (Client name) says =
-    let words = codes "client" ∷ name ∷ [] in
-    let found = words_again line (codes "client") (name ∷ []) says.1 (record { some = omega arith; plain = refl }) in
-    let printed = printed_words words line says.1 (ap (λ b. b && true) (name_printed name says.0)) in
-    let unmarked = ap is_skipped says.1.2 ∙ not_skipped says.1.0 99 (codes "lient") says.1.1 refl refl in
-    unskipped line (Client name) printed unmarked
-    (ap said_by found.1 ∙ ap (option_map (λ other. Client other)) (client_again found.0 name says.0 found.2))
+line_again line (Client word) says =
+    let has = says.1.1 in
+    let found = words_again line (codes "client") (word ∷ []) has (record { some = omega arith; plain = refl }) in
+    let unmarked = ap is_skipped has.2 ∙ not_skipped has.0 99 (codes "lient") has.1 refl refl in
+    unskipped line (Client word) says.0 unmarked
+    (ap said_by found.1 ∙ ap (option_map (λ other. Client other)) (client_again found.0 word says.1.0 found.2))
 line_again line (Call op) says =
     let service = says.0 in
     let payload = says.1 in
@@ -380,3 +378,17 @@ line_again line (Call op) says =
     unskipped line (Call op) printed unmarked
     (ap said_by found.1 ∙ ap (option_map (λ other. Call other)) (call_again service found.0 payload says.2 says.3 found.2)
     ∙ ap (λ other. Some (Call other)) (sym says.4))
+
+-- a line that says something is printed
+pub line_printed : (line : List ℕ) (said : Line) → line_of line ≡ Some said → list_all is_printed line ≡ true
+unfolding line_of
+line_printed line said h =
+    elim (chosen (not (list_all is_printed line)) None (cond (is_skipped line) (Some Skipped) (said_by (next_word line))) (Some said) h) [
+      | inl p ↦ absurd (some_of_none said p.1)
+      | inr p ↦ not_false (list_all is_printed line) p.0
+    ]
+
+-- so is a client's line whose word is a name
+pub client_printed : (line name : List ℕ) → IsName name → IsClientLine name line → IsPrinted line
+client_printed line name named is =
+    printed_words (codes "client" ∷ name ∷ []) line is.1 (ap (λ b. b && true) (all_so is_graphic is_printed graphic_printed name (name_graphic name named)))

@@ -1,5 +1,5 @@
 -- Words and the spaces between them: what reading the next word gives.
-use Rattle.std.proofs.Common.{◌≡◌, ℕ, zero, suc, ◌+◌, ◌<◌, ◌==◌, ◌&&◌, not, Bool, true, false, cond, ◌⊎◌, List, [], ◌∷◌, ◌++◌, length, take, drop, refl, ap, sym, ◌∙◌, subst, append_assoc, append-nil, inl, inr, codes, Some, None, arith}
+use Rattle.std.proofs.Common.{◌≡◌, ℕ, zero, suc, ◌+◌, ◌==◌, ◌&&◌, not, Bool, true, false, cond, ◌⊎◌, List, [], ◌∷◌, ◌++◌, length, take, drop, refl, ap, sym, ◌∙◌, subst, append_assoc, append-nil, inl, inr, codes, Some, None, arith}
 use Rattle.std.proofs.lemmas.Bool.{eqb-true, eq-eqb, ne_eqb}
 use Rattle.std.proofs.lemmas.List.{take-append-drop, nil_from_length}
 use Rattle.std.proofs.lemmas.List.Folds.{list_all-append}
@@ -7,8 +7,8 @@ use Rattle.std.proofs.lemmas.Slice.Eq.{bytes_eq-Decides}
 use Rattle.std.proofs.Math.Seq.{take-append_seam, drop-append_seam}
 use Rattle.std.specs.List.{list_all, before_first, position_or_len}
 use Rattle.std.specs.Str.{bytes_eq}
-use Rattle.xa_script.specs.Script.{spaces, IsEnd, HasWords, is_printed}
-use Rattle.xa_script.specs.ScriptLine.{skip_spaces, is_space, is_plain, is_blank, is_skipped, behind_word, next_word, strip_word}
+use Rattle.xa_script.specs.Script.{spaces, IsEnd, HasWords, is_printed, is_space, is_plain, IsWord}
+use Rattle.xa_script.specs.ScriptLine.{skip_spaces, is_blank, is_skipped, behind_word, next_word, strip_word}
 
 pub and_true : (a b : Bool) → (a && b) ≡ true → (a ≡ true) × (b ≡ true)
 and_true true b h = (refl, h)
@@ -58,14 +58,9 @@ split_at_word word rest h end =
     ap (λ n. parted (take n (word ++ rest)) (drop n (word ++ rest))) (place word rest h end)
     ∙ ap (λ t. parted t (drop (length word) (word ++ rest))) (take-append_seam word rest) ∙ ap (λ t. parted word t) (drop-append_seam word rest)
 
--- a word of a line: not empty, and without a space
-pub record IsWord (word : List ℕ) : Type 0 where
-  pub some : 0 < length word
-  pub plain : list_all is_plain word ≡ true
-
 pub next_word_again : (n : ℕ) (word rest : List ℕ) → IsWord word → IsEnd rest → next_word (spaces n ++ word ++ rest) ≡ parted word rest
 unfolding next_word
-next_word_again n [] rest h end = absurd (omega (arith, h.some))
+next_word_again n [] rest h end = let some = h.some in absurd (omega (arith, some))
 next_word_again n (x ∷ word) rest h end =
     let both = and_true (is_plain x) (list_all is_plain word) h.plain in
     ap (λ ys. parted (before_first is_space ys) (behind_word ys)) (skips_to n x word rest both.0) ∙ split_at_word (x ∷ word) rest h.plain end

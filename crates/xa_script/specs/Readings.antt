@@ -1,23 +1,28 @@
--- What the reader of scripts tells, and that octets have one reading at most.
+-- What the reader of scripts tells, and that octets have one reading, or else one first fault.
 use Rattle.std.specs.Prelude.{ℕ, ◌≡◌, List, ⊤}
 use Rattle.xa_script.specs.declared.script.Script.{Script}
 use Rattle.xa_script.specs.declared.script.ScriptRefused.{ScriptRefused}
 use Rattle.xa_script.specs.declared.script.ScriptRefused.TheVariants.{BadLine, NoMemory}
 use Rattle.xa_script.specs.Script.{IsScript, IsFirstFault}
 
--- a refusal other than for want of memory has cause 9, and names the first line that breaks the form
-abbrev pub NamesFirstFault : List ℕ → ScriptRefused → Type 0
-NamesFirstFault octets (BadLine line cause) = (cause ≡ 9) × IsFirstFault octets line
-NamesFirstFault octets NoMemory = ⊤
+-- a refusal other than for want of memory names the first line that is at fault, and its least cause
+abbrev pub NamesFirstFault : ℕ → List ℕ → ScriptRefused → Type 0
+NamesFirstFault most octets (BadLine line cause) = IsFirstFault most octets line cause
+NamesFirstFault most octets NoMemory = ⊤
 
 -- the octets are one script at most
 abbrev pub OneScript : Type 0
-OneScript = (octets : List ℕ) (a b : Script) → IsScript octets a → IsScript octets b → a ≡ b
+OneScript = (most : ℕ) (octets : List ℕ) (a b : Script) → IsScript most octets a → IsScript most octets b → a ≡ b
 
 -- octets with a faulty line are no script
 abbrev pub NoFaultyScript : Type 0
-NoFaultyScript = (octets : List ℕ) (line : ℕ) (script : Script) → IsFirstFault octets line → IsScript octets script → ⊥
+NoFaultyScript = (most : ℕ) (octets : List ℕ) (line cause : ℕ) (script : Script) → IsFirstFault most octets line cause → IsScript most octets script → ⊥
 
--- one line at most is the first fault
+-- one line at most is the first fault, with one cause
 abbrev pub OneFirstFault : Type 0
-OneFirstFault = (octets : List ℕ) (line other : ℕ) → IsFirstFault octets line → IsFirstFault octets other → line ≡ other
+OneFirstFault = (most : ℕ) (octets : List ℕ) (line other cause reason : ℕ) → IsFirstFault most octets line cause → IsFirstFault most octets other reason
+    → (line ≡ other) × (cause ≡ reason)
+
+-- octets without a faulty line are a script
+abbrev pub SoundIsScript : Type 0
+SoundIsScript = (most : ℕ) (octets : List ℕ) → ((line cause : ℕ) → IsFirstFault most octets line cause → ⊥) → (script : Script) × IsScript most octets script

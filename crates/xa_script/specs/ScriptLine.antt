@@ -1,12 +1,11 @@
--- How a line of a script is read: what the functions of the code compute. Each equals the relation of Script.antt.
+-- How a line of a script is read: what the functions of the code compute.
 use Rattle.std.specs.Prelude.{ℕ, ◌==◌, ◌||◌, ◌&&◌, not, nat_lt, Bool, true, if◌then◌else◌, List, [], ◌∷◌, ◌++◌, length, drop, codes, Option, Some, None, option_map}
 use Rattle.std.specs.List.{before_first, position_or_len}
 use Rattle.std.specs.Str.{bytes_eq}
-use Rattle.xa_types.specs.Name.{is_name}
 use Rattle.xa_types.specs.declared.call.Op.{Op}
 use Rattle.xa_types.specs.declared.data.Data.{Data}
 use Rattle.xa_types.specs.declared.data.Data.TheVariants.{Absent, Octet}
-use Rattle.xa_script.specs.Script.{call_with}
+use Rattle.xa_script.specs.Script.{call_with, is_space}
 
 abbrev pub skip_spaces : List ℕ → List ℕ
 skip_spaces [] = []
@@ -18,12 +17,6 @@ is_blank octets = length (skip_spaces octets) == 0
 abbrev pub is_skipped : List ℕ → Bool
 is_skipped [] = true
 is_skipped (octet ∷ rest) = if octet == 35 then true else is_blank (octet ∷ rest)
-
-abbrev pub is_space : ℕ → Bool
-is_space octet = octet == 32
-
-abbrev pub is_plain : ℕ → Bool
-is_plain octet = not (is_space octet)
 
 abbrev pub behind_word : List ℕ → List ℕ
 behind_word octets = drop (position_or_len is_space octets) octets
@@ -73,6 +66,7 @@ unfoldable pub call_in : List ℕ → Option Op
 call_in octets = let word = next_word octets in
     if length word.0 == 0 || nat_lt 255 (length word.0) then None else option_map (call_with word.0) (payload_in word.1)
 
+-- the one word behind `client`
 unfoldable pub client_in : List ℕ → Option (List ℕ)
 client_in octets = let word = next_word octets in
-    if is_blank word.1 && is_name word.0 then Some word.0 else None
+    if length word.0 == 0 || not (is_blank word.1) then None else Some word.0

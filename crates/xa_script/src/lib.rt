@@ -1,7 +1,8 @@
-//! The script of a client: its lines, the calls that they make, and the first line that breaks the form.
+//! Scripts: their lines, the clients and the calls that they make, and the first line at fault.
 #![tactic(auto)]
 
+mod draft;
 mod script;
 mod script_line;
 
-pub use script::{Client, Script, ScriptRefused, one_reading, read_script};
+pub use script::{Client, Script, ScriptRefused, one_reading, read, read_upto};

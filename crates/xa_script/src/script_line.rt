@@ -1,11 +1,11 @@
 ghost use Rattle.std.specs.Prelude.{◌≡◌, ◌==◌, ◌<◌, ◌≤◌, ◌↔◌, IfOk, IfSome, IsTrue, MatchOption, Some, None, length, option_map};
 ghost use Rattle.std.specs.List.{list_all, position, position_or_len};
-ghost use Rattle.xa_script.specs.Script.{is_printed, IsEnd, call_with};
-ghost use Rattle.xa_script.specs.ScriptLine.{skip_spaces, is_blank, is_space, is_plain, next_word, strip_word, is_skipped, next_octet, is_marked, put, text_in_front, quoted_in, payload_in, call_in, client_in};
+ghost use Rattle.xa_script.specs.Script.{is_printed, is_space, is_plain, IsEnd, call_with};
+ghost use Rattle.xa_script.specs.ScriptLine.{skip_spaces, is_blank, next_word, strip_word, is_skipped, next_octet, is_marked, put, text_in_front, quoted_in, payload_in, call_in, client_in};
 
 use memchr::memchr2;
 use std::alloc::Global;
-use xa_types::{Ask, CallFlags, Data, Direction, Name, NoMemory, Octets, Op};
+use xa_types::{Ask, CallFlags, Data, Direction, NoMemory, Octets, Op};
 
 fn is_printed(octet: u8) -> bool
     ensures { result ≡ is_printed octet }
@@ -188,14 +188,14 @@ pub fn call_of(service: Octets, payload: Data) -> Op
     })
 }
 
-/// The name that the rest of a line behind `client` says.
+/// The one word that the rest of a line behind `client` has.
 #[tactic(auto, unfolding(crate::specs::ScriptLine::client_in))]
-pub fn client_in(octets: &[u8]) -> Option<Name>
-    ensures { result ≡ client_in octets.now }
+pub fn client_in(octets: &[u8]) -> Option<&[u8]>
+    ensures { option_map (λ word. word.now) result ≡ client_in octets.now }
 {
     let (word, rest) = next_word(octets);
-    if !is_blank(rest) {
+    if word.is_empty() || !is_blank(rest) {
         return None;
     }
-    Name::read(word).ok()
+    Some(word)
 }

@@ -4,18 +4,18 @@ use Rattle.std.specs.Str.Lines.{lines}
 use Rattle.xa_program.proofs.Built.{script_built, few_lines}
 use Rattle.xa_program.proofs.top.script_of.Goals as goal
 
-pub returns-in-Ok-read_script-clause-built : goal.returns-in-Ok-read_script-clause-built
-returns-in-Ok-read_script-clause-built g c =
+pub returns-in-Ok-read_upto-clause-built : goal.returns-in-Ok-read_upto-clause-built
+returns-in-Ok-read_upto-clause-built g c =
     let octets = c.as_slice.result.now in
     let same : length octets ≡ length c.in-Ok.octets.items = ap length c.as_slice.ensures.value in
     let short : length c.in-Ok.octets.items ≤ 1048576 = c.in-Ok.ensures.short in
     let fewer = few_lines octets in
-    script_built (lines octets) c.in-Ok-read_script.script.clients (omega (arith, fewer, same, short)) c.in-Ok-read_script.ensures.found
+    script_built (lines octets) c.in-Ok-read_upto.script.clients (omega (arith, fewer, same, short)) c.in-Ok-read_upto.ensures.found
 
-pub returns-in-Ok-read_script-clause-script : goal.returns-in-Ok-read_script-clause-script
-returns-in-Ok-read_script-clause-script g c = (
+pub returns-in-Ok-read_upto-clause-script : goal.returns-in-Ok-read_upto-clause-script
+returns-in-Ok-read_upto-clause-script g c = (
   c.in-Ok.octets.items,
   record { held = c.in-Ok.ensures.content; ended = c.in-Ok.ensures.ended; given = c.in-Ok.ensures.given },
   c.in-Ok.ensures.short,
-  subst (λ (octets : List ℕ). IsScript octets c.in-Ok-read_script.script) c.as_slice.ensures.value c.in-Ok-read_script.ensures.found,
+  subst (λ (octets : List ℕ). IsScript 1 octets c.in-Ok-read_upto.script) c.as_slice.ensures.value c.in-Ok-read_upto.ensures.found,
 )

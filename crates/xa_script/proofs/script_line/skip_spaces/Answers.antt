@@ -2,7 +2,7 @@ use Rattle.std.proofs.Common.{◌∙◌, not, drop, length, unwrap_or, ap}
 use Rattle.std.specs.List.{position_or_len}
 use Rattle.std.proofs.lemmas.List.{take_rest}
 use Rattle.std.proofs.lemmas.List.Sums.{prefix_len-le-length}
-use Rattle.xa_script.specs.ScriptLine.{is_plain}
+use Rattle.xa_script.specs.Script.{is_plain}
 use Rattle.xa_script.proofs.ScriptText.{unwrapped}
 use Rattle.xa_script.proofs.ScriptWords.{spaces_dropped}
 use Rattle.xa_script.proofs.script_line.skip_spaces.Goals as goal

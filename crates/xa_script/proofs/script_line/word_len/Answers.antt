@@ -1,6 +1,6 @@
 use Rattle.std.proofs.Common.{◌≤◌, not, length, unwrap_or, sym, ap, ◌∙◌, subst}
 use Rattle.std.proofs.lemmas.List.Sums.{prefix_len-le-length}
-use Rattle.xa_script.specs.ScriptLine.{is_space}
+use Rattle.xa_script.specs.Script.{is_space}
 use Rattle.xa_script.proofs.ScriptText.{unwrapped}
 use Rattle.xa_script.proofs.script_line.word_len.Goals as goal
 
