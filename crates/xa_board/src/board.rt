@@ -20,7 +20,7 @@ use xa_types::{CallerId, Name, NoMemory, QueueId, Row, Stamp, Worn};
 pub(crate) const ROWS: usize = 256;
 
 /// Why the board isn't changed. It is as it was then.
-#[derive(Clone, Copy, Debug, PartialEq, Eq)]
+#[derive(Clone, Copy, PartialEq, Eq)]
 pub enum BoardRefused {
     /// The row stands with this routine, which is another (TPEMATCH).
     Match(Name),
