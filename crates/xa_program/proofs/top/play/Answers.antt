@@ -11,7 +11,7 @@ use Rattle.xa_program.proofs.top.play.Goals as goal
 
 pub returns-in-Ok-starters-clause-play : goal.returns-in-Ok-starters-clause-play
 returns-in-Ok-starters-clause-play g c =
-    let one : length c.in-Ok-starters.starters.items ≡ 1 = c.in-Ok-starters.ensures.each ∙ ap (λ (setup : Setup). length setup.servers) c.in-Ok.ensures in
+    let one : length c.in-Ok-starters.starters.items ≡ 1 = c.in-Ok-starters.ensures.each ∙ ap (λ (setup : Setup). length setup.servers) c.in-Ok.ensures.setup in
     let none = subst (λ s. g.Y.Start.Starter.start_faults s ≡ 0) (sym c.index_mut.ensures.value) (c.in-Ok-starters.ensures.counts 0 c.index_mut.result.now (omega (arith, one))) in
     let unasked = subst (λ s. IfSome (g.Y.Start.Starter.asked s) (λ starts. starts ≡ [])) (sym c.index_mut.ensures.value) (c.in-Ok-starters.ensures.none 0 c.index_mut.result.now (omega (arith, one))) in
     play_ends _ (λ s. record { faults = g.Y.Start.Starter.start_faults s; asked = g.Y.Start.Starter.asked s }) _ c.args.service.now c.in-Ok-script_of.script.clients
@@ -22,7 +22,7 @@ returns-in-Ok-starters-clause-play g c =
 pub returns-in-Ok-starters-clause-yard : goal.returns-in-Ok-starters-clause-yard
 returns-in-Ok-starters-clause-yard g c =
     served_asks _ _ _ _ _ _ _ c.args.service.now _ c.perform-status.result.status _ _ _ _ c.perform-status.ensures
-    (subst (AsksStarters (g.Y.Yard.asked c.args.yard.now) (g.Y.Yard.asked c.starters.new.self)) c.in-Ok.ensures c.in-Ok-starters.ensures.asked)
+    (subst (AsksStarters (g.Y.Yard.asked c.args.yard.now) (g.Y.Yard.asked c.starters.new.self)) c.in-Ok.ensures.setup c.in-Ok-starters.ensures.asked)
 
 pub returns-in-Err-clause-yard : goal.returns-in-Err-clause-yard
 returns-in-Err-clause-yard g c =
