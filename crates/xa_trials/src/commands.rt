@@ -17,7 +17,7 @@ type Row = (
     &'static [u8],
 );
 
-const ROWS: [Row; 16] = [
+const ROWS: [Row; 21] = [
     (&[], NONE, Status::Usage, b""),
     (&["play"], (CALL, &[], &[]), Status::Usage, b""),
     (&["play", "ECHO", "x"], (CALL, &[], &[]), Status::Usage, b""),
@@ -28,8 +28,38 @@ const ROWS: [Row; 16] = [
     (&["play", "TEST1"], NONE, Status::Done, b""),
     (
         &["play", "ECHO"],
-        (b"client a\ntick 1\n", &[], &[]),
+        (b"client a\nbogus\n", &[], &[]),
         Status::BadLine { line: 2, cause: 9 },
+        b"",
+    ),
+    (
+        &["play", "ECHO"],
+        (b"client a\n# \x7f\n", &[], &[]),
+        Status::BadLine { line: 2, cause: 1 },
+        b"",
+    ),
+    (
+        &["play", "ECHO"],
+        (b"\ncall ECHO none\n", &[], &[]),
+        Status::BadLine { line: 2, cause: 3 },
+        b"",
+    ),
+    (
+        &["play", "ECHO"],
+        (b"client .a\n", &[], &[]),
+        Status::BadLine { line: 1, cause: 5 },
+        b"",
+    ),
+    (
+        &["play", "ECHO"],
+        (b"client a\nclient a\n", &[], &[]),
+        Status::BadLine { line: 2, cause: 6 },
+        b"",
+    ),
+    (
+        &["play", "ECHO"],
+        (b"client a\ncall ECHO none\nclient b\n", &[], &[]),
+        Status::BadLine { line: 3, cause: 7 },
         b"",
     ),
     (
