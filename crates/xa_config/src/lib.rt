@@ -1,0 +1,7 @@
+//! The configuration of a domain: the setup that a TOML document says, and the first fault of one that says none.
+#![tactic(auto)]
+
+mod document;
+mod refusal;
+
+pub use refusal::ConfigRefused;
