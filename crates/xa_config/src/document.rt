@@ -1,12 +1,16 @@
 // The values of a TOML document.
-ghost use Rattle.std.specs.Prelude.{◌≡◌, List, ℕ, map, option_map, IfOk, IfErr, MatchResult, Some, None, ◌∷◌, []};
-ghost use Rattle.toml.specs.Data.{get, string};
-ghost use Rattle.toml.specs.View.{view};
+ghost use Rattle.std.specs.List.{find, list_any};
+ghost use Rattle.std.specs.BTreeMap.{keys};
+ghost use Rattle.std.specs.Prelude.{MatchOption, not, string_bytes, ◌≡◌, List, ℕ, map, option_map, IfOk, IfErr, MatchResult, Some, None, ◌∷◌, []};
+ghost use Rattle.toml.specs.Data.{get, string, as_array};
+ghost use Rattle.toml.specs.View.{view, items_view};
+ghost use Rattle.std.specs.Str.{bytes_eq};
 ghost use Rattle.xa_config.specs.Document.{Says, NamesFirstFault};
 ghost use Rattle.xa_config.specs.Kinds.{text, list_in, number, truth, is_table};
 
 use crate::refusal::{ConfigRefused, WRONG_TYPE};
 use std::alloc::Global;
+use toml::Table;
 pub use toml::Value;
 use xa_types::Octets;
 
@@ -45,4 +49,33 @@ pub fn text(value: &Value) -> Result<&[u8], u8>
         Some(text) => Ok(text.as_bytes()),
         None => Err(WRONG_TYPE),
     }
+}
+
+/// The elements of an array.
+pub fn items(value: &Value) -> Option<&[Value]>
+    ensures { option_map (λ values. items_view values.now) result ≡ as_array (view value.now) }
+{
+    match value.as_array() {
+        Some(values) => Some(values.as_slice()),
+        None => None,
+    }
+}
+
+/// Whether the value is a table.
+pub fn is_table(value: &Value) -> bool
+    ensures { result ≡ is_table (view value.now) }
+{
+    value.is_table()
+}
+
+fn is_known(known: &[&str], key: &String) -> bool
+    ensures { result ≡ list_any (λ k. bytes_eq (string_bytes key.now) k.now) known.now }
+{
+    known.iter().any(|k| key.as_str() == *k)
+}
+
+fn unknown_in<'a>(table: &'a Table, known: &[&str]) -> Option<&'a String>
+    ensures { option_map (λ key. key.now) result ≡ find (λ key. not (list_any (λ k. bytes_eq (string_bytes key) k.now) known.now)) (keys table.now) }
+{
+    table.keys().find(|key| !is_known(known, *key))
 }

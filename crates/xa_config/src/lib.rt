@@ -2,6 +2,9 @@
 #![tactic(auto)]
 
 mod document;
+mod entry;
+mod field;
+mod kinds;
 mod refusal;
 
 pub use refusal::ConfigRefused;
