@@ -5,8 +5,9 @@ ghost use Rattle.std.specs.Prelude.{MatchOption, not, string_bytes, ◌≡◌, L
 ghost use Rattle.toml.specs.Data.{get, string, as_array};
 ghost use Rattle.toml.specs.View.{view, items_view};
 ghost use Rattle.std.specs.Str.{bytes_eq};
-ghost use Rattle.xa_config.specs.Document.{Says, NamesFirstFault};
-ghost use Rattle.xa_config.specs.Kinds.{text, list_in, number, truth, is_table};
+ghost use Rattle.xa_config.specs.Document.{Says, NamesFirstFault, first};
+ghost use Rattle.xa_config.specs.Keys.{unknown_in};
+ghost use Rattle.xa_config.specs.Kinds.{text, text_in, is_table};
 
 use crate::refusal::{ConfigRefused, WRONG_TYPE};
 use std::alloc::Global;
@@ -78,4 +79,28 @@ fn unknown_in<'a>(table: &'a Table, known: &[&str]) -> Option<&'a String>
     ensures { option_map (λ key. key.now) result ≡ find (λ key. not (list_any (λ k. bytes_eq (string_bytes key) k.now) known.now)) (keys table.now) }
 {
     table.keys().find(|key| !is_known(known, *key))
+}
+
+/// The first key of a table that isn't among these.
+pub fn unknown_key<'a>(value: &'a Value, known: &[&str]) -> Option<&'a str>
+    ensures { MatchOption result (unknown_in (map (λ k. k.now) known.now) (view value.now) ≡ [])
+        (λ key. first (unknown_in (map (λ k. k.now) known.now) (view value.now)) ≡ Some key.now) }
+{
+    let Some(table) = value.as_table() else {
+        return None;
+    };
+    match unknown_in(table, known) {
+        Some(key) => Some(key.as_str()),
+        None => None,
+    }
+}
+
+/// The octets of a text; of another value none.
+pub fn octets_of(value: &Value) -> &[u8]
+    ensures { result.now ≡ text_in (view value.now) }
+{
+    match value.as_str() {
+        Some(text) => text.as_bytes(),
+        None => &[],
+    }
 }

@@ -7,12 +7,13 @@ ghost use Rattle.toml.specs.View.{view};
 ghost use Rattle.xa_types.specs.Configured.{is_within, is_among};
 ghost use Rattle.xa_types.specs.Name.{is_name, is_identifier};
 ghost use Rattle.xa_config.specs.Document.{Judges, first};
-ghost use Rattle.xa_config.specs.Kinds.{number, truth, restarts, program, name, new_name, name_among, queue, is_kind, kind, text_in, number_in, truth_in};
+ghost use Rattle.xa_config.specs.Field.{field_of};
+ghost use Rattle.xa_config.specs.Kinds.{number, truth, restarts, program, name, new_name, name_among, field, queue, is_kind, kind, text_in, number_in, truth_in};
 
 use crate::document::{Value, text};
-use crate::field::identifier;
-use crate::refusal::{BAD_NAME, DOUBLED, NO_SUCH, NOT_BUILT, OUT_OF_RANGE, WRONG_TYPE};
-use xa_types::Name;
+use crate::field::{field_of, identifier};
+use crate::refusal::{BAD_NAME, DOUBLED, FIELD_TYPE, NO_SUCH, NOT_BUILT, OUT_OF_RANGE, WRONG_TYPE};
+use xa_types::{FieldSetup, Name};
 
 /// A whole number from `least` to `most`.
 #[tactic(auto, unfolding(crate::specs::Kinds::number))]
@@ -147,23 +148,24 @@ pub fn queue(value: &Value, names: &[Name], earlier: &[Name]) -> Result<Name, u8
     Ok(name)
 }
 
-fn is_text_of_shape(octets: &[u8], shape: Name) -> bool
-    ensures { result ≡ bytes_eq octets.now (codes "c:" ++ shape) }
+fn has_name(fields: &[FieldSetup], octets: &[u8]) -> bool
+    ensures { result ≡ list_any (λ field. bytes_eq octets.now field.name) fields.now }
 {
-    match octets {
-        [b'c', b':', name @ ..] => name == shape.octets(),
-        _ => false,
+    fields.iter().any(|field| octets == field.name.octets())
+}
+
+/// An element of `fields`: a field, of which no earlier one has the name.
+#[tactic(auto, unfolding(crate::specs::Kinds::field))]
+pub fn field(value: &Value, earlier: &[FieldSetup]) -> Result<FieldSetup, u8>
+    ensures { (before : List Data) → earlier.now ≡ map (λ value. field_of (text_in value)) before
+        → Judges (field before (view value.now)) (field_of (text_in (view value.now))) result }
+{
+    let octets = text(value)?;
+    let Some(field) = field_of(octets) else {
+        return Err(FIELD_TYPE);
+    };
+    if has_name(earlier, field.name.octets()) {
+        return Err(DOUBLED);
     }
-}
-
-fn is_text_of_any(octets: &[u8], shapes: &[Name]) -> bool
-    ensures { result ≡ list_any (λ shape. bytes_eq octets.now (codes "c:" ++ shape)) shapes.now }
-{
-    shapes.iter().any(|shape| is_text_of_shape(octets, *shape))
-}
-
-fn is_kind(octets: &[u8], shapes: &[Name]) -> bool
-    ensures { result ≡ is_kind shapes.now octets.now }
-{
-    octets == b"octet".as_slice() || is_text_of_any(octets, shapes)
+    Ok(field)
 }

@@ -1,10 +1,12 @@
 //! The configuration of a domain: the setup that a TOML document says, and the first fault of one that says none.
 #![tactic(auto)]
 
+mod accepts;
 mod document;
 mod entry;
 mod field;
 mod kinds;
 mod refusal;
+mod tables;
 
 pub use refusal::ConfigRefused;
