@@ -7,6 +7,8 @@ use Rattle.toml.specs.declared.value.Value.{Value}
 use Rattle.xa_config.specs.declared.refusal.ConfigRefused.{ConfigRefused}
 use Rattle.xa_config.specs.Faults.{Fault, fault, at_key, indexed, in_order}
 use Rattle.xa_config.specs.Keys.{elements}
+use Rattle.xa_config.specs.Meaning.{name_of, names_of, shape_of, queue_of, server_of, service_of}
+use Rattle.xa_config.specs.Tables.{at_entry}
 use Rattle.xa_config.specs.Document.{first, TellsFirst}
 use Rattle.xa_config.proofs.Tells.{tells_at, tells_front}
 
@@ -95,9 +97,35 @@ at_bad key of before value number place refusal some same told =
     tells_at (indexed key (length before)) (of before value) number refusal some
     (subst (λ n. TellsFirst (fault (indexed key n) number ∷ []) refusal) same told)
 
-length_map : {A : Type 0} (f : Data → A) (ds : List Data) → length (map f ds) ≡ length ds
+pub length_map : {A B : Type 0} (f : A → B) (xs : List A) → length (map f xs) ≡ length xs
 length_map f [] = refl
-length_map f (d ∷ ds) = ap suc (length_map f ds)
+length_map f (x ∷ xs) = ap suc (length_map f xs)
 
 pub length_kept : {A : Type 0} (f : Data → A) (kept : List A) (ds : List Data) → kept ≡ map f ds → length kept ≡ length ds
 length_kept f kept ds same = ap length same ∙ length_map f ds
+
+-- what is asked of an entry, by the names before it
+pub at_names : (key : List ℕ) (entry : List ℕ → List (List ℕ) → Data → List Fault) (before : List Data) (d : Data) (names : List (List ℕ))
+    → names ≡ names_of before → entry (indexed key (length names)) names d ≡ at_entry key entry before d
+at_names key entry before d names same =
+    ap (λ ns. entry (indexed key (length ns)) ns d) same ∙ ap (λ n. entry (indexed key n) (names_of before) d) (length_map name_of before)
+
+pub tells_names : (key : List ℕ) (entry : List ℕ → List (List ℕ) → Data → List Fault) (before : List Data) (d : Data) (names : List (List ℕ)) (refusal : ConfigRefused)
+    → names ≡ names_of before → TellsFirst (entry (indexed key (length names)) names d) refusal → TellsFirst (at_entry key entry before d) refusal
+tells_names key entry before d names refusal same told = subst (λ faults. TellsFirst faults refusal) (at_names key entry before d names same) told
+
+pub shape_name : (d : Data) → (shape_of d).name ≡ name_of d
+unfolding shape_of
+shape_name d = refl
+
+pub queue_name : (d : Data) → (queue_of d).name ≡ name_of d
+unfolding queue_of
+queue_name d = refl
+
+pub server_name : (d : Data) → (server_of d).name ≡ name_of d
+unfolding server_of
+server_name d = refl
+
+pub service_name : (shapes : List (List ℕ)) (d : Data) → (service_of shapes d).name ≡ name_of d
+unfolding service_of
+service_name shapes d = refl

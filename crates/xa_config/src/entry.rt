@@ -1,5 +1,5 @@
 // A table of the configuration, and what is read at its keys.
-ghost use Rattle.std.specs.Prelude.{◌≡◌, ◌∷◌, [], ℕ, List, map, IfOk, IfErr, MatchResult, option_map, length};
+ghost use Rattle.std.specs.Prelude.{◌≡◌, ◌≤◌, ◌∷◌, [], ℕ, List, map, IfOk, IfErr, MatchResult, option_map, length};
 ghost use Rattle.toml.specs.Data.{Data, get};
 ghost use Rattle.toml.specs.View.{view};
 ghost use Rattle.xa_types.specs.Configured.{is_within};
@@ -21,6 +21,7 @@ use std::alloc::Global;
 use xa_types::{FieldSetup, Name, Octets, Sequence};
 
 /// A table, and the place that the keys of its faults begin with.
+#[derive(Drop)]
 pub struct Entry<'a> {
     pub alloc: Global,
     pub place: &'a [u8],
@@ -156,8 +157,10 @@ impl Entry<'_> {
         most: u32,
         default: u32,
     ) -> Result<u32, ConfigRefused>
-        ensures { Reads (optional self.now.place.now key.now (number least most) (view self.now.table.now))
+        requires { default ≤ most }
+        ensures read { Reads (optional self.now.place.now key.now (number least most) (view self.now.table.now))
             (number_at key.now default (view self.now.table.now)) result }
+        ensures within { IfOk result (λ found. found ≤ most) }
     {
         match member(self.table, key) {
             None => Ok(default),

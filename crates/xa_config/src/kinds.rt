@@ -1,5 +1,5 @@
 // The kinds of value that a key may have. An `Err` is the number of the value's first fault.
-ghost use Rattle.std.specs.Prelude.{◌≡◌, List, [], ◌++◌, Some, IfOk, IfErr, map, codes};
+ghost use Rattle.std.specs.Prelude.{◌≡◌, ◌≤◌, List, [], ◌++◌, Some, IfOk, IfErr, map, codes};
 ghost use Rattle.std.specs.List.{list_any};
 ghost use Rattle.std.specs.Str.{bytes_eq};
 ghost use Rattle.toml.specs.Data.{Data};
@@ -18,7 +18,8 @@ use xa_types::{FieldSetup, Name};
 /// A whole number from `least` to `most`.
 #[tactic(auto, unfolding(crate::specs::Kinds::number))]
 pub fn number(value: &Value, least: u32, most: u32) -> Result<u32, u8>
-    ensures { Judges (number least most (view value.now)) (number_in (view value.now)) result }
+    ensures judged { Judges (number least most (view value.now)) (number_in (view value.now)) result }
+    ensures within { IfOk result (λ found. found ≤ most) }
 {
     let Some(found) = value.as_integer() else {
         return Err(WRONG_TYPE);

@@ -2,11 +2,14 @@
 #![tactic(auto)]
 
 mod accepts;
+mod configuration;
 mod document;
 mod entry;
 mod field;
 mod kinds;
+mod lists;
 mod refusal;
 mod tables;
 
+pub use configuration::read;
 pub use refusal::ConfigRefused;
