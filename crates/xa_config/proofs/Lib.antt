@@ -1,0 +1,11 @@
+pub mod Arrays
+pub mod Bits
+pub mod Entries
+pub mod Good
+pub mod GoodSetup
+pub mod Loops
+pub mod Reading
+pub mod Sizes
+pub mod Tells
+pub mod Unknown
+pub mod Whole

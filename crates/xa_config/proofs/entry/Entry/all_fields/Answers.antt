@@ -1,0 +1,45 @@
+use Rattle.std.proofs.Common.{[], map, ap, ◌∙◌, arith}
+use Rattle.toml.specs.View.{view}
+use Rattle.xa_config.specs.Faults.{dotted}
+use Rattle.xa_config.specs.Field.{field_of}
+use Rattle.xa_config.specs.Kinds.{field, text_in}
+use Rattle.xa_config.proofs.Loops.{seen, elements_are, at_element, at_good, at_bad, next_good, next_bad, kept_more, over, all_seen, length_kept}
+use Rattle.xa_config.proofs.entry.Entry.all_fields.Goals as goal
+
+pub loop-value-init : goal.loop-value-init
+loop-value-init c = record {
+  kept = c.new-fields.ensures.items;
+  left = elements_are (dotted c.args.self.now.place.now c.args.key.now) field [] (map view c.args.values.now);
+}
+
+pub loop-value-preserved : goal.loop-value-preserved
+loop-value-preserved c =
+    let i = c.loop-value.value-index in
+    let vs = c.args.values.now in
+    let v = c.value-item.result in
+    let found = c.in-Ok.ensures (seen i vs) (c.as_slice.ensures.value ∙ c.loop-value.invariant.kept) in
+    let key = dotted c.args.self.now.place.now c.args.key.now in
+    record {
+      kept = c.in_ok-push-in-Ok.ensures.items ∙ kept_more (λ value. field_of (text_in value)) vs i v _ _ c.loop-value-test.true c.value-item.is c.loop-value.invariant.kept found.1;
+      left = next_good (at_element key field) vs i v _ c.loop-value-test.true c.value-item.is c.loop-value.invariant.left (at_good key field (seen i vs) (view v) found.0);
+    }
+
+pub returns-in-Err : goal.returns-in-Err
+returns-in-Err c =
+    let i = c.loop-value.value-index in
+    let vs = c.args.values.now in
+    let v = c.value-item.result in
+    let some = c.in-Err.ensures (seen i vs) (c.as_slice.ensures.value ∙ c.loop-value.invariant.kept) in
+    let key = dotted c.args.self.now.place.now c.args.key.now in
+    next_bad (at_element key field) vs i v _ _ c.loop-value-test.true c.value-item.is c.loop-value.invariant.left
+    (at_bad key field (seen i vs) (view v) c.in-Err.number c.len.result _ some
+    (omega (arith, c.len.ensures, length_kept (λ value. field_of (text_in value)) _ (seen i vs) c.loop-value.invariant.kept, c.loop-value.fields.ok.0)) c.refuse_element.ensures)
+
+pub returns : goal.returns
+returns c =
+    let i = c.loop-value.value-index in
+    let vs = c.args.values.now in
+    let key = dotted c.args.self.now.place.now c.args.key.now in (
+      over (at_element key field) vs i _ c.loop-value-test.false c.loop-value.invariant.left,
+      c.from_vec.ensures ∙ c.loop-value.invariant.kept ∙ ap (map (λ value. field_of (text_in value))) (all_seen vs i c.loop-value-test.false),
+    )

@@ -1,0 +1,7 @@
+pub mod Faults
+pub mod Kinds
+pub mod Field
+pub mod Keys
+pub mod Tables
+pub mod Meaning
+pub mod Document

@@ -1,0 +1,128 @@
+// The text of a field of a shape.
+ghost use Rattle.std.specs.Prelude.{◌≡◌, ◌||◌, ◌==◌, ◌-◌, ◌≤◌, ◌⊎◌, true, false, length, MatchOption, decimal};
+ghost use Rattle.std.specs.List.{list_all, position};
+ghost use Rattle.std.specs.Str.{bytes_eq};
+ghost use Rattle.xa_types.specs.Name.{is_name, is_letter, is_digit, begins_with_letter, is_identifier};
+ghost use Rattle.xa_types.specs.Configured.{is_within};
+ghost use Rattle.xa_config.specs.Field.{is_space, name_part, kind_part, number_of_digits, sized, kind_of, is_field, field_of};
+
+use itoa::Buffer;
+use xa_types::{FieldKind, FieldSetup, Name};
+
+fn is_letter(octet: u8) -> bool
+    ensures { result ≡ is_letter octet }
+{
+    octet.is_ascii_alphabetic()
+}
+
+fn begins_with_letter(octets: &[u8]) -> bool
+    ensures { result ≡ begins_with_letter octets.now }
+{
+    match octets {
+        [] => false,
+        [first, ..] => is_letter(*first),
+    }
+}
+
+fn is_plain(octet: u8) -> bool
+    ensures { result ≡ ((is_letter octet || is_digit octet) || (octet == 95)) }
+{
+    is_letter(octet) || octet.is_ascii_digit() || octet == b'_'
+}
+
+fn all_plain(octets: &[u8]) -> bool
+    ensures { result ≡ list_all (λ octet. (is_letter octet || is_digit octet) || (octet == 95)) octets.now }
+{
+    octets.iter().all(|octet| is_plain(*octet))
+}
+
+/// The identifier that the octets are.
+pub fn identifier(octets: &[u8]) -> Option<Name>
+    ensures { MatchOption result (is_identifier octets.now ≡ false) (λ name. (is_identifier octets.now ≡ true) × (name ≡ octets.now)) }
+{
+    let Ok(name) = Name::read(octets) else {
+        return None;
+    };
+    if begins_with_letter(octets) && all_plain(octets) {
+        return Some(name);
+    }
+    None
+}
+
+fn place_of_space(octets: &[u8]) -> Option<usize>
+    ensures { result ≡ position is_space octets.now }
+{
+    octets.iter().position(|octet| *octet == b' ')
+}
+
+// What stands before the first space, and what behind it.
+fn parts(octets: &[u8]) -> (&[u8], &[u8])
+    ensures name { result.0.now ≡ name_part octets.now }
+    ensures kind { result.1.now ≡ kind_part octets.now }
+{
+    match place_of_space(octets) {
+        Some(place) => (&octets[..place], &octets[place + 1..]),
+        None => (octets, &[]),
+    }
+}
+
+// The number that one to four digits write.
+fn number_of_digits(digits: &[u8]) -> Option<u32>
+    ensures { MatchOption result ((length digits.now ≡ 0) ⊎ (5 ≤ length digits.now)) (λ n. n ≡ number_of_digits digits.now) }
+{
+    match digits {
+        [a] => Some(digit(*a)),
+        [a, b] => Some(10 * digit(*a) + digit(*b)),
+        [a, b, c] => Some(100 * digit(*a) + 10 * digit(*b) + digit(*c)),
+        [a, b, c, d] => Some(1000 * digit(*a) + 100 * digit(*b) + 10 * digit(*c) + digit(*d)),
+        _ => None,
+    }
+}
+
+fn digit(octet: u8) -> u32
+    ensures value { result ≡ octet - 48 }
+    ensures small { result ≤ 255 }
+{
+    u32::from(octet.saturating_sub(b'0'))
+}
+
+fn is_decimal(digits: &[u8], n: u32) -> bool
+    ensures { result ≡ bytes_eq digits.now (decimal n) }
+{
+    digits == Buffer::new().format(n).as_bytes()
+}
+
+#[tactic(auto, unfolding(crate::specs::Field::sized))]
+fn sized(digits: &[u8]) -> Option<FieldKind>
+    ensures { result ≡ sized digits.now }
+{
+    let n = number_of_digits(digits)?;
+    if is_decimal(digits, n) && n >= 1 && n <= 1024 {
+        return Some(FieldKind::Text(n));
+    }
+    None
+}
+
+#[tactic(auto, unfolding(crate::specs::Field::kind_of))]
+fn kind_of(kind: &[u8]) -> Option<FieldKind>
+    ensures { result ≡ kind_of kind.now }
+{
+    match kind {
+        b"short" => Some(FieldKind::Short),
+        b"int" => Some(FieldKind::Int),
+        b"long" => Some(FieldKind::Long),
+        b"char" => Some(FieldKind::Char),
+        [b's', b't', b'r', b'i', b'n', b'g', b' ', digits @ ..] => sized(digits),
+        _ => None,
+    }
+}
+
+/// The field that a text says.
+pub fn field_of(text: &[u8]) -> Option<FieldSetup>
+    ensures { MatchOption result (is_field text.now ≡ false) (λ field. (is_field text.now ≡ true) × (field ≡ field_of text.now)) }
+{
+    let (name, kind) = parts(text);
+    let name = identifier(name)?;
+    let kind = kind_of(kind)?;
+    Some(FieldSetup { name, kind })
+}

@@ -1,0 +1,15 @@
+//! The configuration of a domain: the setup that a TOML document says, and the first fault of one that says none.
+#![tactic(auto)]
+
+mod accepts;
+mod configuration;
+mod document;
+mod entry;
+mod field;
+mod kinds;
+mod lists;
+mod refusal;
+mod tables;
+
+pub use configuration::read;
+pub use refusal::ConfigRefused;
