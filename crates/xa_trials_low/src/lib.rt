@@ -3,6 +3,10 @@
 #![tactic(auto)]
 
 #[cfg(test)]
+mod configurations;
+#[cfg(test)]
+mod faults;
+#[cfg(test)]
 mod frames;
 #[cfg(test)]
 mod hostile;
@@ -20,6 +24,8 @@ mod programs;
 mod routes;
 #[cfg(test)]
 mod scripts;
+#[cfg(test)]
+mod setups;
 #[cfg(test)]
 mod shelves;
 #[cfg(test)]
