@@ -5,8 +5,6 @@
 #[cfg(test)]
 mod configurations;
 #[cfg(test)]
-mod faults;
-#[cfg(test)]
 mod frames;
 #[cfg(test)]
 mod hostile;
@@ -24,8 +22,6 @@ mod programs;
 mod routes;
 #[cfg(test)]
 mod scripts;
-#[cfg(test)]
-mod setups;
 #[cfg(test)]
 mod shelves;
 #[cfg(test)]
