@@ -1,4 +1,4 @@
-//! What crates/xa_frames does, with a codec written by hand. No word copies, `read` and `octets` count.
+//! What `frames` of crates/xa_reads does, with a codec written by hand. No word copies, `read` and `octets` count.
 use std::io::{self, Read, Write};
 
 // Of the codec `append` serves bench/play.rs alone.
