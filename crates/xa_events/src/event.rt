@@ -111,7 +111,7 @@ pub struct Ended {
 
 /// Why a life of a server ended. `BadBytes` has the place among the octets that the server wrote, `OutOfTurn` the
 /// kind and the tag of the frame.
-#[derive(Clone, Copy)]
+#[derive(Clone, Copy, Debug, PartialEq, Eq)]
 pub enum StopCause {
     Shutdown,
     Exit,

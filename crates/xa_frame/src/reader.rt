@@ -10,7 +10,7 @@ use std::marker::Model;
 use xa_types::NoMemory;
 
 /// Why a reader gives no frame.
-#[derive(Clone, Copy)]
+#[derive(Clone, Copy, Debug, PartialEq, Eq)]
 pub enum NextRefused {
     /// What stands at this place is no frame. The place counts the octets of the frames before it.
     BadFrame(u64),

@@ -8,14 +8,14 @@ use std::process::ExitCode;
 use xa_types::NoMemory;
 
 /// Which input was too long.
-#[derive(Clone, Copy)]
+#[derive(Clone, Copy, Debug, PartialEq, Eq)]
 pub enum Input {
     Configuration,
     Script,
 }
 
 /// How a command ended.
-#[derive(Clone, Copy)]
+#[derive(Clone, Copy, Debug, PartialEq, Eq)]
 pub enum Status {
     /// The script was played and all is written, or the work of a server has ended.
     Done,

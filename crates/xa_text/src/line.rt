@@ -204,19 +204,3 @@ pub fn push_line(out: &mut Vec<u8>, name: &Name, op: u32, reply: &Reply) -> Resu
     push_reply(out, reply)?;
     push_text(out, b"\n")
 }
-
-/// The same of a call that was answered, whose answer stays with the caller. The descriptor is 0 for a tpcall.
-pub fn push_answer_line(
-    out: &mut Vec<u8>,
-    name: &Name,
-    op: u32,
-    descriptor: u64,
-    answer: &Answer,
-) -> Result<(), NoMemory>
-    ensures ok { OnOk result (out.new.items ≡ out.old.items ++ line_text name.now op (Answered descriptor answer.now)) }
-    ensures err { OnErr result (StartsWith out.new.items out.old.items) }
-{
-    push_call(out, name, op)?;
-    push_answered(out, descriptor, answer)?;
-    push_text(out, b"\n")
-}

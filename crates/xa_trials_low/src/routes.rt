@@ -1,10 +1,11 @@
 //! Where calls go: which queue is tried, which kinds a row takes, a service's row, and the priority of a request.
+ghost use Rattle.std.specs.Prelude.{◌≡◌, true, IfOk};
+ghost use Rattle.xa_types.specs.Configured.{is_configured};
+
 use std::alloc::Global;
 use std::test::Fail;
 use xa_route::{admits, choose, priority, row_for};
-use xa_types::{
-    Accepts, Found, Kind, Name, QueueId, Row, Sequence, ServiceSetup, Setup, ShapeSetup, Stamp,
-};
+use xa_types::{Accepts, Found, Kind, Name, QueueId, Row, Setup, Stamp};
 
 // The service's own priority, what the caller set, and the priority of its request.
 const PRIORITIES: [(u8, Option<(bool, i32)>, u8); 8] = [
@@ -68,42 +69,29 @@ fn each_listed_queue_is_tried_once(rt: HostRuntime) -> Result<(), Fail> {
     Ok(())
 }
 
-// A setup of the 64 shapes s! to s`, and of two services.
-fn setup_of(alloc: Global) -> Result<Setup, Fail> {
-    let mut shapes = Vec::new(alloc);
-    for octet in b'!'..=b'`' {
-        shapes.push(ShapeSetup {
-            name: Name::read(&[b's', octet])?,
-            fields: Sequence::from_vec(Vec::new(alloc)),
-        })?;
-    }
-    let services = [
-        service(alloc, Name::read(b"TALK")?, 30, true),
-        service(alloc, Name::read(b"ECHO")?, 70, false),
-    ];
-    Ok(Setup {
-        block_time: 1,
-        blocks: 1,
-        shapes: Sequence::from_vec(shapes),
-        queues: Sequence::from_vec(Vec::new(alloc)),
-        servers: Sequence::from_vec(Vec::new(alloc)),
-        services: Sequence::from_vec(Vec::from_array(alloc, services)?),
-    })
-}
+const SERVICES: &[u8] = b"]
+queue = [{ name = 'Q' }]
+server = [{ name = 'S', queue = 'Q' }]
+service = [
+  { name = 'TALK', queues = ['Q'], priority = 30, accepts = ['octet'], conversational = true },
+  { name = 'ECHO', queues = ['Q'], priority = 70, accepts = ['c:s00', 'c:s02'] },
+]";
 
-// A service that takes X_OCTET alone where it is for conversations, and the first and the third shape where it isn't.
-fn service(alloc: Global, name: Name, priority: u8, conversational: bool) -> ServiceSetup {
-    ServiceSetup {
-        name,
-        routine: name,
-        queues: Sequence::from_vec(Vec::new(alloc)),
-        priority,
-        accepts: Accepts {
-            octet: conversational,
-            structs: if conversational { 0 } else { 5 },
-        },
-        conversational,
+// A setup of the 64 shapes s00 to s63, and of a service that takes X_OCTET alone and is for conversations, and one that
+// takes the first and the third shape and isn't.
+fn setup_of(alloc: Global) -> Result<Setup, Fail>
+    ensures { IfOk result (λ setup. is_configured setup ≡ true) }
+{
+    let mut text = Vec::new(alloc);
+    text.extend_from_slice(b"shape = [")?;
+    for shape in 0..64u8 {
+        text.extend_from_slice(b"{ name = 's")?;
+        text.push(b'0' + shape / 10)?;
+        text.push(b'0' + shape % 10)?;
+        text.extend_from_slice(b"', fields = ['f char'] }, ")?;
     }
+    text.extend_from_slice(SERVICES)?;
+    Ok(xa_config::read(alloc, &text)?)
 }
 
 // The kind of what is sent: none, X_OCTET, or X_C_TYPE with its subtype.
@@ -114,19 +102,21 @@ const ADMITTED: [(bool, u64, Sent, bool); 12] = [
     (false, 0, None, true),
     (true, 0, Some(None), true),
     (false, 0xffff_ffff_ffff_ffff, Some(None), false),
-    (false, 0x0000_0000_0000_0001, Some(Some(b"s!")), true),
-    (true, 0xffff_ffff_ffff_fffe, Some(Some(b"s!")), false),
-    (false, 0x0000_0000_0000_0002, Some(Some(b"s\"")), true),
-    (true, 0xffff_ffff_ffff_fffd, Some(Some(b"s\"")), false),
-    (false, 0x8000_0000_0000_0000, Some(Some(b"s`")), true),
-    (true, 0x7fff_ffff_ffff_ffff, Some(Some(b"s`")), false),
-    (true, 0xffff_ffff_ffff_ffff, Some(Some(b"sa")), false),
+    (false, 0x0000_0000_0000_0001, Some(Some(b"s00")), true),
+    (true, 0xffff_ffff_ffff_fffe, Some(Some(b"s00")), false),
+    (false, 0x0000_0000_0000_0002, Some(Some(b"s01")), true),
+    (true, 0xffff_ffff_ffff_fffd, Some(Some(b"s01")), false),
+    (false, 0x8000_0000_0000_0000, Some(Some(b"s63")), true),
+    (true, 0x7fff_ffff_ffff_ffff, Some(Some(b"s63")), false),
+    (true, 0xffff_ffff_ffff_ffff, Some(Some(b"s64")), false),
     (true, 0xffff_ffff_ffff_ffff, Some(Some(b"s")), false),
-    (true, 0xffff_ffff_ffff_ffff, Some(Some(b"s!!")), false),
+    (true, 0xffff_ffff_ffff_ffff, Some(Some(b"s000")), false),
 ];
 
 // Whether such a row takes what is sent, or not.
-fn is_taken(setup: &Setup, octet: bool, structs: u64, sent: Sent, want: bool) -> bool {
+fn is_taken(setup: &Setup, octet: bool, structs: u64, sent: Sent, want: bool) -> bool
+    requires { is_configured setup.now ≡ true }
+{
     let Ok(name) = Name::read(sent.flatten().unwrap_or(b"S")) else {
         return false;
     };
@@ -160,7 +150,9 @@ fn has_row(
     priority: u8,
     conversational: bool,
     accepts: Accepts,
-) -> bool {
+) -> bool
+    requires { is_configured setup.now ≡ true }
+{
     let (Ok(service), Ok(routine)) = (Name::read(name.as_bytes()), Name::read(b"R")) else {
         return false;
     };

@@ -4,7 +4,7 @@ use std::alloc::Global;
 use std::test::Fail;
 use xa_child::LocalYard;
 use xa_link::{Link, MemoryLink, MemoryStarter, MemoryYard, StartRefused, Starter, Yard, put};
-use xa_types::{Generation, Name, NoMemory, Sequence, ServerSetup, Setup};
+use xa_types::{Generation, Name, NoMemory};
 
 // A starter's place, the generation, and what the life gives; where it can't be started, nothing.
 const STARTS: [(usize, u64, Option<&str>); 7] = [
@@ -17,29 +17,8 @@ const STARTS: [(usize, u64, Option<&str>); 7] = [
     (1, 1, None),
 ];
 
-fn server(name: Name) -> ServerSetup {
-    ServerSetup {
-        name,
-        queue: name,
-        program: None,
-        restart: false,
-        maxgen: 1,
-        grace: 1,
-    }
-}
-
-// A setup of two servers.
-fn setup_of(alloc: Global, name: Name) -> Result<Setup, NoMemory> {
-    let servers = Vec::from_array(alloc, [server(name), server(name)])?;
-    Ok(Setup {
-        block_time: 1,
-        blocks: 1,
-        shapes: Sequence::from_vec(Vec::new(alloc)),
-        queues: Sequence::from_vec(Vec::new(alloc)),
-        servers: Sequence::from_vec(servers),
-        services: Sequence::from_vec(Vec::new(alloc)),
-    })
-}
+const TWO_SERVERS: &[u8] = b"queue = [{ name = 'Q' }]
+server = [{ name = 'S', queue = 'Q' }, { name = 'T', queue = 'Q' }]";
 
 fn life(alloc: Global, text: &[u8]) -> Result<MemoryLink, NoMemory> {
     link_of(alloc, text, [&[], &[], &[]], 3)
@@ -70,7 +49,7 @@ fn starts(
 
 #[test]
 fn yards_in_memory_start_each_life_once(rt: HostRuntime) -> Result<(), Fail> {
-    let setup = setup_of(rt.alloc(), Name::read(b"S")?)?;
+    let setup = xa_config::read(rt.alloc(), TWO_SERVERS)?;
     let mut starters = yard_of(rt.alloc())?.starters(&setup)?;
     assert_eq!(rt; starters.len(), 2);
     for (place, generation, want) in STARTS {
@@ -103,7 +82,8 @@ fn echoes<L: Link>(link: &mut L) -> bool {
 #[test]
 fn an_echo_comes_from_memory(rt: HostRuntime) -> Result<(), Fail> {
     let name = Name::read(b"S")?;
-    let mut starters = LocalYard::new(rt.alloc()).starters(&setup_of(rt.alloc(), name)?)?;
+    let setup = xa_config::read(rt.alloc(), TWO_SERVERS)?;
+    let mut starters = LocalYard::new(rt.alloc()).starters(&setup)?;
     assert_eq!(rt; starters.len(), 2);
     let mut link = starters[0].start(&name, Generation(1))?;
     assert!(rt; echoes(&mut link));

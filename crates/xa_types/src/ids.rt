@@ -8,7 +8,7 @@ pub struct CallerId(pub u16);
 pub struct ServerId(pub u16);
 
 /// A queue, numbered from 1 in the order of the setup.
-#[derive(Clone, Copy, PartialEq, Eq)]
+#[derive(Clone, Copy, Debug, PartialEq, Eq)]
 pub struct QueueId(pub u16);
 
 /// Which start of its server a life is, counted from 1.

@@ -5,7 +5,7 @@ use std::alloc::Global;
 use std::marker::Model;
 
 /// A piece of octets without structure, seen as a list.
-#[derive(Drop)]
+#[derive(Debug, Drop)]
 pub struct Octets {
     items: Vec<u8>,
 }

@@ -4,7 +4,7 @@ ghost use Rattle.xa_types.specs.Rows.{all_kinds};
 use crate::{Name, QueueId};
 
 /// The kinds of data that a service accepts: X_OCTET, and by one bit each the shapes in the order of the setup.
-#[derive(Clone, Copy)]
+#[derive(Clone, Copy, PartialEq, Eq)]
 pub struct Accepts {
     pub octet: bool,
     pub structs: u64,
@@ -23,7 +23,7 @@ impl Accepts {
 }
 
 /// A row of the board: a service that is advertised on a queue.
-#[derive(Clone, Copy)]
+#[derive(Clone, Copy, PartialEq, Eq)]
 pub struct Row {
     pub service: Name,
     pub queue: QueueId,

@@ -5,7 +5,7 @@ use crate::{Accepts, Name, NoMemory, Octets, Sequence};
 use std::alloc::Global;
 
 /// The kind of a field of X_C_TYPE: signed numbers of 2, 4 and 8 octets, a number of one, or so many octets of text.
-#[derive(Clone, Copy)]
+#[derive(Clone, Copy, PartialEq, Eq)]
 pub enum FieldKind {
     Short,
     Int,

@@ -1,9 +1,12 @@
 // What the processes of servers do: how they are started, what their pipes carry, and that nothing is left of them.
+ghost use Rattle.std.specs.Prelude.{◌≡◌, true, IfOk, codes};
+ghost use Rattle.xa_types.specs.Configured.{is_configured, is_valid_program};
+
 use std::alloc::Global;
 use std::fs;
 use std::test::Fail;
 use xa_link::{ChildYard, Link, Source, StartRefused, Starter, Yard, put};
-use xa_types::{Generation, Name, Octets, Sequence, ServerSetup, Setup};
+use xa_types::{Generation, Name, Octets, QueueSetup, Sequence, ServerSetup, Setup};
 
 // What a link is to do next.
 enum Step {
@@ -60,10 +63,28 @@ const ROWS: [Row; 10] = [
     ),
 ];
 
-fn setup(alloc: Global, name: Name, program: Option<&str>) -> Result<Setup, Fail> {
-    let program = match program {
-        Some(program) => Some(Octets::of(alloc, program.as_bytes())?),
-        None => None,
+// The program of a server; a path that is none, or too long, is left out.
+fn program_of(alloc: Global, path: Option<&str>) -> Result<Option<Octets>, Fail>
+    ensures { IfOk result (λ program. is_valid_program program ≡ true) }
+{
+    match path {
+        Some(path) if !path.is_empty() && path.len() <= 255 => {
+            Ok(Some(Octets::of(alloc, path.as_bytes())?))
+        }
+        _ => Ok(None),
+    }
+}
+
+// One queue and one server, both of that name.
+fn setup(alloc: Global, name: Name, program: Option<Octets>) -> Result<Setup, Fail>
+    requires name { name ≡ codes "S" }
+    requires program { is_valid_program program ≡ true }
+    ensures { IfOk result (λ setup. is_configured setup ≡ true) }
+{
+    let queue = QueueSetup {
+        name,
+        group: name,
+        capacity: 1,
     };
     let server = ServerSetup {
         name,
@@ -77,7 +98,7 @@ fn setup(alloc: Global, name: Name, program: Option<&str>) -> Result<Setup, Fail
         block_time: 1,
         blocks: 1,
         shapes: Sequence::from_vec(Vec::new(alloc)),
-        queues: Sequence::from_vec(Vec::new(alloc)),
+        queues: Sequence::from_vec(Vec::from_array(alloc, [queue])?),
         servers: Sequence::from_vec(Vec::from_array(alloc, [server])?),
         services: Sequence::from_vec(Vec::new(alloc)),
     })
@@ -118,7 +139,7 @@ fn runs<L: Link + Drop, S: Starter<L>>(
 
 fn starts(rt: &HostRuntime, program: Option<&str>, steps: Option<&[Step]>) -> Result<bool, Fail> {
     let name = Name::read(b"S")?;
-    let setup = setup(rt.alloc(), name, program)?;
+    let setup = setup(rt.alloc(), name, program_of(rt.alloc(), program)?)?;
     let mut yard = ChildYard::new(rt.clone()?, Octets::of(rt.alloc(), b"echo")?);
     let mut starters = yard.starters(&setup)?;
     match starters.as_mut_slice() {
