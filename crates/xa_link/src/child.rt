@@ -11,6 +11,7 @@ use crate::count::raise;
 use crate::{Failed, Link, ReadSource, Sink, Source, StartRefused, Starter, WriteSink, Yard};
 use std::alloc::{AllocError, Global};
 use std::io::{PipeReader, PipeWriter, Write};
+use std::marker::Model;
 use std::path::AsPath;
 use std::process::{Child, Command, OpenProcess, Processes, Stdio};
 use std::rt::Files;
@@ -249,18 +250,27 @@ impl<R: Processes + Files + AllocGlobal> Starter<ChildLink<R::Started>> for Chil
     }
 }
 
-/// Starts each server as a process: its configured program, or where it has none the monitor's own.
+/// Starts each server as a process: its configured program, or where it has none the monitor's own. It is seen as the
+/// word by which the monitor was started.
 #[derive(Drop)]
 pub struct ChildYard<R: Processes + Files + AllocGlobal> {
     rt: R,
     monitor: Octets,
 }
 
+impl<R: Processes + Files + AllocGlobal> Model for ChildYard<R> {
+    ghost use Rattle.std.specs.Prelude.{ℕ, List};
+
+    ghost Value = { List ℕ };
+
+    ghost view = { λ y. y.monitor };
+}
+
 impl<R: Processes + Files + AllocGlobal> ChildYard<R> {
     /// `monitor` is the word by which the monitor was itself started. Where that can't be started, as where it isn't
     /// text, the system is asked for the path of the monitor's program.
     pub fn new(rt: R, monitor: Octets) -> ChildYard<R>
-        ensures { result.monitor ≡ monitor }
+        ensures { result ≡ monitor }
     {
         ChildYard { rt, monitor }
     }
@@ -269,7 +279,7 @@ impl<R: Processes + Files + AllocGlobal> ChildYard<R> {
 impl<R: Processes + Files + AllocGlobal + Clone + Drop> ChildYard<R> {
     fn starter(&self, server: &ServerSetup) -> Result<ChildStarter<R>, NoMemory>
         ensures program { IfOk result (λ s. s.program ≡ server.now.program) }
-        ensures monitor { IfOk result (λ s. s.monitor ≡ self.now.monitor) }
+        ensures monitor { IfOk result (λ s. s.monitor ≡ self.now) }
         ensures count { IfOk result (λ s. s.faults ≡ 0) }
     {
         Ok(ChildStarter {
