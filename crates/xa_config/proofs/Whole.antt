@@ -24,14 +24,14 @@ all_map : (vs : List Value) → list_all is_table (map view vs) ≡ list_all (λ
 all_map [] = refl
 all_map (v ∷ vs) = ap (λ b. is_table (view v) && b) (all_map vs)
 
-pub tables_there : (key : List ℕ) (d table : Data) (vs : List Value) (all : Bool) → Some table ≡ get key d → Some (items_view vs) ≡ as_array table
+pub tables_there : (key : List ℕ) (d found : Data) (vs : List Value) (all : Bool) → Some found ≡ get key d → Some (items_view vs) ≡ as_array found
     → list_all (λ v. is_table (view v)) vs ≡ all → is_array_of_tables (get key d) ≡ all
-tables_there key d table vs all h is same =
-    ap is_array_of_tables (sym h) ∙ ap (λ x. is_array_of_tables (Some x)) (array_is (items_view vs) table is)
+tables_there key d found vs all h is same =
+    ap is_array_of_tables (sym h) ∙ ap (λ x. is_array_of_tables (Some x)) (array_is (items_view vs) found is)
     ∙ ap (list_all is_table) (list_of_view vs) ∙ all_map vs ∙ same
 
-pub tables_found : (key : List ℕ) (d table : Data) (vs : List Value) → Some table ≡ get key d → Some (items_view vs) ≡ as_array table → list_at key d ≡ map view vs
-tables_found key d table vs h is = list_there key d table h ∙ array_found vs table is
+pub tables_found : (key : List ℕ) (d found : Data) (vs : List Value) → Some found ≡ get key d → Some (items_view vs) ≡ as_array found → list_at key d ≡ map view vs
+tables_found key d found vs h is = list_there key d found h ∙ array_found vs found is
 
 table_is : (key : List ℕ) (least most : ℕ) (entry : List ℕ → List (List ℕ) → Data → List Fault) (d : Data) (values : List Data) (a b c : Bool)
     → is_array_of_tables (get key d) ≡ a → list_at key d ≡ values → nat_le least (length values) ≡ b → nat_le (length values) most ≡ c
