@@ -5,5 +5,5 @@ pub mod laws;
 mod line;
 mod transcribing;
 
-pub use line::{push_line};
+pub use line::push_line;
 pub use transcribing::{calls_in_turn, transcript};

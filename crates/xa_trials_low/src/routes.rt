@@ -144,13 +144,7 @@ const ADVERTISED: [(&str, u8, bool, bool, u64); 3] = [
 ];
 
 // Whether the service's row on the queue 3 with the routine R is that one.
-fn has_row(
-    setup: &Setup,
-    name: &str,
-    priority: u8,
-    conversational: bool,
-    accepts: Accepts,
-) -> bool
+fn has_row(setup: &Setup, name: &str, priority: u8, conversational: bool, accepts: Accepts) -> bool
     requires { is_configured setup.now ≡ true }
 {
     let (Ok(service), Ok(routine)) = (Name::read(name.as_bytes()), Name::read(b"R")) else {
