@@ -1,15 +1,15 @@
 //! Homes that are merged, stamps at their end, and many events against a plain order.
 use std::alloc::Global;
 use std::test::Fail;
-use xa_events::Event;
+use xa_events::{Event, Ticked};
 use xa_stamp::{Home, Record, merge};
-use xa_types::{NoMemory, QueueId, Sequence, Stamp, Worn};
+use xa_types::{CallerId, NoMemory, QueueId, Sequence, Stamp, Worn};
 
 // What was seen before an event is noted, and the event, by its number.
-type Note = (u32, u16);
+type Note = (u32, u32);
 
 // The notes of each home, and the merged events. The first row is homes with stamps 1, 4 (1, 2) and 2, 4 (3, 4).
-const ROWS: [(&[&[Note]], &[u16]); 5] = [
+const ROWS: [(&[&[Note]], &[u32]); 5] = [
     (&[&[(0, 1), (3, 2)], &[(1, 3), (3, 4)]], &[1, 3, 2, 4]),
     (&[], &[]),
     (&[&[], &[(0, 1)], &[]], &[1]),
@@ -17,9 +17,14 @@ const ROWS: [(&[&[Note]], &[u16]); 5] = [
     (&[&[(9, 1), (0, 2)], &[(0, 3), (0, 4)]], &[3, 4, 1, 2]),
 ];
 
-fn add(home: &mut Home, seen: u32, number: u16) -> Result<(), NoMemory> {
+fn add(home: &mut Home, seen: u32, number: u32) -> Result<(), NoMemory> {
     home.reserve(1)?;
-    match home.note(Stamp(u64::from(seen)), Event::Close(QueueId(number))) {
+    let numbered = Ticked {
+        by: CallerId(1),
+        op: number,
+        now: 0,
+    };
+    match home.note(Stamp(u64::from(seen)), Event::Tick(numbered)) {
         Ok(_) => Ok(()),
         Err(Worn(_)) => Err(NoMemory),
     }
@@ -39,14 +44,14 @@ fn record_of(alloc: Global, notes: &[&[Note]]) -> Result<Record, NoMemory> {
     })
 }
 
-fn number(event: &Event) -> Option<u16> {
+fn number(event: &Event) -> Option<u32> {
     match event {
-        Event::Close(queue) => Some(queue.0),
+        Event::Tick(numbered) => Some(numbered.op),
         _ => None,
     }
 }
 
-fn merges(alloc: Global, notes: &[&[Note]], want: &[u16]) -> Result<bool, NoMemory> {
+fn merges(alloc: Global, notes: &[&[Note]], want: &[u32]) -> Result<bool, NoMemory> {
     let record = record_of(alloc, notes)?;
     let merged = merge(alloc, &record)?;
     let same = merged
@@ -88,10 +93,10 @@ fn many(alloc: Global) -> Result<Record, NoMemory> {
         homes.push(Home::new(alloc, Stamp(0)))?;
     }
     let mut draw = 1u32;
-    for number in 0..20_000u16 {
+    for number in 0..100_000u32 {
         draw = draw.wrapping_mul(75).wrapping_add(74) % 65_537;
         if let Some(home) = homes.get_mut(draw as usize % 5) {
-            add(home, u32::from(number / 5) + draw % 50, number)?;
+            add(home, number / 5 + draw % 50, number)?;
         }
     }
     Ok(Record {
@@ -100,8 +105,8 @@ fn many(alloc: Global) -> Result<Record, NoMemory> {
 }
 
 // Of the homes' next events the one with the least stamp, of the first such home: the home, and the event's number.
-fn least(record: &Record, next: &[usize]) -> Option<(usize, u16)> {
-    let mut least: Option<(Stamp, usize, u16)> = None;
+fn least(record: &Record, next: &[usize]) -> Option<(usize, u32)> {
+    let mut least: Option<(Stamp, usize, u32)> = None;
     for (at, (home, place)) in record.homes.slice().iter().zip(next).enumerate() {
         if let Some(noted) = home.entries().get(*place) {
             if least.is_none_or(|found| noted.stamp < found.0) {
@@ -132,6 +137,6 @@ fn is_plain_order(record: &Record, merged: &[Event]) -> bool {
 fn many_events_merge_in_the_plain_order(rt: HostRuntime) -> Result<(), Fail> {
     let record = many(rt.alloc())?;
     let merged = merge(rt.alloc(), &record)?;
-    assert!(rt; merged.len() == 20_000 && is_plain_order(&record, &merged));
+    assert!(rt; merged.len() == 100_000 && is_plain_order(&record, &merged));
     Ok(())
 }
