@@ -4,6 +4,7 @@ pub mod Entries
 pub mod Good
 pub mod GoodSetup
 pub mod Loops
+pub mod OneReading
 pub mod Reading
 pub mod Sizes
 pub mod Tells

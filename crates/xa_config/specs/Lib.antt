@@ -5,3 +5,4 @@ pub mod Keys
 pub mod Tables
 pub mod Meaning
 pub mod Document
+pub mod Readings

@@ -7,9 +7,11 @@ mod document;
 mod entry;
 mod field;
 mod kinds;
+mod laws;
 mod lists;
 mod refusal;
 mod tables;
 
 pub use configuration::read;
+pub use laws::one_reading;
 pub use refusal::ConfigRefused;
