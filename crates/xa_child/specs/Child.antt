@@ -48,7 +48,7 @@ returned routine payload =
     else (if bytes_eq routine (codes "FAIL") then Return Fail (pos 7) payload
     else Return Fail (pos 99) Absent))
 
--- it ends the child, and returns nothing
+-- the routine DIE, which returns nothing and ends the child
 abbrev pub is_die : List ℕ → Bool
 is_die routine = bytes_eq routine (codes "DIE")
 
