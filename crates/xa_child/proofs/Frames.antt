@@ -1,10 +1,11 @@
 -- Lists of a child's frames, and their spellings.
-use Rattle.std.proofs.Common.{◌≡◌, ℕ, ◌+◌, ◌<◌, ◌^◌, ◌&&◌, Bool, true, false, if◌then◌else◌, pos, List, [], ◌∷◌, ◌++◌, append_assoc, append-nil, length, take, get_or, add-one, Option, Some, None, Bor, refl, sym, ◌∙◌, ap, subst, arith, rules}
+use Rattle.std.proofs.Common.{◌≡◌, ℕ, ◌+◌, ◌<◌, ◌^◌, ◌&&◌, Bool, true, false, if◌then◌else◌, pos, List, [], ◌∷◌, ◌++◌, append_assoc, append-nil, length, take, get_or, add-one, Option, Some, None, Bor, codes, refl, sym, ◌∙◌, ap, subst, arith, rules}
 use Rattle.std.proofs.Math.Bool.{and_assoc}
 use Rattle.std.proofs.Math.Seq.{take-suc}
 use Rattle.std.proofs.lemmas.List.Elements.{All-nil, All-cons, All-head}
 use Rattle.std.specs.List.{All}
 use Rattle.std.specs.Option.{unwrap_or}
+use Rattle.std.specs.Str.{bytes_eq}
 use Rattle.xa_types.specs.Name.{IsName}
 use Rattle.xa_types.specs.declared.data.Data.{Data}
 use Rattle.xa_types.specs.declared.data.Data.TheVariants.{Absent}
@@ -16,7 +17,7 @@ use Rattle.xa_frame.specs.Spelling.{spelled, all_spelled, HasSpelling, IsBody, I
 use Rattle.xa_frame.proofs.FrameLemmas.{all_spelled-push}
 use Rattle.xa_child.specs.declared.child.Returned.{Returned}
 use Rattle.xa_child.specs.Returned.{data_of, frame_of, all_said}
-use Rattle.xa_child.specs.Child.{ChildState, admits, admits_all, after, after_all, answer, answer_body, said, greeting, returned, next, is_die, is_echo}
+use Rattle.xa_child.specs.Child.{ChildState, admits, admits_all, after, after_all, answer, answer_body, counted, said, greeting, returned, next, is_die}
 
 pub admits_all-append : (s : ChildState) (xs ys : List Frame) → admits_all s (xs ++ ys) ≡ (admits_all s xs && admits_all (after_all s xs) ys)
 admits_all-append s [] ys = refl
@@ -45,9 +46,11 @@ said_first b fs taken = rw taken (append-nil fs)
 pub said-one : (s : ChildState) (f : Frame) → admits s f ≡ true → said s (f ∷ []) ≡ answer f
 said-one s f taken = said_first (admits s f) (answer f) taken
 
-returned_body : (b : Bool) (payload : Data) → IsData payload → IsBody (if b then Return Success (pos 0) payload else Return Fail (pos 99) Absent)
-returned_body true payload h = search rules
-returned_body false payload h = search rules
+returned_body : (echo len fail : Bool) (payload : Data) → IsData payload → IsBody (if echo then Return Success (pos 0) payload else (if len then Return Success (pos (counted payload)) Absent else (if fail then Return Fail (pos 7) payload else Return Fail (pos 99) Absent)))
+returned_body true len fail payload h = search rules
+returned_body false true fail payload h = search rules
+returned_body false false true payload h = search rules
+returned_body false false false payload h = search rules
 
 -- what is said to a frame that has a spelling has one
 served_spelling : (b : Bool) (fs : List Frame) → All HasSpelling fs → All HasSpelling (if b then [] else fs)
@@ -65,7 +68,7 @@ answer_spelling tag (Ready name) low h = All-nil HasSpelling
 answer_spelling tag Next low h = All-nil HasSpelling
 answer_spelling tag (Return value code payload) low h = All-nil HasSpelling
 answer_spelling tag (Invoke service routine mode payload) low h =
-    let first : HasSpelling (record { tag = tag; body = returned routine payload }) = record { tag = low; body = returned_body (is_echo routine) payload h.2 } in
+    let first : HasSpelling (record { tag = tag; body = returned routine payload }) = record { tag = low; body = returned_body (bytes_eq routine (codes "ECHO")) (bytes_eq routine (codes "LEN")) (bytes_eq routine (codes "FAIL")) payload h.2 } in
     served_spelling (is_die routine) _ (two_spellings _ next first next_spelling)
 answer_spelling tag Shutdown low h = All-nil HasSpelling
 

@@ -1,8 +1,8 @@
 -- A server's program, the child: which frames it admits, and what it says to each of them.
-use Rattle.std.specs.Prelude.{ℕ, ◌+◌, ◌%◌, ◌^◌, ◌==◌, ◌&&◌, not, Bool, true, false, if◌then◌else◌, pos, List, [], ◌∷◌, ◌++◌, codes}
+use Rattle.std.specs.Prelude.{ℕ, ◌+◌, ◌-◌, ◌%◌, ◌^◌, min, ◌==◌, ◌&&◌, not, Bool, true, false, if◌then◌else◌, pos, List, [], ◌∷◌, ◌++◌, length, codes}
 use Rattle.std.specs.Str.{bytes_eq}
 use Rattle.xa_types.specs.declared.data.Data.{Data}
-use Rattle.xa_types.specs.declared.data.Data.TheVariants.{Absent}
+use Rattle.xa_types.specs.declared.data.Data.TheVariants.{Absent, Octet, Struct}
 use Rattle.xa_types.specs.declared.call.Rval.TheVariants.{Success, Fail}
 use Rattle.xa_frame.specs.declared.frame.Frame.{Frame}
 use Rattle.xa_frame.specs.declared.frame.Body.{Body}
@@ -30,16 +30,27 @@ admits_body invocations tag body = false
 abbrev pub admits : ChildState → Frame → Bool
 admits s f = not s.ended && admits_body s.invocations f.tag f.body
 
--- the two routines that it has
-abbrev pub is_echo : List ℕ → Bool
-is_echo routine = bytes_eq routine (codes "ECHO")
+-- how many octets the data has
+abbrev pub size : Data → ℕ
+size Absent = 0
+size (Octet octets) = length octets
+size (Struct subtype octets) = length octets
 
+-- that number as a code, which ends at 2 ^ 31 - 1: data that has a spelling has at most 65,536 octets
+abbrev pub counted : Data → ℕ
+counted payload = min (size payload) (2 ^ 31 - 1)
+
+-- What a routine returns. LEN counts the octets of its request's data; ECHO and FAIL give that data back; 99 says that there is no such routine.
+abbrev pub returned : List ℕ → Data → Body
+returned routine payload =
+    if bytes_eq routine (codes "ECHO") then Return Success (pos 0) payload
+    else (if bytes_eq routine (codes "LEN") then Return Success (pos (counted payload)) Absent
+    else (if bytes_eq routine (codes "FAIL") then Return Fail (pos 7) payload
+    else Return Fail (pos 99) Absent))
+
+-- the routine DIE, which returns nothing and ends the child
 abbrev pub is_die : List ℕ → Bool
 is_die routine = bytes_eq routine (codes "DIE")
-
--- ECHO succeeds with the data of its request; a routine that it doesn't have fails with code 99
-abbrev pub returned : List ℕ → Data → Body
-returned routine payload = if is_echo routine then Return Success (pos 0) payload else Return Fail (pos 99) Absent
 
 -- it wants a frame
 abbrev pub next : Frame

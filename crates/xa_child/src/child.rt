@@ -1,13 +1,17 @@
 // A server's program, frame by frame.
-ghost use Rattle.std.specs.Prelude.{◌≡◌, ◌↔◌, true, false, IfOk, OnOk, OnErr, IsErrOf};
-ghost use Rattle.xa_child.specs.Child.{begun, following, greeting, admits, answer, after, is_die, is_echo, returned, next};
-ghost use Rattle.xa_child.specs.Returned.{frame_of, all_said};
+ghost use Rattle.std.specs.Prelude.{◌≡◌, ◌↔◌, pos, true, false, IfOk, OnOk, OnErr, IsErrOf};
+ghost use Rattle.xa_child.specs.Child.{begun, following, greeting, admits, answer, after, counted, is_die, returned, next};
+ghost use Rattle.xa_child.specs.Returned.{data_of, frame_of, all_said};
+ghost use Rattle.xa_frame.specs.declared.frame.Body.TheVariants.{Return};
 ghost use Rattle.xa_child.specs.declared.child.ChildRefused.TheVariants as refusals;
 
 use std::alloc::Global;
 use std::marker::Model;
 use xa_frame::{Body, Frame};
 use xa_types::{Data, Name, NoMemory, Rval};
+
+/// The code of the routine FAIL.
+const FAILED: i32 = 7;
 
 /// The code of a routine that the program doesn't have.
 const UNKNOWN: i32 = 99;
@@ -62,35 +66,44 @@ pub fn next() -> Frame
     }
 }
 
-fn is_echo(routine: &Name) -> bool
-    ensures { result ≡ is_echo routine.now }
-{
-    routine.octets() == b"ECHO".as_slice()
-}
-
 fn is_die(routine: &Name) -> bool
     ensures { result ≡ is_die routine.now }
 {
     routine.octets() == b"DIE".as_slice()
 }
 
-// What a routine returns, other than DIE.
+// How many octets the data has, as a code.
+fn counted(payload: &Data) -> i32
+    ensures { result ≡ pos (counted payload.now) }
+{
+    let count = match payload {
+        Data::Absent => 0,
+        Data::Octet(octets) | Data::Struct(_, octets) => octets.slice().len(),
+    };
+    i32::try_from(count).unwrap_or(i32::MAX)
+}
+
+// The rval, the code and the data of what a routine other than DIE returns.
+fn outcome<'a>(routine: &Name, payload: &'a Data) -> (Rval, i32, Option<&'a Data>)
+    ensures { Return result.0 result.1 (data_of result.2) ≡ returned routine.now payload.now }
+{
+    match routine.octets() {
+        b"ECHO" => (Rval::Success, 0, Some(payload)),
+        b"LEN" => (Rval::Success, counted(payload), None),
+        b"FAIL" => (Rval::Fail, FAILED, Some(payload)),
+        _ => (Rval::Fail, UNKNOWN, None),
+    }
+}
+
 fn return_of<'a>(tag: u32, routine: &Name, payload: &'a Data) -> Returned<'a>
     ensures { frame_of result ≡ record { tag = tag; body = returned routine.now payload.now } }
 {
-    if is_echo(routine) {
-        return Returned {
-            tag,
-            value: Rval::Success,
-            code: 0,
-            payload: Some(payload),
-        };
-    }
+    let (value, code, payload) = outcome(routine, payload);
     Returned {
         tag,
-        value: Rval::Fail,
-        code: UNKNOWN,
-        payload: None,
+        value,
+        code,
+        payload,
     }
 }
 

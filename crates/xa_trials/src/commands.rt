@@ -17,7 +17,7 @@ type Row = (
     &'static [u8],
 );
 
-const ROWS: [Row; 21] = [
+const ROWS: [Row; 23] = [
     (&[], NONE, Status::Usage, b""),
     (&["play"], (CALL, &[], &[]), Status::Usage, b""),
     (&["play", "ECHO", "x"], (CALL, &[], &[]), Status::Usage, b""),
@@ -97,8 +97,24 @@ const ROWS: [Row; 21] = [
         b"a 1 OK 0 octet 68656c6c6f\na 2 OK 0 none\n",
     ),
     (
+        &["play", "LEN"],
+        (
+            b"client a\ncall LEN text \"hello\"\ncall LEN none\n",
+            &[],
+            &[],
+        ),
+        Status::Done,
+        b"a 1 OK 5 none\na 2 OK 0 none\n",
+    ),
+    (
         &["play", "FAIL"],
-        (b"client a\ncall FAIL none\n", &[], &[]),
+        (b"client a\ncall FAIL text \"no\"\n", &[], &[]),
+        Status::Done,
+        b"a 1 TPESVCFAIL 7 octet 6e6f\n",
+    ),
+    (
+        &["play", "OTHER"],
+        (b"client a\ncall OTHER none\n", &[], &[]),
         Status::Done,
         b"a 1 TPESVCFAIL 99 none\n",
     ),
