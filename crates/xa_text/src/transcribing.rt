@@ -11,7 +11,7 @@ ghost use Rattle.xa_text.specs.Transcript.{lines_up_to, transcript};
 use crate::line::{push_answered, push_call, push_event, push_message, push_reply, push_text};
 use std::alloc::Global;
 use xa_events::{Accepted, Event, Evidence, Item, Refused, Replied};
-use xa_types::{ConvEvent, Data, Fault, Mode, Name, NoMemory, Octets, Reply};
+use xa_types::{Answer, ConvEvent, Data, Fault, Mode, Name, NoMemory, Octets, Reply};
 
 // The caller of the event and the number of its call, where it belongs to one.
 fn call_in(event: &Event) -> Option<(u16, u32)>
@@ -239,6 +239,42 @@ pub fn calls_in_turn(history: &[Event], clients: usize) -> bool
     true
 }
 
+// What a line takes at most beside its data, of which each octet is two digits.
+const LINE: usize = 128;
+
+fn data_len(payload: &Data) -> usize {
+    match payload {
+        Data::Absent => 0,
+        Data::Octet(octets) | Data::Struct(_, octets) => octets.slice().len(),
+    }
+}
+
+// How many octets of data a line tells by this event.
+fn told_len(event: &Event) -> usize {
+    match event {
+        Event::Answer(replied) => match &replied.answer {
+            Answer::Success(_, payload) | Answer::Failed(_, payload) => data_len(payload),
+            Answer::Error(_) => 0,
+        },
+        Event::Receive(received) => match &received.item {
+            Item::Message(payload, _) | Item::Ending(_, _, payload) => data_len(payload),
+        },
+        _ => 0,
+    }
+}
+
+// Room for all lines, so that they needn't be moved while they grow.
+fn room_for(history: &[Event]) -> usize {
+    let mut room = 0usize;
+    for event in history {
+        if call_in(event).is_some() {
+            let line = told_len(event).saturating_mul(2).saturating_add(LINE);
+            room = room.saturating_add(line);
+        }
+    }
+    room
+}
+
 /// The transcript of a history, whose events stand in the order in which they were made: the lines of the clients with
 /// these names, one client after another, and of each a line for each of its calls, of what the call was told by its
 /// newest event. The clients are the callers from 1 on. The one error is that memory runs out.
@@ -246,7 +282,7 @@ pub fn transcript(alloc: Global, history: &[Event], names: &[Name]) -> Result<Oc
     requires { AllInTurn (length names.now) (reverse history.now) }
     ensures { IfOk result (λ lines. lines ≡ transcript names.now (reverse history.now)) }
 {
-    let mut lines = Vec::new(alloc);
+    let mut lines = Vec::with_capacity(alloc, room_for(history))?;
     for (place, name) in names.iter().enumerate() {
         push_lines(&mut lines, name, place + 1, history)?;
     }
