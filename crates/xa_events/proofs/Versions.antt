@@ -3,7 +3,7 @@ use Rattle.std.proofs.Common.{◌≡◌, ℕ, ◌+◌, ◌≤◌, ◌==◌, true
 use Rattle.std.proofs.lemmas.Option.{cond_some}
 use Rattle.xa_types.specs.declared.setup.Setup.{Setup}
 use Rattle.xa_types.specs.declared.fault.Fault.{Fault}
-use Rattle.xa_types.specs.declared.fault.Fault.TheVariants.{Inval, NoEnt}
+use Rattle.xa_types.specs.declared.fault.Fault.TheVariants.{Inval, NoEnt, IType}
 use Rattle.xa_events.specs.declared.event.Event.{Event}
 use Rattle.xa_events.specs.declared.event.Event.TheVariants.{Advertise, Withdraw, Accept, Forward, End, Refuse}
 use Rattle.xa_events.specs.declared.event.Evidence.{Evidence}
@@ -32,6 +32,7 @@ Reads s e caller version = ((least_version s.setup s.clients caller s.past ≤ v
 shown_version : (past : List Event) (fault : Fault) (e : Evidence) (version : ℕ) → IsEvidenceFor fault e past → version_in e ≡ Some version → version ≤ published past
 shown_version past Inval Argument version h e = cc e
 shown_version past NoEnt (Version v) version h e = rw (← (cond_some true v version e).1) h
+shown_version past IType (Version v) version h e = rw (← (cond_some true v version e).1) h
 shown_version past _ _ version h e = absurd h
 
 -- a forward isn't built yet, so none fails

@@ -1,14 +1,17 @@
 -- What a call may become: each of its events fits the call, by the events before (XATMI, tpcall).
 use Rattle.std.specs.Prelude.{◌≡◌, ℕ, ◌+◌, ◌||◌, not, Bool, true, false, List, [], length, Option, Some, IsSomeAnd}
+use Rattle.std.specs.List.{list_any}
 use Rattle.xa_types.specs.declared.call.Op.{Op}
 use Rattle.xa_types.specs.declared.call.Op.TheVariants.{Call}
 use Rattle.xa_types.specs.declared.call.Ask.{Ask}
 use Rattle.xa_types.specs.declared.call.Mode.TheVariants.{Reply}
 use Rattle.xa_types.specs.declared.fault.Fault.{Fault}
-use Rattle.xa_types.specs.declared.fault.Fault.TheVariants.{Inval, NoEnt}
+use Rattle.xa_types.specs.declared.fault.Fault.TheVariants.{Inval, NoEnt, IType}
+use Rattle.xa_types.specs.declared.row.Row.{Row}
+use Rattle.xa_types.specs.declared.data.Data.{Data}
 use Rattle.xa_types.specs.declared.setup.Setup.{Setup}
 use Rattle.xa_types.specs.Name.{is_name}
-use Rattle.xa_types.specs.Kind.{is_sound}
+use Rattle.xa_types.specs.Kind.{is_sound, is_accepted, kind_of}
 use Rattle.xa_types.specs.Setup.{numbered}
 use Rattle.xa_events.specs.declared.event.Event.{Event}
 use Rattle.xa_events.specs.declared.event.Event.TheVariants.{Accept, Answer, Refuse}
@@ -40,10 +43,17 @@ pub record CallAnswered (ask : Ask) (b : Replied) (before : List Event) : Type 0
   pub request : just_accepted b.by.0 before ≡ Some b.request
   pub told : WasSettled b.request (λ settlement. b.answer ≡ answer_to ask.expect (reply_of settlement)) before
 
--- TPEINVAL by the call alone; TPENOENT where the version that was looked up lists no row
+-- whether a service on one of these rows accepts the kind of the data
+abbrev pub is_accepted_by : Setup → Data → List Row → Bool
+is_accepted_by setup payload rows = list_any (λ (row : Row). is_accepted setup row.accepts (kind_of payload)) rows
+
+-- TPEINVAL by the call alone; TPENOENT where the version that was looked up lists no row, and TPEITYPE where it lists some, of which none accepts
+-- the kind of the data
 abbrev pub CallRefused : Setup → Ask → Fault → Evidence → List Event → Type 0
 CallRefused setup ask Inval Argument before = is_invalid_call setup ask ≡ true
 CallRefused setup ask NoEnt (Version v) before = (is_invalid_call setup ask ≡ false) × (listed_in setup before v ask.service false ≡ [])
+CallRefused setup ask IType (Version v) before = (is_invalid_call setup ask ≡ false) × (listed_in setup before v ask.service false ≡ [] → ⊥)
+    × (is_accepted_by setup ask.payload (listed_in setup before v ask.service false) ≡ false)
 CallRefused setup ask fault evidence before = ⊥
 
 -- the event may be one of that call

@@ -6,7 +6,7 @@ use Rattle.xa_types.specs.declared.setup.Setup.{Setup}
 use Rattle.xa_types.specs.declared.row.Row.{Row}
 use Rattle.xa_types.specs.declared.call.Mode.TheVariants.{Reply}
 use Rattle.xa_types.specs.declared.fault.Fault.{Fault}
-use Rattle.xa_types.specs.declared.fault.Fault.TheVariants.{Inval, NoEnt}
+use Rattle.xa_types.specs.declared.fault.Fault.TheVariants.{Inval, NoEnt, IType}
 use Rattle.xa_types.specs.Kind.{kind_of, is_sound, is_accepted}
 use Rattle.xa_types.specs.Priority.{priority_of}
 use Rattle.xa_types.specs.Rows.{Put, configured, row_of}
@@ -219,6 +219,7 @@ pub record RefuseWorker (setup : Setup) (clients : ℕ) (r : Refused) (past : Li
 abbrev pub IsEvidenceFor : Fault → Evidence → List Event → Type 0
 IsEvidenceFor Inval Argument past = Unit {0}
 IsEvidenceFor NoEnt (Version v) past = v ≤ published past
+IsEvidenceFor IType (Version v) past = v ≤ published past
 IsEvidenceFor fault evidence past = ⊥
 
 -- ---- Leave: a client that has no descriptor open leaves; that it has made all its calls is said by `MadeCalls`
