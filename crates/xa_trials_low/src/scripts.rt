@@ -2,7 +2,7 @@
 use std::alloc::Global;
 use std::test::Fail;
 use xa_script::{Script, ScriptRefused, read, read_upto};
-use xa_types::{Ask, Data, Op};
+use xa_types::{Ask, Data, NoMemory, Op};
 
 const SETUP: &[u8] = b"queue = [{ name = 'Q' }]\nserver = [{ name = 'S', queue = 'Q' }]";
 
@@ -102,16 +102,23 @@ const CLIENTS: &[u8] =
     client y\nclient z\nclient 0\nclient 1\nclient 2\nclient 3\nclient 4\nclient 5\nclient 6\nclient 7\n\
     client 8\nclient 9\nclient +\nclient -\nclient _\n";
 
+// A script of one call, whose service and text have so many octets.
+fn call_of(alloc: Global, service: usize, text: usize) -> Result<Vec<u8>, NoMemory> {
+    let mut octets = Vec::from_slice(alloc, b"client a\ncall ")?;
+    octets.resize(octets.len().saturating_add(service), b'S')?;
+    octets.extend_from_slice(b" text \"")?;
+    octets.resize(octets.len().saturating_add(text), b'x')?;
+    octets.push(b'"')?;
+    Ok(octets)
+}
+
 #[test]
 fn scripts_have_64_clients_and_services_255_octets_at_most(rt: HostRuntime) -> Result<(), Fail> {
     assert!(rt; is_told(rt.alloc(), &CLIENTS[..576], 64, Ok((64, None))));
     assert!(rt; is_told(rt.alloc(), CLIENTS, 64, Err((65, 7))));
-    let mut octets = vec![in rt.alloc(); b'x'; 65_814]?;
-    octets[..14].copy_from_slice(b"client a\ncall ");
-    octets[269..276].copy_from_slice(b" text \"");
-    octets[65_813] = b'"';
-    assert!(rt; is_told(rt.alloc(), &octets, 1, Ok((1, octets.get(276..65_813)))));
-    octets[269..277].copy_from_slice(b"x text \"");
-    assert!(rt; is_told(rt.alloc(), &octets, 1, Err((2, 9))));
+    let longest = call_of(rt.alloc(), 255, 65_537)?;
+    assert!(rt; is_told(rt.alloc(), &longest, 1, Ok((1, longest.get(276..65_813)))));
+    let longer = call_of(rt.alloc(), 256, 0)?;
+    assert!(rt; is_told(rt.alloc(), &longer, 1, Err((2, 9))));
     Ok(())
 }
