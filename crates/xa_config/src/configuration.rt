@@ -1,6 +1,6 @@
 // The setup of a configuration.
-ghost use Rattle.std.specs.Prelude.{◌≡◌, ◌++◌, [], true, IfOk, IfErr, MatchResult, map, length, nat_le, codes};
-ghost use Rattle.std.specs.List.{list_any, sum_by};
+ghost use Rattle.std.specs.Prelude.{◌≡◌, ◌++◌, [], true, not, IfOk, IfErr, MatchResult, map, length, nat_le, codes};
+ghost use Rattle.std.specs.List.{list_all, list_any, sum_by};
 ghost use Rattle.std.specs.Str.{bytes_eq};
 ghost use Rattle.toml.specs.View.{view};
 ghost use Rattle.xa_types.specs.Configured.{is_among, is_configured};
@@ -113,10 +113,12 @@ fn setup_of(alloc: Global, document: &Value) -> Result<Setup, ConfigRefused>
 /// `Ok` is what a document without a fault says, and comes for each. A `Fault` is the first in the order of checks:
 /// whether the octets are a document; unknown tables; then `domain`, `shape`, `queue`, `server` and `service`, of each
 /// the table, then each entry, of it the keys in the order of the setup's fields; then the number of rows; then the
-/// queues without a server. `NoMemory` may come at any time.
+/// queues without a server. `NoMemory` may come at any time. No server of a setup that is read restarts, since one that
+/// does is fault 14.
 pub fn read(alloc: Global, octets: &[u8]) -> Result<Setup, ConfigRefused>
     ensures found { IfOk result (IsConfiguration octets.now) }
     ensures configured { IfOk result (λ setup. is_configured setup ≡ true) }
+    ensures restarts { IfOk result (λ setup. list_all (λ s. not s.restart) setup.servers ≡ true) }
     ensures refused { IfErr result (NamesFirstFault octets.now) }
 {
     let document = parse(alloc, octets)?;
