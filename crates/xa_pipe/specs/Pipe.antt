@@ -11,13 +11,13 @@ use Rattle.xa_frame.specs.declared.reader.NextRefused.TheVariants.{BadFrame, NoM
 use Rattle.xa_frame.specs.Stream.{IsPartial, IsMalformed}
 use Rattle.xa_frame.specs.Spelling.{all_spelled}
 use Rattle.xa_events.specs.declared.event.StopCause.{StopCause}
-use Rattle.xa_events.specs.declared.event.StopCause.TheVariants.{EndOfInput, ReadFault, WriteFault, BadBytes, Starved}
+use Rattle.xa_events.specs.declared.event.StopCause.TheVariants.{Shutdown, Exit, EndOfInput, ReadFault, WriteFault, BadBytes, Starved}
 use Rattle.xa_pipe.specs.Life.Turn.{AwaitsReady, AwaitsNext}
 use Rattle.xa_pipe.specs.Life.{Turn, Says, LastTurn, LinkShows, Gave, awaiting, may_end, tag_after, place_behind}
 
--- the request to a routine that has its service's name
-abbrev pub invoke_frame : List ℕ → ℕ → Data → Frame
-invoke_frame service tag payload = record { tag = tag; body = Invoke service service Reply payload }
+-- the request to that routine of that service
+abbrev pub invoke_frame : List ℕ → List ℕ → ℕ → Data → Frame
+invoke_frame service routine tag payload = record { tag = tag; body = Invoke service routine Reply payload }
 
 -- what the link took, gave and still holds, where it tells them, how often its reads and writes failed, and of what it gave the octets that aren't read as a frame, and their place
 pub record Piped : Type 0 where
@@ -64,6 +64,8 @@ Keeps pipe frames cause = HasRead pipe frames
 abbrev pub CountsReads : StopCause → ℕ → ℕ → Type 0
 CountsReads ReadFault before after = Rose before after
 CountsReads WriteFault before after = ⊥
+CountsReads Shutdown before after = ⊥
+CountsReads Exit before after = ⊥
 CountsReads cause before after = after ≡ before
 
 -- the count of failed writes before and after, where a frame wasn't written by that cause

@@ -89,6 +89,7 @@ impl<L: Link> Pipe<L> {
     /// really run out.
     pub fn greet(&mut self, server: &Name) -> Result<(), StopCause>
         ensures read { OnOk result (HasRead self.old [] → HasRead self.new (ready_frame server.now ∷ next_frame ∷ [])) }
+        ensures spelling { OnOk result (HasSpelling (ready_frame server.now)) }
         ensures took { self.new.took ≡ self.old.took }
         ensures writes { self.new.writes ≡ self.old.writes }
         ensures well { OnOk result (self.new.reads ≡ self.old.reads) }

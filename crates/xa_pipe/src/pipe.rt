@@ -98,13 +98,19 @@ impl<L: Link> Pipe<L> {
         link
     }
 
-    /// Sends a request to the routine that has its service's name, as the invocation of that number. Its data has at
-    /// most 65,536 octets. It fails by WriteFault, where the link took a front of the INVOKE, or by Starved, where
-    /// memory ran out and the link took nothing.
-    pub fn send(&mut self, service: &Name, number: u32, payload: &Data) -> Result<(), StopCause>
+    /// Sends a request to that routine of that service, as the invocation of that number. Its data has at most 65,536
+    /// octets. It fails by WriteFault, where the link took a front of the INVOKE, or by Starved, where memory ran out
+    /// and the link took nothing.
+    pub fn send(
+        &mut self,
+        service: &Name,
+        routine: &Name,
+        number: u32,
+        payload: &Data,
+    ) -> Result<(), StopCause>
         requires { IsData payload.now }
-        ensures took { OnOk result (Grew self.old.took self.new.took (spelled (invoke_frame service.now number payload.now))) }
-        ensures part { result ≡ Err WriteFault → GrewByPart self.old.took self.new.took (spelled (invoke_frame service.now number payload.now)) }
+        ensures took { OnOk result (Grew self.old.took self.new.took (spelled (invoke_frame service.now routine.now number payload.now))) }
+        ensures part { result ≡ Err WriteFault → GrewByPart self.old.took self.new.took (spelled (invoke_frame service.now routine.now number payload.now)) }
         ensures starved { result ≡ Err Starved → self.new.took ≡ self.old.took }
         ensures gave { self.new.gave ≡ self.old.gave }
         ensures rest { self.new.rest ≡ self.old.rest }
@@ -118,7 +124,7 @@ impl<L: Link> Pipe<L> {
             &mut self.due,
             number,
             service,
-            service,
+            routine,
             Mode::Reply,
             payload,
         );

@@ -6,7 +6,7 @@ use Rattle.std.specs.Str.Lines.{lines}
 use Rattle.std.proofs.lemmas.List.Elements.{All-cons}
 use Rattle.xa_types.specs.declared.call.Op.{Op}
 use Rattle.xa_script.specs.declared.script.Client.{Client}
-use Rattle.xa_program.specs.Progress.{IsBuiltOp, IsBuiltScript}
+use Rattle.xa_domain.specs.Serving.{IsBuiltOp, IsBuilt}
 use Rattle.xa_script.specs.Script.{IsCallLine, Reads, IsScriptOf}
 use Rattle.xa_script.specs.Draft.{is_line_end}
 use Rattle.xa_script.proofs.ScriptCut.{lines_at, lines_last}
@@ -65,10 +65,14 @@ reads_built most (line ∷ rest) ops clients low (inr (inr begun)) =
     let calls = more_built (length rest) most begun.1 (omega (arith, low)) more.0 in
     (subst (AreBuilt (length (line ∷ rest))) (sym begun.3) (none_built (length (line ∷ rest))), subst (HaveBuilt most) (sym begun.4) (calls, more.1))
 
-pub script_built : (all : List (List ℕ)) (clients : List Client) → length all < 2 ^ 32 → IsScriptOf 1 all clients → IsBuiltScript clients
-script_built all [] few script = tt
-script_built all (client ∷ []) few script =
-    let built = (reads_built (length all) all [] (client ∷ []) (omega arith) script.reads).1.0 in
-    let calls = built.1 in
-    (built.0, omega (arith, calls, few))
-script_built all (client ∷ other ∷ clients) few script = let one = script.few in absurd (omega (arith, one))
+each_built : (most : ℕ) (clients : List Client) → most < 2 ^ 32 → HaveBuilt most clients → All (λ (client : Client). All IsBuiltOp client.ops × (length client.ops < 2 ^ 32)) clients
+each_built most [] few built = λ k d low. absurd (omega arith)
+each_built most (client ∷ clients) few built =
+    let calls = built.0.1 in
+    All-cons (λ (c : Client). All IsBuiltOp c.ops × (length c.ops < 2 ^ 32)) client clients (built.0.0, omega (arith, calls, few)) (each_built most clients few built.1)
+
+pub script_built : (most : ℕ) (all : List (List ℕ)) (clients : List Client) → most ≤ 64 → length all < 2 ^ 32 → IsScriptOf most all clients → IsBuilt clients
+script_built most all clients low few script = record {
+  few = let fits = script.few in omega (arith, fits, low);
+  calls = each_built (length all) clients few (reads_built (length all) all [] clients (omega arith) script.reads).1;
+}

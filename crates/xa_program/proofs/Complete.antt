@@ -1,18 +1,30 @@
--- A run in which nothing fails comes to its end.
-use Rattle.std.proofs.Common.{◌≡◌, ◌⊎◌, ◌≤◌, ◌<◌, ℕ, List, length, Option, Some, ◌++◌, ◌∙◌, inl, inr, refl, ap, sym, subst, arith}
+-- A run in which nothing fails comes to its end, or to that of stamps or memory.
+use Rattle.std.proofs.Common.{◌≡◌, ◌≤◌, ◌<◌, ℕ, List, length, Option, Some, ◌++◌, ◌∙◌, inl, inr, ap, sym, subst, arith}
 use Rattle.std.specs.Prelude.{IfSome}
 use Rattle.std.proofs.lemmas.List.{append_cancel_left}
+use Rattle.xa_types.specs.declared.setup.Setup.{Setup}
 use Rattle.xa_link.specs.Told.{Rose, Grew}
+use Rattle.xa_link.specs.Reads.{HoldsMore}
 use Rattle.xa_events.specs.declared.event.Event.{Event}
+use Rattle.xa_stamp.specs.Home.{Notes}
 use Rattle.xa_script.specs.declared.script.Script.{Script}
 use Rattle.xa_script.specs.Script.{IsScript, IsFirstFault}
 use Rattle.xa_script.proofs.ScriptRead.{no_fault}
-use Rattle.xa_program.specs.declared.outcome.Life.{Life}
+use Rattle.xa_config.specs.Document.{IsConfiguration, IsFirstFault as IsFirstConfigFault}
+use Rattle.xa_config.specs.Faults.{fault}
+use Rattle.xa_config.proofs.OneReading as readings
+use Rattle.xa_domain.specs.declared.serving.Life.{Life}
+use Rattle.xa_domain.specs.Serving.{StarterShows, LinkTells}
+use Rattle.xa_program.specs.declared.words.Command.{Command}
+use Rattle.xa_program.specs.declared.words.Command.TheVariants.{Run}
 use Rattle.xa_program.specs.declared.status.Status.{Status}
-use Rattle.xa_program.specs.declared.status.Status.TheVariants.{Done, ScriptRead, TooLong, BadLine, WriteFault, NoMemory}
+use Rattle.xa_program.specs.declared.status.Status.TheVariants.{Done, ConfigRead, ConfigFault, ScriptRead, TooLong, BadLine, WriteFault, NoMemory, Worn}
 use Rattle.xa_program.specs.declared.status.Input.TheVariants as inputs
-use Rattle.xa_program.specs.Headline.{LinkTells, StarterShows, Streams, PlayEnds, longest_script}
+use Rattle.xa_program.specs.Configuration.{ShelfTells, HasFault, LacksSetup, TellsSetup, longest_configuration}
+use Rattle.xa_program.specs.Headline.{Streams, ScriptEnds, RunEnds, EndsWithoutFault, longest_script, most_clients}
 use Rattle.xa_program.specs.Input.{InputTells, CameWhole, CameOver, Tells}
+
+-- ---- the script
 
 -- more octets than those that are told
 not_over : (input : InputTells) (octets : List ℕ) → CameOver input longest_script → Tells input octets → length octets ≤ longest_script → ⊥
@@ -32,18 +44,56 @@ same_octets input octets came whole (inr (before, gave, gave_after)) =
     let both : Some (before ++ octets) ≡ Some (before ++ came) = sym gave_after ∙ grew in
     append_cancel_left before octets came (cc both)
 
-pub nothing_else : (L S : Type 0) (tells : LinkTells L) (shows : S → StarterShows) (streams : Streams) (service : List ℕ) (status : Status) (history : List Event) (lives : List (Life L)) (starters : List S)
-    (octets : List ℕ) (script : Script) → PlayEnds tells shows streams service status history lives starters
-    → Tells streams.input octets → length octets ≤ longest_script → IsScript 1 octets script
-    → (Rose streams.reads_before streams.reads_after → ⊥) → (Rose streams.writes_before streams.writes_after → ⊥) → (status ≡ Done) ⊎ (status ≡ NoMemory)
-nothing_else L S tells shows streams service Done history lives starters octets script ends told short is_script reads writes = inl refl
-nothing_else L S tells shows streams service NoMemory history lives starters octets script ends told short is_script reads writes = inr refl
-nothing_else L S tells shows streams service WriteFault history lives starters octets script ends told short is_script reads writes = absurd (writes ends.3)
-nothing_else L S tells shows streams service ScriptRead history lives starters octets script ends told short is_script reads writes = absurd (reads ends.0)
-nothing_else L S tells shows streams service (TooLong inputs.Script) history lives starters octets script ends told short is_script reads writes =
+script_comes : {L S : Type 0} (tells : LinkTells L) (shows : S → StarterShows) (streams : Streams) (setup : Setup) (most : ℕ) (status : Status) (homes : List Notes) (history : List Event) (lives : List (Life L)) (starters : List S)
+    (octets : List ℕ) (script : Script) → ScriptEnds tells shows streams setup most status homes history lives starters
+    → Tells streams.input octets → length octets ≤ longest_script → IsScript most octets script
+    → (Rose streams.reads_before streams.reads_after → ⊥) → (Rose streams.writes_before streams.writes_after → ⊥) → EndsWithoutFault status
+script_comes tells shows streams setup most Done homes history lives starters octets script ends told short is_script reads writes = tt
+script_comes tells shows streams setup most NoMemory homes history lives starters octets script ends told short is_script reads writes = tt
+script_comes tells shows streams setup most (Worn stamp) homes history lives starters octets script ends told short is_script reads writes = tt
+script_comes tells shows streams setup most WriteFault homes history lives starters octets script ends told short is_script reads writes = absurd (writes ends.3)
+script_comes tells shows streams setup most ScriptRead homes history lives starters octets script ends told short is_script reads writes = absurd (reads ends.0)
+script_comes tells shows streams setup most (TooLong inputs.Script) homes history lives starters octets script ends told short is_script reads writes =
     absurd (not_over streams.input octets ends.0 told short)
-nothing_else L S tells shows streams service (BadLine line cause) history lives starters octets script ends told short is_script reads writes =
+script_comes tells shows streams setup most (BadLine line cause) homes history lives starters octets script ends told short is_script reads writes =
     let fault = ends.0 in
     let same = same_octets streams.input octets fault.0 fault.1 told in
-    absurd (no_fault 1 octets line cause script.clients is_script (subst (λ (o : List ℕ). IsFirstFault 1 o line cause) (sym same) fault.3))
-nothing_else L S tells shows streams service status history lives starters octets script ends told short is_script reads writes = absurd ends
+    absurd (no_fault most octets line cause script.clients is_script (subst (λ (o : List ℕ). IsFirstFault most o line cause) (sym same) fault.3))
+script_comes tells shows streams setup most status homes history lives starters octets script ends told short is_script reads writes = absurd ends
+
+-- ---- the configuration
+
+not_longer : (file : Option (Option (List ℕ))) (octets : List ℕ) → file ≡ Some (Some octets) → length octets ≤ longest_configuration → HoldsMore file longest_configuration → ⊥
+not_longer file octets told short more =
+    let held = subst (λ (o : Option (Option (List ℕ))). HoldsMore o longest_configuration) told more in
+    let same : octets ≡ held.0 = let both = held.1 in cc both in
+    omega (arith, ap length same, held.2, short)
+
+not_faulty : (file : Option (Option (List ℕ))) (octets : List ℕ) (setup : Setup) (number : ℕ) (key : List ℕ) → file ≡ Some (Some octets) → IsConfiguration octets setup → HasFault file number key → ⊥
+not_faulty file octets setup number key told good bad =
+    let held = subst (λ (o : Option (Option (List ℕ))). HasFault o number key) told bad in
+    let same : octets ≡ held.0 = let both = held.1 in cc both in
+    readings.no_fault octets (fault key number) setup (subst (λ (o : List ℕ). IsFirstConfigFault o (fault key number)) (sym same) held.3) good
+
+-- no configuration that is told and isn't too long is refused
+no_lack : (shelf : ShelfTells) (command : Command) (status : Status) → TellsSetup shelf.file command → LacksSetup shelf command status → (Rose shelf.faults shelf.faults_after → ⊥) → ⊥
+no_lack shelf (Run name) ConfigRead (octets, setup, told, short, good) why failed = failed why
+no_lack shelf (Run name) (TooLong inputs.Configuration) (octets, setup, told, short, good) why failed = not_longer (shelf.file name) octets told short why
+no_lack shelf (Run name) (ConfigFault number key) (octets, setup, told, short, good) why failed = not_faulty (shelf.file name) octets setup number key told good why
+no_lack shelf command status tells why failed = why
+
+-- ---- the run
+
+pub nothing_else : {L S : Type 0} (tells : LinkTells L) (shows : S → StarterShows) (shelf : ShelfTells) (streams : Streams) (command : Command) (status : Status) (homes : List Notes) (history : List Event) (lives : List (Life L)) (starters : List S)
+    (octets : List ℕ) (script : Script) → RunEnds tells shows shelf streams command status homes history lives starters → TellsSetup shelf.file command
+    → Tells streams.input octets → length octets ≤ longest_script → IsScript (most_clients command) octets script
+    → (Rose shelf.faults shelf.faults_after → ⊥) → (Rose streams.reads_before streams.reads_after → ⊥) → (Rose streams.writes_before streams.writes_after → ⊥) → EndsWithoutFault status
+nothing_else tells shows shelf streams command NoMemory homes history lives starters octets script ends configured told short is_script files reads writes = tt
+nothing_else tells shows shelf streams command ConfigRead homes history lives starters octets script ends configured told short is_script files reads writes =
+    absurd (no_lack shelf command ConfigRead configured ends.0 files)
+nothing_else tells shows shelf streams command (TooLong inputs.Configuration) homes history lives starters octets script ends configured told short is_script files reads writes =
+    absurd (no_lack shelf command (TooLong inputs.Configuration) configured ends.0 files)
+nothing_else tells shows shelf streams command (ConfigFault number key) homes history lives starters octets script ends configured told short is_script files reads writes =
+    absurd (no_lack shelf command (ConfigFault number key) configured ends.0 files)
+nothing_else tells shows shelf streams command status homes history lives starters octets script ends configured told short is_script files reads writes =
+    script_comes tells shows streams ends.0 (most_clients command) status homes history lives starters octets script ends.2 told short is_script reads writes

@@ -1,13 +1,5 @@
-pub mod Apart
 pub mod Asking
 pub mod Built
-pub mod Carrying
 pub mod Complete
-pub mod Exchanging
+pub mod Ending
 pub mod Given
-pub mod Over
-pub mod Pipes
-pub mod Played
-pub mod Served
-pub mod Turns
-pub mod Yielding

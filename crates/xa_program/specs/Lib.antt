@@ -1,6 +1,7 @@
+pub mod Configuration
 pub mod Headline
 pub mod Input
-pub mod Lives
+pub mod PlaySetup
 pub mod Progress
 pub mod Server
 pub mod Status

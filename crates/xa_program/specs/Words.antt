@@ -1,9 +1,9 @@
 -- The words of a command line (this project's own).
-use Rattle.std.specs.Prelude.{ℕ, drop, Bool, false, not, ◌&&◌, ◌==◌, List, [], ◌∷◌, Option, Some, None, option_and_then, codes, if◌then◌else◌}
+use Rattle.std.specs.Prelude.{ℕ, drop, Bool, false, not, ◌&&◌, ◌==◌, List, [], ◌∷◌, Option, Some, None, option_map, option_and_then, codes, if◌then◌else◌}
 use Rattle.std.specs.Str.{bytes_eq}
 use Rattle.xa_types.specs.Name.{is_name}
 use Rattle.xa_program.specs.declared.words.Command.{Command}
-use Rattle.xa_program.specs.declared.words.Command.TheVariants.{Play, Server}
+use Rattle.xa_program.specs.declared.words.Command.TheVariants.{Run, Play, Server}
 
 -- the program's own word, and the words behind it
 abbrev pub own_word : List (List ℕ) → List ℕ
@@ -17,6 +17,10 @@ abbrev pub begins_with_dash : List ℕ → Bool
 begins_with_dash [] = false
 begins_with_dash (first ∷ rest) = first == 45
 
+-- the file that a word names; none where it begins with a dash
+abbrev pub file_in : List ℕ → Option (List ℕ)
+file_in word = if begins_with_dash word then None else Some word
+
 -- the name that a word is; none where it begins with a dash
 abbrev pub name_in : List ℕ → Option (List ℕ)
 name_in word = if not (begins_with_dash word) && is_name word then Some word else None
@@ -25,8 +29,10 @@ name_in word = if not (begins_with_dash word) && is_name word then Some word els
 abbrev pub named_command : List ℕ → List ℕ → Option Command
 named_command command name = if bytes_eq command (codes "play") then Some (Play name) else (if bytes_eq command (codes "server") then Some (Server name) else None)
 
+-- `run CONFIG`, `play SERVICE` or `server NAME`
 abbrev pub command_of : List ℕ → List ℕ → Option Command
-command_of command argument = option_and_then (named_command command) (name_in argument)
+command_of command argument =
+    if bytes_eq command (codes "run") then option_map (λ file. Run file) (file_in argument) else option_and_then (named_command command) (name_in argument)
 
 -- a command has exactly two words
 abbrev pub command_in : List (List ℕ) → Option Command

@@ -1,21 +1,16 @@
 use crate::status::Status;
+use xa_domain::Life;
 use xa_events::Event;
 use xa_link::Yard;
-use xa_types::{Generation, ServerId};
+use xa_stamp::Record;
 
-/// A life of a server, and the pipes that its program had.
-#[derive(Drop)]
-pub struct Life<L> {
-    pub server: ServerId,
-    pub generation: Generation,
-    pub link: L,
-}
-
-/// What a run hands back: how it ended, the events in the order in which they were made, the lives of the servers, and
-/// their starters. There are none of these of `server`, and where the words, the input or the script were refused. Where
-/// memory ran out there are none, or the events up to the server's start.
+/// What a run hands back: how it ended, the homes, in which each event stands with its stamp, the history, which is the
+/// events of all homes in order, the lives of the servers, and their starters. There are none of these of `server`, and
+/// where the words, the configuration, the input or the script were refused. Where stamps or memory came to their end
+/// there may be none, or what there was by then; the history may then be empty though the homes aren't.
 pub struct Outcome<Y: Yard> {
     pub status: Status,
+    pub homes: Record,
     pub history: Vec<Event>,
     pub lives: Vec<Life<Y::Line>>,
     pub starters: Vec<Y::Start>,

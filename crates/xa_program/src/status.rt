@@ -5,7 +5,7 @@ ghost use Rattle.xa_program.specs.declared.status.Status.TheVariants as statuses
 ghost use Rattle.xa_program.specs.Status.{number_of};
 
 use std::process::ExitCode;
-use xa_types::NoMemory;
+use xa_types::{NoMemory, Octets, Stamp};
 
 /// Which input was too long.
 #[derive(Clone, Copy, Debug, PartialEq, Eq)]
@@ -15,15 +15,19 @@ pub enum Input {
 }
 
 /// How a command ended.
-#[derive(Clone, Copy, Debug, PartialEq, Eq)]
+#[derive(Debug, Drop)]
 pub enum Status {
-    /// The script was played and all is written, or the work of a server has ended.
+    /// The script was served and all is written, or the work of a server has ended.
     Done,
     /// The words of the command line aren't those of a command.
     Usage,
+    /// The configuration can't be read.
+    ConfigRead,
+    /// The configuration has a fault: the number of its first one, and the key of that.
+    ConfigFault { number: u8, key: Octets },
     /// The input failed.
     ScriptRead,
-    /// The input has more octets than it may have.
+    /// The configuration or the input has more octets than it may have.
     TooLong(Input),
     /// The script breaks the form: its first line at fault, counted from 1, and the cause.
     BadLine { line: u32, cause: u8 },
@@ -33,28 +37,33 @@ pub enum Status {
     BadFrame(u64),
     /// Memory ran out.
     NoMemory,
+    /// Stamps came to their end: an event has this one.
+    Worn(Stamp),
 }
 
 impl Status {
     /// The number that stands for it.
-    pub fn number(self) -> u8
-        ensures { result ≡ number_of self }
+    pub fn number(&self) -> u8
+        ensures { result ≡ number_of self.now }
     {
         match self {
             Status::Done => 0,
             Status::Usage => 1,
+            Status::ConfigFault { .. } => 2,
             Status::BadLine { .. } => 3,
+            Status::ConfigRead => 4,
             Status::ScriptRead => 4,
             Status::WriteFault => 5,
             Status::NoMemory => 6,
             Status::TooLong(_) => 7,
+            Status::Worn(_) => 9,
             Status::BadFrame(_) => 10,
         }
     }
 
     /// What the program hands to the system as it ends.
-    pub fn exit_code(self) -> ExitCode
-        ensures { exit_status result ≡ number_of self }
+    pub fn exit_code(&self) -> ExitCode
+        ensures { exit_status result ≡ number_of self.now }
     {
         ExitCode::from(self.number())
     }

@@ -1,7 +1,8 @@
 // The words that the program was started with, and the command that they are.
-ghost use Rattle.std.specs.Prelude.{◌≡◌, ◌⊎◌, All, IfOk, IfErr, IfSome, IsErrOf, map, string_bytes};
+ghost use Rattle.std.specs.Prelude.{◌≡◌, ◌⊎◌, ℕ, List, Some, All, IfOk, IfErr, OnErr, IfSome, IsErrOf, map, option_map, option_and_then, string_bytes};
 ghost use Rattle.std.specs.Str.{IsUtf8};
-ghost use Rattle.xa_program.specs.Words.{own_word, words_behind, begins_with_dash, name_in, command_of, command_in};
+ghost use Rattle.xa_program.specs.declared.words.Command.TheVariants.{Run};
+ghost use Rattle.xa_program.specs.Words.{own_word, words_behind, begins_with_dash, file_in, name_in, named_command, command_of, command_in};
 
 use crate::status::Status;
 use std::alloc::Global;
@@ -78,8 +79,10 @@ fn text_of(alloc: Global, word: &Octets) -> Result<String, Status>
 }
 
 /// What the program is asked to do.
-#[derive(Clone, Copy)]
+#[derive(Drop)]
 pub enum Command {
+    /// Serves a script in the domain of the configuration that this file holds.
+    Run(Octets),
     /// Plays a script whose calls go to this service.
     Play(Name),
     /// Serves as the server of this name.
@@ -95,6 +98,17 @@ fn begins_with_dash(octets: &[u8]) -> bool
     }
 }
 
+// The run of the file that the word names.
+fn run_of(alloc: Global, file: &[u8]) -> Result<Option<Command>, NoMemory>
+    ensures found { IfOk result (λ command. command ≡ option_map (λ file. Run file) (file_in file.now)) }
+    ensures starved { OnErr result (file_in file.now ≡ Some file.now) }
+{
+    if begins_with_dash(file) {
+        return Ok(None);
+    }
+    Ok(Some(Command::Run(Octets::of(alloc, file)?)))
+}
+
 fn name_in(octets: &[u8]) -> Option<Name>
     ensures { result ≡ name_in octets.now }
 {
@@ -104,10 +118,10 @@ fn name_in(octets: &[u8]) -> Option<Name>
     Name::read(octets).ok()
 }
 
-fn command_of(command: &str, argument: &str) -> Option<Command>
-    ensures { result ≡ command_of command.now argument.now }
+fn named_command(command: &str, argument: &[u8]) -> Option<Command>
+    ensures { result ≡ option_and_then (named_command command.now) (name_in argument.now) }
 {
-    let name = name_in(argument.as_bytes())?;
+    let name = name_in(argument)?;
     if command == "play" {
         Some(Command::Play(name))
     } else if command == "server" {
@@ -117,12 +131,25 @@ fn command_of(command: &str, argument: &str) -> Option<Command>
     }
 }
 
-/// The command that the words after the program's own name make: `play SERVICE` or `server NAME`, and no other.
-pub fn read_words(words: &[String]) -> Option<Command>
-    ensures { result ≡ command_in (map string_bytes words.now) }
+fn command_of(alloc: Global, command: &str, argument: &str) -> Result<Option<Command>, NoMemory>
+    ensures found { IfOk result (λ found. found ≡ command_of command.now argument.now) }
+    ensures starved { OnErr result ((file : List ℕ) × (command_of command.now argument.now ≡ Some (Run file))) }
+{
+    if command == "run" {
+        run_of(alloc, argument.as_bytes())
+    } else {
+        Ok(named_command(command, argument.as_bytes()))
+    }
+}
+
+/// The command that the words after the program's own name make: `run CONFIG`, `play SERVICE` or `server NAME`, and no
+/// other. Memory is wanted for the name of a file alone.
+pub fn read_words(alloc: Global, words: &[String]) -> Result<Option<Command>, NoMemory>
+    ensures found { IfOk result (λ found. found ≡ command_in (map string_bytes words.now)) }
+    ensures starved { OnErr result ((file : List ℕ) × (command_in (map string_bytes words.now) ≡ Some (Run file))) }
 {
     match words {
-        [command, argument] => command_of(command.as_str(), argument.as_str()),
-        _ => None,
+        [command, argument] => command_of(alloc, command.as_str(), argument.as_str()),
+        _ => Ok(None),
     }
 }

@@ -5,6 +5,8 @@
 #[cfg(test)]
 mod commands;
 #[cfg(test)]
+mod configurations;
+#[cfg(test)]
 mod lives;
 #[cfg(test)]
 mod running;

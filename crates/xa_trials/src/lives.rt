@@ -1,16 +1,15 @@
 //! Lives of a server in memory, and what each call is told of them.
-use crate::running::{runs, sink_of, source_of};
+use crate::running::{End, runs, sink_of, source_of};
 use std::alloc::Global;
 use xa_link::{MemoryLink, MemoryYard};
-use xa_program::Status;
 use xa_types::NoMemory;
 
-// What a server's program says: READY, NEXT, and RETURNs to the first invocation, of which the last is cut short.
-const READY: &[u8] = b"XA\x01\x01\0\0\0\x02\0\0\0\0\x01S";
+/// What a server's program says: READY, NEXT, and RETURNs to the first invocation, of which the last is cut short.
+pub const READY: &[u8] = b"XA\x01\x01\0\0\0\x02\0\0\0\0\x01S";
 
-const NEXT: &[u8] = b"XA\x01\x02\0\0\0\0\0\0\0\0";
+pub const NEXT: &[u8] = b"XA\x01\x02\0\0\0\0\0\0\0\0";
 
-const SUCCESS: &[u8] = b"XA\x01\x04\0\0\0\x06\0\0\0\x01\0\0\0\0\0\0";
+pub const SUCCESS: &[u8] = b"XA\x01\x04\0\0\0\x06\0\0\0\x01\0\0\0\0\0\0";
 
 const FAIL: &[u8] = b"XA\x01\x04\0\0\0\x06\0\0\0\x01\x01\0\0\0\x63\0";
 
@@ -40,7 +39,7 @@ type Row = (
     &'static [u8],
 );
 
-const SOUND: [&[u64]; 3] = [&[], &[], &[]];
+pub const SOUND: [&[u64]; 3] = [&[], &[], &[]];
 
 const ROWS: [Row; 20] = [
     (b"client a\n", Some(&[READY, NEXT]), SOUND, b""),
@@ -140,8 +139,8 @@ fn link_of(alloc: Global, said: &[&[u8]], faults: [&[u64]; 3]) -> Result<MemoryL
     Ok(MemoryLink::new(source, sink_of(alloc, writes, idle, 5)?))
 }
 
-// A yard of one server with that life.
-fn yard_of(
+/// A yard whose first server alone can be started, where there is such a life.
+pub fn yard_of(
     alloc: Global,
     life: Option<&[&[u8]]>,
     faults: [&[u64]; 3],
@@ -158,7 +157,7 @@ fn serves(rt: &HostRuntime, (script, life, faults, wrote): Row) -> bool {
     match yard_of(rt.alloc(), life, faults) {
         Ok(mut yard) => {
             let none: &[u64] = &[];
-            let want = (Status::Done, wrote);
+            let want = (End::Done, wrote);
             runs(
                 rt,
                 &["play", "ECHO"],

@@ -3,11 +3,44 @@ ghost use Rattle.std.specs.Prelude.{◌<◌};
 
 use std::alloc::Global;
 use xa_link::{MemoryShelf, MemorySink, MemorySource, OpenGate, Yard};
-use xa_program::{Outcome, Status, run};
+use xa_program::{Input, Outcome, Status, run};
 use xa_types::{NoMemory, Octets};
 
 /// The input of a command, the reads of it that fail, and the writes of its output that take nothing.
 pub type Script<'a> = (&'a [u8], &'a [u64], &'a [u64]);
+
+/// How a command is to end.
+#[derive(Clone, Copy)]
+pub enum End {
+    Done,
+    Usage,
+    ConfigRead,
+    /// The number of the fault, and its key.
+    ConfigFault(u8, &'static str),
+    ScriptRead,
+    TooLong(Input),
+    /// The line and the cause.
+    BadLine(u32, u8),
+    WriteFault,
+}
+
+fn ends_so(status: &Status, end: End) -> bool {
+    match (status, end) {
+        (Status::Done, End::Done)
+        | (Status::Usage, End::Usage)
+        | (Status::ConfigRead, End::ConfigRead)
+        | (Status::ScriptRead, End::ScriptRead)
+        | (Status::WriteFault, End::WriteFault) => true,
+        (Status::ConfigFault { number, key }, End::ConfigFault(fault, at)) => {
+            *number == fault && key.slice() == at.as_bytes()
+        }
+        (Status::TooLong(input), End::TooLong(which)) => *input == which,
+        (Status::BadLine { line, cause }, End::BadLine(at, least)) => {
+            *line == at && *cause == least
+        }
+        _ => false,
+    }
+}
 
 // What a command is run on. A read gives seven octets at most, and a write takes five.
 #[derive(Drop)]
@@ -75,13 +108,14 @@ fn set_up(
     })
 }
 
-fn ends<Y: Yard>(rt: &HostRuntime, stage: &mut Stage, yard: &mut Y, want: (Status, &[u8])) -> bool
+fn ends<Y: Yard>(rt: &HostRuntime, stage: &mut Stage, yard: &mut Y, want: (End, &[u8])) -> bool
 where
     Y::Line: Drop,
     Y::Start: Drop,
 {
     let Outcome {
         status,
+        homes: _,
         history: _,
         lives: _,
         starters: _,
@@ -95,18 +129,17 @@ where
         yard,
         &OpenGate,
     );
-    status == want.0 && stage.out.taken() == want.1
+    ends_so(&status, want.0) && stage.out.taken() == want.1
 }
 
-/// Whether a command of these words, with these files, this script and this yard, ends with that status and has
-/// written that.
+/// Whether a command of these words, with these files, this script and this yard, ends so and has written that.
 pub fn runs<Y: Yard>(
     rt: &HostRuntime,
     words: &[&str],
     files: &[(&[u8], &[u8])],
     script: Script<'_>,
     yard: &mut Y,
-    want: (Status, &[u8]),
+    want: (End, &[u8]),
 ) -> bool
 where
     Y::Line: Drop,

@@ -1,14 +1,14 @@
 //! Data and scripts as long as they may be: no clause says that memory suffices for them.
-use crate::running::runs;
+use crate::running::{End, runs};
 use std::alloc::Global;
 use std::test::Fail;
-use xa_program::{Input, LocalYard, Status};
+use xa_program::{Input, LocalYard};
 
 // What the octets begin with, what comes again and again, and their end.
 type Long = (&'static [u8], &'static [u8], &'static [u8]);
 
-// The words, how often that comes in the input and in the output, both, and the status.
-type Row = (&'static [&'static str], usize, Long, Long, Status);
+// The words, how often that comes in the input and in the output, both, and how it ends.
+type Row = (&'static [&'static str], usize, Long, Long, End);
 
 const PLAY: &[&str] = &["play", "ECHO"];
 
@@ -35,16 +35,16 @@ const ROWS: [Row; 4] = [
         65_536,
         (b"client a\ncall ECHO text \"", b"x", b"\"\n"),
         (b"a 1 OK 0 octet ", b"78", b"\n"),
-        Status::Done,
+        End::Done,
     ),
-    (&["server", "S"], 65_536, ASKED, SAID, Status::Done),
-    (PLAY, 1_048_576, (b"", b"#", b""), EMPTY, Status::Done),
+    (&["server", "S"], 65_536, ASKED, SAID, End::Done),
+    (PLAY, 1_048_576, (b"", b"#", b""), EMPTY, End::Done),
     (
         PLAY,
         1_048_576,
         (b"", b"#", b"#"),
         EMPTY,
-        Status::TooLong(Input::Script),
+        End::TooLong(Input::Script),
     ),
 ];
 
@@ -57,19 +57,41 @@ fn octets_of(alloc: Global, (first, again, last): Long, count: usize) -> Result<
     Ok(octets)
 }
 
-fn is_run(rt: &HostRuntime, words: &[&str], input: &[u8], want: (Status, &[u8])) -> bool {
+fn is_run(rt: &HostRuntime, words: &[&str], input: &[u8], want: (End, &[u8])) -> bool {
     let mut yard = LocalYard::new(rt.alloc());
     let none: &[u64] = &[];
     runs(rt, words, &[], (input, none, none), &mut yard, want)
 }
 
+// How long the configuration is, a comment, and how it ends.
+const CONFIGURATIONS: [(usize, End); 2] = [
+    (262_144, End::ConfigFault(3, "queue")),
+    (262_145, End::TooLong(Input::Configuration)),
+];
+
+fn is_refused(rt: &HostRuntime, config: &[u8], end: End) -> bool {
+    let mut yard = LocalYard::new(rt.alloc());
+    let files: [(&[u8], &[u8]); 1] = [(b"c", config)];
+    let none: (&[u8], &[u64], &[u64]) = (b"", &[], &[]);
+    runs(rt, &["run", "c"], &files, none, &mut yard, (end, b""))
+}
+
+#[test]
+fn the_longest_configuration_is_read(rt: HostRuntime) -> Result<(), Fail> {
+    for (count, end) in CONFIGURATIONS {
+        let config = octets_of(rt.alloc(), (b"", b"#", b""), count)?;
+        assert!(rt; is_refused(&rt, &config, end), "{count}");
+    }
+    Ok(())
+}
+
 #[test]
 fn the_longest_data_and_script_are_played(rt: HostRuntime) -> Result<(), Fail> {
-    for (words, count, input, wrote, status) in ROWS {
+    for (words, count, input, wrote, end) in ROWS {
         let input = octets_of(rt.alloc(), input, count)?;
         let wrote = octets_of(rt.alloc(), wrote, count)?;
         assert!(rt;
-            is_run(&rt, words, &input, (status, &wrote)),
+            is_run(&rt, words, &input, (end, &wrote)),
             "{words:?}, {count}"
         );
     }
@@ -92,6 +114,6 @@ fn many_calls_are_played(rt: HostRuntime) -> Result<(), Fail> {
     let calls: Long = (b"client a\n", b"call ECHO none\n", b"");
     let script = octets_of(rt.alloc(), calls, CALLS as usize)?;
     let lines = lines_of(rt.alloc())?;
-    assert!(rt; is_run(&rt, PLAY, &script, (Status::Done, &lines)));
+    assert!(rt; is_run(&rt, PLAY, &script, (End::Done, &lines)));
     Ok(())
 }

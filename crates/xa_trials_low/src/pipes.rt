@@ -122,7 +122,7 @@ const TAKEN: [(&[u64], &[u64], usize); 4] = [
 ];
 
 fn write<L: Link>(pipe: &mut Pipe<L>, service: &Name) -> Result<(), StopCause> {
-    pipe.send(service, 1, &Data::Absent)?;
+    pipe.send(service, service, 1, &Data::Absent)?;
     pipe.shut_down()
 }
 

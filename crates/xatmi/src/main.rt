@@ -34,6 +34,7 @@ fn run_command(rt: HostRuntime) -> Status {
     };
     let Outcome {
         status,
+        homes,
         history,
         lives,
         starters: _,
@@ -49,23 +50,35 @@ fn run_command(rt: HostRuntime) -> Status {
     );
     drop(lives);
     // The system takes back all memory at once as the program ends.
+    forget(homes);
     forget(history);
     status
 }
 
+// Says the fault of a configuration and its key, which is text; that it is no document has none.
+fn report_fault<R: Eprint>(rt: &R, number: u8, key: &Octets) -> io::Result<()> {
+    match str::from_utf8(key.slice()) {
+        Ok(key) if number != 1 => eprintln!(rt; "config {number} {key}"),
+        _ => eprintln!(rt; "config {number}"),
+    }
+}
+
 // Says on standard error how the command ended, but nothing of one that is done.
-fn report<R: Eprint>(rt: &R, status: Status) -> io::Result<()> {
+fn report<R: Eprint>(rt: &R, status: &Status) -> io::Result<()> {
     match status {
         Status::Done => Ok(()),
         Status::Usage => {
             eprintln!(rt; "usage: xatmi run CONFIG, drill N, play SERVICE, server NAME")
         }
+        Status::ConfigRead => eprintln!(rt; "cannot read configuration"),
+        Status::ConfigFault { number, key } => report_fault(rt, *number, key),
         Status::BadLine { line, cause } => eprintln!(rt; "script line {line} cause {cause}"),
         Status::ScriptRead => eprintln!(rt; "cannot read input"),
         Status::WriteFault => eprintln!(rt; "cannot write"),
         Status::NoMemory => eprintln!(rt; "no memory"),
         Status::TooLong(Input::Configuration) => eprintln!(rt; "too long: configuration"),
         Status::TooLong(Input::Script) => eprintln!(rt; "too long: script"),
+        Status::Worn(_) => eprintln!(rt; "stamp at its end"),
         Status::BadFrame(place) => eprintln!(rt; "bad frame at {place}"),
     }
 }
@@ -74,7 +87,7 @@ fn report<R: Eprint>(rt: &R, status: Status) -> io::Result<()> {
 fn finish<R: Eprint>(rt: &R, status: Status) -> ExitCode
     ensures { exit_status result ≡ number_of status }
 {
-    let _ = report(rt, status);
+    let _ = report(rt, &status);
     status.exit_code()
 }
 

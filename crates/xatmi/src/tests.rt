@@ -4,9 +4,9 @@ use std::alloc::Global;
 use std::fmt::Display;
 use std::test::Fail;
 use std::{fs, io};
-use xa_link::{ChildYard, MemoryArguments, MemoryShelf, MemorySink, MemorySource, OpenGate};
+use xa_link::{ChildYard, FileShelf, MemoryArguments, MemorySink, MemorySource, OpenGate};
 use xa_program::{Input, Outcome, Status, all_words, run, words_behind};
-use xa_types::Octets;
+use xa_types::{Octets, Stamp};
 
 // READY and NEXT of the server S, in the words of the shell's printf.
 const GREETING: &str = "printf 'XA\\001\\001\\000\\000\\000\\002\\000\\000\\000\\000\\001S\
@@ -20,46 +20,65 @@ const ENDS: [&str; 2] = [
     "head -c 1 >/dev/null; kill -9 $$ >/dev/null & wait; exec sleep 60",
 ];
 
+// One server, whose program is the shell.
+const CONFIG: &str = "[[queue]]\nname = \"Q\"\n\
+                      [[server]]\nname = \"S\"\nqueue = \"Q\"\nprogram = \"/bin/sh\"\n\
+                      [[service]]\nname = \"ECHO\"\nqueues = [\"Q\"]\n";
+
+const COMMANDS: [[&str; 2]; 2] = [["play", "ECHO"], ["run", "config"]];
+
+// Whether the command serves the script by one process, which dies with the first call.
+fn dies(rt: &HostRuntime, [command, argument]: [&str; 2]) -> Result<bool, Fail> {
+    let alloc = rt.alloc();
+    let words = [
+        String::from_str(alloc, command)?,
+        String::from_str(alloc, argument)?,
+    ];
+    let mut out = MemorySink::new(alloc, Vec::new(alloc), Vec::new(alloc), 64);
+    let Outcome {
+        status,
+        homes: _,
+        history: _,
+        lives,
+        starters: _,
+    } = run(
+        rt,
+        alloc,
+        words.as_slice(),
+        &mut FileShelf::new(rt.clone()?, alloc),
+        &mut MemorySource::new(Octets::of(alloc, SCRIPT)?, Vec::new(alloc), 64),
+        &mut out,
+        &mut ChildYard::new(rt.clone()?, Octets::of(alloc, b"sh")?),
+        &OpenGate,
+    );
+    let told = out.taken() == b"a 1 TPESVCERR\na 2 TPENOENT\n".as_slice();
+    Ok(told && status.number() == 0 && lives.len() == 1)
+}
+
 // The monitor starts a process with the words `server S`, so `sh` reads its script from the file `server`.
 #[test]
 fn a_process_that_ends_is_a_server_that_died(rt: HostRuntime) -> Result<(), Fail> {
-    let alloc = rt.alloc();
-    let words = [
-        String::from_str(alloc, "play")?,
-        String::from_str(alloc, "ECHO")?,
-    ];
+    fs::write(&rt, "config", CONFIG)?;
     for end in ENDS {
-        fs::write(&rt, "server", format!(in alloc; "{GREETING}; {end}\n")?)?;
-        let mut out = MemorySink::new(alloc, Vec::new(alloc), Vec::new(alloc), 64);
-        let Outcome {
-            status,
-            history: _,
-            lives,
-            starters: _,
-        } = run(
+        fs::write(
             &rt,
-            alloc,
-            words.as_slice(),
-            &mut MemoryShelf::new(Vec::new(alloc), Vec::new(alloc)),
-            &mut MemorySource::new(Octets::of(alloc, SCRIPT)?, Vec::new(alloc), 64),
-            &mut out,
-            &mut ChildYard::new(rt.clone()?, Octets::of(alloc, b"sh")?),
-            &OpenGate,
-        );
-        assert_eq!(rt; status, Status::Done);
-        assert_eq!(rt; out.taken(), b"a 1 TPESVCERR\na 2 TPENOENT\n".as_slice());
-        assert_eq!(rt; lives.len(), 1);
-        drop(lives);
-        assert_eq!(rt;
-            fs::read_to_string(&rt, "/proc/thread-self/children")?.as_str(),
-            ""
-        );
+            "server",
+            format!(in rt.alloc(); "{GREETING}; {end}\n")?,
+        )?;
+        for command in COMMANDS {
+            assert!(rt; dies(&rt, command)?);
+            assert_eq!(rt;
+                fs::read_to_string(&rt, "/proc/thread-self/children")?.as_str(),
+                ""
+            );
+        }
     }
     fs::remove_file(&rt, "server")?;
+    fs::remove_file(&rt, "config")?;
     Ok(())
 }
 
-const LINES: [(Status, u8, &str); 9] = [
+const LINES: [(Status, u8, &str); 11] = [
     (Status::Done, 0, ""),
     (
         Status::Usage,
@@ -71,6 +90,7 @@ const LINES: [(Status, u8, &str); 9] = [
         3,
         "script line 7 cause 9",
     ),
+    (Status::ConfigRead, 4, "cannot read configuration"),
     (Status::ScriptRead, 4, "cannot read input"),
     (Status::WriteFault, 5, "cannot write"),
     (Status::NoMemory, 6, "no memory"),
@@ -80,7 +100,15 @@ const LINES: [(Status, u8, &str); 9] = [
         "too long: configuration",
     ),
     (Status::TooLong(Input::Script), 7, "too long: script"),
+    (Status::Worn(Stamp(9)), 9, "stamp at its end"),
     (Status::BadFrame(24), 10, "bad frame at 24"),
+];
+
+// The number of a configuration's fault, its key and its line.
+const FAULTS: [(u8, &str, &str); 3] = [
+    (1, "", "config 1"),
+    (2, "", "config 2 "),
+    (8, "server[0].queue", "config 8 server[0].queue"),
 ];
 
 // A standard error that takes this line alone.
@@ -105,28 +133,35 @@ impl Eprint for Taking<'_> {
     }
 }
 
-#[test]
-fn each_status_has_its_line(rt: HostRuntime) {
-    for (status, number, line) in LINES {
-        let taking = Taking {
-            alloc: rt.alloc(),
-            line,
-        };
-        assert!(rt; report(&taking, status).is_ok(), "{line}");
-        assert_eq!(rt; status.number(), number);
-    }
+fn is_told(alloc: Global, status: &Status, number: u8, line: &str) -> bool {
+    let taking = Taking { alloc, line };
+    report(&taking, status).is_ok() && status.number() == number
 }
 
-// What a command line gives: its words, and what they are behind the first.
+#[test]
+fn each_status_has_its_line(rt: HostRuntime) -> Result<(), Fail> {
+    let alloc = rt.alloc();
+    for (status, number, line) in LINES {
+        assert!(rt; is_told(alloc, &status, number, line), "{line}");
+    }
+    for (number, key, line) in FAULTS {
+        let key = Octets::of(alloc, key.as_bytes())?;
+        let status = Status::ConfigFault { number, key };
+        assert!(rt; is_told(alloc, &status, 2, line), "{line}");
+    }
+    Ok(())
+}
+
+// What a command line gives: its words, and what they are behind the first, or the number of the status.
 type Line = (
     &'static [&'static [u8]],
-    Result<&'static [&'static str], Status>,
+    Result<&'static [&'static str], u8>,
 );
 
 const COMMAND_LINES: [Line; 3] = [
     (&[], Ok(&[])),
     (&[b"\xff", b"play", b"ECHO"], Ok(&["play", "ECHO"])),
-    (&[b"xatmi", b"play", b"\xff"], Err(Status::Usage)),
+    (&[b"xatmi", b"play", b"\xff"], Err(1)),
 ];
 
 fn gives_words(alloc: Global, line: &Line) -> Result<bool, Fail> {
@@ -143,7 +178,7 @@ fn gives_words(alloc: Global, line: &Line) -> Result<bool, Fail> {
                     .zip(want)
                     .all(|(word, want)| word.as_str() == *want)
         }
-        (Err(status), Err(want)) => status == want,
+        (Err(status), Err(number)) => status.number() == number,
         _ => false,
     })
 }

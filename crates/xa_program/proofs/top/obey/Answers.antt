@@ -1,15 +1,19 @@
-use Rattle.std.proofs.Common.{◌≡◌, ◌∙◌, Some, subst, sym}
-use Rattle.xa_program.specs.Yard.{AsksYard}
-use Rattle.xa_program.specs.declared.words.Command.{Command}
-use Rattle.xa_program.specs.declared.words.Command.TheVariants.{Play}
+use Rattle.xa_program.specs.declared.status.Status.TheVariants.{ConfigRead}
+use Rattle.xa_program.proofs.Asking.{asks_yard}
+use Rattle.xa_program.proofs.Ending.{run_so, ends_as, shelf_kept}
 use Rattle.xa_program.proofs.top.obey.Goals as goal
 
-pub returns-in-Play-clause-play : goal.returns-in-Play-clause-play
-returns-in-Play-clause-play g c service is =
-    let both : Play c.in-Play.service ≡ Play service = sym c.in-Play.is ∙ is in
-    let same : c.in-Play.service ≡ service = cc both in
-    rw same at c.play.ensures.play
+pub returns-in-Ok-clause-ends : goal.returns-in-Ok-clause-ends
+returns-in-Ok-clause-ends g c serves =
+    run_so _ (λ s. record { faults = g.Y.Start.Starter.start_faults s; asked = g.Y.Start.Starter.asked s }) _ _
+    c.serve_script.result.homes.homes c.serve_script.result.history.items c.serve_script.result.lives.items c.serve_script.result.starters.items
+    c.args.command c.in-Ok.setup c.in-Ok.most c.serve_script.result.status c.in-Ok.ensures.found c.in-Ok.ensures.most c.serve_script.ensures.ends
 
-pub returns-in-Play-clause-yard : goal.returns-in-Play-clause-yard
-returns-in-Play-clause-yard g c =
-    subst (λ (command : Command). AsksYard (Some command) c.play.result.status (g.Y.Yard.asked c.args.yard.now) (g.Y.Yard.asked c.play.new.yard)) (sym c.in-Play.is) c.play.ensures.yard
+pub returns-in-Ok-clause-shelf : goal.returns-in-Ok-clause-shelf
+returns-in-Ok-clause-shelf g c =
+    shelf_kept c.args.command c.serve_script.result.status _ _
+    (ends_as _ (λ s. record { faults = g.Y.Start.Starter.start_faults s; asked = g.Y.Start.Starter.asked s }) _ c.in-Ok.setup c.in-Ok.most c.serve_script.result.status ConfigRead
+    c.serve_script.result.homes.homes c.serve_script.result.history.items c.serve_script.result.lives.items c.serve_script.result.starters.items c.serve_script.ensures.ends) c.in-Ok.ensures.quiet
+
+pub returns-in-Ok-clause-yard : goal.returns-in-Ok-clause-yard
+returns-in-Ok-clause-yard g c = asks_yard _ c.args.command c.in-Ok.setup c.serve_script.result.status _ _ c.in-Ok.ensures.found c.serve_script.ensures.yard

@@ -1,22 +1,17 @@
-use Rattle.std.proofs.Common.{◌∙◌, ◌≡◌, Option, Some, subst}
-use Rattle.xa_program.specs.declared.words.Command.{Command}
-use Rattle.xa_program.specs.Yard.{AsksYard}
-use Rattle.xa_program.specs.declared.words.Command.TheVariants.{Play, Server}
+use Rattle.std.proofs.Common.{◌∙◌, ◌≡◌, Some, sym}
+use Rattle.xa_program.specs.declared.words.Command.TheVariants.{Server}
 use Rattle.xa_program.proofs.Complete.{nothing_else}
 use Rattle.xa_program.proofs.top.run.Goals as goal
 
-pub returns-in-Some-clause-server : goal.returns-in-Some-clause-server
-returns-in-Some-clause-server g c name is =
-    let both : Some c.in-Some.command ≡ Some (Server name) = c.in-Some.ensures ∙ is in
-    let same : c.in-Some.command ≡ Server name = cc both in
-    c.obey.ensures.server name same
+pub returns-in-Ok-Some-clause-server : goal.returns-in-Ok-Some-clause-server
+returns-in-Ok-Some-clause-server g c name is =
+    let both : Some c.in-Ok-Some.command ≡ Some (Server name) = sym c.in-Ok-Some.field-0-is ∙ c.in-Ok-Some.ensures.found ∙ is in
+    c.obey.ensures.server name (cc both)
 
-pub returns-in-Some-clause-yard : goal.returns-in-Some-clause-yard
-returns-in-Some-clause-yard g c =
-    subst (λ (command : Option Command). AsksYard command c.obey.result.status (g.Y.Yard.asked c.args.yard.now) (g.Y.Yard.asked c.obey.new.yard)) c.in-Some.ensures c.obey.ensures.yard
-
-pub returns-in-Some-clause-complete : goal.returns-in-Some-clause-complete
-returns-in-Some-clause-complete g c service octets script is told short is_script reads writes =
-    let both : Some c.in-Some.command ≡ Some (Play service) = c.in-Some.ensures ∙ is in
-    let same : c.in-Some.command ≡ Play service = cc both in
-    nothing_else _ _ _ _ _ service c.obey.result.status c.obey.result.history.items c.obey.result.lives.items c.obey.result.starters.items octets script (c.obey.ensures.play service same) told short is_script reads writes
+pub returns-in-Ok-Some-clause-complete : goal.returns-in-Ok-Some-clause-complete
+returns-in-Ok-Some-clause-complete g c command octets script is serves configured told short is_script files reads writes =
+    let both : Some c.in-Ok-Some.command ≡ Some command = sym c.in-Ok-Some.field-0-is ∙ c.in-Ok-Some.ensures.found ∙ is in
+    let same : c.in-Ok-Some.command ≡ command = cc both in
+    let ends = rw same at c.obey.ensures.ends in
+    nothing_else _ (λ s. record { faults = g.Y.Start.Starter.start_faults s; asked = g.Y.Start.Starter.asked s }) _ _ command c.obey.result.status
+    c.obey.result.homes.homes c.obey.result.history.items c.obey.result.lives.items c.obey.result.starters.items octets script (ends serves) configured told short is_script files reads writes

@@ -1,0 +1,112 @@
+use Rattle.std.proofs.Common.{◌≡◌, ℕ, ◌+◌, ◌%◌, ◌^◌, ◌<◌, length, get_or, Some, refl, sym, ◌∙◌, ap, subst, arith}
+use Rattle.std.specs.Prelude.{slice_get}
+use Rattle.std.specs.Vec.{with_item}
+use Rattle.xa_types.specs.declared.data.Data.{Data}
+use Rattle.xa_pipe.specs.Pipe.{Piped, invoke_frame}
+use Rattle.xa_domain.specs.Calling.{Delivers}
+use Rattle.xa_domain.specs.Piping.{HearsBack}
+use Rattle.xa_domain.specs.Standing.{IsUp}
+use Rattle.xa_domain.proofs.Exchanging.{exchange_keeps}
+use Rattle.xa_domain.proofs.Kept.{stood_here}
+use Rattle.xa_domain.proofs.Lists.{set_here, set_length}
+use Rattle.xa_domain.proofs.Places.{numbered_kept, attempts_kept, keeps_all}
+use Rattle.xa_domain.proofs.Rests.{ready_same}
+use Rattle.xa_domain.proofs.Settling.{life_within, read_there, only_here, life_keeps, up_of, exchanged_by}
+use Rattle.xa_domain.proofs.calling.exchange.Goals as goal
+
+pub index_mut-its-requires : goal.index_mut-its-requires
+index_mut-its-requires g c =
+    let up = up_of c.args.domain.now c.args.server (λ x. x.queue ≡ c.args.row.now.queue) c.requires.ready c.requires.up in
+    let within = life_within c.args.domain.now c.args.server c.index.result.now c.requires.ready.numbered up c.index.ensures in
+    let long = c.args.domain.now.lives.ok.0 in
+    omega (arith, within, long)
+
+pub deliver-requires-clause-ready : goal.deliver-requires-clause-ready
+deliver-requires-clause-ready g c =
+    let d = c.args.domain.now in
+    let life = c.index.result.now.life in
+    let up = up_of d c.args.server (λ x. x.queue ≡ c.args.row.now.queue) c.requires.ready c.requires.up in
+    let within = life_within d c.args.server c.index.result.now c.requires.ready.numbered up c.index.ensures in
+    ready_same d (record d { lives = with_item d.lives life c.send-sent.new.self })
+    (life_keeps d life c.index_mut-its.result.now c.send-sent.new.self within c.index_mut-its.ensures.value (ap (λ y. y.server) c.send-sent.ensures.table)) refl refl refl c.requires.ready
+
+pub returns-in_err-request-clause-numbered : goal.returns-in_err-request-clause-numbered
+returns-in_err-request-clause-numbered g c =
+    let d = c.args.domain.now in
+    let life = c.index.result.now.life in
+    let up = up_of d c.args.server (λ x. x.queue ≡ c.args.row.now.queue) c.requires.ready c.requires.up in
+    let within = life_within d c.args.server c.index.result.now c.requires.ready.numbered up c.index.ensures in
+    let asked = record d { lives = with_item d.lives life c.send-sent.new.self } in
+    let keeps = life_keeps d life c.index_mut-its.result.now c.send-sent.new.self within c.index_mut-its.ensures.value (ap (λ y. y.server) c.send-sent.ensures.table) in
+    numbered_kept d c.deliver.new.self (keeps_all d asked c.deliver.new.self keeps.places c.in_err-request.ensures.kept) c.requires.ready.numbered
+
+pub returns-in_err-request-clause-attempts : goal.returns-in_err-request-clause-attempts
+returns-in_err-request-clause-attempts g c =
+    let d = c.args.domain.now in
+    let life = c.index.result.now.life in
+    let up = up_of d c.args.server (λ x. x.queue ≡ c.args.row.now.queue) c.requires.ready c.requires.up in
+    let within = life_within d c.args.server c.index.result.now c.requires.ready.numbered up c.index.ensures in
+    let asked = record d { lives = with_item d.lives life c.send-sent.new.self } in
+    let keeps = life_keeps d life c.index_mut-its.result.now c.send-sent.new.self within c.index_mut-its.ensures.value (ap (λ y. y.server) c.send-sent.ensures.table) in
+    attempts_kept d c.deliver.new.self (keeps_all d asked c.deliver.new.self keeps.places c.in_err-request.ensures.kept)
+
+pub index_mut-its-requires-2 : goal.index_mut-its-requires-2
+index_mut-its-requires-2 g c =
+    let d = c.args.domain.now in
+    let life = c.index.result.now.life in
+    let up = up_of d c.args.server (λ x. x.queue ≡ c.args.row.now.queue) c.requires.ready c.requires.up in
+    let within = life_within d c.args.server c.index.result.now c.requires.ready.numbered up c.index.ensures in
+    let done = c.in_ok-request.ensures.done in
+    let same = ap (λ v. length v.items) (done.receives.takes.others.2 ∙ done.sends.accepts.others.2) in
+    let long = c.deliver.new.self.lives.ok.0 in
+    let set = set_length d.lives.items life c.send-sent.new.self in
+    omega (arith, within, same, long, set)
+
+pub returns-clause-done : goal.returns-clause-done
+returns-clause-done g c =
+    let d = c.args.domain.now in
+    let x = c.index.result.now in
+    let life = x.life in
+    let row = c.args.row.now in
+    let up = up_of d c.args.server (λ x. x.queue ≡ c.args.row.now.queue) c.requires.ready c.requires.up in
+    let within = life_within d c.args.server x c.requires.ready.numbered up c.index.ensures in
+    let y0 = c.index_mut-its.result.now in
+    let y1 = c.send-sent.new.self in
+    let y2 = c.index_mut-its-2.result.now in
+    let y3 = c.hear_back-back.new.self in
+    let noted = c.deliver.new.self in
+    let done = c.in_ok-request.ensures.done in
+    let lives = done.receives.takes.others.2 ∙ done.sends.accepts.others.2 in
+    let same = ap (λ v. length v.items) lives in
+    let set = set_length d.lives.items life y1 in
+    let within_2 : life < length noted.lives.items = omega (arith, within, same, set) in
+    let here : slice_get noted.lives.items life ≡ Some y1 = ap (λ v. slice_get v.items life) lives ∙ set_here d.lives.items life y1 y0 (stood_here d.lives.items life y0 within c.index_mut-its.ensures.value) in
+    let there : slice_get noted.lives.items life ≡ Some y2 = stood_here noted.lives.items life y2 within_2 c.index_mut-its-2.ensures.value in
+    let one : y2 ≡ y1 = let both = sym there ∙ here in cc in
+    let heard : HearsBack c.send-sent.result y1.invocation c.hear_back-back.result y1.pipe y3.pipe =
+    subst (λ y. HearsBack c.send-sent.result y.invocation c.hear_back-back.result y.pipe y3.pipe) one c.hear_back-back.ensures.heard in
+    record {
+      by = x;
+      stood = read_there d.servers.items c.args.server x IsUp up c.index.ensures;
+      asked = record d { lives = with_item d.lives life y1 };
+      asks = only_here d life y0 y1 (λ y y'. y' ≡ record y { invocation = (y.invocation + 1) % 2 ^ 32; pipe = y'.pipe }) within c.index_mut-its.ensures.value
+          (c.send-sent.ensures.table ∙ ap (λ (n : ℕ). record y0 { invocation = n; pipe = y1.pipe }) c.send-sent.ensures.number);
+      noted = noted;
+      delivers = subst (λ (payload : Data). Delivers c.args.client c.args.op c.args.version row payload c.args.server c.in_ok-request.request (record d { lives = with_item d.lives life y1 }) noted) c.in_ok-payload.ensures done;
+      hears = only_here noted life y2 y3 (λ y y'. y' ≡ record y { pipe = y'.pipe }) within_2 c.index_mut-its-2.ensures.value c.hear_back-back.ensures.table;
+      exchanged = exchanged_by c.send-sent.result (invoke_frame row.service row.routine y1.invocation c.args.ask.now.payload) y1.invocation c.hear_back-back.result y0.pipe y1.pipe y3.pipe c.send-sent.ensures.sent c.send-sent.ensures.failed heard;
+    }
+
+pub returns-clause-numbered : goal.returns-clause-numbered
+returns-clause-numbered g c =
+    let noted = c.deliver.new.self in
+    numbered_kept c.args.domain.now (record noted { lives = with_item noted.lives c.index.result.now.life c.hear_back-back.new.self })
+    (exchange_keeps c.args.client c.args.op c.args.version c.args.row.now c.args.ask.now.payload c.args.server c.in_ok-request.request c.hear_back-back.result c.args.domain.now
+    (record noted { lives = with_item noted.lives c.index.result.now.life c.hear_back-back.new.self }) (returns-clause-done g c) c.requires.ready c.requires.turn c.requires.up).places c.requires.ready.numbered
+
+pub returns-clause-attempts : goal.returns-clause-attempts
+returns-clause-attempts g c =
+    let noted = c.deliver.new.self in
+    attempts_kept c.args.domain.now (record noted { lives = with_item noted.lives c.index.result.now.life c.hear_back-back.new.self })
+    (exchange_keeps c.args.client c.args.op c.args.version c.args.row.now c.args.ask.now.payload c.args.server c.in_ok-request.request c.hear_back-back.result c.args.domain.now
+    (record noted { lives = with_item noted.lives c.index.result.now.life c.hear_back-back.new.self }) (returns-clause-done g c) c.requires.ready c.requires.turn c.requires.up).places

@@ -1,0 +1,22 @@
+use Rattle.std.proofs.Common.{◌∙◌}
+use Rattle.std.proofs.lemmas.Result.{on_ok_weaker, IfErr-weaker}
+use Rattle.xa_domain.proofs.ClosedDown.{leads_on, leads_to_halt, shut_of, each_of, closed_down}
+use Rattle.xa_domain.proofs.closing.close_all.Goals as goal
+
+pub shut_all-requires-clause-shut : goal.shut_all-requires-clause-shut
+shut_all-requires-clause-shut g c = shut_of c.args.domain.now c.close_queues.new.domain c.in_ok-close_queues.ensures.closed
+
+pub shut_all-requires-clause-each : goal.shut_all-requires-clause-each
+shut_all-requires-clause-each g c = each_of c.args.domain.now c.close_queues.new.domain c.requires.ready c.in_ok-close_queues.ensures.closed
+
+pub returns-clause-over : goal.returns-clause-over
+returns-clause-over g c = on_ok_weaker c.shut_all.result (λ over. closed_down c.args.domain.now c.close_queues.new.domain c.shut_all.new.domain c.requires.ready c.in_ok-close_queues.ensures.closed over) c.shut_all.ensures.over
+
+pub returns-clause-clients : goal.returns-clause-clients
+returns-clause-clients g c = on_ok_weaker c.shut_all.result (λ over. over.clients ∙ c.in_ok-close_queues.ensures.closed.others.0) c.shut_all.ensures.over
+
+pub returns-clause-goes : goal.returns-clause-goes
+returns-clause-goes g c = on_ok_weaker c.shut_all.result (λ over. leads_on c.args.domain.now c.close_queues.new.domain c.shut_all.new.domain c.in_ok-close_queues.ensures.closed.goes over.goes) c.shut_all.ensures.over
+
+pub returns-clause-failed : goal.returns-clause-failed
+returns-clause-failed g c = IfErr-weaker c.shut_all.result _ _ (λ halt said. leads_to_halt c.args.domain.now c.close_queues.new.domain c.shut_all.new.domain halt c.in_ok-close_queues.ensures.closed.goes said) c.shut_all.ensures.failed

@@ -1,0 +1,203 @@
+use Rattle.std.proofs.Common.{◌∷◌, ◌++◌, sym, ◌∙◌, ap, subst}
+use Rattle.std.proofs.lemmas.Result.{on_ok_weaker, IfErr-weaker}
+use Rattle.xa_events.specs.declared.event.Event.TheVariants.{Gone}
+use Rattle.xa_domain.specs.Boot.{withdrawn_from}
+use Rattle.xa_domain.specs.Standing.{IsNumbered, attempts}
+use Rattle.xa_domain.proofs.Kept.{passed_on}
+use Rattle.xa_domain.proofs.Places.{numbered_kept, attempts_kept}
+use Rattle.xa_domain.proofs.Halted.{halts_at_queue, halts_at_board}
+use Rattle.xa_domain.proofs.GivenUp.{give_up_stands, keeps_given_up, served_left, tables_left, retires_left, gone_holds, keeps_brought_down, served_down, tables_down, withdrawn_holds, retires_down}
+use Rattle.xa_domain.proofs.retiring.retire.Goals as goal
+
+-- ---- the server can't be given up
+
+pub returns-in_err-give_up-clause-numbered : goal.returns-in_err-give_up-clause-numbered
+returns-in_err-give_up-clause-numbered g c =
+    let old = c.args.domain.now in
+    let d1 = c.give_up.new.self in
+    numbered_kept old d1 c.in_err-give_up.ensures.kept c.requires.numbered
+
+pub returns-in_err-give_up-clause-attempts : goal.returns-in_err-give_up-clause-attempts
+returns-in_err-give_up-clause-attempts g c =
+    let old = c.args.domain.now in
+    let d1 = c.give_up.new.self in
+    attempts_kept old d1 c.in_err-give_up.ensures.kept
+
+pub returns-in_err-give_up-clause-failed : goal.returns-in_err-give_up-clause-failed
+returns-in_err-give_up-clause-failed g c =
+    let old = c.args.domain.now in
+    let d1 = c.give_up.new.self in
+    let halt = c.in_err-give_up.field-0.0 in
+    passed_on c.from_residual.result halt _ c.from_residual.ensures.1 (λ setup count past configured never holds. halts_at_queue setup count past old d1 halt holds c.place_of-place.result c.in_err-give_up.ensures.failed)
+
+-- ---- another server of its queue is left
+
+pub returns-then-is_served-clause-numbered : goal.returns-then-is_served-clause-numbered
+returns-then-is_served-clause-numbered g c =
+    let old = c.args.domain.now in
+    let x = c.index-gone.result.now in
+    let place = c.place_of-place.result in
+    let d1 = c.give_up.new.self in
+    let t = give_up_stands old c.args.server place x c.requires.numbered c.requires.served c.requires.may c.index-gone.ensures c.place_of-place.ensures in
+    let step = c.in_ok-give_up.ensures.done in
+    numbered_kept old d1 (keeps_given_up c.args.server place x.id x.queue old d1 t step) c.requires.numbered
+
+pub returns-then-is_served-clause-attempts : goal.returns-then-is_served-clause-attempts
+returns-then-is_served-clause-attempts g c =
+    let old = c.args.domain.now in
+    let x = c.index-gone.result.now in
+    let place = c.place_of-place.result in
+    let d1 = c.give_up.new.self in
+    let t = give_up_stands old c.args.server place x c.requires.numbered c.requires.served c.requires.may c.index-gone.ensures c.place_of-place.ensures in
+    let step = c.in_ok-give_up.ensures.done in
+    attempts_kept old d1 (keeps_given_up c.args.server place x.id x.queue old d1 t step)
+
+pub returns-then-is_served-clause-served : goal.returns-then-is_served-clause-served
+returns-then-is_served-clause-served g c =
+    let old = c.args.domain.now in
+    let x = c.index-gone.result.now in
+    let place = c.place_of-place.result in
+    let d1 = c.give_up.new.self in
+    let t = give_up_stands old c.args.server place x c.requires.numbered c.requires.served c.requires.may c.index-gone.ensures c.place_of-place.ensures in
+    let step = c.in_ok-give_up.ensures.done in
+    served_left c.args.server place x.id x.queue old d1 t step (sym c.is_served.ensures ∙ c.if-is_served.true)
+
+pub returns-then-is_served-clause-tables : goal.returns-then-is_served-clause-tables
+returns-then-is_served-clause-tables g c =
+    let old = c.args.domain.now in
+    let x = c.index-gone.result.now in
+    let place = c.place_of-place.result in
+    let d1 = c.give_up.new.self in
+    let t = give_up_stands old c.args.server place x c.requires.numbered c.requires.served c.requires.may c.index-gone.ensures c.place_of-place.ensures in
+    let step = c.in_ok-give_up.ensures.done in
+    tables_left c.args.server place x.id x.queue old d1 t step
+
+pub returns-then-is_served-clause-holds : goal.returns-then-is_served-clause-holds
+returns-then-is_served-clause-holds g c =
+    let old = c.args.domain.now in
+    let x = c.index-gone.result.now in
+    let place = c.place_of-place.result in
+    let d1 = c.give_up.new.self in
+    let t = give_up_stands old c.args.server place x c.requires.numbered c.requires.served c.requires.may c.index-gone.ensures c.place_of-place.ensures in
+    let step = c.in_ok-give_up.ensures.done in
+    λ setup count past configured never holds. retires_left c.args.server place x.id x.queue old d1 t step setup count past configured never holds
+
+-- ---- none is left, and the rows can't be withdrawn
+
+pub returns-in_err-withdraw_all-clause-numbered : goal.returns-in_err-withdraw_all-clause-numbered
+returns-in_err-withdraw_all-clause-numbered g c =
+    let old = c.args.domain.now in
+    let x = c.index-gone.result.now in
+    let place = c.place_of-place.result in
+    let d1 = c.give_up.new.self in
+    let t = give_up_stands old c.args.server place x c.requires.numbered c.requires.served c.requires.may c.index-gone.ensures c.place_of-place.ensures in
+    let step = c.in_ok-give_up.ensures.done in
+    subst IsNumbered (sym c.in_err-withdraw_all.ensures.kept) (numbered_kept old d1 (keeps_given_up c.args.server place x.id x.queue old d1 t step) c.requires.numbered)
+
+pub returns-in_err-withdraw_all-clause-attempts : goal.returns-in_err-withdraw_all-clause-attempts
+returns-in_err-withdraw_all-clause-attempts g c =
+    let old = c.args.domain.now in
+    let x = c.index-gone.result.now in
+    let place = c.place_of-place.result in
+    let d1 = c.give_up.new.self in
+    let t = give_up_stands old c.args.server place x c.requires.numbered c.requires.served c.requires.may c.index-gone.ensures c.place_of-place.ensures in
+    let step = c.in_ok-give_up.ensures.done in
+    ap attempts c.in_err-withdraw_all.ensures.kept ∙ attempts_kept old d1 (keeps_given_up c.args.server place x.id x.queue old d1 t step)
+
+pub returns-in_err-withdraw_all-clause-failed : goal.returns-in_err-withdraw_all-clause-failed
+returns-in_err-withdraw_all-clause-failed g c =
+    let old = c.args.domain.now in
+    let x = c.index-gone.result.now in
+    let place = c.place_of-place.result in
+    let d1 = c.give_up.new.self in
+    let t = give_up_stands old c.args.server place x c.requires.numbered c.requires.served c.requires.may c.index-gone.ensures c.place_of-place.ensures in
+    let step = c.in_ok-give_up.ensures.done in
+    let halt = c.in_err-withdraw_all.field-0.0 in
+    passed_on c.from_residual-in_err-withdraw_all.result halt _ c.from_residual-in_err-withdraw_all.ensures.1
+    (λ setup count past configured never holds. halts_at_board setup count (Gone x.id ∷ past) d1 c.withdraw_all.new.self halt (gone_holds c.args.server place x.id x.queue old d1 t step setup count past configured never holds) c.in_err-withdraw_all.ensures.failed)
+
+-- ---- none is left, and the queue goes down, or can't
+
+pub returns-clause-numbered : goal.returns-clause-numbered
+returns-clause-numbered g c =
+    let old = c.args.domain.now in
+    let x = c.index-gone.result.now in
+    let place = c.place_of-place.result in
+    let d1 = c.give_up.new.self in
+    let t = give_up_stands old c.args.server place x c.requires.numbered c.requires.served c.requires.may c.index-gone.ensures c.place_of-place.ensures in
+    let step = c.in_ok-give_up.ensures.done in
+    let d2 = c.withdraw_all.new.self in
+    let d3 = c.go_down.new.self in
+    let withdraws = c.in_ok-withdraw_all.ensures.done in
+    let keeps = keeps_brought_down c.args.server place x.id x.queue old d1 t step d2 withdraws d3 c.go_down.result c.go_down.ensures.done c.go_down.ensures.kept in
+    numbered_kept old d3 keeps c.requires.numbered
+
+pub returns-clause-attempts : goal.returns-clause-attempts
+returns-clause-attempts g c =
+    let old = c.args.domain.now in
+    let x = c.index-gone.result.now in
+    let place = c.place_of-place.result in
+    let d1 = c.give_up.new.self in
+    let t = give_up_stands old c.args.server place x c.requires.numbered c.requires.served c.requires.may c.index-gone.ensures c.place_of-place.ensures in
+    let step = c.in_ok-give_up.ensures.done in
+    let d2 = c.withdraw_all.new.self in
+    let d3 = c.go_down.new.self in
+    let withdraws = c.in_ok-withdraw_all.ensures.done in
+    let keeps = keeps_brought_down c.args.server place x.id x.queue old d1 t step d2 withdraws d3 c.go_down.result c.go_down.ensures.done c.go_down.ensures.kept in
+    attempts_kept old d3 keeps
+
+pub returns-clause-served : goal.returns-clause-served
+returns-clause-served g c =
+    let old = c.args.domain.now in
+    let x = c.index-gone.result.now in
+    let place = c.place_of-place.result in
+    let d1 = c.give_up.new.self in
+    let t = give_up_stands old c.args.server place x c.requires.numbered c.requires.served c.requires.may c.index-gone.ensures c.place_of-place.ensures in
+    let step = c.in_ok-give_up.ensures.done in
+    let d2 = c.withdraw_all.new.self in
+    let d3 = c.go_down.new.self in
+    let withdraws = c.in_ok-withdraw_all.ensures.done in
+    let none = sym c.is_served.ensures ∙ c.if-is_served.false in
+    on_ok_weaker c.go_down.result (λ down. served_down c.args.server place x.id x.queue old d1 t step d2 withdraws d3 down none) c.go_down.ensures.done
+
+pub returns-clause-tables : goal.returns-clause-tables
+returns-clause-tables g c =
+    let old = c.args.domain.now in
+    let x = c.index-gone.result.now in
+    let place = c.place_of-place.result in
+    let d1 = c.give_up.new.self in
+    let t = give_up_stands old c.args.server place x c.requires.numbered c.requires.served c.requires.may c.index-gone.ensures c.place_of-place.ensures in
+    let step = c.in_ok-give_up.ensures.done in
+    let d2 = c.withdraw_all.new.self in
+    let d3 = c.go_down.new.self in
+    let withdraws = c.in_ok-withdraw_all.ensures.done in
+    on_ok_weaker c.go_down.result (λ down. tables_down c.args.server place x.id x.queue old d1 t step d2 withdraws d3 down) c.go_down.ensures.done
+
+pub returns-clause-holds : goal.returns-clause-holds
+returns-clause-holds g c =
+    let old = c.args.domain.now in
+    let x = c.index-gone.result.now in
+    let place = c.place_of-place.result in
+    let d1 = c.give_up.new.self in
+    let t = give_up_stands old c.args.server place x c.requires.numbered c.requires.served c.requires.may c.index-gone.ensures c.place_of-place.ensures in
+    let step = c.in_ok-give_up.ensures.done in
+    let d2 = c.withdraw_all.new.self in
+    let d3 = c.go_down.new.self in
+    let withdraws = c.in_ok-withdraw_all.ensures.done in
+    let none = sym c.is_served.ensures ∙ c.if-is_served.false in
+    on_ok_weaker c.go_down.result (λ down setup count past configured never holds. retires_down c.args.server place x.id x.queue old d1 t step setup count past configured never holds none d2 withdraws d3 down) c.go_down.ensures.done
+
+pub returns-clause-failed : goal.returns-clause-failed
+returns-clause-failed g c =
+    let old = c.args.domain.now in
+    let x = c.index-gone.result.now in
+    let place = c.place_of-place.result in
+    let d1 = c.give_up.new.self in
+    let t = give_up_stands old c.args.server place x c.requires.numbered c.requires.served c.requires.may c.index-gone.ensures c.place_of-place.ensures in
+    let step = c.in_ok-give_up.ensures.done in
+    let d2 = c.withdraw_all.new.self in
+    let d3 = c.go_down.new.self in
+    let withdraws = c.in_ok-withdraw_all.ensures.done in
+    let none = sym c.is_served.ensures ∙ c.if-is_served.false in
+    IfErr-weaker c.go_down.result _ _ (λ halt failed setup count past configured never holds.
+    halts_at_queue setup count (withdrawn_from x.queue.0 d1.board ++ Gone x.id ∷ past) d2 d3 halt (withdrawn_holds c.args.server place x.id x.queue old d1 t step setup count past configured never holds none d2 withdraws) place failed) c.go_down.ensures.failed

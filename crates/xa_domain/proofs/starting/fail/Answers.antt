@@ -1,0 +1,59 @@
+use Rattle.std.proofs.Common.{◌≡◌, List, ℕ, ◌∷◌, sym, ◌∙◌, subst}
+use Rattle.std.proofs.lemmas.Result.{on_ok_weaker, IfErr-weaker}
+use Rattle.xa_events.specs.declared.event.Event.TheVariants.{StartFailed}
+use Rattle.xa_domain.specs.declared.server.Attempt.{Attempt}
+use Rattle.xa_domain.specs.declared.server.Attempt.TheVariants as tries
+use Rattle.xa_domain.specs.Steps.{Changed}
+use Rattle.xa_domain.specs.Standing.{attempts}
+use Rattle.xa_domain.proofs.Places.{on_ok_both}
+use Rattle.xa_domain.proofs.Begun.{numbered_failed, served_failed, retire_failed, attempts_failed, failed_holds, failed_on, failed_goes}
+use Rattle.xa_domain.proofs.starting.fail.Goals as goal
+
+pub retire-requires-clause-numbered : goal.retire-requires-clause-numbered
+retire-requires-clause-numbered g c =
+    let old = c.args.domain.now in
+    let d1 = c.fail_start.new.self in
+    let step = c.in_ok-fail_start.ensures.done in
+    numbered_failed c.args.server c.args.started old d1 c.requires.on c.requires.may step
+
+pub retire-requires-clause-served : goal.retire-requires-clause-served
+retire-requires-clause-served g c =
+    let old = c.args.domain.now in
+    let d1 = c.fail_start.new.self in
+    let step = c.in_ok-fail_start.ensures.done in
+    served_failed c.args.server c.args.started old d1 c.requires.on c.requires.may step
+
+pub retire-requires-clause-may : goal.retire-requires-clause-may
+retire-requires-clause-may g c =
+    let old = c.args.domain.now in
+    let d1 = c.fail_start.new.self in
+    let step = c.in_ok-fail_start.ensures.done in
+    retire_failed c.args.server c.args.started old d1 c.requires.on c.requires.may step
+
+pub returns-clause-tried : goal.returns-clause-tried
+returns-clause-tried g c =
+    let old = c.args.domain.now in
+    let d1 = c.fail_start.new.self in
+    let step = c.in_ok-fail_start.ensures.done in
+    subst (λ (all : List (List ℕ × Attempt)). Changed c.args.server (attempts old) all (λ a a'. a' ≡ (a.0, tries.Failed))) (sym c.retire.ensures.attempts) (attempts_failed c.args.server c.args.started old d1 c.requires.on c.requires.may step)
+
+pub returns-clause-on : goal.returns-clause-on
+returns-clause-on g c =
+    let old = c.args.domain.now in
+    let d1 = c.fail_start.new.self in
+    let step = c.in_ok-fail_start.ensures.done in
+    on_ok_both c.retire.result (λ tables served. failed_on c.args.server c.args.started old d1 c.requires.on c.requires.may step c.retire.new.domain tables c.retire.ensures.numbered served) c.retire.ensures.tables c.retire.ensures.served
+
+pub returns-clause-goes : goal.returns-clause-goes
+returns-clause-goes g c =
+    let old = c.args.domain.now in
+    let d1 = c.fail_start.new.self in
+    let step = c.in_ok-fail_start.ensures.done in
+    on_ok_both c.retire.result (λ tables said setup script past configured never stands. failed_goes c.args.server c.args.started old d1 c.requires.on c.requires.may step c.retire.new.domain tables setup script past stands (said setup _ (StartFailed c.args.started ∷ past) configured never (failed_holds c.args.server c.args.started old d1 c.requires.on c.requires.may step setup script past never stands))) c.retire.ensures.tables c.retire.ensures.holds
+
+pub returns-clause-failed : goal.returns-clause-failed
+returns-clause-failed g c =
+    let old = c.args.domain.now in
+    let d1 = c.fail_start.new.self in
+    let step = c.in_ok-fail_start.ensures.done in
+    IfErr-weaker c.retire.result _ _ (λ halt said setup script past configured never stands. said setup _ (StartFailed c.args.started ∷ past) configured never (failed_holds c.args.server c.args.started old d1 c.requires.on c.requires.may step setup script past never stands)) c.retire.ensures.failed

@@ -1,0 +1,158 @@
+use Rattle.std.proofs.Common.{◌≡◌, ◌∙◌, List, ℕ, Err, ap, sym, subst}
+use Rattle.std.specs.Prelude.{slice_get, IsSomeAnd}
+use Rattle.std.proofs.lemmas.Result.{on_ok_weaker, IfErr-weaker}
+use Rattle.xa_domain.specs.declared.server.Attempt.{Attempt}
+use Rattle.xa_domain.specs.Serving.{IsStarterBy}
+use Rattle.xa_domain.specs.Standing.{attempts}
+use Rattle.xa_domain.proofs.Begun.{other_stands, numbered_room, attempts_room, on_room, room_stood, may_begin, stands_room, room_halts, shows_started, shows_failed, shows_same}
+use Rattle.xa_domain.proofs.starting.start.Goals as goal
+
+-- ---- it is started
+
+pub begin-requires-clause-on : goal.begin-requires-clause-on
+begin-requires-clause-on g c =
+    let old = c.args.domain.now in
+    let d1 = c.make_room.new.self in
+    let step = c.in_ok-make_room.ensures.done in
+    let x = c.index-at.result.now in
+    on_room c.args.server old d1 c.requires.on step
+
+pub begin-requires-clause-may : goal.begin-requires-clause-may
+begin-requires-clause-may g c =
+    let old = c.args.domain.now in
+    let d1 = c.make_room.new.self in
+    let step = c.in_ok-make_room.ensures.done in
+    let x = c.index-at.result.now in
+    may_begin c.args.server old d1 c.requires.on step x c.index-at.ensures
+
+pub returns-in-Ok-clause-starter : goal.returns-in-Ok-clause-starter
+returns-in-Ok-clause-starter g c =
+    let old = c.args.domain.now in
+    let d1 = c.make_room.new.self in
+    let step = c.in_ok-make_room.ensures.done in
+    let x = c.index-at.result.now in
+    shows_started c.args.server d1 c.begin.new.domain (on_room c.args.server old d1 c.requires.on step) x (room_stood c.args.server old d1 c.requires.on step x c.index-at.ensures) (g.S.Starter.start_faults c.args.starter.now) (g.S.Starter.start_faults c.start.new.self) (g.S.Starter.asked c.args.starter.now) (g.S.Starter.asked c.start.new.self) (subst (λ (all : List (List ℕ × Attempt)). IsSomeAnd (slice_get all c.args.server) (λ a. IsStarterBy a.0 a.1 (record { faults = g.S.Starter.start_faults c.args.starter.now; asked = g.S.Starter.asked c.args.starter.now }))) (sym (attempts_room c.args.server old d1 c.requires.on step)) c.requires.fresh) (c.in-Ok.ensures.quiet (λ e. cc e)) c.in-Ok.ensures.started c.begin.ensures.tried
+
+pub returns-in-Ok-clause-attempts : goal.returns-in-Ok-clause-attempts
+returns-in-Ok-clause-attempts g c =
+    let old = c.args.domain.now in
+    let d1 = c.make_room.new.self in
+    let step = c.in_ok-make_room.ensures.done in
+    let x = c.index-at.result.now in
+    λ i other. other_stands c.args.server (attempts d1) (attempts c.begin.new.domain) c.begin.ensures.tried i other ∙ ap (λ (all : List (List ℕ × Attempt)). slice_get all i) (attempts_room c.args.server old d1 c.requires.on step)
+
+pub returns-in-Ok-clause-clients : goal.returns-in-Ok-clause-clients
+returns-in-Ok-clause-clients g c =
+    let old = c.args.domain.now in
+    let d1 = c.make_room.new.self in
+    let step = c.in_ok-make_room.ensures.done in
+    let x = c.index-at.result.now in
+    on_ok_weaker c.begin.result (λ same. same ∙ step.others.3) c.begin.ensures.clients
+
+pub returns-in-Ok-clause-goes : goal.returns-in-Ok-clause-goes
+returns-in-Ok-clause-goes g c =
+    let old = c.args.domain.now in
+    let d1 = c.make_room.new.self in
+    let step = c.in_ok-make_room.ensures.done in
+    let x = c.index-at.result.now in
+    on_ok_weaker c.begin.result (λ said setup script past configured never stands. said setup script past configured never (stands_room c.args.server old d1 c.requires.on step setup script past stands)) c.begin.ensures.goes
+
+pub returns-in-Ok-clause-failed : goal.returns-in-Ok-clause-failed
+returns-in-Ok-clause-failed g c =
+    let old = c.args.domain.now in
+    let d1 = c.make_room.new.self in
+    let step = c.in_ok-make_room.ensures.done in
+    let x = c.index-at.result.now in
+    IfErr-weaker c.begin.result _ _ (λ halt said setup script past configured never stands. said setup script past configured never (stands_room c.args.server old d1 c.requires.on step setup script past stands)) c.begin.ensures.failed
+
+-- ---- its start fails
+
+pub fail-requires-clause-on : goal.fail-requires-clause-on
+fail-requires-clause-on g c =
+    let old = c.args.domain.now in
+    let d1 = c.make_room.new.self in
+    let step = c.in_ok-make_room.ensures.done in
+    let x = c.index-at.result.now in
+    on_room c.args.server old d1 c.requires.on step
+
+pub fail-requires-clause-may : goal.fail-requires-clause-may
+fail-requires-clause-may g c =
+    let old = c.args.domain.now in
+    let d1 = c.make_room.new.self in
+    let step = c.in_ok-make_room.ensures.done in
+    let x = c.index-at.result.now in
+    may_begin c.args.server old d1 c.requires.on step x c.index-at.ensures
+
+pub returns-in-Err-Failed-clause-starter : goal.returns-in-Err-Failed-clause-starter
+returns-in-Err-Failed-clause-starter g c =
+    let old = c.args.domain.now in
+    let d1 = c.make_room.new.self in
+    let step = c.in_ok-make_room.ensures.done in
+    let x = c.index-at.result.now in
+    shows_failed c.args.server d1 c.fail.new.domain (on_room c.args.server old d1 c.requires.on step) x (room_stood c.args.server old d1 c.requires.on step x c.index-at.ensures) (g.S.Starter.start_faults c.args.starter.now) (g.S.Starter.start_faults c.start.new.self) (g.S.Starter.asked c.args.starter.now) (g.S.Starter.asked c.start.new.self) (subst (λ (all : List (List ℕ × Attempt)). IsSomeAnd (slice_get all c.args.server) (λ a. IsStarterBy a.0 a.1 (record { faults = g.S.Starter.start_faults c.args.starter.now; asked = g.S.Starter.asked c.args.starter.now }))) (sym (attempts_room c.args.server old d1 c.requires.on step)) c.requires.fresh) (c.in-Err-Failed.ensures.cause (ap (λ e. Err e) c.in-Err-Failed.field-0-is)) (c.in-Err-Failed.ensures.failed (ap (λ e. Err e) c.in-Err-Failed.field-0-is)) c.fail.ensures.tried
+
+pub returns-in-Err-Failed-clause-attempts : goal.returns-in-Err-Failed-clause-attempts
+returns-in-Err-Failed-clause-attempts g c =
+    let old = c.args.domain.now in
+    let d1 = c.make_room.new.self in
+    let step = c.in_ok-make_room.ensures.done in
+    let x = c.index-at.result.now in
+    λ i other. other_stands c.args.server (attempts d1) (attempts c.fail.new.domain) c.fail.ensures.tried i other ∙ ap (λ (all : List (List ℕ × Attempt)). slice_get all i) (attempts_room c.args.server old d1 c.requires.on step)
+
+pub returns-in-Err-Failed-clause-clients : goal.returns-in-Err-Failed-clause-clients
+returns-in-Err-Failed-clause-clients g c =
+    let old = c.args.domain.now in
+    let d1 = c.make_room.new.self in
+    let step = c.in_ok-make_room.ensures.done in
+    let x = c.index-at.result.now in
+    on_ok_weaker c.fail.result (λ same. same ∙ step.others.3) c.fail.ensures.clients
+
+pub returns-in-Err-Failed-clause-goes : goal.returns-in-Err-Failed-clause-goes
+returns-in-Err-Failed-clause-goes g c =
+    let old = c.args.domain.now in
+    let d1 = c.make_room.new.self in
+    let step = c.in_ok-make_room.ensures.done in
+    let x = c.index-at.result.now in
+    on_ok_weaker c.fail.result (λ said setup script past configured never stands. said setup script past configured never (stands_room c.args.server old d1 c.requires.on step setup script past stands)) c.fail.ensures.goes
+
+pub returns-in-Err-Failed-clause-failed : goal.returns-in-Err-Failed-clause-failed
+returns-in-Err-Failed-clause-failed g c =
+    let old = c.args.domain.now in
+    let d1 = c.make_room.new.self in
+    let step = c.in_ok-make_room.ensures.done in
+    let x = c.index-at.result.now in
+    IfErr-weaker c.fail.result _ _ (λ halt said setup script past configured never stands. said setup script past configured never (stands_room c.args.server old d1 c.requires.on step setup script past stands)) c.fail.ensures.failed
+
+-- ---- memory ran out
+
+pub returns-in-Err-NoMemory-clause-numbered : goal.returns-in-Err-NoMemory-clause-numbered
+returns-in-Err-NoMemory-clause-numbered g c =
+    let old = c.args.domain.now in
+    let d1 = c.make_room.new.self in
+    let step = c.in_ok-make_room.ensures.done in
+    let x = c.index-at.result.now in
+    numbered_room c.args.server old d1 c.requires.on step
+
+pub returns-in-Err-NoMemory-clause-starter : goal.returns-in-Err-NoMemory-clause-starter
+returns-in-Err-NoMemory-clause-starter g c =
+    let old = c.args.domain.now in
+    let d1 = c.make_room.new.self in
+    let step = c.in_ok-make_room.ensures.done in
+    let x = c.index-at.result.now in
+    shows_same (attempts d1) c.args.server (g.S.Starter.start_faults c.args.starter.now) (g.S.Starter.start_faults c.start.new.self) (g.S.Starter.asked c.args.starter.now) (g.S.Starter.asked c.start.new.self) (c.in-Err-NoMemory.ensures.quiet (λ failed. let none = c.in-Err-NoMemory.field-0-is in cc (failed, none))) (c.in-Err-NoMemory.ensures.starved (ap (λ e. Err e) c.in-Err-NoMemory.field-0-is)) (subst (λ (all : List (List ℕ × Attempt)). IsSomeAnd (slice_get all c.args.server) (λ a. IsStarterBy a.0 a.1 (record { faults = g.S.Starter.start_faults c.args.starter.now; asked = g.S.Starter.asked c.args.starter.now }))) (sym (attempts_room c.args.server old d1 c.requires.on step)) c.requires.fresh)
+
+pub returns-in-Err-NoMemory-clause-attempts : goal.returns-in-Err-NoMemory-clause-attempts
+returns-in-Err-NoMemory-clause-attempts g c =
+    let old = c.args.domain.now in
+    let d1 = c.make_room.new.self in
+    let step = c.in_ok-make_room.ensures.done in
+    let x = c.index-at.result.now in
+    λ i other. ap (λ (all : List (List ℕ × Attempt)). slice_get all i) (attempts_room c.args.server old d1 c.requires.on step)
+
+pub returns-in-Err-NoMemory-clause-failed : goal.returns-in-Err-NoMemory-clause-failed
+returns-in-Err-NoMemory-clause-failed g c =
+    let old = c.args.domain.now in
+    let d1 = c.make_room.new.self in
+    let step = c.in_ok-make_room.ensures.done in
+    let x = c.index-at.result.now in
+    λ setup script past configured never stands. room_halts c.args.server old d1 c.requires.on step setup script past stands

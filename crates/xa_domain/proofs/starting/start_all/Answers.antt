@@ -1,0 +1,63 @@
+use Rattle.std.proofs.Common.{refl, ◌∙◌, arith}
+use Rattle.xa_domain.specs.Standing.{attempts}
+use Rattle.xa_domain.proofs.Kept.{passed_on}
+use Rattle.xa_domain.proofs.Lists.{set_length}
+use Rattle.xa_domain.proofs.ClosedDown.{leads_on, leads_to_halt}
+use Rattle.xa_domain.proofs.Begun.{match_long, match_at, match_set, starts_none, ready_all}
+use Rattle.xa_domain.proofs.starting.start_all.Goals as goal
+
+pub loop-server-init : goal.loop-server-init
+loop-server-init g c =
+    record { starting = starts_none c.args.domain.now c.requires.booted c.requires.stamps; matches = c.requires.fresh; all = refl }
+
+pub start-requires-clause-on : goal.start-requires-clause-on
+start-requires-clause-on g c =
+    c.loop-server.invariant.starting.on
+
+pub start-requires-clause-within : goal.start-requires-clause-within
+start-requires-clause-within g c =
+    omega (arith, c.loop-server-test.true, c.loop-server.invariant.all, match_long (λ s. record { faults = g.S.Starter.start_faults s; asked = g.S.Starter.asked s }) c.loop-server.domain c.loop-server.starters c.loop-server.invariant.matches)
+
+pub start-requires-clause-fresh : goal.start-requires-clause-fresh
+start-requires-clause-fresh g c =
+    match_at (λ s. record { faults = g.S.Starter.start_faults s; asked = g.S.Starter.asked s }) (attempts c.loop-server.domain) c.loop-server.starters c.loop-server.server c.index-starters-server.result c.loop-server.invariant.matches (omega (arith, c.loop-server-test.true, c.loop-server.invariant.all))
+
+pub returns-in_err-start-clause-starters : goal.returns-in_err-start-clause-starters
+returns-in_err-start-clause-starters g c =
+    match_set (λ s. record { faults = g.S.Starter.start_faults s; asked = g.S.Starter.asked s }) (attempts c.loop-server.domain) (attempts c.start.new.domain) c.loop-server.starters c.loop-server.server c.start.new.starter c.loop-server.invariant.matches (omega (arith, c.loop-server-test.true, c.loop-server.invariant.all)) c.start.ensures.starter c.start.ensures.attempts
+
+pub returns-in_err-start-clause-failed : goal.returns-in_err-start-clause-failed
+returns-in_err-start-clause-failed g c =
+    passed_on c.from_residual.result c.in_err-start.field-0.0 _ c.from_residual.ensures.1 (leads_to_halt c.args.domain.now c.loop-server.domain c.start.new.domain c.in_err-start.field-0.0 c.loop-server.invariant.starting.goes c.in_err-start.ensures.failed)
+
+pub loop-server-preserved : goal.loop-server-preserved
+loop-server-preserved g c =
+    record {
+      starting = record {
+        on = c.in_ok-start.ensures.on;
+        clients = c.in_ok-start.ensures.clients ∙ c.loop-server.invariant.starting.clients;
+        goes = leads_on c.args.domain.now c.loop-server.domain c.start.new.domain c.loop-server.invariant.starting.goes c.in_ok-start.ensures.goes;
+      };
+      matches = match_set (λ s. record { faults = g.S.Starter.start_faults s; asked = g.S.Starter.asked s }) (attempts c.loop-server.domain) (attempts c.start.new.domain) c.loop-server.starters c.loop-server.server c.start.new.starter c.loop-server.invariant.matches (omega (arith, c.loop-server-test.true, c.loop-server.invariant.all)) c.start.ensures.starter c.start.ensures.attempts;
+      all = set_length c.loop-server.starters c.loop-server.server c.start.new.starter ∙ c.loop-server.invariant.all;
+    }
+
+pub returns-clause-numbered : goal.returns-clause-numbered
+returns-clause-numbered g c =
+    c.loop-server.invariant.starting.on.numbered
+
+pub returns-clause-starters : goal.returns-clause-starters
+returns-clause-starters g c =
+    c.loop-server.invariant.matches
+
+pub returns-clause-ready : goal.returns-clause-ready
+returns-clause-ready g c =
+    ready_all c.loop-server.server c.loop-server.domain c.loop-server.invariant.starting.on (omega (arith, c.loop-server-test.false, c.loop-server.invariant.all, match_long (λ s. record { faults = g.S.Starter.start_faults s; asked = g.S.Starter.asked s }) c.loop-server.domain c.loop-server.starters c.loop-server.invariant.matches))
+
+pub returns-clause-clients : goal.returns-clause-clients
+returns-clause-clients g c =
+    c.loop-server.invariant.starting.clients
+
+pub returns-clause-goes : goal.returns-clause-goes
+returns-clause-goes g c =
+    c.loop-server.invariant.starting.goes

@@ -1,0 +1,29 @@
+-- The homes of a domain in the order of their merge (this project's own). No public contract rests on this file.
+use Rattle.std.specs.Prelude.{◌≡◌, ℕ, zero, suc, ◌+◌, List, [], ◌∷◌, ◌++◌, length, map}
+use Rattle.xa_types.specs.declared.setup.Setup.{Setup}
+use Rattle.xa_events.specs.declared.event.Event.{Event}
+use Rattle.xa_events.specs.Homes.{Home}
+use Rattle.xa_events.specs.Homes.Home.{BoardHome, QueueHome, ClockHome, CallerHome}
+use Rattle.xa_stamp.specs.Home.{Notes}
+use Rattle.xa_domain.specs.declared.queue.Queue.{Queue}
+use Rattle.xa_domain.specs.declared.client.Client.{Client}
+use Rattle.xa_domain.specs.declared.server.Server.{Server}
+use Rattle.xa_domain.specs.declared.domain.Domain.{Domain}
+use Rattle.xa_domain.specs.Stamps.{entries_of}
+
+-- so many numbers, from the first one on
+abbrev pub numbers_from : ℕ → ℕ → List ℕ
+numbers_from first zero = []
+numbers_from first (suc n) = first ∷ numbers_from (first + 1) n
+
+-- all homes of the domain: the board, the queues, the clock, and the callers, which are the clients and then the servers
+abbrev pub all_homes : Setup → ℕ → List Home
+all_homes setup count = BoardHome ∷ (map QueueHome (numbers_from 1 (length setup.queues)) ++ ClockHome ∷ map CallerHome (numbers_from 1 (count + length setup.servers)))
+
+-- these hold, home by home, the entries of the events
+abbrev pub AreHomes : Setup → ℕ → List Event → List Notes → Type 0
+AreHomes setup count past homes = map (λ (notes : Notes). notes.entries) homes ≡ map (λ home. entries_of setup count home past) (all_homes setup count)
+
+-- the homes that a domain keeps, in the same order, with these of the board and of the clock
+abbrev pub homes_kept : {L : Type 0} → Domain L → Notes → Notes → List Notes
+homes_kept d board clock = board ∷ (map (λ (q : Queue). q.home) d.queues.items ++ clock ∷ (map (λ (x : Client). x.home) d.clients.items ++ map (λ (x : Server). x.home) d.servers.items))

@@ -1,0 +1,166 @@
+// What is handed back of a domain: its homes and its lives.
+ghost use Rattle.std.specs.Prelude.{◌≡◌, ◌+◌, ◌≤◌, ◌++◌, [], length, map, true, vec_capacity, IfOk, Some};
+ghost use Rattle.xa_types.specs.Configured.{is_configured};
+ghost use Rattle.xa_domain.specs.declared.queue.Queue.{Queue};
+ghost use Rattle.xa_domain.specs.declared.client.Client.{Client};
+ghost use Rattle.xa_domain.specs.declared.server.Server.{Server};
+ghost use Rattle.xa_domain.specs.Handing.{HasRoomFor, AreHomesOf, IsHanded, AreHanded, homes_in};
+
+use crate::client::Client;
+use crate::domain::Domain;
+use crate::life::Lived;
+use crate::queue::Queue;
+use crate::server::{LIFE, Server};
+use crate::serving::Life;
+use std::alloc::Global;
+use xa_link::Link;
+use xa_stamp::{Home, Record};
+use xa_types::{NoMemory, Sequence, Setup, Stamp};
+
+/// Room for the homes and the lives that are handed back, so that no want of memory loses them.
+pub struct Room<L> {
+    pub homes: Vec<Home>,
+    pub lives: Vec<Life<L>>,
+}
+
+/// What is handed back of a domain.
+pub struct Handed<L> {
+    pub homes: Record,
+    pub lives: Vec<Life<L>>,
+}
+
+/// Room for what is handed back of a domain with so many clients.
+pub fn room_for<L>(alloc: Global, setup: &Setup, clients: usize) -> Result<Room<L>, NoMemory>
+    requires configured { is_configured setup.now ≡ true }
+    requires few { clients ≤ 64 }
+    ensures { IfOk result (HasRoomFor (2 + length setup.now.queues + clients + length setup.now.servers) (length setup.now.servers)) }
+{
+    let queues = setup.queues.slice().len();
+    let servers = setup.servers.slice().len();
+    Ok(Room {
+        homes: Vec::with_capacity(alloc, 2 + queues + clients + servers)?,
+        lives: Vec::with_capacity(alloc, servers)?,
+    })
+}
+
+fn add_queues(homes: &mut Vec<Home>, queues: Vec<Queue>)
+    requires { length homes.old.items + length queues.items ≤ vec_capacity homes.old }
+    ensures items { homes.new.items ≡ homes.old.items ++ map (λ (q : Queue). q.home) queues.items }
+    ensures room { vec_capacity homes.new ≡ vec_capacity homes.old }
+{
+    for Queue { home, .. } in queues {
+        homes.push_reserved(home);
+    }
+}
+
+fn add_clients(homes: &mut Vec<Home>, clients: Vec<Client>)
+    requires { length homes.old.items + length clients.items ≤ vec_capacity homes.old }
+    ensures items { homes.new.items ≡ homes.old.items ++ map (λ (x : Client). x.home) clients.items }
+    ensures room { vec_capacity homes.new ≡ vec_capacity homes.old }
+{
+    for Client { home, .. } in clients {
+        homes.push_reserved(home);
+    }
+}
+
+fn add_servers(homes: &mut Vec<Home>, servers: Vec<Server>)
+    requires { length homes.old.items + length servers.items ≤ vec_capacity homes.old }
+    ensures items { homes.new.items ≡ homes.old.items ++ map (λ (x : Server). x.home) servers.items }
+    ensures room { vec_capacity homes.new ≡ vec_capacity homes.old }
+{
+    for Server { home, .. } in servers {
+        homes.push_reserved(home);
+    }
+}
+
+// The homes: that of the board, of each queue, of the clock, and of each caller.
+fn homes_of(
+    mut homes: Vec<Home>,
+    board: Home,
+    queues: Vec<Queue>,
+    clock: Home,
+    clients: Vec<Client>,
+    servers: Vec<Server>,
+) -> Record
+    requires none { homes.items ≡ [] }
+    requires room { 2 + length queues.items + length clients.items + length servers.items ≤ vec_capacity homes }
+    ensures { result.homes ≡ homes_in board queues.items clock clients.items servers.items }
+{
+    homes.push_reserved(board);
+    add_queues(&mut homes, queues);
+    homes.push_reserved(clock);
+    add_clients(&mut homes, clients);
+    add_servers(&mut homes, servers);
+    Record {
+        homes: Sequence::from_vec(homes),
+    }
+}
+
+// The life with the link of its pipes.
+fn life_of<L: Link>(lived: Lived<L>) -> Life<L>
+    ensures { IsHanded (record { took = L.took; gave = L.gave; left = L.left; reads = L.read_faults; writes = L.write_faults }) lived result }
+{
+    let Lived {
+        server,
+        invocation: _,
+        pipe,
+    } = lived;
+    Life {
+        server,
+        generation: LIFE,
+        link: pipe.into_link(),
+    }
+}
+
+fn lives_of<L: Link>(mut lives: Vec<Life<L>>, all: Vec<Lived<L>>) -> Vec<Life<L>>
+    requires none { lives.items ≡ [] }
+    requires room { length all.items ≤ vec_capacity lives }
+    ensures { AreHanded (record { took = L.took; gave = L.gave; left = L.left; reads = L.read_faults; writes = L.write_faults }) all.items result.items }
+{
+    let mut rest = all.into_iter();
+    while let Some(lived) = rest.next() {
+        lives.push_reserved(life_of(lived));
+    }
+    rest.destroy_empty();
+    lives
+}
+
+/// What stands of the domain is handed back: its homes and its lives.
+pub fn hand_back<L: Link>(alloc: Global, domain: Domain<L>, room: Room<L>) -> Handed<L>
+    requires { HasRoomFor (2 + length domain.queues.items + length domain.clients.items + length domain.servers.items) (length domain.lives.items) room }
+    ensures homes { AreHomesOf domain result.homes.homes }
+    ensures lives { AreHanded (record { took = L.took; gave = L.gave; left = L.left; reads = L.read_faults; writes = L.write_faults }) domain.lives.items result.lives.items }
+{
+    let Domain {
+        latest: _,
+        board,
+        queues,
+        clients,
+        servers,
+        lives,
+    } = domain;
+    let Room {
+        homes,
+        lives: handed,
+    } = room;
+    let clock = Home::new(alloc, Stamp(0));
+    Handed {
+        homes: homes_of(homes, board.home(), queues, clock, clients, servers),
+        lives: lives_of(handed, lives),
+    }
+}
+
+/// Nothing is handed back, since memory ran out first.
+pub fn hand_none<L>(room: Room<L>) -> Handed<L>
+    requires { HasRoomFor 0 0 room }
+    ensures homes { result.homes.homes ≡ [] }
+    ensures lives { result.lives.items ≡ [] }
+{
+    let Room { homes, lives } = room;
+    Handed {
+        homes: Record {
+            homes: Sequence::from_vec(homes),
+        },
+        lives,
+    }
+}

@@ -1,0 +1,85 @@
+// The end of a server: it is given up, and with the last of a queue the queue goes down.
+ghost use Rattle.std.specs.Prelude.{◌≡◌, ◌∷◌, ◌+◌, ◌<◌, ℕ, List, true, OnOk, IfErr, IsSomeAnd, slice_get};
+ghost use Rattle.xa_types.specs.declared.setup.Setup.{Setup};
+ghost use Rattle.xa_types.specs.Configured.{is_configured};
+ghost use Rattle.xa_events.specs.declared.event.Event.{Event};
+ghost use Rattle.xa_events.specs.declared.event.Doing.TheVariants.{Off};
+ghost use Rattle.xa_domain.specs.declared.server.Last.TheVariants.{Nothing};
+ghost use Rattle.xa_domain.specs.Holding.{Holds};
+ghost use Rattle.xa_domain.specs.Standing.{IsNumbered, IsServed, NoneRestarts, MayRetire, MayFall, Retires, RetiresTables, IsHalted, attempts, stop_of, has_server};
+
+use crate::domain::Domain;
+use crate::halt::Halt;
+use crate::server::LIFE;
+use xa_events::{StopCause, Stopped};
+use xa_link::Link;
+use xa_types::QueueId;
+
+// Where the queue of that number stands.
+pub fn place_of(queue: QueueId) -> usize
+    requires { 0 < queue.0 }
+    ensures { result + 1 ≡ queue.0 }
+{
+    usize::from(queue.0) - 1
+}
+
+impl<L: Link> Domain<L> {
+    // Whether a server of that queue is left.
+    fn is_served(&self, queue: QueueId) -> bool
+        ensures { result ≡ has_server queue.0 self.now.servers.items }
+    {
+        self.servers
+            .iter()
+            .any(|server| server.queue == queue && !server.gone)
+    }
+}
+
+/// The server at that place, which is off, is given up; where it was the last of its queue, the queue's rows are withdrawn
+/// and it goes down.
+pub fn retire<L: Link>(domain: &mut Domain<L>, server: usize) -> Result<(), Halt>
+    requires numbered { IsNumbered domain.old }
+    requires served { IsServed domain.old }
+    requires may { IsSomeAnd (slice_get domain.old.servers.items server) MayRetire }
+    ensures numbered { IsNumbered domain.new }
+    ensures attempts { attempts domain.new ≡ attempts domain.old }
+    ensures served { OnOk result (IsServed domain.new) }
+    ensures tables { OnOk result (RetiresTables server (λ x. x) domain.old domain.new) }
+    ensures holds { OnOk result ((setup : Setup) (count : ℕ) (past : List Event) → is_configured setup ≡ true → NoneRestarts setup
+        → Holds setup count past domain.old → Retires setup count past domain.new) }
+    ensures failed { IfErr result (λ halt. (setup : Setup) (count : ℕ) (past : List Event) → is_configured setup ≡ true → NoneRestarts setup
+        → Holds setup count past domain.old → IsHalted setup count halt domain.new) }
+{
+    let gone = &domain.servers[server];
+    let id = gone.id;
+    let queue = gone.queue;
+    let place = place_of(queue);
+    domain.give_up(place, server, id)?;
+    if domain.is_served(queue) {
+        return Ok(());
+    }
+    domain.withdraw_all(queue)?;
+    domain.go_down(place)
+}
+
+/// The life of the server at that place ends, and the server is given up.
+pub fn fall<L: Link>(domain: &mut Domain<L>, server: usize, cause: StopCause) -> Result<(), Halt>
+    requires numbered { IsNumbered domain.old }
+    requires served { IsServed domain.old }
+    requires may { IsSomeAnd (slice_get domain.old.servers.items server) (MayFall cause) }
+    ensures numbered { IsNumbered domain.new }
+    ensures attempts { attempts domain.new ≡ attempts domain.old }
+    ensures served { OnOk result (IsServed domain.new) }
+    ensures tables { OnOk result (RetiresTables server (λ x. record x { doing = Off; last = Nothing }) domain.old domain.new) }
+    ensures holds { OnOk result ((setup : Setup) (count : ℕ) (past : List Event) → is_configured setup ≡ true → NoneRestarts setup
+        → Holds setup count past domain.old → Retires setup count (stop_of server cause ∷ past) domain.new) }
+    ensures failed { IfErr result (λ halt. (setup : Setup) (count : ℕ) (past : List Event) → is_configured setup ≡ true → NoneRestarts setup
+        → Holds setup count past domain.old → IsHalted setup count halt domain.new) }
+{
+    let stopped = Stopped {
+        server: domain.servers[server].id,
+        generation: LIFE,
+        cause,
+    };
+    domain.stop(server, stopped)?;
+    retire(domain, server)
+}

@@ -1,0 +1,164 @@
+// A script is served.
+ghost use Rattle.std.specs.Prelude.{◌≡◌, ◌⊎◌, ◌<◌, ◌≤◌, ◌^◌, ℕ, true, false, Some, List, length, OnOk, IfErr, IsSomeAnd, slice_get};
+ghost use Rattle.std.specs.List.{All};
+ghost use Rattle.xa_types.specs.Configured.{is_configured};
+ghost use Rattle.xa_types.specs.declared.setup.Setup.{Setup};
+ghost use Rattle.xa_events.specs.declared.event.Event.{Event};
+ghost use Rattle.xa_script.specs.declared.script.Client.{Client as ScriptClient};
+ghost use Rattle.xa_link.specs.Starts.{AsksStarters};
+ghost use Rattle.xa_stamp.specs.Merge.{IsDense};
+ghost use Rattle.xa_domain.specs.Standing.{IsNumbered, IsBooted, IsReady, IsClosedDown, HasGone, HaveGone, Stands, GoesOn, IsHalted, attempts};
+ghost use Rattle.xa_domain.specs.Beginning.{HaveStamps};
+ghost use Rattle.xa_domain.specs.Serving.{IsBuiltOp, IsBuilt, NoneRestarts, ServeEnds, StarterShows, StartersMatch};
+
+use crate::boot::found;
+use crate::calling::call;
+use crate::closing::close_all;
+use crate::domain::Domain;
+use crate::halt::Halt;
+use crate::handing::{Handed, Room, hand_back, hand_none, room_for};
+use crate::starting::start_all;
+use std::alloc::Global;
+use xa_link::{Gate, Link, Starter, Yard};
+use xa_script::{Client, Script};
+use xa_stamp::Record;
+use xa_types::{Generation, Op, ServerId, Setup};
+
+/// A life of a server, and the pipes that its program had.
+#[derive(Drop)]
+pub struct Life<L> {
+    pub server: ServerId,
+    pub generation: Generation,
+    pub link: L,
+}
+
+/// How a script was served: why the domain stopped before its end, if it did; the homes of the board, the queues, the
+/// clock and the callers, in this order; the lives, by server; and the starters, by server. Where memory ran out before
+/// the servers were started, there may be none of these.
+pub struct Served<Y: Yard> {
+    pub halt: Option<Halt>,
+    pub homes: Record,
+    pub lives: Vec<Life<Y::Line>>,
+    pub starters: Vec<Y::Start>,
+}
+
+// The client at that place makes its calls, and leaves.
+fn make_calls<L: Link>(
+    alloc: Global,
+    setup: &Setup,
+    domain: &mut Domain<L>,
+    client: usize,
+    ops: &[Op],
+) -> Result<(), Halt>
+    requires ready { IsReady domain.old }
+    requires configured { is_configured setup.now ≡ true }
+    requires built { All IsBuiltOp ops.now }
+    requires few { length ops.now < 2 ^ 32 }
+    requires here { IsSomeAnd (slice_get domain.old.clients.items client) (λ x. (x.op ≡ 0) × (x.left ≡ false)) }
+    ensures numbered { IsNumbered domain.new }
+    ensures attempts { attempts domain.new ≡ attempts domain.old }
+    ensures ready { OnOk result (IsReady domain.new) }
+    ensures gone { OnOk result (HasGone client (length ops.now) domain.old domain.new) }
+    ensures goes { OnOk result ((script : List ScriptClient) (past : List Event) → NoneRestarts setup.now → Stands setup.now script past domain.old
+        → IsSomeAnd (slice_get script client) (λ c. c.ops ≡ ops.now) → GoesOn setup.now script domain.new) }
+    ensures failed { IfErr result (λ halt. (script : List ScriptClient) (past : List Event) → NoneRestarts setup.now → Stands setup.now script past domain.old
+        → IsSomeAnd (slice_get script client) (λ c. c.ops ≡ ops.now) → IsHalted setup.now (length script) halt domain.new) }
+{
+    let mut number = 0u32;
+    for op in ops {
+        number += 1;
+        match op {
+            Op::Call(ask) => call(alloc, setup, domain, client, number, ask)?,
+            _ => unreachable!(),
+        }
+    }
+    domain.leave(client)
+}
+
+// All is done that the script asks for: the servers are started, each client makes its calls and leaves, and the servers
+// are shut down.
+fn run<L: Link, S: Starter<L>>(
+    alloc: Global,
+    setup: &Setup,
+    domain: &mut Domain<L>,
+    clients: &[Client],
+    starters: &mut [S],
+) -> Result<(), Halt>
+    requires configured { is_configured setup.now ≡ true }
+    requires built { IsBuilt clients.now }
+    requires booted { IsBooted domain.old }
+    requires stamps { HaveStamps domain.old }
+    requires all { length starters.old ≡ length domain.old.servers.items }
+    requires each { length clients.now ≡ length domain.old.clients.items }
+    requires fresh { StartersMatch (λ s. record { faults = S.start_faults s; asked = S.asked s }) (attempts domain.old) starters.old }
+    ensures numbered { IsNumbered domain.new }
+    ensures starters { StartersMatch (λ s. record { faults = S.start_faults s; asked = S.asked s }) (attempts domain.new) starters.new }
+    ensures over { OnOk result (IsClosedDown domain.new × HaveGone clients.now domain.new) }
+    ensures goes { OnOk result ((past : List Event) → NoneRestarts setup.now → Stands setup.now clients.now past domain.old → GoesOn setup.now clients.now domain.new) }
+    ensures failed { IfErr result (λ halt. (past : List Event) → NoneRestarts setup.now → Stands setup.now clients.now past domain.old → IsHalted setup.now (length clients.now) halt domain.new) }
+{
+    start_all(alloc, domain, starters)?;
+    for (place, client) in clients.iter().enumerate() {
+        make_calls(alloc, setup, domain, place, client.ops.slice())?;
+    }
+    close_all(domain)
+}
+
+/// Serves a script: the domain is booted, the servers are started, each client makes its calls and leaves, and the domain
+/// is closed.
+pub fn serve<R, Y: Yard, G: Gate>(
+    _rt: &R,
+    alloc: Global,
+    setup: Setup,
+    script: &Script,
+    yard: &mut Y,
+    _gate: &G,
+) -> Served<Y>
+    requires configured { is_configured setup ≡ true }
+    requires restarts { NoneRestarts setup }
+    requires built { IsBuilt script.now.clients }
+    ensures ends { ServeEnds (record { took = Y.Line.took; gave = Y.Line.gave; left = Y.Line.left; reads = Y.Line.read_faults; writes = Y.Line.write_faults }) (λ s. record { faults = Y.Start.start_faults s; asked = Y.Start.asked s }) setup script.now.clients result.halt result.homes.homes result.lives.items result.starters.items }
+    ensures dense { IsDense (record { 0 = 0 }) result.homes.homes }
+    ensures asked { AsksStarters (Y.asked yard.old) (Y.asked yard.new) setup ⊎ ((result.halt ≡ Some Halt.NoMemory) × (Y.asked yard.new ≡ Y.asked yard.old)) }
+{
+    let clients = script.clients.slice();
+    let Ok(room) = room_for(alloc, &setup, clients.len()) else {
+        let room = Room {
+            homes: Vec::new(alloc),
+            lives: Vec::new(alloc),
+        };
+        let Handed { homes, lives } = hand_none(room);
+        return Served {
+            halt: Some(Halt::NoMemory),
+            homes,
+            lives,
+            starters: Vec::new(alloc),
+        };
+    };
+    let Ok(mut domain) = found(alloc, &setup, clients.len() as u16) else {
+        let Handed { homes, lives } = hand_none(room);
+        return Served {
+            halt: Some(Halt::NoMemory),
+            homes,
+            lives,
+            starters: Vec::new(alloc),
+        };
+    };
+    let Ok(mut starters) = yard.starters(&setup) else {
+        let Handed { homes, lives } = hand_back(alloc, domain, room);
+        return Served {
+            halt: Some(Halt::NoMemory),
+            homes,
+            lives,
+            starters: Vec::new(alloc),
+        };
+    };
+    let halt = run(alloc, &setup, &mut domain, clients, starters.as_mut_slice()).err();
+    let Handed { homes, lives } = hand_back(alloc, domain, room);
+    Served {
+        halt,
+        homes,
+        lives,
+        starters,
+    }
+}

@@ -1,4 +1,0 @@
-pub mod Between
-pub mod History
-pub mod PlaySetup
-pub mod Refusal

@@ -1,7 +1,0 @@
-use Rattle.std.proofs.Common.{length}
-use Rattle.xa_program.proofs.Over.{all_in_turn}
-use Rattle.xa_program.proofs.performing.refuse_and_tell.Goals as goal
-
-pub transcript-requires : goal.transcript-requires
-transcript-requires c =
-    all_in_turn c.args.service.now c.args.script.clients c.serve_none.new.history.items c.as_slice.result.now (length c.args.names.now) c.as_slice.ensures.value c.in_ok-serve_none.ensures.0

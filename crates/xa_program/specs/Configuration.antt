@@ -1,0 +1,50 @@
+-- The setup of a run: what a configuration says, or the setup of `play` (this project's own).
+use Rattle.std.specs.Prelude.{◌≡◌, ◌≤◌, ℕ, List, length, Option, Some, ⊤}
+use Rattle.xa_types.specs.declared.setup.Setup.{Setup}
+use Rattle.xa_link.specs.Told.{Rose}
+use Rattle.xa_link.specs.Reads.{Holds, HoldsMore}
+use Rattle.xa_config.specs.Faults.{fault}
+use Rattle.xa_config.specs.Document.{IsConfiguration, IsFirstFault}
+use Rattle.xa_program.specs.declared.words.Command.{Command}
+use Rattle.xa_program.specs.declared.words.Command.TheVariants.{Run, Play, Server}
+use Rattle.xa_program.specs.declared.status.Status.{Status}
+use Rattle.xa_program.specs.declared.status.Status.TheVariants.{ConfigRead, ConfigFault, TooLong}
+use Rattle.xa_program.specs.declared.status.Input.TheVariants as inputs
+use Rattle.xa_program.specs.PlaySetup.{play_setup}
+
+-- how long a configuration may be, in octets
+abbrev pub longest_configuration : ℕ
+longest_configuration = 262_144
+
+-- the file of each name, where the shelf tells it, and how often a read of one failed, before and after
+pub record ShelfTells : Type 0 where
+  pub file : List ℕ → Option (Option (List ℕ))
+  pub faults : ℕ
+  pub faults_after : ℕ
+
+-- the setup of the command: that of a configuration that the file holds and that isn't too long, or that of the service
+abbrev pub IsSetup : (List ℕ → Option (Option (List ℕ))) → Command → Setup → Type 0
+IsSetup file (Run name) setup = (octets : List ℕ) × Holds (file name) octets × (length octets ≤ longest_configuration) × IsConfiguration octets setup
+IsSetup file (Play service) setup = setup ≡ play_setup service
+IsSetup file (Server name) setup = ⊥
+
+-- where the command names a file, that tells a configuration that isn't too long
+abbrev pub TellsSetup : (List ℕ → Option (Option (List ℕ))) → Command → Type 0
+TellsSetup file (Run name) = (octets : List ℕ) × (setup : Setup) × (file name ≡ Some (Some octets)) × (length octets ≤ longest_configuration) × IsConfiguration octets setup
+TellsSetup file command = ⊤
+
+-- the file holds octets that aren't too long and are no configuration, and of what they say that is the first fault
+abbrev pub HasFault : Option (Option (List ℕ)) → ℕ → List ℕ → Type 0
+HasFault told number key = (octets : List ℕ) × Holds told octets × (length octets ≤ longest_configuration) × IsFirstFault octets (fault key number)
+
+-- why the command has no setup: a read of its configuration failed, or that is too long, or has a fault
+abbrev pub LacksSetup : ShelfTells → Command → Status → Type 0
+LacksSetup shelf (Run name) ConfigRead = Rose shelf.faults shelf.faults_after
+LacksSetup shelf (Run name) (TooLong inputs.Configuration) = HoldsMore (shelf.file name) longest_configuration
+LacksSetup shelf (Run name) (ConfigFault number key) = HasFault (shelf.file name) number key
+LacksSetup shelf command status = ⊥
+
+-- how often a read of a file failed, before and after: once more where `run` couldn't read its configuration, and else as often
+abbrev pub KeepsShelf : Option Command → Status → ℕ → ℕ → Type 0
+KeepsShelf (Some (Run name)) ConfigRead before after = Rose before after
+KeepsShelf command status before after = after ≡ before

@@ -1,0 +1,42 @@
+// The script that a run reads.
+ghost use Rattle.std.specs.Prelude.{◌≡◌, ◌≤◌, true, IfOk, IfErr, OnOk};
+ghost use Rattle.xa_types.specs.Configured.{is_configured};
+ghost use Rattle.xa_domain.specs.Serving.{IsBuilt};
+ghost use Rattle.xa_program.specs.Headline.{IsTheScript};
+ghost use Rattle.xa_program.specs.Progress.{ScriptRefusedAs};
+
+use crate::status::{Input, Status};
+use std::alloc::Global;
+use xa_link::{ShelfRefused, Source, read_all};
+use xa_script::{Script, ScriptRefused, read_upto};
+use xa_types::Setup;
+
+/// How many octets a script may have.
+const LONGEST_SCRIPT: usize = 1_048_576;
+
+/// The script of at most so many clients that the input holds, to its end.
+pub fn read_script<I: Source>(
+    alloc: Global,
+    setup: &Setup,
+    most: u16,
+    input: &mut I,
+) -> Result<Script, Status>
+    requires configured { is_configured setup.now ≡ true }
+    requires most { (1 ≤ most) × (most ≤ 64) }
+    ensures script { IfOk result (λ script. IsTheScript most (record { left = I.left input.old; left_after = I.left input.new; gave = I.gave input.old; gave_after = I.gave input.new }) script.clients) }
+    ensures built { IfOk result (λ script. IsBuilt script.clients) }
+    ensures quiet { OnOk result (I.read_faults input.new ≡ I.read_faults input.old) }
+    ensures refused { IfErr result (ScriptRefusedAs most (record { left = I.left input.old; left_after = I.left input.new; gave = I.gave input.old; gave_after = I.gave input.new }) (I.read_faults input.old) (I.read_faults input.new)) }
+{
+    let octets = match read_all(alloc, input, LONGEST_SCRIPT) {
+        Ok(octets) => octets,
+        Err(ShelfRefused::Failed) => return Err(Status::ScriptRead),
+        Err(ShelfRefused::TooLong) => return Err(Status::TooLong(Input::Script)),
+        Err(ShelfRefused::NoMemory) => return Err(Status::NoMemory),
+    };
+    match read_upto(alloc, octets.as_slice(), setup, most) {
+        Ok(script) => Ok(script),
+        Err(ScriptRefused::BadLine { line, cause }) => Err(Status::BadLine { line, cause }),
+        Err(ScriptRefused::NoMemory) => Err(Status::NoMemory),
+    }
+}

@@ -1,0 +1,97 @@
+// The history of a run that was served, and its transcript.
+ghost use Rattle.std.specs.Prelude.{◌≡◌, ◌⊎◌, [], List, length, reverse, None, IfOk};
+ghost use Rattle.xa_events.specs.declared.event.Event.{Event};
+ghost use Rattle.xa_stamp.specs.Merge.{IsMerged};
+ghost use Rattle.xa_text.specs.InTurn.{AllInTurn};
+ghost use Rattle.xa_text.specs.Transcript.{transcript};
+ghost use Rattle.xa_program.specs.Headline.{names_of};
+ghost use Rattle.xa_program.specs.Progress.{Printed, TellingEnds};
+
+use crate::status::Status;
+use std::alloc::Global;
+use xa_domain::Halt;
+use xa_events::Event;
+use xa_link::{Sink, put};
+use xa_script::Client;
+use xa_stamp::{Record, merge};
+use xa_text::transcript;
+use xa_types::{Name, NoMemory, Octets};
+
+fn names_of(alloc: Global, clients: &[Client]) -> Result<Vec<Name>, NoMemory>
+    ensures { IfOk result (λ names. names.items ≡ names_of clients.now) }
+{
+    let mut names = Vec::new(alloc);
+    for client in clients {
+        names.push(client.name)?;
+    }
+    Ok(names)
+}
+
+fn lines_of(alloc: Global, history: &[Event], clients: &[Client]) -> Result<Octets, NoMemory>
+    requires { AllInTurn (length clients.now) (reverse history.now) }
+    ensures { IfOk result (λ lines. lines ≡ transcript (names_of clients.now) (reverse history.now)) }
+{
+    let names = names_of(alloc, clients)?;
+    transcript(alloc, history, names.as_slice())
+}
+
+// Writes the transcript of the history.
+fn print<O: Sink>(alloc: Global, history: &[Event], clients: &[Client], out: &mut O) -> Status
+    requires { AllInTurn (length clients.now) (reverse history.now) }
+    ensures { Printed (O.took out.old) (O.took out.new) (O.write_faults out.old) (O.write_faults out.new) (transcript (names_of clients.now) (reverse history.now)) result }
+{
+    let Ok(lines) = lines_of(alloc, history, clients) else {
+        return Status::NoMemory;
+    };
+    match put(out, lines.slice()) {
+        Ok(()) => Status::Done,
+        Err(_) => Status::WriteFault,
+    }
+}
+
+// The events of the homes in order; none where memory runs out.
+fn merged_or_none(alloc: Global, homes: &Record) -> Vec<Event>
+    ensures { (result.items ≡ []) ⊎ IsMerged homes.now.homes result.items }
+{
+    match merge(alloc, homes) {
+        Ok(history) => history,
+        Err(NoMemory) => Vec::new(alloc),
+    }
+}
+
+// A run that came to its end: its history, and how its transcript was written.
+fn tell_whole<O: Sink>(
+    alloc: Global,
+    homes: &Record,
+    clients: &[Client],
+    out: &mut O,
+) -> (Status, Vec<Event>)
+    requires { (events : List Event) → IsMerged homes.now.homes events → AllInTurn (length clients.now) (reverse events) }
+    ensures { TellingEnds None homes.now.homes clients.now (O.took out.old) (O.took out.new) (O.write_faults out.old) (O.write_faults out.new) result.0 result.1.items }
+{
+    match merge(alloc, homes) {
+        Ok(history) => {
+            let status = print(alloc, history.as_slice(), clients, out);
+            (status, history)
+        }
+        Err(NoMemory) => (Status::NoMemory, Vec::new(alloc)),
+    }
+}
+
+/// How a run ends by how serving it ended, and its history: where it came to its end, its transcript is written.
+pub fn tell<O: Sink>(
+    alloc: Global,
+    halt: Option<Halt>,
+    homes: &Record,
+    clients: &[Client],
+    out: &mut O,
+) -> (Status, Vec<Event>)
+    requires { halt ≡ None → (events : List Event) → IsMerged homes.now.homes events → AllInTurn (length clients.now) (reverse events) }
+    ensures { TellingEnds halt homes.now.homes clients.now (O.took out.old) (O.took out.new) (O.write_faults out.old) (O.write_faults out.new) result.0 result.1.items }
+{
+    match halt {
+        None => tell_whole(alloc, homes, clients, out),
+        Some(Halt::NoMemory) => (Status::NoMemory, merged_or_none(alloc, homes)),
+        Some(Halt::Worn(stamp)) => (Status::Worn(stamp), merged_or_none(alloc, homes)),
+    }
+}

@@ -1,0 +1,165 @@
+//! Runs by a configuration, with its servers in memory.
+use crate::lives::{NEXT, READY, SOUND, SUCCESS, yard_of};
+use crate::running::{End, Script, runs};
+use std::test::Fail;
+use xa_link::Yard;
+use xa_program::LocalYard;
+
+// One queue with one server.
+const ONE: &[u8] = b"[[queue]]\nname = \"Q\"\n\
+    [[server]]\nname = \"S\"\nqueue = \"Q\"\n\
+    [[service]]\nname = \"ECHO\"\nqueues = [\"Q\"]\n\
+    [[service]]\nname = \"COUNT\"\nroutine = \"LEN\"\nqueues = [\"Q\"]\n\
+    [[service]]\nname = \"FAIL\"\nqueues = [\"Q\"]\naccepts = [\"octet\"]\n\
+    [[service]]\nname = \"TYPED\"\nroutine = \"ECHO\"\nqueues = [\"Q\"]\naccepts = []\n\
+    [[service]]\nname = \"DIE\"\nqueues = [\"Q\"]\n";
+
+// Two queues, of which the first has two servers, and a service on both.
+const TWO: &[u8] = b"[[queue]]\nname = \"P\"\n[[queue]]\nname = \"Q\"\n\
+    [[server]]\nname = \"A\"\nqueue = \"P\"\n\
+    [[server]]\nname = \"B\"\nqueue = \"P\"\n\
+    [[server]]\nname = \"C\"\nqueue = \"Q\"\n\
+    [[service]]\nname = \"DIE\"\nqueues = [\"P\", \"Q\"]\n\
+    [[service]]\nname = \"ECHO\"\nqueues = [\"Q\"]\n";
+
+const ONCE: &[u8] = b"client a\ncall ECHO none\n";
+
+// The configuration, the script with its faults, how it ends, and what is written.
+type Row = (&'static [u8], Script<'static>, End, &'static [u8]);
+
+const ROWS: [Row; 17] = [
+    (ONE, (b"client a\n", &[], &[]), End::Done, b""),
+    (
+        ONE,
+        (
+            b"client a\ncall ECHO text \"x\"\nclient b\ncall ECHO none\ncall ECHO text \"\"\n",
+            &[],
+            &[],
+        ),
+        End::Done,
+        b"a 1 OK 0 octet 78\nb 1 OK 0 none\nb 2 OK 0 octet -\n",
+    ),
+    (
+        ONE,
+        (
+            b"client a\ncall COUNT text \"hello\"\ncall FAIL text \"no\"\n",
+            &[],
+            &[],
+        ),
+        End::Done,
+        b"a 1 OK 5 none\na 2 TPESVCFAIL 7 octet 6e6f\n",
+    ),
+    (
+        ONE,
+        (b"client a\ncall LEN none\ncall .X none\n", &[], &[]),
+        End::Done,
+        b"a 1 TPENOENT\na 2 TPEINVAL\n",
+    ),
+    // A service that takes no data.
+    (
+        ONE,
+        (
+            b"client a\ncall TYPED text \"x\"\ncall TYPED none\n",
+            &[],
+            &[],
+        ),
+        End::Done,
+        b"a 1 TPEITYPE\na 2 OK 0 none\n",
+    ),
+    // The next client is told that no server is left.
+    (
+        ONE,
+        (
+            b"client a\ncall DIE none\nclient b\ncall ECHO none\n",
+            &[],
+            &[],
+        ),
+        End::Done,
+        b"a 1 TPESVCERR\nb 1 TPENOENT\n",
+    ),
+    // Each of three servers dies by a call, those of the first queue first.
+    (
+        TWO,
+        (
+            b"client a\ncall DIE none\ncall DIE none\ncall ECHO none\ncall DIE none\ncall DIE none\n",
+            &[],
+            &[],
+        ),
+        End::Done,
+        b"a 1 TPESVCERR\na 2 TPESVCERR\na 3 OK 0 none\na 4 TPESVCERR\na 5 TPENOENT\n",
+    ),
+    (ONE, (ONCE, &[1], &[]), End::ScriptRead, b""),
+    (ONE, (ONCE, &[], &[2]), End::WriteFault, b"a 1 O"),
+    (
+        ONE,
+        (b"client a\nbogus\n", &[], &[]),
+        End::BadLine(2, 9),
+        b"",
+    ),
+    // A fault of the configuration is told before the script is read.
+    (
+        b"blocktime =",
+        (b"bogus\n", &[1], &[]),
+        End::ConfigFault(1, ""),
+        b"",
+    ),
+    (b"", (ONCE, &[], &[]), End::ConfigFault(3, "queue"), b""),
+    (b"\"\" = 1", (ONCE, &[], &[]), End::ConfigFault(2, ""), b""),
+    (
+        b"[[queue]]\nname = \"Q\"\nrestart = false\n",
+        (ONCE, &[], &[]),
+        End::ConfigFault(2, "queue[0].restart"),
+        b"",
+    ),
+    (
+        b"[[queue]]\nname = \"Q\"\n[[server]]\nname = \"S\"\nqueue = \"P\"\n",
+        (ONCE, &[], &[]),
+        End::ConfigFault(8, "server[0].queue"),
+        b"",
+    ),
+    (
+        b"[[queue]]\nname = \"Q\"\n[[queue]]\nname = \"P\"\n[[server]]\nname = \"S\"\nqueue = \"P\"\n",
+        (ONCE, &[], &[]),
+        End::ConfigFault(11, "queue[0]"),
+        b"",
+    ),
+    (
+        b"[[queue]]\nname = \"Q\"\n[[server]]\nname = \"S\"\nqueue = \"Q\"\nrestart = true\n",
+        (ONCE, &[], &[]),
+        End::ConfigFault(14, "server[0].restart"),
+        b"",
+    ),
+];
+
+fn is_run<Y: Yard>(rt: &HostRuntime, yard: &mut Y, row: Row) -> bool
+where
+    Y::Line: Drop,
+    Y::Start: Drop,
+{
+    let (config, script, end, wrote) = row;
+    let files: [(&[u8], &[u8]); 1] = [(b"c", config)];
+    runs(rt, &["run", "c"], &files, script, yard, (end, wrote))
+}
+
+#[test]
+fn each_configuration_is_run(rt: HostRuntime) {
+    for (place, row) in ROWS.iter().enumerate() {
+        let mut yard = LocalYard::new(rt.alloc());
+        assert!(rt; is_run(&rt, &mut yard, *row), "row {place}");
+    }
+}
+
+// Two queues with a server each, and a service on both, that of the second server first.
+const BOTH: &[u8] = b"[[queue]]\nname = \"Q\"\n[[queue]]\nname = \"P\"\n\
+    [[server]]\nname = \"S\"\nqueue = \"Q\"\n\
+    [[server]]\nname = \"T\"\nqueue = \"P\"\n\
+    [[service]]\nname = \"ECHO\"\nqueues = [\"P\", \"Q\"]\n";
+
+// The second server can't be started.
+#[test]
+fn a_service_on_two_queues_outlives_one(rt: HostRuntime) -> Result<(), Fail> {
+    let row: Row = (BOTH, (ONCE, &[], &[]), End::Done, b"a 1 OK 0 none\n");
+    let mut yard = yard_of(rt.alloc(), Some(&[READY, NEXT, SUCCESS, NEXT]), SOUND)?;
+    assert!(rt; is_run(&rt, &mut yard, row));
+    Ok(())
+}
