@@ -26,33 +26,35 @@ use Rattle.xa_pipe.specs.Life.Turn.{AwaitsReady, AwaitsNext, AwaitsInvoke}
 use Rattle.xa_pipe.specs.Life.Written.{Whole}
 use Rattle.xa_pipe.specs.Pipe.{Wrote, HasRead}
 use Rattle.xa_script.specs.declared.script.Client.{Client as ScriptClient}
-use Rattle.xa_domain.specs.declared.queue.Queue.{Queue}
-use Rattle.xa_domain.specs.declared.client.Client.{Client}
-use Rattle.xa_domain.specs.declared.server.Server.{Server}
-use Rattle.xa_domain.specs.declared.server.Attempt.{Attempt}
-use Rattle.xa_domain.specs.declared.server.Attempt.TheVariants.{NotYet, Started, Failed}
-use Rattle.xa_domain.specs.declared.server.Last.TheVariants.{Nothing}
-use Rattle.xa_domain.specs.declared.domain.Domain.{Domain}
-use Rattle.xa_domain.specs.declared.life.Lived.{Lived}
-use Rattle.xa_domain.specs.declared.halt.Halt.TheVariants.{NoMemory}
+use Rattle.xa_tables.specs.declared.queue.Queue.{Queue}
+use Rattle.xa_tables.specs.declared.client.Client.{Client}
+use Rattle.xa_tables.specs.declared.server.Server.{Server}
+use Rattle.xa_tables.specs.declared.server.Attempt.{Attempt}
+use Rattle.xa_tables.specs.declared.server.Attempt.TheVariants.{NotYet, Started, Failed}
+use Rattle.xa_tables.specs.declared.server.Last.TheVariants.{Nothing}
+use Rattle.xa_tables.specs.declared.domain.Domain.{Domain}
+use Rattle.xa_tables.specs.declared.life.Lived.{Lived}
+use Rattle.xa_tables.specs.declared.halt.Halt.TheVariants.{NoMemory}
 use Rattle.xa_stamp.specs.Home.{last_stamp}
-use Rattle.xa_domain.specs.Holding.{BoardHolds, ServerHolds, Holds, lives_by, failed_by}
+use Rattle.xa_tables.specs.Holding.{BoardHolds, ServerHolds, Holds, lives_by, failed_by}
 use Rattle.xa_domain.specs.Living.{IsAt, IsUnborn, LifeShows, is_of_first_life}
-use Rattle.xa_domain.specs.Piping.{Greeted, NotGreeted}
-use Rattle.xa_domain.specs.Standing.{IsNumbered, IsServed, IsStill, IsBooted, IsReady, IsFresh, IsUp, IsOver, MayFall, MayRetire, Retires, RetiresTables, NoneRestarts, ServerLives, Stands, GoesOn, IsHalted, StartsOn, stop_of, attempts}
-use Rattle.xa_domain.specs.Steps.{Changed, KeepsPlaces, ServerNotes, Starts, FailsStart, HasRoom, server_place}
-use Rattle.xa_domain.specs.May.{StartMay}
+use Rattle.xa_tables.specs.Piping.{Greeted, NotGreeted}
+use Rattle.xa_tables.specs.Resting.{IsNumbered, IsServed, IsStill, IsBooted, IsFresh, IsUp, IsOver, attempts}
+use Rattle.xa_domain.specs.Standing.{IsReady, MayFall, MayRetire, Retires, RetiresTables, NoneRestarts, ServerLives, Stands, GoesOn, IsHalted, StartsOn, stop_of}
+use Rattle.xa_tables.specs.Steps.{Changed, KeepsPlaces, ServerNotes, Starts, FailsStart, HasRoom, server_place}
+use Rattle.xa_tables.specs.May.{StartMay}
 use Rattle.xa_domain.specs.Closing.{MayEnd}
 use Rattle.xa_domain.specs.Serving.{IsStarterBy, StarterShows, StartersMatch}
 use Rattle.xa_domain.specs.Beginning.{KeepsLife, StartsBeside, HasNewLife, IsBegun, MayBegin, HaveStamps, IsStarting}
-use Rattle.xa_domain.proofs.Lists.{set_here, set_other, set_length, each_changed, changed_length}
-use Rattle.xa_domain.proofs.Kept.{stood_here}
-use Rattle.xa_domain.proofs.Places.{keeps_of_server, numbered_kept, attempts_kept}
+use Rattle.xa_tables.proofs.Lists.{set_here, set_other, set_length, each_changed, changed_length, map-slice_set, before_is, after_stands, other_stands}
+use Rattle.xa_tables.proofs.Kept.{stood_here}
+use Rattle.xa_tables.proofs.Places.{keeps_of_server, numbered_kept, attempts_kept}
 use Rattle.xa_domain.proofs.Lives.{of_first, unborn_idle, greeted, cut_off}
 use Rattle.xa_domain.proofs.Retired.{StandsBeside, IsQuiet, beside_of, beside_quiet, lives_idle, retired_stands}
-use Rattle.xa_domain.proofs.Servers.{start_holds, fail_start_holds}
+use Rattle.xa_tables.proofs.Servers.{start_holds, fail_start_holds}
+use Rattle.xa_tables.proofs.Founding.{flat_map_none}
 use Rattle.xa_domain.proofs.Configured.{never_restarts}
-use Rattle.xa_domain.proofs.GivenUp.{before_is, left_same}
+use Rattle.xa_domain.proofs.GivenUp.{left_same}
 use Rattle.xa_domain.proofs.Fallen.{stopped_by, served_kept}
 use Rattle.xa_domain.proofs.ClosedDown.{leads_on, leads_nowhere, told, other_life, lives_moved, lives_ended, holds_told, numbered_told, served_told}
 
@@ -280,33 +282,17 @@ some_known : {X : Type 0} (P : X → Type 0) (o : Option X) → IsSomeAnd o P �
 some_known P None known = absurd known
 some_known P (Some x) known = refl
 
-map-slice_set : {X Y : Type 0} (f : X → Y) (xs : List X) (i : ℕ) (x : X) → map f (slice_set xs i x) ≡ slice_set (map f xs) i (f x)
-map-slice_set f [] i x = refl
-map-slice_set f (z ∷ xs) zero x = refl
-map-slice_set f (z ∷ xs) (suc i) x = ap (λ ys. f z ∷ ys) (map-slice_set f xs i x)
-
-flat_map-none : {X Y : Type 0} (g : X → List Y) (xs : List X) → ((i : ℕ) (x : X) → slice_get xs i ≡ Some x → g x ≡ []) → flat_map g xs ≡ []
-flat_map-none g [] none = refl
-flat_map-none g (z ∷ xs) none = ap (λ ys. ys ++ flat_map g xs) (none zero z refl) ∙ flat_map-none g xs (λ i x is. none (suc i) x is)
-
 -- where the entries from that place on give nothing, what a new one there gives is the last
 flat_map-set : {X Y : Type 0} (g : X → List Y) (xs : List X) (i : ℕ) (y : X) → i < length xs → ((k : ℕ) (x : X) → slice_get xs k ≡ Some x → i ≤ k → g x ≡ []) → flat_map g (slice_set xs i y) ≡ flat_map g xs ++ g y
 flat_map-set g [] i y within none = absurd (omega (arith, within))
 flat_map-set g (z ∷ xs) zero y within none =
-    let rest : flat_map g xs ≡ [] = flat_map-none g xs (λ k x is. none (suc k) x is (omega arith)) in
+    let rest : flat_map g xs ≡ [] = flat_map_none g xs (λ k x is. none (suc k) x is (omega arith)) in
     ap (λ ys. g y ++ ys) rest ∙ (append-nil (g y) ∙ sym (ap (λ ys. (ys ++ flat_map g xs) ++ g y) (none zero z refl (omega arith)) ∙ ap (λ ys. ys ++ g y) rest))
 flat_map-set g (z ∷ xs) (suc i) y within none =
     ap (λ ys. g z ++ ys) (flat_map-set g xs i y (omega (arith, within)) (λ k x is above. none (suc k) x is (omega (arith, above)))) ∙ sym (append_assoc (g z) (flat_map g xs) (g y))
 
 changed_of : {X : Type 0} (at : ℕ) (old now new : List X) {How : X → X → Type 0} → now ≡ old → Changed at now new How → Changed at old new How
 changed_of at old now new same c = record { before = c.before; after = c.after; stood = sym (ap (λ xs. slice_get xs at) same) ∙ c.stood; now = c.now ∙ ap (λ xs. slice_set xs at c.after) same; how = c.how }
-
-after_stands : {X : Type 0} (at : ℕ) (old new : List X) {How : X → X → Type 0} (c : Changed at old new How) → slice_get new at ≡ Some c.after
-after_stands at old new c = ap (λ xs. slice_get xs at) c.now ∙ set_here old at c.after c.before c.stood
-
--- another entry stood there before
-pub other_stands : {X : Type 0} (at : ℕ) (old new : List X) {How : X → X → Type 0} (c : Changed at old new How) (i : ℕ) → (i ≡ at → ⊥) → slice_get new i ≡ slice_get old i
-other_stands at old new c i other = ap (λ xs. slice_get xs i) c.now ∙ set_other old at i c.after other
 
 -- ---- the server at that place was tried
 

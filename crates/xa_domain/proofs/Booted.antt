@@ -9,17 +9,18 @@ use Rattle.xa_types.specs.Rows.{Change, Put, Remove, configured}
 use Rattle.xa_events.specs.declared.event.Event.{Event}
 use Rattle.xa_events.specs.declared.event.Event.TheVariants.{Advertise}
 use Rattle.xa_script.specs.declared.script.Client.{Client as ScriptClient}
-use Rattle.xa_domain.specs.declared.server.Attempt.{Attempt}
-use Rattle.xa_domain.specs.declared.server.Server.{Server}
-use Rattle.xa_domain.specs.declared.domain.Domain.{Domain}
-use Rattle.xa_domain.specs.Holding.{Holds}
-use Rattle.xa_domain.specs.Boot.{boot_events, boot_past}
+use Rattle.xa_tables.specs.declared.server.Attempt.{Attempt}
+use Rattle.xa_tables.specs.declared.server.Server.{Server}
+use Rattle.xa_tables.specs.declared.domain.Domain.{Domain}
+use Rattle.xa_tables.specs.Holding.{Holds}
+use Rattle.xa_tables.specs.Boot.{boot_events, boot_past}
 use Rattle.xa_domain.specs.Living.{is_of_first_life, IsUnborn}
-use Rattle.xa_domain.specs.Standing.{IsFresh, ServerLives, Stands}
+use Rattle.xa_tables.specs.Resting.{IsFresh}
+use Rattle.xa_domain.specs.Standing.{ServerLives, Stands}
 use Rattle.xa_events.specs.State.{caller_of}
 use Rattle.xa_events.specs.Homes.Home.{CallerHome}
 use Rattle.xa_domain.specs.Beginning.{HaveStamps}
-use Rattle.xa_domain.proofs.Growing.{in_time}
+use Rattle.xa_tables.proofs.Growing.{in_time}
 use Rattle.xa_domain.proofs.Lives.{unborn, unborn_idle}
 use Rattle.xa_domain.proofs.Retired.{StandsBeside, IsQuiet, beside_quiet}
 

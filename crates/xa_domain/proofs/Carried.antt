@@ -39,27 +39,29 @@ use Rattle.xa_pipe.specs.Life.{IsLife, turn_behind}
 use Rattle.xa_pipe.specs.Life.Turn.{AwaitsInvoke, AwaitsNext}
 use Rattle.xa_pipe.specs.Pipe.{Piped, shown}
 use Rattle.xa_script.specs.declared.script.Client.{Client as ScriptClient}
-use Rattle.xa_domain.specs.declared.client.Client.{Client}
-use Rattle.xa_domain.specs.declared.server.Server.{Server}
-use Rattle.xa_domain.specs.declared.server.Attempt.{Attempt}
-use Rattle.xa_domain.specs.declared.server.Attempt.TheVariants.{Started}
-use Rattle.xa_domain.specs.declared.server.Last.TheVariants.{Nothing}
-use Rattle.xa_domain.specs.declared.domain.Domain.{Domain}
-use Rattle.xa_domain.specs.declared.life.Lived.{Lived}
+use Rattle.xa_tables.specs.declared.client.Client.{Client}
+use Rattle.xa_tables.specs.declared.server.Server.{Server}
+use Rattle.xa_tables.specs.declared.server.Attempt.{Attempt}
+use Rattle.xa_tables.specs.declared.server.Attempt.TheVariants.{Started}
+use Rattle.xa_tables.specs.declared.server.Last.TheVariants.{Nothing}
+use Rattle.xa_tables.specs.declared.domain.Domain.{Domain}
+use Rattle.xa_tables.specs.declared.life.Lived.{Lived}
 use Rattle.xa_domain.specs.Calling.{OnlyLife, IsBusy, MayEndWith, FallsOr, NextOr, Settles, Tells, Frees, cause_by, cause_heard, stop_events, ended_of, replied_of}
-use Rattle.xa_domain.specs.Holding.{Holds}
+use Rattle.xa_tables.specs.Holding.{Holds}
 use Rattle.xa_domain.specs.Living.{IsAt, LifeShows, is_of_first_life}
-use Rattle.xa_domain.specs.May.{EndMay, AnswerMay}
-use Rattle.xa_domain.specs.Standing.{IsNumbered, IsCallAt, NoneRestarts, ServerLives, Stands, GoesOn, Retires, RetiresTables, is_retiring, stop_of}
-use Rattle.xa_domain.specs.Steps.{Changed, Ends, Answers, KeepsPlaces, server_place}
-use Rattle.xa_domain.specs.Tables.{last_by}
-use Rattle.xa_domain.proofs.Calls.{answer_holds, fits_answer, other_call}
+use Rattle.xa_tables.specs.May.{EndMay, AnswerMay}
+use Rattle.xa_tables.specs.Resting.{IsNumbered}
+use Rattle.xa_domain.specs.Standing.{IsCallAt, NoneRestarts, ServerLives, Stands, GoesOn, Retires, RetiresTables, is_retiring, stop_of}
+use Rattle.xa_tables.specs.Steps.{Changed, Ends, Answers, KeepsPlaces, server_place}
+use Rattle.xa_tables.specs.Tables.{last_by}
+use Rattle.xa_tables.proofs.Calls.{answer_holds, fits_answer, other_call}
 use Rattle.xa_domain.proofs.Delivering.{IsWaiting}
 use Rattle.xa_domain.proofs.Exchanging.{LifeEnds}
 use Rattle.xa_domain.proofs.Lives.{first_life, of_first, of_other, at_idle, life_idle, stays_behind, freed, ceased, exited}
-use Rattle.xa_domain.proofs.Places.{numbered_kept}
+use Rattle.xa_tables.proofs.Places.{numbered_kept}
+use Rattle.xa_tables.proofs.Lists.{after_stands, other_stands, before_is}
 use Rattle.xa_domain.proofs.Tabled.{ends_keep}
-use Rattle.xa_domain.proofs.Rests.{some_is, some_of, now_there, kept_there, same_before}
+use Rattle.xa_domain.proofs.Rests.{some_is, some_of}
 use Rattle.xa_domain.proofs.Retired.{none_of_life}
 use Rattle.xa_domain.proofs.Underway.{Under, none_open, one_open, stands_of, under_more, under_beside, under_gone, under_behind, holds_beside, settles_one, settled_behind}
 
@@ -88,11 +90,11 @@ server_same server name life does old new same is = record {
 
 server_ends : {L : Type 0} (server : ℕ) (name : List ℕ) (life : ℕ) (does : Doing) (e : Ended) (old new : Domain L) → Ends server e old new → IsServerAs server name life does old → IsServerAs server name life (after_end e.outcome e.generation) new
 server_ends server name life does e old new step is =
-    let before : step.servers.before ≡ is.x = same_before server old.servers.items new.servers.items step.servers is.x is.stood in
+    let before : step.servers.before ≡ is.x = before_is server old.servers.items new.servers.items step.servers is.x is.stood in
     let how = step.servers.how.1 in
     record {
       x = step.servers.after;
-      stood = now_there server old.servers.items new.servers.items step.servers;
+      stood = after_stands server old.servers.items new.servers.items step.servers;
       named = ap (λ (z : Server). z.name) how ∙ (ap (λ (z : Server). z.name) before ∙ is.named);
       number = ap (λ (z : Server). z.id.0) how ∙ (ap (λ (z : Server). z.id.0) before ∙ is.number);
       started = ap (λ (z : Server). z.attempt) how ∙ (ap (λ (z : Server). z.attempt) before ∙ is.started);
@@ -111,10 +113,10 @@ server_falls server name life does None old new idle same is =
     subst (λ (z : Doing). IsServerAs server name life z new) (idle refl) (server_same server name life does old new (ap (λ d. d.servers) same) is)
 server_falls server name life does (Some cause) old new idle retires is =
     let c = retires.servers in
-    let before : c.before ≡ is.x = same_before server old.servers.items new.servers.items c is.x is.stood in
+    let before : c.before ≡ is.x = before_is server old.servers.items new.servers.items c is.x is.stood in
     record {
       x = c.after;
-      stood = now_there server old.servers.items new.servers.items c;
+      stood = after_stands server old.servers.items new.servers.items c;
       named = ap (λ (z : Server). z.name) c.how ∙ (ap (λ (z : Server). z.name) before ∙ is.named);
       number = ap (λ (z : Server). z.id.0) c.how ∙ (ap (λ (z : Server). z.id.0) before ∙ is.number);
       started = ap (λ (z : Server). z.attempt) c.how ∙ (ap (λ (z : Server). z.attempt) before ∙ is.started);
@@ -226,7 +228,7 @@ module _ {L : Type 0} (setup : Setup) (script : List ScriptClient) (server : ℕ
           let first : Under setup script server none_open (End its_end ∷ past) settles.ended = under_more setup script server (one_open request) none_open past (End its_end) old settles.ended under tt (λ j c is call. cc call)
           (λ r is. settles_one request (counted (is_settled_by r) past) (counted (is_accept_of r) past) r is)
           (λ n other. of_other n settles.by.id.0 1 (λ at. other (sym at ∙ number))) (λ i x is. (ended.servers i x is).0)
-          (λ i other. kept_there server old.servers.items settles.ended.servers.items settles.ends.servers i other) settles.ends.others.3 in
+          (λ i other. other_stands server old.servers.items settles.ended.servers.items settles.ends.servers i other) settles.ends.others.3 in
           under_behind setup script server settled_retires.more (stop_events server cause (End its_end ∷ past)) new settled_retires.retiring settled_retires.holds.locally.workers
           (falls_under cause (End its_end ∷ past) settles.ended new numbered_new settles.falls first)
 
@@ -280,7 +282,7 @@ module _ {L : Type 0} (setup : Setup) (script : List ScriptClient) (server : ℕ
 
     pub tell_holds : Holds setup (length script) past old → Holds setup (length script) (its_answer ∷ past) new
     tell_holds holds =
-        let by : tells.answers.clients.before ≡ tells.by = same_before client old.clients.items new.clients.items tells.answers.clients tells.by tells.stood in
+        let by : tells.answers.clients.before ≡ tells.by = before_is client old.clients.items new.clients.items tells.answers.clients tells.by tells.stood in
         answer_holds setup (length script) past old new holds client (replied_of tells.by op request answer) tells.answers
         (subst (AnswerMay past (replied_of tells.by op request answer)) (sym by) tell_may)
 
@@ -352,7 +354,7 @@ module _ {L : Type 0} (setup : Setup) (script : List ScriptClient) (server : ℕ
       let now_at : IsServerAs server name life (does_behind frees.cause) new = server_falls server name life (Idle (record { 0 = 1 })) frees.cause frees.read new (λ none. refl) frees.falls
       (server_same server name life (Idle (record { 0 = 1 })) old frees.read frees.reads.others.3 before.at) in
       let lives : new.lives ≡ frees.read.lives = falls_lives server frees.cause frees.read new frees.falls in
-      let stood : slice_get new.lives.items life ≡ Some c.after = ap (λ v. slice_get v.items life) lives ∙ (ap (slice_get frees.read.lives.items) (sym at) ∙ now_there frees.by.life old.lives.items frees.read.lives.items c) in
+      let stood : slice_get new.lives.items life ≡ Some c.after = ap (λ v. slice_get v.items life) lives ∙ (ap (slice_get frees.read.lives.items) (sym at) ∙ after_stands frees.by.life old.lives.items frees.read.lives.items c) in
       record {
         now = retires.more ++ stop_events server frees.cause past;
         stands = stands_of setup script server (retires.more ++ stop_events server frees.cause past) new retires.holds under

@@ -23,16 +23,17 @@ use Rattle.xa_events.proofs.Owns.{server_own}
 use Rattle.xa_events.proofs.WordsLemmas.{count_no, filter_map_no}
 use Rattle.xa_pipe.specs.Life.{IsLife, LifeId, LinkShows}
 use Rattle.xa_pipe.specs.Pipe.{shown}
-use Rattle.xa_domain.specs.declared.server.Attempt.{Attempt}
-use Rattle.xa_domain.specs.declared.server.Attempt.TheVariants.{NotYet, Started, Failed}
-use Rattle.xa_domain.specs.declared.server.Server.{Server}
-use Rattle.xa_domain.specs.declared.domain.Domain.{Domain}
-use Rattle.xa_domain.specs.declared.life.Lived.{Lived}
+use Rattle.xa_tables.specs.declared.server.Attempt.{Attempt}
+use Rattle.xa_tables.specs.declared.server.Attempt.TheVariants.{NotYet, Started, Failed}
+use Rattle.xa_tables.specs.declared.server.Server.{Server}
+use Rattle.xa_tables.specs.declared.domain.Domain.{Domain}
+use Rattle.xa_tables.specs.declared.life.Lived.{Lived}
 use Rattle.xa_domain.specs.declared.serving.Life.{Life}
-use Rattle.xa_domain.specs.Holding.{ServerHolds, Holds, starts_by, lives_by, failed_by}
-use Rattle.xa_domain.specs.Lives.{server_name_in, life_in, lives_from, lives_of, fails_start, failed_starts}
+use Rattle.xa_tables.specs.Holding.{ServerHolds, Holds, starts_by, lives_by, failed_by}
+use Rattle.xa_tables.specs.Lives.{server_name_in, life_in, lives_from, lives_of, fails_start, failed_starts}
 use Rattle.xa_domain.specs.Living.{LifeShows}
-use Rattle.xa_domain.specs.Standing.{IsNumbered, ServerLives}
+use Rattle.xa_tables.specs.Resting.{IsNumbered}
+use Rattle.xa_domain.specs.Standing.{ServerLives}
 use Rattle.xa_domain.specs.Handing.{IsHanded, AreHanded}
 use Rattle.xa_domain.specs.Serving.{StarterShows, LinkTells, IsStarterOf, IsStarterBy, EachStarter, StartersMatch, AreLives, IsLifeOf, starts_of, asked_by}
 

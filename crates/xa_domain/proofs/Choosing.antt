@@ -11,11 +11,12 @@ use Rattle.xa_types.specs.declared.ids.QueueId.{QueueId}
 use Rattle.xa_types.specs.declared.row.Row.{Row}
 use Rattle.xa_events.specs.declared.event.Doing.{Doing}
 use Rattle.xa_events.specs.declared.event.Doing.TheVariants.{Off, Idle}
-use Rattle.xa_domain.specs.declared.queue.Queue.{Queue}
-use Rattle.xa_domain.specs.declared.server.Server.{Server}
-use Rattle.xa_domain.specs.declared.domain.Domain.{Domain}
-use Rattle.xa_domain.specs.Calling.{is_idle}
-use Rattle.xa_domain.specs.Standing.{IsReady, IsFresh, IsUp, IsOver, has_server}
+use Rattle.xa_tables.specs.declared.queue.Queue.{Queue}
+use Rattle.xa_tables.specs.declared.server.Server.{Server}
+use Rattle.xa_tables.specs.declared.domain.Domain.{Domain}
+use Rattle.xa_tables.specs.Tables.{is_idle}
+use Rattle.xa_tables.specs.Resting.{IsFresh, IsUp, IsOver, has_server}
+use Rattle.xa_domain.specs.Standing.{IsReady}
 use Rattle.xa_domain.proofs.Rests.{some_there, some_of}
 
 -- ---- tests on lists

@@ -24,30 +24,30 @@ use Rattle.xa_pipe.specs.Life.{IsLife}
 use Rattle.xa_pipe.specs.Life.Turn.{AwaitsInvoke}
 use Rattle.xa_pipe.specs.Pipe.{CountsWrites, shown}
 use Rattle.xa_script.specs.declared.script.Client.{Client as ScriptClient}
-use Rattle.xa_domain.specs.declared.queue.Queue.{Queue}
-use Rattle.xa_domain.specs.declared.server.Server.{Server}
-use Rattle.xa_domain.specs.declared.server.Attempt.{Attempt}
-use Rattle.xa_domain.specs.declared.server.Attempt.TheVariants.{NotYet, Started, Failed}
-use Rattle.xa_domain.specs.declared.server.Last.TheVariants.{Nothing}
-use Rattle.xa_domain.specs.declared.domain.Domain.{Domain}
-use Rattle.xa_domain.specs.declared.life.Lived.{Lived}
-use Rattle.xa_domain.specs.declared.halt.Halt.{Halt}
-use Rattle.xa_domain.specs.Holding.{Holds}
+use Rattle.xa_tables.specs.declared.queue.Queue.{Queue}
+use Rattle.xa_tables.specs.declared.server.Server.{Server}
+use Rattle.xa_tables.specs.declared.server.Attempt.{Attempt}
+use Rattle.xa_tables.specs.declared.server.Attempt.TheVariants.{NotYet, Started, Failed}
+use Rattle.xa_tables.specs.declared.server.Last.TheVariants.{Nothing}
+use Rattle.xa_tables.specs.declared.domain.Domain.{Domain}
+use Rattle.xa_tables.specs.declared.life.Lived.{Lived}
+use Rattle.xa_tables.specs.declared.halt.Halt.{Halt}
+use Rattle.xa_tables.specs.Holding.{Holds}
 use Rattle.xa_domain.specs.Living.{IsAt, LifeShows, is_of_first_life}
-use Rattle.xa_domain.specs.May.{AllAway, IsShutAt}
-use Rattle.xa_domain.specs.Piping.{Sent, NotSent}
-use Rattle.xa_domain.specs.Standing.{IsNumbered, IsServed, IsReady, IsFresh, IsUp, IsOver, IsClosedDown, MayFall, Retires, RetiresTables, NoneRestarts, ServerLives, Stands, GoesOn, IsHalted, has_server, stop_of, attempts}
-use Rattle.xa_domain.specs.Steps.{KeepsPlaces, server_place, Closes, Stops, FailsAt}
+use Rattle.xa_tables.specs.May.{AllAway, IsShutAt}
+use Rattle.xa_tables.specs.Piping.{Sent, NotSent}
+use Rattle.xa_tables.specs.Resting.{IsNumbered, IsServed, IsFresh, IsUp, IsOver, has_server, attempts}
+use Rattle.xa_domain.specs.Standing.{IsReady, IsClosedDown, MayFall, Retires, RetiresTables, NoneRestarts, ServerLives, Stands, GoesOn, IsHalted, stop_of}
+use Rattle.xa_tables.specs.Steps.{KeepsPlaces, server_place, Closes, Stops, FailsAt}
 use Rattle.xa_domain.specs.Closing.{LeadsOn, LeadsToHalt, IsClosing, AllShut, MayEnd, ShutsDown, IsShutting}
-use Rattle.xa_domain.proofs.Lists.{set_here, set_other}
-use Rattle.xa_domain.proofs.Calls.{close_holds}
+use Rattle.xa_tables.proofs.Lists.{set_here, set_other, before_is}
+use Rattle.xa_tables.proofs.Calls.{close_holds}
 use Rattle.xa_domain.proofs.Lives.{of_first, of_other, first_life, shut, shut_failed}
 use Rattle.xa_domain.proofs.Retired.{StandsBeside, IsQuiet, beside_of, beside_quiet, lives_idle, retired_stands}
 use Rattle.xa_domain.proofs.Configured.{has_capacity}
 use Rattle.xa_domain.proofs.Halted.{halts_at_queue, halts_at_server}
-use Rattle.xa_domain.proofs.Kept.{known_within}
-use Rattle.xa_domain.proofs.Places.{map-changed, map-set_same, same_entry, same_length, keeps_of_queue, keeps_all, numbered_kept}
-use Rattle.xa_domain.proofs.GivenUp.{before_is}
+use Rattle.xa_tables.proofs.Kept.{known_within}
+use Rattle.xa_tables.proofs.Places.{map-changed, map-set_same, same_entry, same_length, keeps_of_queue, keeps_all, numbered_kept}
 use Rattle.xa_domain.proofs.Fallen.{served_kept, stopped_by, keeps_stopped, served_stopped, stopped_holds}
 
 -- ---- one step behind another

@@ -21,19 +21,21 @@ use Rattle.xa_events.specs.Request.Settlement.{EndedBy}
 use Rattle.xa_events.specs.Server.{after_end}
 use Rattle.xa_pipe.specs.declared.hearing.Return.{Return}
 use Rattle.xa_script.specs.declared.script.Client.{Client as ScriptClient}
-use Rattle.xa_domain.specs.declared.client.Client.{Client}
-use Rattle.xa_domain.specs.declared.server.Server.{Server}
-use Rattle.xa_domain.specs.declared.domain.Domain.{Domain}
+use Rattle.xa_tables.specs.declared.client.Client.{Client}
+use Rattle.xa_tables.specs.declared.server.Server.{Server}
+use Rattle.xa_tables.specs.declared.domain.Domain.{Domain}
 use Rattle.xa_domain.specs.Calling.{Exchanges, IsBusy, MayEndWith, Settles, Tells, Frees, cause_heard, outcome_heard, is_lost, ended_of, replied_of}
-use Rattle.xa_domain.specs.Holding.{Holds}
-use Rattle.xa_domain.specs.Standing.{IsNumbered, IsServed, IsReady, IsUp, IsCallAt, HasCalled, NoneRestarts, RowServes, Stands, GoesOn}
-use Rattle.xa_domain.specs.Steps.{Changed}
+use Rattle.xa_tables.specs.Holding.{Holds}
+use Rattle.xa_tables.specs.Resting.{IsNumbered, IsServed, IsUp}
+use Rattle.xa_domain.specs.Standing.{IsReady, IsCallAt, HasCalled, NoneRestarts, RowServes, Stands, GoesOn}
+use Rattle.xa_tables.specs.Steps.{Changed}
 use Rattle.xa_domain.proofs.Carried.{IsServerAs, IsSettled, settled_retires, settled_events, settle_known, settle_told, tell_holds, tell_known, over_stands, freed_stands}
 use Rattle.xa_domain.proofs.Delivering.{IsWaiting, IsBetween}
 use Rattle.xa_domain.proofs.Exchanging.{LifeEnds, exchange_keeps, exchange_between, exchange_called, exchange_server, exchange_there, exchange_same, life_between, its_accept, its_take, exchange_holds, exchange_under, exchange_ends}
 use Rattle.xa_domain.proofs.Heard.{heard_ends, heard_may, heard_idle}
-use Rattle.xa_domain.proofs.Places.{numbered_kept, attempts_kept}
-use Rattle.xa_domain.proofs.Rests.{some_is, some_there, now_there, changed_as, IsSteady, steady_of, steady_kept}
+use Rattle.xa_tables.proofs.Places.{numbered_kept, attempts_kept}
+use Rattle.xa_tables.proofs.Lists.{after_stands}
+use Rattle.xa_domain.proofs.Rests.{some_is, some_there, changed_as, IsSteady, steady_of, steady_kept}
 use Rattle.xa_domain.proofs.Tabled.{IsTold, IsBehind, settles_steady, settles_between, settles_clients, tells_keep, tells_between, tells_called, frees_steady, frees_between, frees_clients, ready_of}
 use Rattle.xa_domain.proofs.Underway.{Under, one_open}
 
@@ -131,7 +133,7 @@ module _ {L : Type 0} (setup : Setup) (client op version : ℕ) (ask : Ask) (row
           let ends = exchange_ends client op version row ask.payload server request back old heard x ready turn up setup past ask refl configured serves script stands called e
           (first_holds.servers server settles.by settles.stood).id refl by_outcome in
           settle_known setup script server request outcome (heard_events past) heard ended first_holds first_under configured none course_may cause settles heard_steady.numbered numbered x.by.name x.by.life back y by_cause course_idle at
-          (now_there x.by.life x.noted.lives.items heard.lives.items x.hears.lives)
+          (after_stands x.by.life x.noted.lives.items heard.lives.items x.hears.lives)
           (subst (λ (n : ℕ). LifeEnds setup x.by.name (server + 1) n back e (heard_events past) y.pipe) (sym number) ends)
 
     -- ---- the answer

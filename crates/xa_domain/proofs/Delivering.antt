@@ -27,24 +27,25 @@ use Rattle.xa_events.specs.Cases.{RowAdmits}
 use Rattle.xa_events.specs.Homes.{of_worker}
 use Rattle.xa_events.specs.Local.{worker_events}
 use Rattle.xa_events.specs.Words.{count as counted}
-use Rattle.xa_domain.specs.declared.queue.Queue.{Queue}
-use Rattle.xa_domain.specs.declared.client.Client.{Client}
-use Rattle.xa_domain.specs.declared.server.Server.{Server}
-use Rattle.xa_domain.specs.declared.server.Last.TheVariants.{Nothing}
-use Rattle.xa_domain.specs.declared.domain.Domain.{Domain}
-use Rattle.xa_domain.specs.declared.life.Lived.{Lived}
+use Rattle.xa_tables.specs.declared.queue.Queue.{Queue}
+use Rattle.xa_tables.specs.declared.client.Client.{Client}
+use Rattle.xa_tables.specs.declared.server.Server.{Server}
+use Rattle.xa_tables.specs.declared.server.Last.TheVariants.{Nothing}
+use Rattle.xa_tables.specs.declared.domain.Domain.{Domain}
+use Rattle.xa_tables.specs.declared.life.Lived.{Lived}
 use Rattle.xa_domain.specs.Calling.{Sends, Receives, Delivers, IsBusy, accepted_of, taken_of, request_of}
-use Rattle.xa_domain.specs.Holding.{Holds}
-use Rattle.xa_domain.specs.May.{AcceptMay, TakeMay}
-use Rattle.xa_domain.specs.Standing.{IsNumbered, IsReady, IsFresh, IsUp, IsOver, RowServes}
-use Rattle.xa_domain.specs.Steps.{Changed, KeepsPlaces, server_place}
-use Rattle.xa_domain.proofs.Lists.{each_changed}
-use Rattle.xa_domain.proofs.Calls.{accept_holds}
+use Rattle.xa_tables.specs.Holding.{Holds}
+use Rattle.xa_tables.specs.May.{AcceptMay, TakeMay}
+use Rattle.xa_tables.specs.Resting.{IsNumbered, IsFresh, IsUp, IsOver}
+use Rattle.xa_domain.specs.Standing.{IsReady, RowServes}
+use Rattle.xa_tables.specs.Steps.{Changed, KeepsPlaces, server_place}
+use Rattle.xa_tables.proofs.Lists.{each_changed, after_stands, before_is}
+use Rattle.xa_tables.proofs.Calls.{accept_holds}
 use Rattle.xa_domain.proofs.Configured.{has_capacity}
-use Rattle.xa_domain.proofs.Finding.{rows_are}
-use Rattle.xa_domain.proofs.Places.{map-changed, numbered_kept}
-use Rattle.xa_domain.proofs.Rests.{some_is, some_of, some_there, now_there, same_before, KeepsRest, keeps_rest_all, state_of_queue, state_of_server}
-use Rattle.xa_domain.proofs.Servers.{take_holds, takes_bound}
+use Rattle.xa_tables.proofs.Finding.{rows_are}
+use Rattle.xa_tables.proofs.Places.{map-changed, numbered_kept}
+use Rattle.xa_domain.proofs.Rests.{some_is, some_of, some_there, KeepsRest, keeps_rest_all, state_of_queue, state_of_server}
+use Rattle.xa_tables.proofs.Servers.{take_holds, takes_bound, counted_within}
 
 -- ---- what stays
 
@@ -113,12 +114,6 @@ sent_bound setup count past d holds j x is =
     let all = (holds.clients j x is).reads.accepts in
     let some = counted_within (accepts_for (j + 1)) own in
     omega (arith, all, some, length-filter (of_worker count (j + 1)) past, count_by-le-length (of_worker count (j + 1)) past)
-  where
-    counted_within : {X : Type 0} (p : X → Bool) (xs : List X) → counted p xs ≤ length xs
-    counted_within p [] = omega arith
-    counted_within p (x ∷ xs) =
-        let rest = counted_within p xs in
-        cond_both (p x) (counted p xs + 1) (counted p xs) (λ n. n ≤ length (x ∷ xs)) (λ _. omega (arith, rest)) (λ _. omega (arith, rest))
 
 -- what holds of each holds of the one that is found
 pub found_has : {X : Type 0} (P : X → Type 0) (p : X → Bool) (xs : List X) (x : X) → All P xs → find p xs ≡ Some x → P x
@@ -194,7 +189,7 @@ module _ {L : Type 0} (setup : Setup) (count : ℕ) (past : List Event) (client 
       → Holds setup count (Accept (accepted_of sends.by op version row payload) ∷ past) new
   sends_hold payload same request new sends =
       let step = sends.accepts in
-      let by : step.clients.before ≡ sends.by = same_before client old.clients.items new.clients.items step.clients sends.by sends.stood in
+      let by : step.clients.before ≡ sends.by = before_is client old.clients.items new.clients.items step.clients sends.by sends.stood in
       let a = accepted_of sends.by op version row payload in
       let may = subst (λ (x : Client). AcceptMay setup past a step.queues.before x) (sym by) (accept_may payload same sends.place step.queues.before sends.by sends.at step.queues.stood sends.stood) in
       let seen : sends.by.reader.least ≡ version = some_is (slice_get old.clients.items client) (λ (z : Client). z.reader.least ≡ version) sends.by sends.stood call.serves.seen in
@@ -208,8 +203,8 @@ pub take_may : {L : Type 0} (setup : Setup) (count : ℕ) (past : List Event) (s
     → TakeMay (taken_of receives.from receives.by request) receives.takes.queues.before receives.takes.servers.before
 take_may setup count past server request old new holds numbered receives waits up idle =
     let step = receives.takes in
-    let q : step.queues.before ≡ receives.from = same_before receives.place old.queues.items new.queues.items step.queues receives.from receives.waited in
-    let x : step.servers.before ≡ receives.by = same_before server old.servers.items new.servers.items step.servers receives.by receives.stood in
+    let q : step.queues.before ≡ receives.from = before_is receives.place old.queues.items new.queues.items step.queues receives.from receives.waited in
+    let x : step.servers.before ≡ receives.by = before_is server old.servers.items new.servers.items step.servers receives.by receives.stood in
     let id : receives.from.id.0 ≡ receives.place + 1 = numbered.queues receives.place receives.from receives.waited in
     let its : receives.by.queue.0 ≡ receives.from.id.0 = sym receives.at ∙ sym id in
     let taken : receives.from.takes ≤ length past = takes_bound setup count past old holds receives.place receives.from receives.waited in
@@ -244,7 +239,7 @@ module _ {L : Type 0} (client op version : ℕ) (row : Row) (payload : Data) (se
 
     from_is : delivers.sends.accepts.queues.after ≡ delivers.receives.from
     from_is = same_Some delivers.sends.accepts.queues.after delivers.receives.from
-        (sym (now_there delivers.sends.place old.queues.items mid.queues.items delivers.sends.accepts.queues) ∙ (ap (slice_get mid.queues.items) (sym same_place) ∙ delivers.receives.waited))
+        (sym (after_stands delivers.sends.place old.queues.items mid.queues.items delivers.sends.accepts.queues) ∙ (ap (slice_get mid.queues.items) (sym same_place) ∙ delivers.receives.waited))
 
     -- the request waits there
     pub waits_there : delivers.receives.from.waiting ≡ Some request
@@ -268,7 +263,7 @@ module _ {L : Type 0} (client op version : ℕ) (row : Row) (payload : Data) (se
     -- the tables then
     module _ (turn : IsSomeAnd (slice_get old.clients.items client) (λ (x : Client). (op ≡ x.op + 1) × (x.left ≡ false))) where
       sender : delivers.sends.accepts.clients.before ≡ delivers.sends.by
-      sender = same_before client old.clients.items mid.clients.items delivers.sends.accepts.clients delivers.sends.by delivers.sends.stood
+      sender = before_is client old.clients.items mid.clients.items delivers.sends.accepts.clients delivers.sends.by delivers.sends.stood
 
       sender_turn : (op ≡ delivers.sends.by.op + 1) × (delivers.sends.by.left ≡ false)
       sender_turn = some_is (slice_get old.clients.items client) (λ (x : Client). (op ≡ x.op + 1) × (x.left ≡ false)) delivers.sends.by delivers.sends.stood turn
@@ -286,7 +281,7 @@ module _ {L : Type 0} (client op version : ℕ) (row : Row) (payload : Data) (se
       busy_server : IsBusy request delivers.receives.takes.servers.after
       busy_server =
           let how = delivers.receives.takes.servers.how in
-          let before : delivers.receives.takes.servers.before ≡ delivers.receives.by = same_before server mid.servers.items new.servers.items delivers.receives.takes.servers delivers.receives.by delivers.receives.stood in
+          let before : delivers.receives.takes.servers.before ≡ delivers.receives.by = before_is server mid.servers.items new.servers.items delivers.receives.takes.servers delivers.receives.by delivers.receives.stood in
           let was = is_up old ready server delivers.receives.by taker taker_is.0 in
           record {
             started = ap (λ (x : Server). x.attempt) (how ∙ ap (λ (x : Server). record x { doing = Busy (record { 0 = 1 }) request; last = Nothing }) before) ∙ was.started;
@@ -308,8 +303,8 @@ module _ {L : Type 0} (client op version : ℕ) (row : Row) (payload : Data) (se
                 (each_changed (λ i (x : Client). x.pending ≡ None) (λ i (x : Client). (i ≡ client → ⊥) → x.pending ≡ None) client old.clients.items mid.clients.items delivers.sends.accepts.clients
                 ready.still.none_open (λ i x differ none other. none) (λ other. absurd (other refl)));
             waits = subst (λ (items : List Client). IsSomeAnd (slice_get items client) (IsWaiting op request)) (sym clients)
-                (some_of (slice_get mid.clients.items client) (IsWaiting op request) delivers.sends.accepts.clients.after (now_there client old.clients.items mid.clients.items delivers.sends.accepts.clients) waiting_client);
+                (some_of (slice_get mid.clients.items client) (IsWaiting op request) delivers.sends.accepts.clients.after (after_stands client old.clients.items mid.clients.items delivers.sends.accepts.clients) waiting_client);
             settled = each_changed (λ i (x : Server). IsFresh x ⊎ IsUp x ⊎ IsOver x) (λ i (x : Server). (i ≡ server → ⊥) → IsFresh x ⊎ IsUp x ⊎ IsOver x) server mid.servers.items new.servers.items delivers.receives.takes.servers
                 (subst (λ (items : List Server). (i : ℕ) (x : Server) → slice_get items i ≡ Some x → IsFresh x ⊎ IsUp x ⊎ IsOver x) (sym servers) ready.still.settled) (λ i x differ is other. is) (λ other. absurd (other refl));
-            does = some_of (slice_get new.servers.items server) (IsBusy request) delivers.receives.takes.servers.after (now_there server mid.servers.items new.servers.items delivers.receives.takes.servers) busy_server;
+            does = some_of (slice_get new.servers.items server) (IsBusy request) delivers.receives.takes.servers.after (after_stands server mid.servers.items new.servers.items delivers.receives.takes.servers) busy_server;
           }

@@ -17,21 +17,22 @@ use Rattle.xa_stamp.specs.Home.{Notes}
 use Rattle.xa_stamp.specs.Merge.{IsMerged, IsDense, stamps_of}
 use Rattle.xa_stamp.proofs.Places.{one_merge}
 use Rattle.xa_script.specs.declared.script.Client.{Client as ScriptClient}
-use Rattle.xa_domain.specs.declared.client.Client.{Client}
-use Rattle.xa_domain.specs.declared.server.Server.{Server}
-use Rattle.xa_domain.specs.declared.domain.Domain.{Domain}
-use Rattle.xa_domain.specs.declared.halt.Halt.{Halt}
-use Rattle.xa_domain.specs.declared.halt.Halt.TheVariants.{NoMemory, Worn}
+use Rattle.xa_tables.specs.declared.client.Client.{Client}
+use Rattle.xa_tables.specs.declared.server.Server.{Server}
+use Rattle.xa_tables.specs.declared.domain.Domain.{Domain}
+use Rattle.xa_tables.specs.declared.halt.Halt.{Halt}
+use Rattle.xa_tables.specs.declared.halt.Halt.TheVariants.{NoMemory, Worn}
 use Rattle.xa_domain.specs.declared.serving.Life.{Life}
-use Rattle.xa_domain.specs.Holding.{Holds}
-use Rattle.xa_domain.specs.Lives.{lives_from, lives_of}
+use Rattle.xa_tables.specs.Holding.{Holds}
+use Rattle.xa_tables.specs.Lives.{lives_from, lives_of}
 use Rattle.xa_domain.specs.Merging.{AreHomes, homes_kept}
-use Rattle.xa_domain.specs.Stamps.{HaltsAt}
-use Rattle.xa_domain.specs.Standing.{IsNumbered, IsOver, IsClosedDown, IsHalted, HaveGone, Stands, GoesOn, attempts}
+use Rattle.xa_tables.specs.Stamps.{HaltsAt}
+use Rattle.xa_tables.specs.Resting.{IsNumbered, IsOver, attempts}
+use Rattle.xa_domain.specs.Standing.{IsClosedDown, IsHalted, HaveGone, Stands, GoesOn}
 use Rattle.xa_domain.specs.declared.handing.Room.{Room}
 use Rattle.xa_domain.specs.Handing.{HasRoomFor, AreHomesOf, AreHanded}
 use Rattle.xa_domain.specs.Serving.{StarterShows, LinkTells, StartersMatch, EachMadeCalls, EachStarter, AreLives, IsCarried, IsServedWhole, IsServedSoFar, IsWorn, ServeEnds}
-use Rattle.xa_domain.proofs.Calls.{turn, last_op_now}
+use Rattle.xa_tables.proofs.Calls.{turn, last_op_now}
 use Rattle.xa_domain.proofs.Merging.{are_homes, dense, merged_is, newest_there}
 use Rattle.xa_domain.proofs.Carrying.{lives_are, each_starter, starters_long, lives_within, each_shown, pipes_handed}
 use Rattle.xa_domain.proofs.Final.{is_final}

@@ -34,24 +34,26 @@ use Rattle.xa_pipe.specs.Life.{IsLife, turn_behind, outcome_by, lost_by}
 use Rattle.xa_pipe.specs.Life.Turn.{AwaitsInvoke}
 use Rattle.xa_pipe.specs.Pipe.{Piped, shown, invoke_frame}
 use Rattle.xa_script.specs.declared.script.Client.{Client as ScriptClient}
-use Rattle.xa_domain.specs.declared.queue.Queue.{Queue}
-use Rattle.xa_domain.specs.declared.client.Client.{Client}
-use Rattle.xa_domain.specs.declared.server.Server.{Server}
-use Rattle.xa_domain.specs.declared.server.Attempt.{Attempt}
-use Rattle.xa_domain.specs.declared.server.Attempt.TheVariants.{Started}
-use Rattle.xa_domain.specs.declared.domain.Domain.{Domain}
-use Rattle.xa_domain.specs.declared.life.Lived.{Lived}
+use Rattle.xa_tables.specs.declared.queue.Queue.{Queue}
+use Rattle.xa_tables.specs.declared.client.Client.{Client}
+use Rattle.xa_tables.specs.declared.server.Server.{Server}
+use Rattle.xa_tables.specs.declared.server.Attempt.{Attempt}
+use Rattle.xa_tables.specs.declared.server.Attempt.TheVariants.{Started}
+use Rattle.xa_tables.specs.declared.domain.Domain.{Domain}
+use Rattle.xa_tables.specs.declared.life.Lived.{Lived}
 use Rattle.xa_domain.specs.Calling.{OnlyLife, Delivers, Exchanges, IsBusy, accepted_of, taken_of, request_of, outcome_heard}
-use Rattle.xa_domain.specs.Holding.{Holds}
+use Rattle.xa_tables.specs.Holding.{Holds}
 use Rattle.xa_domain.specs.Living.{IsAt, LifeShows, is_of_first_life}
-use Rattle.xa_domain.specs.Piping.{Exchanged}
-use Rattle.xa_domain.specs.Standing.{IsNumbered, IsReady, IsFresh, IsUp, IsOver, IsCallAt, RowServes, ServerLives, Stands}
-use Rattle.xa_domain.specs.Steps.{Changed}
-use Rattle.xa_domain.proofs.Calls.{fits_accept, order_take, other_call}
+use Rattle.xa_tables.specs.Piping.{Exchanged}
+use Rattle.xa_tables.specs.Resting.{IsNumbered, IsFresh, IsUp, IsOver}
+use Rattle.xa_domain.specs.Standing.{IsReady, IsCallAt, RowServes, ServerLives, Stands}
+use Rattle.xa_tables.specs.Steps.{Changed}
+use Rattle.xa_tables.proofs.Calls.{fits_accept, order_take, other_call}
 use Rattle.xa_domain.proofs.Delivering.{IsServedBy, IsWaiting, IsBetween, sends_keep, receives_keep, is_up, delivers_hold, delivers_between}
 use Rattle.xa_domain.proofs.Lives.{first_life, of_first, of_other, at_idle, behind, lost}
-use Rattle.xa_domain.proofs.Places.{numbered_kept}
-use Rattle.xa_domain.proofs.Rests.{some_is, some_of, now_there, kept_there, same_before, changed_as, KeepsRest, keeps_rest_all, only_keeps, ready_same}
+use Rattle.xa_tables.proofs.Places.{numbered_kept}
+use Rattle.xa_tables.proofs.Lists.{after_stands, other_stands, before_is}
+use Rattle.xa_domain.proofs.Rests.{some_is, some_of, changed_as, KeepsRest, keeps_rest_all, only_keeps, ready_same}
 use Rattle.xa_domain.proofs.Underway.{Under, none_open, one_open, under_of, under_more, under_beside, holds_beside, opens_one}
 
 -- what is known of a life once the request ends, by what was heard
@@ -147,13 +149,13 @@ module _ {L : Type 0} (client op version : ℕ) (row : Row) (payload : Data) (se
   exchange_server = x.delivers.receives.takes.servers.after
 
   taken_there : slice_get x.noted.servers.items server ≡ Some exchange_server
-  taken_there = now_there server x.delivers.between.servers.items x.noted.servers.items x.delivers.receives.takes.servers
+  taken_there = after_stands server x.delivers.between.servers.items x.noted.servers.items x.delivers.receives.takes.servers
 
   pub exchange_there : slice_get new.servers.items server ≡ Some exchange_server
   exchange_there = ap (λ v. slice_get v.items server) x.hears.others.3 ∙ taken_there
 
   server_was : x.delivers.receives.takes.servers.before ≡ x.by
-  server_was = same_before server x.delivers.between.servers.items x.noted.servers.items x.delivers.receives.takes.servers x.delivers.receives.by x.delivers.receives.stood ∙ taker_same
+  server_was = before_is server x.delivers.between.servers.items x.noted.servers.items x.delivers.receives.takes.servers x.delivers.receives.by x.delivers.receives.stood ∙ taker_same
 
   -- its name, its number and the place of its life are those that it had
   pub exchange_same : (exchange_server.name ≡ x.by.name) × (exchange_server.id ≡ x.by.id) × (exchange_server.life ≡ x.by.life) × (exchange_server.attempt ≡ Started)
@@ -166,12 +168,12 @@ module _ {L : Type 0} (client op version : ℕ) (row : Row) (payload : Data) (se
       )
 
   pub exchange_life : slice_get new.lives.items exchange_server.life ≡ Some x.hears.lives.after
-  exchange_life = ap (slice_get new.lives.items) exchange_same.2 ∙ now_there x.by.life x.noted.lives.items new.lives.items x.hears.lives
+  exchange_life = ap (slice_get new.lives.items) exchange_same.2 ∙ after_stands x.by.life x.noted.lives.items new.lives.items x.hears.lives
 
   -- the life is the same, and so is the number of its invocation
   pub life_between : x.hears.lives.before ≡ x.asks.lives.after
-  life_between = same_before x.by.life x.noted.lives.items new.lives.items x.hears.lives x.asks.lives.after
-      (ap (λ v. slice_get v.items x.by.life) (x.delivers.receives.takes.others.2 ∙ x.delivers.sends.accepts.others.2) ∙ now_there x.by.life old.lives.items x.asked.lives.items x.asks.lives)
+  life_between = before_is x.by.life x.noted.lives.items new.lives.items x.hears.lives x.asks.lives.after
+      (ap (λ v. slice_get v.items x.by.life) (x.delivers.receives.takes.others.2 ∙ x.delivers.sends.accepts.others.2) ∙ after_stands x.by.life old.lives.items x.asked.lives.items x.asks.lives)
 
   -- ---- the events
 
@@ -238,7 +240,7 @@ module _ {L : Type 0} (client op version : ℕ) (row : Row) (payload : Data) (se
           under_more setup script server (one_open request) (one_open request) (Accept its_accept ∷ past) (Take its_take) mid x.noted opened
           (order_take setup (length script) (Accept its_accept ∷ past) mid events.0 x.delivers.receives.place server takes.queues.before takes.servers.before takes.queues.stood takes.servers.stood its_take events.1)
           (λ j c is made. cc made) (λ r is. is) (λ n other. of_other n x.delivers.receives.by.id.0 1 (λ at. other (sym at ∙ number)))
-          (λ i z is. (holds_noted.servers i z is).id) (λ i other. kept_there server mid.servers.items x.noted.servers.items takes.servers i other) takes.others.2 in
+          (λ i z is. (holds_noted.servers i z is).id) (λ i other. other_stands server mid.servers.items x.noted.servers.items takes.servers i other) takes.others.2 in
           under_beside setup script server (one_open request) (Take its_take ∷ Accept its_accept ∷ past) x.noted new exchange_server x.by.life taken_there exchange_same.3 exchange_same.2
           (numbered_kept old x.noted noted_keeps.places ready.numbered) x.hears third
 

@@ -13,18 +13,19 @@ use Rattle.xa_events.specs.declared.event.StopCause.TheVariants.{Shutdown, Exit}
 use Rattle.xa_events.specs.declared.event.Doing.TheVariants.{Off, Idle, Dying}
 use Rattle.xa_events.specs.Server.{is_shutdown}
 use Rattle.xa_board.specs.Board.{Standing}
-use Rattle.xa_domain.specs.declared.queue.Queue.{Queue}
-use Rattle.xa_domain.specs.declared.server.Server.{Server}
-use Rattle.xa_domain.specs.declared.server.Last.TheVariants.{Nothing, Badly}
-use Rattle.xa_domain.specs.declared.domain.Domain.{Domain}
-use Rattle.xa_domain.specs.Holding.{Holds}
-use Rattle.xa_domain.specs.May.{MayStop, StopMay, IsShutAt}
-use Rattle.xa_domain.specs.Standing.{IsNumbered, IsServed, MayRetire, MayFall, RetiresTables, has_server, stop_of}
-use Rattle.xa_domain.specs.Steps.{KeepsPlaces, server_place, Stops}
-use Rattle.xa_domain.proofs.Lists.{set_here}
-use Rattle.xa_domain.proofs.Places.{same_entry, some_read, keeps_of_server}
-use Rattle.xa_domain.proofs.GivenUp.{before_is, left_same}
-use Rattle.xa_domain.proofs.Servers.{stop_holds}
+use Rattle.xa_tables.specs.declared.queue.Queue.{Queue}
+use Rattle.xa_tables.specs.declared.server.Server.{Server}
+use Rattle.xa_tables.specs.declared.server.Last.TheVariants.{Nothing, Badly}
+use Rattle.xa_tables.specs.declared.domain.Domain.{Domain}
+use Rattle.xa_tables.specs.Holding.{Holds}
+use Rattle.xa_tables.specs.May.{MayStop, StopMay, IsShutAt}
+use Rattle.xa_tables.specs.Resting.{IsNumbered, IsServed, has_server}
+use Rattle.xa_domain.specs.Standing.{MayRetire, MayFall, RetiresTables, stop_of}
+use Rattle.xa_tables.specs.Steps.{KeepsPlaces, server_place, Stops}
+use Rattle.xa_tables.proofs.Lists.{set_here, set_twice, before_is}
+use Rattle.xa_tables.proofs.Places.{same_entry, some_read, keeps_of_server}
+use Rattle.xa_domain.proofs.GivenUp.{left_same}
+use Rattle.xa_tables.proofs.Servers.{stop_holds}
 
 -- where as many servers of each queue are left, and the same queues are down, the same rows stand by them
 pub served_kept : {L : Type 0} (old new : Domain L) → ((queue : ℕ) → has_server queue new.servers.items ≡ has_server queue old.servers.items)
@@ -35,11 +36,6 @@ served_kept old new left downs board served = record {
   rows = subst (λ (b : Standing). All (λ (row : Row). (i : ℕ) × (row.queue.0 ≡ i + 1) × IsSomeAnd (slice_get new.queues.items i) (λ (q : Queue). q.down ≡ false)) b.rows) (sym board)
       (λ k d within. let p = served.rows k d within in (p.0, p.1, some_read (λ (q : Queue). q.down) (λ down. down ≡ false) old.queues.items new.queues.items downs p.0 p.2));
 }
-
-set_twice : {X : Type 0} (xs : List X) (i : ℕ) (x y : X) → slice_set (slice_set xs i x) i y ≡ slice_set xs i y
-set_twice [] i x y = refl
-set_twice (z ∷ xs) zero x y = refl
-set_twice (z ∷ xs) (suc i) x y = ap (λ zs. z ∷ zs) (set_twice xs i x y)
 
 -- the end of the one life of that server
 abbrev pub stopped_by : ServerId → StopCause → Stopped

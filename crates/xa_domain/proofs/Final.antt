@@ -15,11 +15,12 @@ use Rattle.xa_events.specs.Caller.{has_left}
 use Rattle.xa_events.specs.Run.{IsFinal}
 use Rattle.xa_events.proofs.Owns.{queue_own, server_own, caller_own}
 use Rattle.xa_script.specs.declared.script.Client.{Client as ScriptClient}
-use Rattle.xa_domain.specs.declared.queue.Queue.{Queue}
-use Rattle.xa_domain.specs.declared.server.Server.{Server}
-use Rattle.xa_domain.specs.declared.domain.Domain.{Domain}
-use Rattle.xa_domain.specs.Holding.{Holds, ClientHolds, ServerHolds}
-use Rattle.xa_domain.specs.Standing.{Stands, IsOver, IsServed, IsClosedDown, HaveGone}
+use Rattle.xa_tables.specs.declared.queue.Queue.{Queue}
+use Rattle.xa_tables.specs.declared.server.Server.{Server}
+use Rattle.xa_tables.specs.declared.domain.Domain.{Domain}
+use Rattle.xa_tables.specs.Holding.{Holds, ClientHolds, ServerHolds}
+use Rattle.xa_tables.specs.Resting.{IsOver, IsServed}
+use Rattle.xa_domain.specs.Standing.{Stands, IsClosedDown, HaveGone}
 
 -- where one passes, it stands somewhere
 any_at : {X : Type 0} (p : X → Bool) (xs : List X) → list_any p xs ≡ true → (i : ℕ) × (x : X) × (slice_get xs i ≡ Some x) × (p x ≡ true)

@@ -20,20 +20,21 @@ use Rattle.xa_events.specs.declared.event.Event.TheVariants.{Gone, Down}
 use Rattle.xa_stamp.specs.declared.home.Stamped.{Stamped}
 use Rattle.xa_board.specs.Board.{Standing, version_of}
 use Rattle.xa_board.specs.Changes.{is_on, rows_on, withdrawals}
-use Rattle.xa_domain.specs.declared.queue.Queue.{Queue}
-use Rattle.xa_domain.specs.declared.server.Server.{Server}
-use Rattle.xa_domain.specs.declared.domain.Domain.{Domain}
-use Rattle.xa_domain.specs.Holding.{Holds}
-use Rattle.xa_domain.specs.May.{GiveUpMay, AllGivenUp}
-use Rattle.xa_domain.specs.Boot.{Withdraws, withdrawn_from}
-use Rattle.xa_domain.specs.Standing.{IsNumbered, IsServed, NoneRestarts, MayRetire, Retires, RetiresTables, has_server, is_retiring}
-use Rattle.xa_domain.specs.Steps.{Changed, KeepsPlaces, server_place, GivesUp, GoesDown}
-use Rattle.xa_domain.proofs.Lists.{set_here, set_other}
-use Rattle.xa_domain.proofs.Kept.{known_here}
-use Rattle.xa_domain.proofs.Places.{map-changed, same_entry, some_read, keeps_of_queue, keeps_all}
+use Rattle.xa_tables.specs.declared.queue.Queue.{Queue}
+use Rattle.xa_tables.specs.declared.server.Server.{Server}
+use Rattle.xa_tables.specs.declared.domain.Domain.{Domain}
+use Rattle.xa_tables.specs.Holding.{Holds}
+use Rattle.xa_tables.specs.May.{GiveUpMay, AllGivenUp}
+use Rattle.xa_tables.specs.Boot.{Withdraws, withdrawn_from}
+use Rattle.xa_tables.specs.Resting.{IsNumbered, IsServed, has_server}
+use Rattle.xa_domain.specs.Standing.{NoneRestarts, MayRetire, Retires, RetiresTables, is_retiring}
+use Rattle.xa_tables.specs.Steps.{Changed, KeepsPlaces, server_place, GivesUp, GoesDown}
+use Rattle.xa_tables.proofs.Lists.{set_here, set_other, before_is}
+use Rattle.xa_tables.proofs.Kept.{known_here}
+use Rattle.xa_tables.proofs.Places.{map-changed, same_entry, some_read, keeps_of_queue, keeps_all}
 use Rattle.xa_domain.proofs.Configured.{has_capacity, never_restarts}
-use Rattle.xa_domain.proofs.Servers.{give_up_holds}
-use Rattle.xa_domain.proofs.Withdrawing.{withdraw_holds, down_holds}
+use Rattle.xa_tables.proofs.Servers.{give_up_holds}
+use Rattle.xa_tables.proofs.Withdrawing.{withdraw_holds, down_holds}
 
 -- ---- whether a server of a queue is left
 
@@ -73,9 +74,6 @@ left_same j old new c queue_same gone_same queue =
     (ap (λ (q : QueueId). (q.0 == queue) && not c.after.gone) queue_same ∙ ap (λ b. (c.before.queue.0 == queue) && not b) gone_same)
 
 -- ---- words on lists
-
-pub before_is : {X : Type 0} (at : ℕ) (old new : List X) {How : X → X → Type 0} (c : Changed at old new How) (x : X) → slice_get old at ≡ Some x → c.before ≡ x
-before_is at old new c x is = same_Some c.before x (sym c.stood ∙ is)
 
 none_kept : {X : Type 0} (p : X → Bool) (xs : List X) → filter p (filter (λ x. not (p x)) xs) ≡ []
 none_kept p [] = refl

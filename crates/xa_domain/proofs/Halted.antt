@@ -7,16 +7,16 @@ use Rattle.xa_events.specs.declared.event.Event.{Event}
 use Rattle.xa_events.specs.Homes.Home.{BoardHome}
 use Rattle.xa_stamp.specs.Home.{Notes}
 use Rattle.xa_board.specs.Board.{stamp_of}
-use Rattle.xa_domain.specs.declared.queue.Queue.{Queue}
-use Rattle.xa_domain.specs.declared.client.Client.{Client}
-use Rattle.xa_domain.specs.declared.server.Server.{Server}
-use Rattle.xa_domain.specs.declared.domain.Domain.{Domain}
-use Rattle.xa_domain.specs.declared.halt.Halt.{Halt}
-use Rattle.xa_domain.specs.Stamps.{IsInTime, HaltsAt}
-use Rattle.xa_domain.specs.Holding.{Holds}
+use Rattle.xa_tables.specs.declared.queue.Queue.{Queue}
+use Rattle.xa_tables.specs.declared.client.Client.{Client}
+use Rattle.xa_tables.specs.declared.server.Server.{Server}
+use Rattle.xa_tables.specs.declared.domain.Domain.{Domain}
+use Rattle.xa_tables.specs.declared.halt.Halt.{Halt}
+use Rattle.xa_tables.specs.Stamps.{IsInTime, HaltsAt}
+use Rattle.xa_tables.specs.Holding.{Holds}
 use Rattle.xa_domain.specs.Standing.{IsHalted}
-use Rattle.xa_domain.specs.Steps.{FailsAt}
-use Rattle.xa_domain.proofs.Growing.{in_time}
+use Rattle.xa_tables.specs.Steps.{FailsAt}
+use Rattle.xa_tables.proofs.Growing.{in_time}
 
 module _ (setup : Setup) (count : ℕ) (past : List Event) {L : Type 0} (old new : Domain L) (halt : Halt) (holds : Holds setup count past old) where
   -- nothing was noted, and nothing changed

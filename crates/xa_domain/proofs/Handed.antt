@@ -1,7 +1,7 @@
 -- Lives that are handed back, one after another.
 use Rattle.std.proofs.Common.{◌≡◌, ℕ, suc, ◌+◌, ◌<◌, ◌≤◌, List, [], ◌∷◌, ◌++◌, length, refl, sym, ◌∙◌, ap, subst, arith, append-nil, append_assoc}
 use Rattle.std.proofs.lemmas.List.{length-append}
-use Rattle.xa_domain.specs.declared.life.Lived.{Lived}
+use Rattle.xa_tables.specs.declared.life.Lived.{Lived}
 use Rattle.xa_domain.specs.declared.serving.Life.{Life}
 use Rattle.xa_domain.specs.Handing.{IsHanded, AreHanded, HandsOn}
 use Rattle.xa_domain.specs.Serving.{LinkTells}

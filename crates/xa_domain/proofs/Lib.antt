@@ -1,14 +1,6 @@
-pub mod Lists
-pub mod Growing
 pub mod Merging
-pub mod Finding
-pub mod Calls
-pub mod Servers
-pub mod Withdrawing
 pub mod Lives
 pub mod Retired
-pub mod Kept
-pub mod Places
 pub mod Halted
 pub mod Configured
 pub mod Sound
@@ -28,12 +20,9 @@ pub mod GivenUp
 pub mod Fallen
 pub mod ClosedDown
 pub mod Final
-pub mod Setups
 pub mod Handed
 pub mod Begun
 pub mod Booted
 pub mod Carrying
 pub mod Ends
 pub mod Making
-pub mod Booting
-pub mod Founding

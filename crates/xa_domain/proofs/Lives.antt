@@ -35,7 +35,7 @@ use Rattle.xa_pipe.proofs.Frames.{read_same, told_more}
 use Rattle.xa_pipe.proofs.Saying.{returns_next, returns_push}
 use Rattle.xa_pipe.proofs.Taking.{took_more, took_cut, took_missing}
 use Rattle.xa_domain.specs.Living.{is_of_first_life, IsUnborn, IsAt, LifeShows}
-use Rattle.xa_domain.specs.Piping.{Sent, NotSent, Greeted, NotGreeted, NextRead, NoNext, Exchanged}
+use Rattle.xa_tables.specs.Piping.{Sent, NotSent, Greeted, NotGreeted, NextRead, NoNext, Exchanged}
 
 -- the one life of a server
 abbrev pub first_life : List ℕ → ℕ → LifeId

@@ -22,18 +22,18 @@ use Rattle.xa_board.specs.Board.{rows_seen}
 use Rattle.xa_board.specs.Reader.{Finds}
 use Rattle.xa_script.specs.declared.script.Client.{Client as ScriptClient}
 use Rattle.xa_domain.specs.declared.calling.Choice.TheVariants.{NoKind, ByRow}
-use Rattle.xa_domain.specs.declared.client.Client.{Client}
-use Rattle.xa_domain.specs.declared.domain.Domain.{Domain}
-use Rattle.xa_domain.specs.Boot.{LooksUp}
+use Rattle.xa_tables.specs.declared.client.Client.{Client}
+use Rattle.xa_tables.specs.declared.domain.Domain.{Domain}
+use Rattle.xa_tables.specs.Boot.{LooksUp}
 use Rattle.xa_domain.specs.Calling.{ChoiceIs}
-use Rattle.xa_domain.specs.Holding.{Holds}
+use Rattle.xa_tables.specs.Holding.{Holds}
 use Rattle.xa_domain.specs.Standing.{HasCalled, RowServes, Stands}
-use Rattle.xa_domain.specs.Steps.{Changed}
-use Rattle.xa_domain.proofs.Lists.{changed_length}
-use Rattle.xa_domain.proofs.Calls.{looked_up}
-use Rattle.xa_domain.proofs.Kept.{stood_here}
-use Rattle.xa_domain.proofs.Finding.{found_rows, found_stands, same_kinds}
-use Rattle.xa_domain.proofs.Rests.{changed_twice, same_after, some_there}
+use Rattle.xa_tables.specs.Steps.{Changed}
+use Rattle.xa_tables.proofs.Lists.{changed_length, changed_twice}
+use Rattle.xa_tables.proofs.Calls.{looked_up}
+use Rattle.xa_tables.proofs.Kept.{stood_here}
+use Rattle.xa_tables.proofs.Finding.{found_rows, found_stands, same_kinds}
+use Rattle.xa_domain.proofs.Rests.{same_after, some_there}
 
 -- ---- what was chosen
 

@@ -13,53 +13,29 @@ use Rattle.xa_events.specs.declared.event.Event.{Event}
 use Rattle.xa_events.specs.declared.event.Event.TheVariants.{Leave}
 use Rattle.xa_board.specs.Board.{Standing}
 use Rattle.xa_script.specs.declared.script.Client.{Client as ScriptClient}
-use Rattle.xa_domain.specs.declared.queue.Queue.{Queue}
-use Rattle.xa_domain.specs.declared.client.Client.{Client}
-use Rattle.xa_domain.specs.declared.server.Server.{Server}
-use Rattle.xa_domain.specs.declared.server.Attempt.{Attempt}
-use Rattle.xa_domain.specs.declared.server.Attempt.TheVariants.{NotYet, Started, Failed}
-use Rattle.xa_domain.specs.declared.domain.Domain.{Domain}
-use Rattle.xa_domain.specs.declared.life.Lived.{Lived}
+use Rattle.xa_tables.specs.declared.queue.Queue.{Queue}
+use Rattle.xa_tables.specs.declared.client.Client.{Client}
+use Rattle.xa_tables.specs.declared.server.Server.{Server}
+use Rattle.xa_tables.specs.declared.server.Attempt.{Attempt}
+use Rattle.xa_tables.specs.declared.server.Attempt.TheVariants.{NotYet, Started, Failed}
+use Rattle.xa_tables.specs.declared.domain.Domain.{Domain}
+use Rattle.xa_tables.specs.declared.life.Lived.{Lived}
 use Rattle.xa_domain.specs.Living.{LifeShows}
-use Rattle.xa_domain.specs.May.{AllAway}
-use Rattle.xa_domain.specs.Steps.{Changed, KeepsPlaces, Leaves}
-use Rattle.xa_domain.specs.Standing.{IsNumbered, IsServed, IsReady, IsCallAt, HasCalled, HasGone, HaveGone, NoneRestarts, ServerLives, Stands, GoesOn, attempts, has_server}
+use Rattle.xa_tables.specs.May.{AllAway}
+use Rattle.xa_tables.specs.Steps.{Changed, KeepsPlaces, Leaves}
+use Rattle.xa_tables.specs.Resting.{IsNumbered, IsServed, attempts, has_server}
+use Rattle.xa_domain.specs.Standing.{IsReady, IsCallAt, HasCalled, HasGone, HaveGone, NoneRestarts, ServerLives, Stands, GoesOn}
 use Rattle.xa_domain.specs.Making.{MakesOn, RunsOn}
-use Rattle.xa_domain.proofs.Lists.{set_here, set_other, each_changed, changed_length}
-use Rattle.xa_domain.proofs.Calls.{leave_holds}
-use Rattle.xa_domain.proofs.Places.{keeps_of_client, numbered_kept, attempts_kept}
+use Rattle.xa_tables.proofs.Lists.{each_changed, changed_length, set_same, after_stands, changed_twice}
+use Rattle.xa_tables.proofs.Calls.{leave_holds}
+use Rattle.xa_tables.proofs.Places.{keeps_of_client, numbered_kept, attempts_kept}
 use Rattle.xa_domain.proofs.Retired.{some_weaker, beside_of, beside_quiet, lives_idle}
 
--- ---- an entry that is replaced by itself, or twice
+-- ---- an entry
 
-set_itself : {X : Type 0} (xs : List X) (i : ℕ) (x : X) → slice_get xs i ≡ Some x → xs ≡ slice_set xs i x
-set_itself [] i x is = absurd (none-some x is)
-set_itself (y ∷ xs) zero x is = ap (λ z. z ∷ xs) (same_Some y x is)
-set_itself (y ∷ xs) (suc i) x is = ap (λ zs. y ∷ zs) (set_itself xs i x is)
-
-set_twice : {X : Type 0} (xs : List X) (i : ℕ) (x y : X) → slice_set (slice_set xs i x) i y ≡ slice_set xs i y
-set_twice [] i x y = refl
-set_twice (z ∷ xs) zero x y = refl
-set_twice (z ∷ xs) (suc i) x y = ap (λ zs. z ∷ zs) (set_twice xs i x y)
-
+-- one that is replaced by itself
 unchanged : {X : Type 0} (at : ℕ) (xs : List X) (How : X → X → Type 0) (x : X) → slice_get xs at ≡ Some x → How x x → Changed at xs xs How
-unchanged at xs How x stood how = record { before = x; after = x; stood = stood; now = set_itself xs at x stood; how = how }
-
--- what stands there now
-pub after_stands : {X : Type 0} (at : ℕ) (old new : List X) {How : X → X → Type 0} (c : Changed at old new How) → slice_get new at ≡ Some c.after
-after_stands at old new c = ap (λ xs. slice_get xs at) c.now ∙ set_here old at c.after c.before c.stood
-
-changed_twice : {X : Type 0} (at : ℕ) (old mid new : List X) {How Too : X → X → Type 0} (Both : X → X → Type 0) (c : Changed at old mid How) (d : Changed at mid new Too)
-    → (How c.before c.after → Too c.after d.after → Both c.before d.after) → Changed at old new Both
-changed_twice at old mid new {How = How} {Too = Too} Both c d both =
-    let same : d.before ≡ c.after = same_Some d.before c.after (sym d.stood ∙ after_stands at old mid c) in
-    record {
-      before = c.before;
-      after = d.after;
-      stood = c.stood;
-      now = d.now ∙ (ap (λ xs. slice_set xs at d.after) c.now ∙ set_twice old at c.after d.after);
-      how = both c.how (subst (λ x. Too x d.after) same d.how);
-    }
+unchanged at xs How x stood how = record { before = x; after = x; stood = stood; now = sym (set_same xs at x stood); how = how }
 
 -- the entry whose number is one more than its place
 pub numbered_at : {X : Type 0} (i : ℕ) (xs : List X) → numbered (i + 1) xs ≡ slice_get xs i
@@ -95,7 +71,7 @@ module _ {L : Type 0} (setup : Setup) (client made : ℕ) (ops : List Op) (old m
   makes_more ask is tried ready called goes = record {
     ready = ready;
     tried = tried ∙ m.tried;
-    called = changed_twice client old.clients.items mid.clients.items new.clients.items (λ (x x' : Client). (x'.op ≡ made + 1) × (x'.left ≡ false)) m.called called.clients (λ first second. (second.0, second.1 ∙ first.1));
+    called = changed_twice client old.clients.items mid.clients.items new.clients.items (λ (x x' : Client). (x'.op ≡ made + 1) × (x'.left ≡ false)) m.called called.clients (λ x y z first second. (second.0, second.1 ∙ first.1));
     goes = λ script past none stands its. let g = m.goes script past none stands its in goes script g.now none g.stands (call_at script ask is its);
   }
 
@@ -179,7 +155,7 @@ module _ {L : Type 0} (setup : Setup) (client made : ℕ) (ops : List Op) (old m
   pub gone_leave : HasGone client made old new
   gone_leave = record {
     clients = changed_twice client old.clients.items mid.clients.items new.clients.items (λ (x x' : Client). (x'.op ≡ made) × (x'.left ≡ true)) m.called step.clients
-        (λ first second. (ap (λ (x : Client). x.op) second.1 ∙ first.0, ap (λ (x : Client). x.left) second.1));
+        (λ x y z first second. (ap (λ (w : Client). w.op) second.1 ∙ first.0, ap (λ (w : Client). w.left) second.1));
   }
 
   pub goes_leave : (script : List ScriptClient) (past : List Event) → NoneRestarts setup → Stands setup script past old → IsSomeAnd (slice_get script client) (λ (c : ScriptClient). c.ops ≡ ops) → GoesOn setup script new
@@ -240,24 +216,8 @@ module _ {L : Type 0} (setup : Setup) (script : List ScriptClient) (place : ℕ)
   pub all_gone : (last : Domain L) → last.clients ≡ now.clients → HaveGone script last
   all_gone last same i x is = let was : slice_get now.clients.items i ≡ Some x = sym (ap (λ v. slice_get v.items i) same) ∙ is in r.gone i x was (within_all i x was)
 
--- ---- what follows from a call that may fail
-
-pub ok_more : {X E : Type 0} (result : Result X E) (P Q : Type 0) → (P → Q) → OnOk result P → OnOk result Q
-ok_more (Ok x) P Q more holds = more holds
-ok_more (Err e) P Q more holds = tt
-
-pub err_more : {X E : Type 0} (result : Result X E) (P Q : E → Type 0) → ((e : E) → P e → Q e) → IfErr result P → IfErr result Q
-err_more (Ok x) P Q more holds = tt
-err_more (Err e) P Q more holds = more e holds
-
-pub either_way : {X E : Type 0} (result : Result X E) (A B N : Type 0) → OnOk result A → OnErr result B → (A → N) → (B → N) → N
-either_way (Ok x) A B N done failed well badly = well done
-either_way (Err e) A B N done failed well badly = badly failed
+-- ---- a call that failed
 
 pub none_done : {X E : Type 0} (result : Result X E) (e : E) (P : Type 0) → IsErrAnd result (λ y. y ≡ e) → OnOk result P
 none_done (Ok x) e P is = absurd is
 none_done (Err y) e P is = tt
-
-pub both_ok : {X E : Type 0} (result : Result X E) (P Q R : Type 0) → (P → Q → R) → OnOk result P → OnOk result Q → OnOk result R
-both_ok (Ok x) P Q R more one other = more one other
-both_ok (Err e) P Q R more one other = tt

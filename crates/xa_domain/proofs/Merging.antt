@@ -23,14 +23,14 @@ use Rattle.xa_stamp.specs.declared.merging.Place.{Place}
 use Rattle.xa_stamp.specs.Home.{Notes}
 use Rattle.xa_stamp.specs.Merge.{places_in, places_from, place_cmp, event_at, stamps_of, IsMerged, IsDense}
 use Rattle.xa_stamp.proofs.Places.{one_merge}
-use Rattle.xa_domain.specs.declared.queue.Queue.{Queue}
-use Rattle.xa_domain.specs.declared.client.Client.{Client}
-use Rattle.xa_domain.specs.declared.server.Server.{Server}
-use Rattle.xa_domain.specs.declared.domain.Domain.{Domain}
-use Rattle.xa_domain.specs.Holding.{Holds, is_home_in}
-use Rattle.xa_domain.specs.Stamps.{entries_of}
+use Rattle.xa_tables.specs.declared.queue.Queue.{Queue}
+use Rattle.xa_tables.specs.declared.client.Client.{Client}
+use Rattle.xa_tables.specs.declared.server.Server.{Server}
+use Rattle.xa_tables.specs.declared.domain.Domain.{Domain}
+use Rattle.xa_tables.specs.Holding.{Holds, is_home_in}
+use Rattle.xa_tables.specs.Stamps.{entries_of}
 use Rattle.xa_domain.specs.Merging.{numbers_from, all_homes, AreHomes, homes_kept}
-use Rattle.xa_domain.proofs.Growing.{next_entry, entries_here, entries_elsewhere, home_here, home_idle}
+use Rattle.xa_tables.proofs.Growing.{next_entry, entries_here, entries_elsewhere, home_here, home_idle}
 
 -- ---- entries, home by home
 

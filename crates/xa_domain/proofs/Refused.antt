@@ -15,21 +15,22 @@ use Rattle.xa_events.specs.Caller.{is_call_of, version_in}
 use Rattle.xa_events.specs.Calls.{CallRefused, FitsCall}
 use Rattle.xa_events.specs.Cases.{IsEvidenceFor}
 use Rattle.xa_script.specs.declared.script.Client.{Client as ScriptClient}
-use Rattle.xa_domain.specs.declared.queue.Queue.{Queue}
-use Rattle.xa_domain.specs.declared.client.Client.{Client}
-use Rattle.xa_domain.specs.declared.server.Server.{Server}
-use Rattle.xa_domain.specs.declared.domain.Domain.{Domain}
-use Rattle.xa_domain.specs.declared.life.Lived.{Lived}
-use Rattle.xa_domain.specs.Boot.{LooksUp}
+use Rattle.xa_tables.specs.declared.queue.Queue.{Queue}
+use Rattle.xa_tables.specs.declared.client.Client.{Client}
+use Rattle.xa_tables.specs.declared.server.Server.{Server}
+use Rattle.xa_tables.specs.declared.domain.Domain.{Domain}
+use Rattle.xa_tables.specs.declared.life.Lived.{Lived}
+use Rattle.xa_tables.specs.Boot.{LooksUp}
 use Rattle.xa_domain.specs.Calling.{refused_of}
-use Rattle.xa_domain.specs.May.{RefuseMay}
-use Rattle.xa_domain.specs.Standing.{IsReady, IsFresh, IsUp, IsOver, IsCallAt, HasCalled, Stands, GoesOn}
-use Rattle.xa_domain.specs.Steps.{Changed, Refuses, server_place}
-use Rattle.xa_domain.proofs.Lists.{each_changed}
-use Rattle.xa_domain.proofs.Calls.{refuse_holds, look_up_holds, fits_refuse, other_call}
-use Rattle.xa_domain.proofs.Places.{map-changed}
+use Rattle.xa_tables.specs.May.{RefuseMay}
+use Rattle.xa_tables.specs.Resting.{IsFresh, IsUp, IsOver}
+use Rattle.xa_domain.specs.Standing.{IsReady, IsCallAt, HasCalled, Stands, GoesOn}
+use Rattle.xa_tables.specs.Steps.{Changed, Refuses, server_place}
+use Rattle.xa_tables.proofs.Lists.{each_changed, after_stands, before_is}
+use Rattle.xa_tables.proofs.Calls.{refuse_holds, look_up_holds, fits_refuse, other_call}
+use Rattle.xa_tables.proofs.Places.{map-changed}
 use Rattle.xa_domain.proofs.Retired.{lives_idle}
-use Rattle.xa_domain.proofs.Rests.{some_is, some_of, some_there, now_there, same_before, changed_as, KeepsRest, steady_kept, steady_of, state_of_queue, state_of_server}
+use Rattle.xa_domain.proofs.Rests.{some_is, some_of, some_there, changed_as, KeepsRest, steady_kept, steady_of, state_of_queue, state_of_server}
 use Rattle.xa_domain.proofs.Underway.{lives_same}
 
 -- ---- a client changed, and waits for nothing
@@ -80,7 +81,7 @@ module _ {L : Type 0} (client : ℕ) (service : List ℕ) (version : ℕ) (old n
   looks_up_turn P is =
       let c = step.clients in
       let was = some_is (slice_get old.clients.items client) (λ (x : Client). P x.op x.left) c.before c.stood is in
-      some_of (slice_get new.clients.items client) (λ (x : Client). P x.op x.left) c.after (now_there client old.clients.items new.clients.items c)
+      some_of (slice_get new.clients.items client) (λ (x : Client). P x.op x.left) c.after (after_stands client old.clients.items new.clients.items c)
       (subst (λ (x : Client). P x.op x.left) (sym c.how.0) was)
 
   pub looks_up_stands : (setup : Setup) (script : List ScriptClient) (past : List Event) → Stands setup script past old → Stands setup script past new
@@ -111,7 +112,7 @@ module _ {L : Type 0} (client op : ℕ) (fault : Fault) (evidence : Evidence) (x
     its_refusal = Refuse (refused_of x op fault evidence)
 
     its_before : step.clients.before ≡ x
-    its_before = same_before client old.clients.items new.clients.items step.clients x stood
+    its_before = before_is client old.clients.items new.clients.items step.clients x stood
 
     refusal_may : RefuseMay past (refused_of x op fault evidence) x
     refusal_may = record {

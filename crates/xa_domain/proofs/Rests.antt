@@ -8,18 +8,19 @@ use Rattle.std.proofs.lemmas.List.Elements.{All-weaker}
 use Rattle.xa_types.specs.declared.ids.QueueId.{QueueId}
 use Rattle.xa_types.specs.declared.ids.ServerId.{ServerId}
 use Rattle.xa_types.specs.declared.row.Row.{Row}
-use Rattle.xa_domain.specs.declared.queue.Queue.{Queue}
-use Rattle.xa_domain.specs.declared.client.Client.{Client}
-use Rattle.xa_domain.specs.declared.server.Server.{Server}
-use Rattle.xa_domain.specs.declared.server.Attempt.{Attempt}
-use Rattle.xa_domain.specs.declared.server.Attempt.TheVariants.{NotYet}
-use Rattle.xa_domain.specs.declared.domain.Domain.{Domain}
-use Rattle.xa_domain.specs.declared.life.Lived.{Lived}
+use Rattle.xa_tables.specs.declared.queue.Queue.{Queue}
+use Rattle.xa_tables.specs.declared.client.Client.{Client}
+use Rattle.xa_tables.specs.declared.server.Server.{Server}
+use Rattle.xa_tables.specs.declared.server.Attempt.{Attempt}
+use Rattle.xa_tables.specs.declared.server.Attempt.TheVariants.{NotYet}
+use Rattle.xa_tables.specs.declared.domain.Domain.{Domain}
+use Rattle.xa_tables.specs.declared.life.Lived.{Lived}
 use Rattle.xa_domain.specs.Calling.{OnlyLife}
-use Rattle.xa_domain.specs.Standing.{IsNumbered, IsServed, IsReady, IsFresh, IsUp, IsOver, AllTried, NoneClosed, RetiresTables, has_server}
-use Rattle.xa_domain.specs.Steps.{Changed, KeepsPlaces, server_place}
-use Rattle.xa_domain.proofs.Lists.{set_here, set_other}
-use Rattle.xa_domain.proofs.Places.{same_entry, numbered_kept, keeps_all, map-changed}
+use Rattle.xa_tables.specs.Resting.{IsNumbered, IsServed, IsFresh, IsUp, IsOver, AllTried, NoneClosed, has_server}
+use Rattle.xa_domain.specs.Standing.{IsReady, RetiresTables}
+use Rattle.xa_tables.specs.Steps.{Changed, KeepsPlaces, server_place}
+use Rattle.xa_tables.proofs.Places.{same_entry, numbered_kept, keeps_all, map-changed}
+use Rattle.xa_tables.proofs.Lists.{after_stands, other_stands}
 
 -- ---- an entry that is there
 
@@ -38,49 +39,10 @@ some_there xs i P holds =
       | inr beyond ↦ absurd (subst (λ (z : Option _). IsSomeAnd z P) beyond.1 holds)
     ]
 
--- ---- an error
-
--- what is said of an error is weakened
-pub if_err : {X E : Type 0} (result : Result X E) (P Q : E → Type 0) → ((e : E) → P e → Q e) → IfErr result P → IfErr result Q
-if_err (Ok x) P Q weaker is = tt
-if_err (Err e) P Q weaker is = weaker e is
-
--- an error that is passed on
-pub passes_on : {X E : Type 0} (result : Result X E) (e : E) (P : E → Type 0) → IsErrAnd result (λ y. y ≡ e) → P e → IfErr result P
-passes_on (Ok x) e P is holds = tt
-passes_on (Err y) e P is holds = subst P (sym is) holds
-
 -- ---- an entry that was replaced
 
-pub now_there : {X : Type 0} (at : ℕ) (old new : List X) {How : X → X → Type 0} (c : Changed at old new How) → slice_get new at ≡ Some c.after
-now_there at old new c = ap (λ ys. slice_get ys at) c.now ∙ set_here old at c.after c.before c.stood
-
-pub same_before : {X : Type 0} (at : ℕ) (old new : List X) {How : X → X → Type 0} (c : Changed at old new How) (x : X) → slice_get old at ≡ Some x → c.before ≡ x
-same_before at old new c x is = same_Some c.before x (sym c.stood ∙ is)
-
 pub same_after : {X : Type 0} (at : ℕ) (old new : List X) {How : X → X → Type 0} (c : Changed at old new How) (x : X) → slice_get new at ≡ Some x → c.after ≡ x
-same_after at old new c x is = same_Some c.after x (sym (now_there at old new c) ∙ is)
-
-pub kept_there : {X : Type 0} (at : ℕ) (old new : List X) {How : X → X → Type 0} (c : Changed at old new How) (i : ℕ) → (i ≡ at → ⊥) → slice_get new i ≡ slice_get old i
-kept_there at old new c i differ = ap (λ ys. slice_get ys i) c.now ∙ set_other old at i c.after differ
-
-set_twice : {X : Type 0} (xs : List X) (i : ℕ) (x y : X) → slice_set (slice_set xs i x) i y ≡ slice_set xs i y
-set_twice [] i x y = refl
-set_twice (z ∷ xs) zero x y = refl
-set_twice (z ∷ xs) (suc i) x y = ap (λ ys. z ∷ ys) (set_twice xs i x y)
-
--- an entry that was replaced twice was replaced
-pub changed_twice : {X : Type 0} (at : ℕ) (a b c : List X) {H K : X → X → Type 0} (M : X → X → Type 0) (first : Changed at a b H) (second : Changed at b c K)
-    → ((x y z : X) → H x y → K y z → M x z) → Changed at a c M
-changed_twice at a b c {H = H} {K = K} M first second both =
-    let same : second.before ≡ first.after = same_before at b c second first.after (now_there at a b first) in
-    record {
-      before = first.before;
-      after = second.after;
-      stood = first.stood;
-      now = second.now ∙ (ap (λ ys. slice_set ys at second.after) first.now ∙ set_twice a at first.after second.after);
-      how = both first.before first.after second.after first.how (subst (λ (y : _). K y second.after) same second.how);
-    }
+same_after at old new c x is = same_Some c.after x (sym (after_stands at old new c) ∙ is)
 
 -- an entry that was replaced so in one list was in lists that are the same
 pub changed_as : {X : Type 0} (at : ℕ) (a a' b b' : List X) {H : X → X → Type 0} (K : X → X → Type 0) → a' ≡ a → b' ≡ b → ((x y : X) → H x y → K x y) → Changed at a b H → Changed at a' b' K
@@ -187,7 +149,7 @@ steady_retired old new server table same retires numbered served steady =
               let its : c.after ≡ x = same_after server old.servers.items new.servers.items c x (subst (λ (k : ℕ). slice_get new.servers.items k ≡ Some x) here is) in
               let how = sym its ∙ c.how in
               (c.before, subst (λ (k : ℕ). slice_get old.servers.items k ≡ Some c.before) (sym here) c.stood, ap (λ (z : Server). z.attempt) how ∙ (same c.before).0, ap (λ (z : Server). z.shut) how ∙ (same c.before).1)
-          | inr differ ↦ (x, sym (kept_there server old.servers.items new.servers.items c i differ) ∙ is, refl, refl)
+          | inr differ ↦ (x, sym (other_stands server old.servers.items new.servers.items c i differ) ∙ is, refl, refl)
         ]
 
 -- ---- where only a life changed

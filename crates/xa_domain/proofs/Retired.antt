@@ -17,16 +17,16 @@ use Rattle.xa_events.specs.Caller.{is_call_of}
 use Rattle.xa_events.specs.Calls.{FitsCalls}
 use Rattle.xa_events.proofs.WordsLemmas.{count_no}
 use Rattle.xa_script.specs.declared.script.Client.{Client as ScriptClient}
-use Rattle.xa_domain.specs.declared.server.Server.{Server}
-use Rattle.xa_domain.specs.declared.server.Attempt.{Attempt}
-use Rattle.xa_domain.specs.declared.server.Attempt.TheVariants.{NotYet, Started, Failed}
-use Rattle.xa_domain.specs.declared.domain.Domain.{Domain}
-use Rattle.xa_domain.specs.declared.life.Lived.{Lived}
-use Rattle.xa_domain.specs.Holding.{Holds}
+use Rattle.xa_tables.specs.declared.server.Server.{Server}
+use Rattle.xa_tables.specs.declared.server.Attempt.{Attempt}
+use Rattle.xa_tables.specs.declared.server.Attempt.TheVariants.{NotYet, Started, Failed}
+use Rattle.xa_tables.specs.declared.domain.Domain.{Domain}
+use Rattle.xa_tables.specs.declared.life.Lived.{Lived}
+use Rattle.xa_tables.specs.Holding.{Holds}
 use Rattle.xa_domain.specs.Living.{is_of_first_life, LifeShows}
 use Rattle.xa_domain.specs.Standing.{ServerLives, Stands, is_retiring}
-use Rattle.xa_domain.proofs.Calls.{is_take, fits_other, order_other}
-use Rattle.xa_domain.proofs.Growing.{worker_here, worker_idle}
+use Rattle.xa_tables.proofs.Calls.{is_take, fits_other, order_other}
+use Rattle.xa_tables.proofs.Growing.{worker_here, worker_idle}
 use Rattle.xa_domain.proofs.Lives.{unborn_idle, shows_idle}
 
 -- what holds of a value that is there is weakened

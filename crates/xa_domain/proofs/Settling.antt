@@ -18,22 +18,24 @@ use Rattle.xa_events.specs.Server.{after_end}
 use Rattle.xa_frame.specs.declared.frame.Frame.{Frame}
 use Rattle.xa_pipe.specs.declared.hearing.Return.{Return}
 use Rattle.xa_pipe.specs.Pipe.{Piped}
-use Rattle.xa_domain.specs.declared.server.Server.{Server}
-use Rattle.xa_domain.specs.declared.server.Last.{Last}
-use Rattle.xa_domain.specs.declared.server.Last.TheVariants.{Nothing, Badly}
-use Rattle.xa_domain.specs.declared.domain.Domain.{Domain}
-use Rattle.xa_domain.specs.declared.life.Lived.{Lived}
+use Rattle.xa_tables.specs.declared.server.Server.{Server}
+use Rattle.xa_tables.specs.declared.server.Last.{Last}
+use Rattle.xa_tables.specs.declared.server.Last.TheVariants.{Nothing, Badly}
+use Rattle.xa_tables.specs.declared.domain.Domain.{Domain}
+use Rattle.xa_tables.specs.declared.life.Lived.{Lived}
 use Rattle.xa_domain.specs.Calling.{OnlyLife, IsBusy, MayEndWith, NextOr, Settles, Frees, ended_of, stop_events}
-use Rattle.xa_domain.specs.Holding.{Holds}
-use Rattle.xa_domain.specs.May.{EndMay, MayStop}
-use Rattle.xa_domain.specs.Standing.{IsNumbered, IsReady, IsUp, MayFall, NoneRestarts, Retires, RetiresTables, stop_of}
-use Rattle.xa_domain.specs.Steps.{Ends}
-use Rattle.xa_domain.specs.Tables.{last_by}
-use Rattle.xa_domain.specs.Piping.{Sent, NotSent, HearsBack, Exchanged}
+use Rattle.xa_tables.specs.Holding.{Holds}
+use Rattle.xa_tables.specs.May.{EndMay, MayStop}
+use Rattle.xa_tables.specs.Resting.{IsNumbered, IsUp}
+use Rattle.xa_domain.specs.Standing.{IsReady, MayFall, NoneRestarts, Retires, RetiresTables, stop_of}
+use Rattle.xa_tables.specs.Steps.{Ends}
+use Rattle.xa_tables.specs.Tables.{last_by}
+use Rattle.xa_tables.specs.Piping.{Sent, NotSent, HearsBack, Exchanged}
 use Rattle.xa_domain.proofs.Delivering.{is_up}
-use Rattle.xa_domain.proofs.Kept.{stood_here}
-use Rattle.xa_domain.proofs.Rests.{some_is, some_of, some_there, now_there, same_before, KeepsRest, only_keeps}
-use Rattle.xa_domain.proofs.Servers.{end_holds}
+use Rattle.xa_tables.proofs.Kept.{stood_here}
+use Rattle.xa_domain.proofs.Rests.{some_is, some_of, some_there, KeepsRest, only_keeps}
+use Rattle.xa_tables.proofs.Servers.{end_holds}
+use Rattle.xa_tables.proofs.Lists.{after_stands, before_is}
 use Rattle.xa_domain.proofs.Underway.{holds_beside}
 
 -- what is read at a place where something is, is there
@@ -54,19 +56,10 @@ up_of d server P ready up =
     let there = some_there d.servers.items server (λ (x : Server). (x.doing ≡ Idle (record { 0 = 1 })) × P x) up in
     some_of (slice_get d.servers.items server) IsUp there.0 there.1 (is_up d ready server there.0 there.1 there.2.0)
 
--- what two facts of a success say together
-pub on_ok_both : {X E : Type 0} (result : Result X E) (A B C : Type 0) → (A → B → C) → OnOk result A → OnOk result B → OnOk result C
-on_ok_both (Ok x) A B C both a b = both a b
-on_ok_both (Err e) A B C both a b = tt
-
 -- what follows of a success and of an error follows
 pub either_way : {X E : Type 0} (result : Result X E) (A B C : Type 0) → (A → C) → (B → C) → OnOk result A → OnErr result B → C
 either_way (Ok x) A B C of_ok of_err ok err = of_ok ok
 either_way (Err e) A B C of_ok of_err ok err = of_err err
-
-pub on_ok : {X E : Type 0} (result : Result X E) (A B : Type 0) → (A → B) → OnOk result A → OnOk result B
-on_ok (Ok x) A B then a = then a
-on_ok (Err e) A B then a = tt
 
 -- only the life at that place changed
 abbrev pub only_here : {L : Type 0} (old : Domain L) (life : ℕ) (y y' : Lived L) (How : Lived L → Lived L → Type 0) → life < length old.lives.items → y ≡ get_or old.lives.items life y → How y y'
@@ -96,7 +89,7 @@ exchanged_by (Err cause) invoke number back before mid after took failed heard =
 module _ {L : Type 0} (server : ℕ) (request : RequestId) (outcome : Outcome) (x : Server) (old ended : Domain L) (ends : Ends server (ended_of x request outcome) old ended)
     (stood : slice_get old.servers.items server ≡ Some x) (busy : IsSomeAnd (slice_get old.servers.items server) (IsBusy request)) where
   its_before : ends.servers.before ≡ x
-  its_before = same_before server old.servers.items ended.servers.items ends.servers x stood
+  its_before = before_is server old.servers.items ended.servers.items ends.servers x stood
 
   was_busy : IsBusy request ends.servers.before
   was_busy = some_is (slice_get old.servers.items server) (IsBusy request) ends.servers.before ends.servers.stood busy
@@ -112,7 +105,7 @@ module _ {L : Type 0} (server : ℕ) (request : RequestId) (outcome : Outcome) (
       let how = ends.servers.how.1 in
       let does : ends.servers.after.doing ≡ after_end outcome (record { 0 = 1 }) = ap (λ (z : Server). z.doing) how in
       let last : ends.servers.after.last ≡ last_by outcome = ap (λ (z : Server). z.last) how in
-      some_of (slice_get ended.servers.items server) (MayFall cause) ends.servers.after (now_there server old.servers.items ended.servers.items ends.servers) (record {
+      some_of (slice_get ended.servers.items server) (MayFall cause) ends.servers.after (after_stands server old.servers.items ended.servers.items ends.servers) (record {
         started = ap (λ (z : Server). z.attempt) how ∙ was_busy.started;
         stands = ap (λ (z : Server). z.gone) how ∙ was_busy.stands;
         kept = ap (λ (z : Server). z.shut) how ∙ was_busy.kept;

@@ -9,21 +9,22 @@ use Rattle.xa_events.specs.declared.event.Outcome.{Outcome}
 use Rattle.xa_events.specs.declared.event.Doing.TheVariants.{Off, Idle}
 use Rattle.xa_events.specs.declared.event.StopCause.{StopCause}
 use Rattle.xa_events.specs.Server.{after_end}
-use Rattle.xa_domain.specs.declared.queue.Queue.{Queue}
-use Rattle.xa_domain.specs.declared.client.Client.{Client}
-use Rattle.xa_domain.specs.declared.server.Server.{Server}
-use Rattle.xa_domain.specs.declared.server.Attempt.TheVariants.{NotYet, Started}
-use Rattle.xa_domain.specs.declared.server.Last.TheVariants.{Nothing}
-use Rattle.xa_domain.specs.declared.domain.Domain.{Domain}
-use Rattle.xa_domain.specs.declared.life.Lived.{Lived}
+use Rattle.xa_tables.specs.declared.queue.Queue.{Queue}
+use Rattle.xa_tables.specs.declared.client.Client.{Client}
+use Rattle.xa_tables.specs.declared.server.Server.{Server}
+use Rattle.xa_tables.specs.declared.server.Attempt.TheVariants.{NotYet, Started}
+use Rattle.xa_tables.specs.declared.server.Last.TheVariants.{Nothing}
+use Rattle.xa_tables.specs.declared.domain.Domain.{Domain}
+use Rattle.xa_tables.specs.declared.life.Lived.{Lived}
 use Rattle.xa_domain.specs.Calling.{OnlyLife, IsBusy, FallsOr, Settles, Tells, Frees, ended_of, replied_of}
-use Rattle.xa_domain.specs.Standing.{IsNumbered, IsServed, IsReady, IsFresh, IsUp, IsOver, RetiresTables}
-use Rattle.xa_domain.specs.Steps.{Changed, Ends, server_place}
-use Rattle.xa_domain.proofs.Lists.{each_changed}
+use Rattle.xa_tables.specs.Resting.{IsNumbered, IsServed, IsFresh, IsUp, IsOver}
+use Rattle.xa_domain.specs.Standing.{IsReady, RetiresTables}
+use Rattle.xa_tables.specs.Steps.{Changed, Ends, server_place}
+use Rattle.xa_tables.proofs.Lists.{each_changed, after_stands, other_stands, before_is, changed_twice}
 use Rattle.xa_domain.proofs.Delivering.{IsWaiting, IsBetween}
 use Rattle.xa_domain.proofs.Exchanging.{between_same}
-use Rattle.xa_domain.proofs.Places.{map-changed}
-use Rattle.xa_domain.proofs.Rests.{some_is, some_of, some_there, now_there, kept_there, same_before, changed_as, changed_twice, KeepsRest, IsSteady, steady_kept, steady_retired, only_keeps, state_of_queue, state_of_server}
+use Rattle.xa_tables.proofs.Places.{map-changed}
+use Rattle.xa_domain.proofs.Rests.{some_is, some_of, some_there, changed_as, KeepsRest, IsSteady, steady_kept, steady_retired, only_keeps, state_of_queue, state_of_server}
 
 -- ---- the end of a request
 
@@ -64,8 +65,8 @@ module _ {L : Type 0} (client server : ℕ) (Waits : Client → Type 0) (old new
     none_waits = subst (λ (items : List Queue). (i : ℕ) (q : Queue) → slice_get items i ≡ Some q → q.waiting ≡ None) (sym queues) is.none_waits;
     idle = subst (λ (items : List Client). (i : ℕ) (x : Client) → slice_get items i ≡ Some x → (i ≡ client → ⊥) → x.pending ≡ None) (sym clients) is.idle;
     waits = subst (λ (items : List Client). IsSomeAnd (slice_get items client) Waits) (sym clients) is.waits;
-    settled = λ i x stood other. is.settled i x (sym (kept_there server old.servers.items new.servers.items c i other) ∙ stood) other;
-    does = some_of (slice_get new.servers.items server) Does' c.after (now_there server old.servers.items new.servers.items c) does;
+    settled = λ i x stood other. is.settled i x (sym (other_stands server old.servers.items new.servers.items c i other) ∙ stood) other;
+    does = some_of (slice_get new.servers.items server) Does' c.after (after_stands server old.servers.items new.servers.items c) does;
   }
 
   pub ends_between : (cause : Option StopCause) (request : RequestId) (e : Ended) → (cause ≡ None → after_end e.outcome e.generation ≡ Idle (record { 0 = 1 })) → Ends server e old new
@@ -111,8 +112,8 @@ falls_between client server Waits (Some cause) old new retires is =
       none_waits = λ i q stood. let before = some_there old.queues.items i (λ (before : Queue). (q.waiting ≡ before.waiting) × (q.closed ≡ before.closed)) (retires.queues i q stood) in before.2.0 ∙ is.none_waits i before.0 before.1;
       idle = subst (λ (items : List Client). (i : ℕ) (x : Client) → slice_get items i ≡ Some x → (i ≡ client → ⊥) → x.pending ≡ None) (sym clients) is.idle;
       waits = subst (λ (items : List Client). IsSomeAnd (slice_get items client) Waits) (sym clients) is.waits;
-      settled = λ i x stood other. is.settled i x (sym (kept_there server old.servers.items new.servers.items c i other) ∙ stood) other;
-      does = some_of (slice_get new.servers.items server) IsOver c.after (now_there server old.servers.items new.servers.items c) (record {
+      settled = λ i x stood other. is.settled i x (sym (other_stands server old.servers.items new.servers.items c i other) ∙ stood) other;
+      does = some_of (slice_get new.servers.items server) IsOver c.after (after_stands server old.servers.items new.servers.items c) (record {
         tried = λ none. let started : c.after.attempt ≡ Started = ap (λ (x : Server). x.attempt) c.how ∙ was.started in cc (started, none);
         off = ap (λ (x : Server). x.doing) c.how;
         ended = inl (ap (λ (x : Server). x.gone) c.how);
@@ -160,8 +161,8 @@ module _ {L : Type 0} (client op server : ℕ) (request : RequestId) (answer : A
       let c = tells.answers.clients in
       record {
         none_waits = subst (λ (items : List Queue). (i : ℕ) (q : Queue) → slice_get items i ≡ Some q → q.waiting ≡ None) (sym (ap (λ v. v.items) tells.answers.others.1)) is.none_waits;
-        idle = λ i x stood other. is.idle i x (sym (kept_there client old.clients.items new.clients.items c i other) ∙ stood) other;
-        waits = some_of (slice_get new.clients.items client) IsTold c.after (now_there client old.clients.items new.clients.items c) (ap (λ (x : Client). x.pending) c.how.1);
+        idle = λ i x stood other. is.idle i x (sym (other_stands client old.clients.items new.clients.items c i other) ∙ stood) other;
+        waits = some_of (slice_get new.clients.items client) IsTold c.after (after_stands client old.clients.items new.clients.items c) (ap (λ (x : Client). x.pending) c.how.1);
         settled = subst (λ (items : List Server). (i : ℕ) (x : Server) → slice_get items i ≡ Some x → (i ≡ server → ⊥) → IsFresh x ⊎ IsUp x ⊎ IsOver x) (sym (ap (λ v. v.items) tells.answers.others.2)) is.settled;
         does = subst (λ (items : List Server). IsSomeAnd (slice_get items server) Does) (sym (ap (λ v. v.items) tells.answers.others.2)) is.does;
       }

@@ -14,19 +14,21 @@ use Rattle.xa_events.specs.Order.{TakesNext, TakesInOrder}
 use Rattle.xa_events.specs.Caller.{is_call_of}
 use Rattle.xa_events.specs.Calls.{FitsCall, FitsCalls}
 use Rattle.xa_script.specs.declared.script.Client.{Client as ScriptClient}
-use Rattle.xa_domain.specs.declared.client.Client.{Client}
-use Rattle.xa_domain.specs.declared.queue.Queue.{Queue}
-use Rattle.xa_domain.specs.declared.server.Server.{Server}
-use Rattle.xa_domain.specs.declared.server.Attempt.{Attempt}
-use Rattle.xa_domain.specs.declared.server.Attempt.TheVariants.{NotYet, Started, Failed}
-use Rattle.xa_domain.specs.declared.domain.Domain.{Domain}
-use Rattle.xa_domain.specs.declared.life.Lived.{Lived}
+use Rattle.xa_tables.specs.declared.client.Client.{Client}
+use Rattle.xa_tables.specs.declared.queue.Queue.{Queue}
+use Rattle.xa_tables.specs.declared.server.Server.{Server}
+use Rattle.xa_tables.specs.declared.server.Attempt.{Attempt}
+use Rattle.xa_tables.specs.declared.server.Attempt.TheVariants.{NotYet, Started, Failed}
+use Rattle.xa_tables.specs.declared.domain.Domain.{Domain}
+use Rattle.xa_tables.specs.declared.life.Lived.{Lived}
 use Rattle.xa_domain.specs.Calling.{OnlyLife}
-use Rattle.xa_domain.specs.Holding.{Holds, BoardHolds, QueueHolds, ClientHolds, ServerHolds}
+use Rattle.xa_tables.specs.Holding.{Holds, BoardHolds, QueueHolds, ClientHolds, ServerHolds}
 use Rattle.xa_domain.specs.Living.{is_of_first_life, LifeShows}
-use Rattle.xa_domain.specs.Standing.{IsNumbered, ServerLives, Stands, RetiresTables, is_retiring}
-use Rattle.xa_domain.specs.Steps.{Changed}
-use Rattle.xa_domain.proofs.Rests.{some_is, now_there, kept_there}
+use Rattle.xa_tables.specs.Resting.{IsNumbered}
+use Rattle.xa_domain.specs.Standing.{ServerLives, Stands, RetiresTables, is_retiring}
+use Rattle.xa_tables.specs.Steps.{Changed}
+use Rattle.xa_tables.proofs.Lists.{after_stands, other_stands}
+use Rattle.xa_domain.proofs.Rests.{some_is}
 use Rattle.xa_domain.proofs.Retired.{StandsBeside, beside_retiring, lives_idle, lives_retiring, some_weaker}
 
 -- no request is open
@@ -138,7 +140,7 @@ module _ {L : Type 0} (setup : Setup) (script : List ScriptClient) (server : ℕ
             let number_of = under.numbers i x before in
             let number_by = under.numbers server by stood in
             other (omega (arith, number, number_of, number_by)) in
-            lives_same setup past old new x.attempt x (λ up. kept_there life old.lives.items new.lives.items only.lives x.life (elsewhere up)) (under.others i x before other);
+            lives_same setup past old new x.attempt x (λ up. other_stands life old.lives.items new.lives.items only.lives x.life (elsewhere up)) (under.others i x before other);
       }
 
   -- the server at work is given up
@@ -149,7 +151,7 @@ module _ {L : Type 0} (setup : Setup) (script : List ScriptClient) (server : ℕ
     settled = under.settled;
     numbers = λ i x is. (numbered.servers i x is).0;
     others = λ i x is other.
-        let before : slice_get old.servers.items i ≡ Some x = sym (kept_there server old.servers.items new.servers.items retires.servers i other) ∙ is in
+        let before : slice_get old.servers.items i ≡ Some x = sym (other_stands server old.servers.items new.servers.items retires.servers i other) ∙ is in
         lives_same setup past old new x.attempt x (λ started. ap (λ v. slice_get v.items x.life) retires.others.1) (under.others i x before other);
   }
 

@@ -6,17 +6,18 @@ use Rattle.xa_events.specs.declared.event.Event.TheVariants.{Start}
 use Rattle.xa_events.specs.declared.event.Started.{Started as StartedBy}
 use Rattle.xa_script.specs.declared.script.Client.{Client as ScriptClient}
 use Rattle.xa_pipe.specs.Pipe.{Wrote, HasRead}
-use Rattle.xa_domain.specs.declared.queue.Queue.{Queue}
-use Rattle.xa_domain.specs.declared.client.Client.{Client}
-use Rattle.xa_domain.specs.declared.server.Server.{Server}
-use Rattle.xa_domain.specs.declared.server.Attempt.TheVariants.{NotYet}
-use Rattle.xa_domain.specs.declared.domain.Domain.{Domain}
-use Rattle.xa_domain.specs.declared.life.Lived.{Lived}
+use Rattle.xa_tables.specs.declared.queue.Queue.{Queue}
+use Rattle.xa_tables.specs.declared.client.Client.{Client}
+use Rattle.xa_tables.specs.declared.server.Server.{Server}
+use Rattle.xa_tables.specs.declared.server.Attempt.TheVariants.{NotYet}
+use Rattle.xa_tables.specs.declared.domain.Domain.{Domain}
+use Rattle.xa_tables.specs.declared.life.Lived.{Lived}
 use Rattle.xa_stamp.specs.Home.{last_stamp}
-use Rattle.xa_domain.specs.Stamps.{larger}
-use Rattle.xa_domain.specs.Holding.{Holds}
+use Rattle.xa_tables.specs.Stamps.{larger}
+use Rattle.xa_tables.specs.Holding.{Holds}
 use Rattle.xa_domain.specs.Living.{IsUnborn}
-use Rattle.xa_domain.specs.Standing.{IsFresh, IsUp, IsOver, NoneClosed, ServerLives, Stands, StartsOn}
+use Rattle.xa_tables.specs.Resting.{IsFresh, IsUp, IsOver, NoneClosed}
+use Rattle.xa_domain.specs.Standing.{ServerLives, Stands, StartsOn}
 use Rattle.xa_domain.specs.Closing.{LeadsOn}
 
 -- the pipes of a life that began are kept, at that place, and nothing else changed

@@ -33,19 +33,19 @@ use Rattle.xa_pipe.specs.Life.{outcome_by, lost_by}
 use Rattle.xa_pipe.specs.Pipe.{Piped, invoke_frame}
 use Rattle.xa_domain.specs.declared.calling.Choice.{Choice}
 use Rattle.xa_domain.specs.declared.calling.Choice.TheVariants.{NoRow, NoKind, ByRow}
-use Rattle.xa_domain.specs.declared.queue.Queue.{Queue}
-use Rattle.xa_domain.specs.declared.client.Client.{Client}
-use Rattle.xa_domain.specs.declared.server.Server.{Server}
-use Rattle.xa_domain.specs.declared.server.Attempt.TheVariants.{Started}
-use Rattle.xa_domain.specs.declared.server.Last.TheVariants.{Nothing, Badly}
-use Rattle.xa_domain.specs.declared.domain.Domain.{Domain}
-use Rattle.xa_domain.specs.declared.life.Lived.{Lived}
-use Rattle.xa_domain.specs.May.{MayStop}
-use Rattle.xa_domain.specs.Holding.{Holds}
-use Rattle.xa_domain.specs.Piping.{NextRead, NoNext, Exchanged}
+use Rattle.xa_tables.specs.declared.queue.Queue.{Queue}
+use Rattle.xa_tables.specs.declared.client.Client.{Client}
+use Rattle.xa_tables.specs.declared.server.Server.{Server}
+use Rattle.xa_tables.specs.declared.server.Attempt.TheVariants.{Started}
+use Rattle.xa_tables.specs.declared.server.Last.TheVariants.{Nothing, Badly}
+use Rattle.xa_tables.specs.declared.domain.Domain.{Domain}
+use Rattle.xa_tables.specs.declared.life.Lived.{Lived}
+use Rattle.xa_tables.specs.May.{MayStop}
+use Rattle.xa_tables.specs.Holding.{Holds}
+use Rattle.xa_tables.specs.Piping.{NextRead, NoNext, Exchanged}
 use Rattle.xa_domain.specs.Standing.{NoneRestarts, Retires, RetiresTables, stop_of}
-use Rattle.xa_domain.specs.Steps.{Changed, Accepts, Takes, Ends, Answers}
-use Rattle.xa_domain.specs.Tables.{last_by}
+use Rattle.xa_tables.specs.Steps.{Changed, Accepts, Takes, Ends, Answers}
+use Rattle.xa_tables.specs.Tables.{last_by}
 
 -- what a lookup that found these rows comes to for data of that kind
 abbrev pub ChoiceIs : Setup → List Row → Option Kind → Choice → Type 0
@@ -67,12 +67,6 @@ cause_by value = None
 abbrev pub cause_heard : Result Return StopCause → Option StopCause
 cause_heard (Ok back) = cause_by back.value
 cause_heard (Err cause) = Some cause
-
--- ---- servers that wait
-
-abbrev pub is_idle : Doing → Bool
-is_idle (Idle generation) = true
-is_idle doing = false
 
 -- ---- what is noted of a call
 

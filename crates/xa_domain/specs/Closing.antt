@@ -5,12 +5,13 @@ use Rattle.xa_types.specs.declared.setup.Setup.{Setup}
 use Rattle.xa_types.specs.Configured.{is_configured}
 use Rattle.xa_events.specs.declared.event.Event.{Event}
 use Rattle.xa_script.specs.declared.script.Client.{Client as ScriptClient}
-use Rattle.xa_domain.specs.declared.queue.Queue.{Queue}
-use Rattle.xa_domain.specs.declared.server.Server.{Server}
-use Rattle.xa_domain.specs.declared.domain.Domain.{Domain}
-use Rattle.xa_domain.specs.declared.halt.Halt.{Halt}
-use Rattle.xa_domain.specs.Standing.{IsNumbered, IsServed, IsUp, IsOver, NoneRestarts, Stands, GoesOn, IsHalted, attempts}
-use Rattle.xa_domain.specs.Steps.{KeepsPlaces}
+use Rattle.xa_tables.specs.declared.queue.Queue.{Queue}
+use Rattle.xa_tables.specs.declared.server.Server.{Server}
+use Rattle.xa_tables.specs.declared.domain.Domain.{Domain}
+use Rattle.xa_tables.specs.declared.halt.Halt.{Halt}
+use Rattle.xa_tables.specs.Resting.{IsNumbered, IsServed, IsUp, IsOver, attempts}
+use Rattle.xa_domain.specs.Standing.{NoneRestarts, Stands, GoesOn, IsHalted}
+use Rattle.xa_tables.specs.Steps.{KeepsPlaces}
 
 -- what stands by the events so far stands by more of them once old became new
 abbrev pub LeadsOn : {L : Type 0} → Domain L → Domain L → Type 0

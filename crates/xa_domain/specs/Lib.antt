@@ -1,10 +1,3 @@
-pub mod Stamps
-pub mod Tables
-pub mod Lives
-pub mod Holding
-pub mod Steps
-pub mod May
-pub mod Boot
 pub mod Living
 pub mod Standing
 pub mod Calling
@@ -12,7 +5,5 @@ pub mod Serving
 pub mod Handing
 pub mod Making
 pub mod Beginning
-pub mod Piping
 pub mod Closing
 pub mod Merging
-pub mod Booting

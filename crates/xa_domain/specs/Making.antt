@@ -4,10 +4,11 @@ use Rattle.xa_types.specs.declared.setup.Setup.{Setup}
 use Rattle.xa_types.specs.declared.call.Op.{Op}
 use Rattle.xa_events.specs.declared.event.Event.{Event}
 use Rattle.xa_script.specs.declared.script.Client.{Client as ScriptClient}
-use Rattle.xa_domain.specs.declared.client.Client.{Client}
-use Rattle.xa_domain.specs.declared.domain.Domain.{Domain}
-use Rattle.xa_domain.specs.Steps.{Changed}
-use Rattle.xa_domain.specs.Standing.{IsReady, NoneRestarts, Stands, GoesOn, attempts}
+use Rattle.xa_tables.specs.declared.client.Client.{Client}
+use Rattle.xa_tables.specs.declared.domain.Domain.{Domain}
+use Rattle.xa_tables.specs.Steps.{Changed}
+use Rattle.xa_tables.specs.Resting.{attempts}
+use Rattle.xa_domain.specs.Standing.{IsReady, NoneRestarts, Stands, GoesOn}
 
 -- the client at that place is here and has made so many of these calls, and no other client has done anything
 pub record MakesOn {L : Type 0} (setup : Setup) (client made : ℕ) (ops : List Op) (old now : Domain L) : Type 0 where

@@ -5,11 +5,11 @@ use Rattle.xa_events.specs.declared.event.Event.{Event}
 use Rattle.xa_events.specs.Homes.{Home}
 use Rattle.xa_events.specs.Homes.Home.{BoardHome, QueueHome, ClockHome, CallerHome}
 use Rattle.xa_stamp.specs.Home.{Notes}
-use Rattle.xa_domain.specs.declared.queue.Queue.{Queue}
-use Rattle.xa_domain.specs.declared.client.Client.{Client}
-use Rattle.xa_domain.specs.declared.server.Server.{Server}
-use Rattle.xa_domain.specs.declared.domain.Domain.{Domain}
-use Rattle.xa_domain.specs.Stamps.{entries_of}
+use Rattle.xa_tables.specs.declared.queue.Queue.{Queue}
+use Rattle.xa_tables.specs.declared.client.Client.{Client}
+use Rattle.xa_tables.specs.declared.server.Server.{Server}
+use Rattle.xa_tables.specs.declared.domain.Domain.{Domain}
+use Rattle.xa_tables.specs.Stamps.{entries_of}
 
 -- so many numbers, from the first one on
 abbrev pub numbers_from : ℕ → ℕ → List ℕ

@@ -19,12 +19,12 @@ use Rattle.xa_stamp.specs.Merge.{IsMerged, IsDense, stamps_of}
 use Rattle.xa_script.specs.declared.script.Client.{Client}
 use Rattle.xa_pipe.specs.Life.{IsLife}
 use Rattle.xa_domain.specs.declared.serving.Life.{Life}
-use Rattle.xa_domain.specs.declared.halt.Halt.{Halt}
-use Rattle.xa_domain.specs.declared.halt.Halt.TheVariants.{NoMemory, Worn}
-use Rattle.xa_domain.specs.declared.server.Attempt.{Attempt}
-use Rattle.xa_domain.specs.declared.server.Attempt.TheVariants.{NotYet}
-use Rattle.xa_domain.specs.Holding.{failed_by}
-use Rattle.xa_domain.specs.Lives.{server_name_in, lives_of, failed_starts}
+use Rattle.xa_tables.specs.declared.halt.Halt.{Halt}
+use Rattle.xa_tables.specs.declared.halt.Halt.TheVariants.{NoMemory, Worn}
+use Rattle.xa_tables.specs.declared.server.Attempt.{Attempt}
+use Rattle.xa_tables.specs.declared.server.Attempt.TheVariants.{NotYet}
+use Rattle.xa_tables.specs.Holding.{failed_by}
+use Rattle.xa_tables.specs.Lives.{server_name_in, lives_of, failed_starts}
 
 -- ---- the machine
 

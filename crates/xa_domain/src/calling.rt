@@ -1,7 +1,6 @@
 // A call of a client, carried to its answer.
-ghost use Rattle.std.specs.Prelude.{◌≡◌, ℕ, ◌+◌, ◌<◌, ◌≤◌, ◌==◌, ◌&&◌, position, IfOk, IfErr, OnOk, OnErr, IsSomeAnd, MatchOption, None, List, length, slice_get, true, false};
+ghost use Rattle.std.specs.Prelude.{◌≡◌, ℕ, ◌+◌, ◌<◌, ◌≤◌, ◌==◌, IfOk, IfErr, OnOk, OnErr, IsSomeAnd, MatchOption, None, List, length, slice_get, true, false};
 ghost use Rattle.std.specs.List.{sum_by};
-ghost use Rattle.std.specs.Str.{bytes_eq};
 ghost use Rattle.xa_types.specs.Configured.{is_configured};
 ghost use Rattle.xa_types.specs.Kind.{field_size, is_sound};
 ghost use Rattle.xa_types.specs.declared.setup.Setup.{Setup};
@@ -15,20 +14,19 @@ ghost use Rattle.xa_pipe.specs.Life.{outcome_by};
 ghost use Rattle.xa_events.specs.declared.event.Event.{Event};
 ghost use Rattle.xa_events.specs.declared.event.Doing.TheVariants.{Idle};
 ghost use Rattle.xa_script.specs.declared.script.Client.{Client as ScriptClient};
-ghost use Rattle.xa_domain.specs.Holding.{Holds};
-ghost use Rattle.xa_domain.specs.Steps.{Refuses, KeepsPlaces};
-ghost use Rattle.xa_domain.specs.Standing.{IsNumbered, IsServed, IsUp, IsReady, HasCalled, NoneRestarts, Stands, GoesOn, IsHalted, IsCallAt, RowServes, attempts};
-ghost use Rattle.xa_domain.specs.Calling.{ChoiceIs, outcome_heard, cause_heard, is_idle, is_lost, refused_of, Sends, Receives, Delivers, Exchanges, IsBusy, MayEndWith, Settles, Tells, Frees};
+ghost use Rattle.xa_tables.specs.Holding.{Holds};
+ghost use Rattle.xa_tables.specs.Steps.{Refuses, KeepsPlaces};
+ghost use Rattle.xa_tables.specs.Resting.{IsNumbered, IsServed, IsUp, attempts};
+ghost use Rattle.xa_domain.specs.Standing.{IsReady, HasCalled, NoneRestarts, Stands, GoesOn, IsHalted, IsCallAt, RowServes};
+ghost use Rattle.xa_domain.specs.Calling.{ChoiceIs, outcome_heard, cause_heard, is_lost, refused_of, Sends, Receives, Delivers, Exchanges, IsBusy, MayEndWith, Settles, Tells, Frees};
 
-use crate::domain::Domain;
-use crate::halt::Halt;
 use crate::retiring::{fall, place_of};
-use crate::server::LIFE;
 use std::alloc::Global;
-use xa_events::{Accepted, Doing, Ended, Evidence, Outcome, Refused, Replied, StopCause, Taken};
+use xa_events::{Accepted, Ended, Evidence, Outcome, Refused, Replied, StopCause, Taken};
 use xa_link::Link;
 use xa_pipe::Return;
-use xa_route::{admits, priority};
+use xa_route::{admits, place_of_shape, priority};
+use xa_tables::{Domain, Halt, LIFE};
 use xa_types::{
     Answer, Ask, Data, Fault, FieldKind, FieldSetup, Kind, Mode, Name, NoMemory, QueueId,
     RequestId, Row, Rval, Setup,
@@ -60,20 +58,6 @@ fn have_size(fields: &[FieldSetup], size: usize) -> bool
         }
     }
     rest == 0
-}
-
-fn is_same(a: &Name, b: &Name) -> bool
-    ensures { result ≡ bytes_eq a.now b.now }
-{
-    a.octets() == b.octets()
-}
-
-// The place of the shape with that name, from 0.
-fn place_of_shape(setup: &Setup, subtype: &Name) -> Option<usize>
-    ensures { result ≡ position (λ shape. bytes_eq shape.name subtype.now) setup.now.shapes }
-{
-    let mut shapes = setup.shapes.slice().iter();
-    shapes.position(|shape| is_same(&shape.name, subtype))
 }
 
 // Whether the data is sound: X_C_TYPE has the size of its configured shape.
@@ -181,180 +165,164 @@ fn reply_to(alloc: Global, outcome: &Outcome) -> Result<Answer, NoMemory>
 
 // ---- the client's side
 
-impl<L: Link> Domain<L> {
-    // The call of the client at that place is refused.
-    fn turn_down(
-        &mut self,
-        client: usize,
-        op: u32,
-        fault: Fault,
-        evidence: Evidence,
-    ) -> Result<(), Halt>
-        requires ready { IsReady self.old }
-        requires client { client < length self.old.clients.items }
-        ensures numbered { IsNumbered self.new }
-        ensures attempts { attempts self.new ≡ attempts self.old }
-        ensures ready { OnOk result (IsReady self.new) }
-        ensures called { OnOk result (HasCalled client op self.old self.new) }
-        ensures done { OnOk result (IsSomeAnd (slice_get self.old.clients.items client) (λ x. Refuses client (refused_of x op fault evidence) self.old self.new)) }
-        ensures failed { IfErr result (λ halt. (setup : Setup) (count : ℕ) (past : List Event) → Holds setup count past self.old → IsHalted setup count halt self.new) }
-    {
-        let refused = Refused {
-            by: self.clients[client].id,
-            op,
-            fault,
-            evidence,
-        };
-        self.refuse(client, refused)
-    }
-
-    // The queue of the row accepts the request of the client's call. Answers the request.
-    fn send(
-        &mut self,
-        client: usize,
-        op: u32,
-        version: u64,
-        row: &Row,
-        payload: Data,
-    ) -> Result<RequestId, Halt>
-        requires client { client < length self.old.clients.items }
-        requires known { 0 < row.now.queue.0 }
-        requires queue { row.now.queue.0 ≤ length self.old.queues.items }
-        ensures done { IfOk result (λ request. Sends client op version row.now payload request self.old self.new) }
-        ensures kept { OnErr result (KeepsPlaces self.old self.new) }
-        ensures failed { IfErr result (λ halt. (setup : Setup) (count : ℕ) (past : List Event) → Holds setup count past self.old → IsHalted setup count halt self.new) }
-    {
-        let by = &self.clients[client];
-        let request = RequestId {
-            caller: by.id,
-            number: by.sent.saturating_add(1),
-        };
-        let accepted = Accepted {
-            by: by.id,
-            op,
-            request,
-            version,
-            service: row.service,
-            queue: row.queue,
-            routine: row.routine,
-            priority: priority(row.priority, None),
-            mode: Mode::Reply,
-            payload,
-        };
-        self.accept(place_of(row.queue), client, accepted)?;
-        Ok(request)
-    }
-
-    // The client is told what befell its request.
-    fn tell(
-        &mut self,
-        client: usize,
-        op: u32,
-        request: RequestId,
-        answer: Answer,
-    ) -> Result<(), Halt>
-        requires { client < length self.old.clients.items }
-        ensures done { OnOk result (Tells client op request answer self.old self.new) }
-        ensures kept { OnErr result (KeepsPlaces self.old self.new) }
-        ensures failed { IfErr result (λ halt. (setup : Setup) (count : ℕ) (past : List Event) → Holds setup count past self.old → IsHalted setup count halt self.new) }
-    {
-        let replied = Replied {
-            by: self.clients[client].id,
-            op,
-            request,
-            answer,
-        };
-        self.answer(client, replied)
-    }
-
-    // ---- the server's side
-
-    // The place of the first server of that queue that waits for a request.
-    fn idle_server(&self, queue: QueueId) -> Option<usize>
-        ensures { result ≡ position (λ server. (server.queue.0 == queue.0) && is_idle server.doing) self.now.servers.items }
-    {
-        let mut servers = self.servers.iter();
-        servers.position(|server| server.queue == queue && is_idle(&server.doing))
-    }
-
-    // The server at that place takes the request that waits at its queue.
-    fn receive(&mut self, server: usize, request: RequestId) -> Result<(), Halt>
-        requires { IsSomeAnd (slice_get self.old.servers.items server) (λ x. (0 < x.queue.0) × (x.queue.0 ≤ length self.old.queues.items)) }
-        ensures done { OnOk result (Receives server request self.old self.new) }
-        ensures kept { OnErr result (KeepsPlaces self.old self.new) }
-        ensures failed { IfErr result (λ halt. (setup : Setup) (count : ℕ) (past : List Event) → Holds setup count past self.old → IsHalted setup count halt self.new) }
-    {
-        let by = &self.servers[server];
-        let place = place_of(by.queue);
-        let taken = Taken {
-            request,
-            server: by.id,
-            generation: LIFE,
-            k: self.queues[place].next_take(),
-        };
-        self.take(place, server, taken)
-    }
-
-    // The queue of the row accepts the request of the client's call, and the server at that place takes it.
-    fn deliver(
-        &mut self,
-        client: usize,
-        op: u32,
-        version: u64,
-        row: &Row,
-        payload: Data,
-        server: usize,
-    ) -> Result<RequestId, Halt>
-        requires ready { IsReady self.old }
-        requires turn { IsSomeAnd (slice_get self.old.clients.items client) (λ x. (op ≡ x.op + 1) × (x.left ≡ false)) }
-        requires up { IsSomeAnd (slice_get self.old.servers.items server) (λ x. (x.doing ≡ Idle (record { 0 = 1 })) × (x.queue ≡ row.now.queue)) }
-        ensures done { IfOk result (λ request. Delivers client op version row.now payload server request self.old self.new) }
-        ensures kept { OnErr result (KeepsPlaces self.old self.new) }
-        ensures failed { IfErr result (λ halt. (setup : Setup) (count : ℕ) (past : List Event) (ask : Ask) → is_configured setup ≡ true → Holds setup count past self.old
-            → payload ≡ ask.payload → RowServes setup past self.old client version ask row.now → IsHalted setup count halt self.new) }
-    {
-        let request = self.send(client, op, version, row, payload)?;
-        self.receive(server, request)?;
-        Ok(request)
-    }
-
-    // The request ends at its server, and the life of the server with it, where that has a cause.
-    fn settle(
-        &mut self,
-        server: usize,
-        request: RequestId,
-        outcome: Outcome,
-        cause: Option<StopCause>,
-    ) -> Result<(), Halt>
-        requires numbered { IsNumbered self.old }
-        requires served { IsServed self.old }
-        requires busy { IsSomeAnd (slice_get self.old.servers.items server) (IsBusy request) }
-        requires fits { MayEndWith outcome cause }
-        ensures numbered { IsNumbered self.new }
-        ensures attempts { attempts self.new ≡ attempts self.old }
-        ensures served { OnOk result (IsServed self.new) }
-        ensures done { OnOk result (Settles server request outcome cause self.old self.new) }
-        ensures failed { IfErr result (λ halt. (setup : Setup) (count : ℕ) (past : List Event) → is_configured setup ≡ true → NoneRestarts setup → Holds setup count past self.old
-            → may_end_so setup outcome ≡ true → IsHalted setup count halt self.new) }
-    {
-        let ended = Ended {
-            request,
-            server: self.servers[server].id,
-            generation: LIFE,
-            outcome,
-        };
-        self.end(server, ended)?;
-        match cause {
-            Some(cause) => fall(self, server, cause),
-            None => Ok(()),
-        }
-    }
+// The call of the client at that place is refused.
+fn turn_down<L: Link>(
+    domain: &mut Domain<L>,
+    client: usize,
+    op: u32,
+    fault: Fault,
+    evidence: Evidence,
+) -> Result<(), Halt>
+    requires ready { IsReady domain.old }
+    requires client { client < length domain.old.clients.items }
+    ensures numbered { IsNumbered domain.new }
+    ensures attempts { attempts domain.new ≡ attempts domain.old }
+    ensures ready { OnOk result (IsReady domain.new) }
+    ensures called { OnOk result (HasCalled client op domain.old domain.new) }
+    ensures done { OnOk result (IsSomeAnd (slice_get domain.old.clients.items client) (λ x. Refuses client (refused_of x op fault evidence) domain.old domain.new)) }
+    ensures failed { IfErr result (λ halt. (setup : Setup) (count : ℕ) (past : List Event) → Holds setup count past domain.old → IsHalted setup count halt domain.new) }
+{
+    let refused = Refused {
+        by: domain.clients[client].id,
+        op,
+        fault,
+        evidence,
+    };
+    domain.refuse(client, refused)
 }
 
-fn is_idle(doing: &Doing) -> bool
-    ensures { result ≡ is_idle doing.now }
+// The queue of the row accepts the request of the client's call. Answers the request.
+fn send<L: Link>(
+    domain: &mut Domain<L>,
+    client: usize,
+    op: u32,
+    version: u64,
+    row: &Row,
+    payload: Data,
+) -> Result<RequestId, Halt>
+    requires client { client < length domain.old.clients.items }
+    requires known { 0 < row.now.queue.0 }
+    requires queue { row.now.queue.0 ≤ length domain.old.queues.items }
+    ensures done { IfOk result (λ request. Sends client op version row.now payload request domain.old domain.new) }
+    ensures kept { OnErr result (KeepsPlaces domain.old domain.new) }
+    ensures failed { IfErr result (λ halt. (setup : Setup) (count : ℕ) (past : List Event) → Holds setup count past domain.old → IsHalted setup count halt domain.new) }
 {
-    matches!(doing, Doing::Idle(_))
+    let by = &domain.clients[client];
+    let request = RequestId {
+        caller: by.id,
+        number: by.sent.saturating_add(1),
+    };
+    let accepted = Accepted {
+        by: by.id,
+        op,
+        request,
+        version,
+        service: row.service,
+        queue: row.queue,
+        routine: row.routine,
+        priority: priority(row.priority, None),
+        mode: Mode::Reply,
+        payload,
+    };
+    domain.accept(place_of(row.queue), client, accepted)?;
+    Ok(request)
+}
+
+// The client is told what befell its request.
+fn tell<L: Link>(
+    domain: &mut Domain<L>,
+    client: usize,
+    op: u32,
+    request: RequestId,
+    answer: Answer,
+) -> Result<(), Halt>
+    requires { client < length domain.old.clients.items }
+    ensures done { OnOk result (Tells client op request answer domain.old domain.new) }
+    ensures kept { OnErr result (KeepsPlaces domain.old domain.new) }
+    ensures failed { IfErr result (λ halt. (setup : Setup) (count : ℕ) (past : List Event) → Holds setup count past domain.old → IsHalted setup count halt domain.new) }
+{
+    let replied = Replied {
+        by: domain.clients[client].id,
+        op,
+        request,
+        answer,
+    };
+    domain.answer(client, replied)
+}
+
+// ---- the server's side
+
+// The server at that place takes the request that waits at its queue.
+fn receive<L: Link>(domain: &mut Domain<L>, server: usize, request: RequestId) -> Result<(), Halt>
+    requires { IsSomeAnd (slice_get domain.old.servers.items server) (λ x. (0 < x.queue.0) × (x.queue.0 ≤ length domain.old.queues.items)) }
+    ensures done { OnOk result (Receives server request domain.old domain.new) }
+    ensures kept { OnErr result (KeepsPlaces domain.old domain.new) }
+    ensures failed { IfErr result (λ halt. (setup : Setup) (count : ℕ) (past : List Event) → Holds setup count past domain.old → IsHalted setup count halt domain.new) }
+{
+    let by = &domain.servers[server];
+    let place = place_of(by.queue);
+    let taken = Taken {
+        request,
+        server: by.id,
+        generation: LIFE,
+        k: domain.queues[place].next_take(),
+    };
+    domain.take(place, server, taken)
+}
+
+// The queue of the row accepts the request of the client's call, and the server at that place takes it.
+fn deliver<L: Link>(
+    domain: &mut Domain<L>,
+    client: usize,
+    op: u32,
+    version: u64,
+    row: &Row,
+    payload: Data,
+    server: usize,
+) -> Result<RequestId, Halt>
+    requires ready { IsReady domain.old }
+    requires turn { IsSomeAnd (slice_get domain.old.clients.items client) (λ x. (op ≡ x.op + 1) × (x.left ≡ false)) }
+    requires up { IsSomeAnd (slice_get domain.old.servers.items server) (λ x. (x.doing ≡ Idle (record { 0 = 1 })) × (x.queue ≡ row.now.queue)) }
+    ensures done { IfOk result (λ request. Delivers client op version row.now payload server request domain.old domain.new) }
+    ensures kept { OnErr result (KeepsPlaces domain.old domain.new) }
+    ensures failed { IfErr result (λ halt. (setup : Setup) (count : ℕ) (past : List Event) (ask : Ask) → is_configured setup ≡ true → Holds setup count past domain.old
+        → payload ≡ ask.payload → RowServes setup past domain.old client version ask row.now → IsHalted setup count halt domain.new) }
+{
+    let request = send(domain, client, op, version, row, payload)?;
+    receive(domain, server, request)?;
+    Ok(request)
+}
+
+// The request ends at its server, and the life of the server with it, where that has a cause.
+fn settle<L: Link>(
+    domain: &mut Domain<L>,
+    server: usize,
+    request: RequestId,
+    outcome: Outcome,
+    cause: Option<StopCause>,
+) -> Result<(), Halt>
+    requires numbered { IsNumbered domain.old }
+    requires served { IsServed domain.old }
+    requires busy { IsSomeAnd (slice_get domain.old.servers.items server) (IsBusy request) }
+    requires fits { MayEndWith outcome cause }
+    ensures numbered { IsNumbered domain.new }
+    ensures attempts { attempts domain.new ≡ attempts domain.old }
+    ensures served { OnOk result (IsServed domain.new) }
+    ensures done { OnOk result (Settles server request outcome cause domain.old domain.new) }
+    ensures failed { IfErr result (λ halt. (setup : Setup) (count : ℕ) (past : List Event) → is_configured setup ≡ true → NoneRestarts setup → Holds setup count past domain.old
+        → may_end_so setup outcome ≡ true → IsHalted setup count halt domain.new) }
+{
+    let ended = Ended {
+        request,
+        server: domain.servers[server].id,
+        generation: LIFE,
+        outcome,
+    };
+    domain.end(server, ended)?;
+    match cause {
+        Some(cause) => fall(domain, server, cause),
+        None => Ok(()),
+    }
 }
 
 // The server's program becomes free, or its life ends.
@@ -412,7 +380,7 @@ fn exchange<L: Link>(
     let life = domain.servers[server].life;
     let its = &mut domain.lives[life];
     let sent = its.send(row, &ask.payload);
-    let request = domain.deliver(client, op, version, row, payload, server)?;
+    let request = deliver(domain, client, op, version, row, payload, server)?;
     let its = &mut domain.lives[life];
     let back = its.hear_back(sent);
     Ok(Heard { request, back })
@@ -449,8 +417,8 @@ fn carry<L: Link>(
     let cause = cause_heard(&back);
     let outcome = outcome_heard(setup, back);
     let answer = reply_to(alloc, &outcome)?;
-    domain.settle(server, request, outcome, cause)?;
-    domain.tell(client, op, request, answer)?;
+    settle(domain, server, request, outcome, cause)?;
+    tell(domain, client, op, request, answer)?;
     if cause.is_some() {
         return Ok(());
     }
@@ -480,13 +448,13 @@ pub fn call<L: Link>(
         → IsCallAt script client op ask.now → IsHalted setup.now (length script) halt domain.new) }
 {
     let Some(service) = service_of(setup, ask) else {
-        return domain.turn_down(client, op, Fault::Inval, Evidence::Argument);
+        return turn_down(domain, client, op, Fault::Inval, Evidence::Argument);
     };
     let version = domain.look_up(client, &service);
     let found = domain.clients[client].reader.found();
     match choose(setup, found.rows.as_slice(), &ask.payload.kind()) {
-        Choice::NoRow => domain.turn_down(client, op, Fault::NoEnt, Evidence::Version(version)),
-        Choice::NoKind => domain.turn_down(client, op, Fault::IType, Evidence::Version(version)),
+        Choice::NoRow => turn_down(domain, client, op, Fault::NoEnt, Evidence::Version(version)),
+        Choice::NoKind => turn_down(domain, client, op, Fault::IType, Evidence::Version(version)),
         Choice::ByRow(row) => {
             let Some(server) = domain.idle_server(row.queue) else {
                 unreachable!()

@@ -4,17 +4,16 @@ ghost use Rattle.xa_types.specs.Configured.{is_configured};
 ghost use Rattle.xa_types.specs.declared.setup.Setup.{Setup};
 ghost use Rattle.xa_events.specs.declared.event.Event.{Event};
 ghost use Rattle.xa_script.specs.declared.script.Client.{Client as ScriptClient};
-ghost use Rattle.xa_domain.specs.declared.server.Server.{Server as ServerTable};
-ghost use Rattle.xa_domain.specs.May.{AllAway};
-ghost use Rattle.xa_domain.specs.Standing.{IsNumbered, IsServed, IsUp, IsOver, IsReady, IsClosedDown, NoneRestarts, Stands, GoesOn, IsHalted, attempts};
+ghost use Rattle.xa_tables.specs.declared.server.Server.{Server as ServerTable};
+ghost use Rattle.xa_tables.specs.May.{AllAway};
+ghost use Rattle.xa_tables.specs.Resting.{IsNumbered, IsServed, IsUp, IsOver, attempts};
+ghost use Rattle.xa_domain.specs.Standing.{IsReady, IsClosedDown, NoneRestarts, Stands, GoesOn, IsHalted};
 ghost use Rattle.xa_domain.specs.Closing.{LeadsOn, LeadsToHalt, IsClosing, AllShut, MayEnd, ShutsDown, IsShutting};
 
-use crate::domain::Domain;
-use crate::halt::Halt;
 use crate::retiring::fall;
-use crate::server::{LIFE, Server};
 use xa_events::{Doing, StopCause, Stopped};
 use xa_link::Link;
+use xa_tables::{Domain, Halt, LIFE, Server};
 
 // Closes each queue, in order.
 fn close_queues<L: Link>(domain: &mut Domain<L>) -> Result<(), Halt>

@@ -1,20 +1,16 @@
 // What is handed back of a domain: its homes and its lives.
 ghost use Rattle.std.specs.Prelude.{◌≡◌, ◌+◌, ◌≤◌, ◌++◌, [], length, map, true, vec_capacity, IfOk, Some};
 ghost use Rattle.xa_types.specs.Configured.{is_configured};
-ghost use Rattle.xa_domain.specs.declared.queue.Queue.{Queue};
-ghost use Rattle.xa_domain.specs.declared.client.Client.{Client};
-ghost use Rattle.xa_domain.specs.declared.server.Server.{Server};
+ghost use Rattle.xa_tables.specs.declared.queue.Queue.{Queue};
+ghost use Rattle.xa_tables.specs.declared.client.Client.{Client};
+ghost use Rattle.xa_tables.specs.declared.server.Server.{Server};
 ghost use Rattle.xa_domain.specs.Handing.{HasRoomFor, AreHomesOf, IsHanded, AreHanded, homes_in};
 
-use crate::client::Client;
-use crate::domain::Domain;
-use crate::life::Lived;
-use crate::queue::Queue;
-use crate::server::{LIFE, Server};
 use crate::serving::Life;
 use std::alloc::Global;
 use xa_link::Link;
 use xa_stamp::{Home, Record};
+use xa_tables::{Client, Domain, LIFE, Lived, Queue, Server};
 use xa_types::{NoMemory, Sequence, Setup, Stamp};
 
 /// Room for the homes and the lives that are handed back, so that no want of memory loses them.

@@ -4,15 +4,14 @@ ghost use Rattle.xa_types.specs.declared.setup.Setup.{Setup};
 ghost use Rattle.xa_types.specs.Configured.{is_configured};
 ghost use Rattle.xa_events.specs.declared.event.Event.{Event};
 ghost use Rattle.xa_events.specs.declared.event.Doing.TheVariants.{Off};
-ghost use Rattle.xa_domain.specs.declared.server.Last.TheVariants.{Nothing};
-ghost use Rattle.xa_domain.specs.Holding.{Holds};
-ghost use Rattle.xa_domain.specs.Standing.{IsNumbered, IsServed, NoneRestarts, MayRetire, MayFall, Retires, RetiresTables, IsHalted, attempts, stop_of, has_server};
+ghost use Rattle.xa_tables.specs.declared.server.Last.TheVariants.{Nothing};
+ghost use Rattle.xa_tables.specs.Holding.{Holds};
+ghost use Rattle.xa_tables.specs.Resting.{IsNumbered, IsServed, attempts};
+ghost use Rattle.xa_domain.specs.Standing.{NoneRestarts, MayRetire, MayFall, Retires, RetiresTables, IsHalted, stop_of};
 
-use crate::domain::Domain;
-use crate::halt::Halt;
-use crate::server::LIFE;
 use xa_events::{StopCause, Stopped};
 use xa_link::Link;
+use xa_tables::{Domain, Halt, LIFE};
 use xa_types::QueueId;
 
 // Where the queue of that number stands.
@@ -21,17 +20,6 @@ pub fn place_of(queue: QueueId) -> usize
     ensures { result + 1 ≡ queue.0 }
 {
     usize::from(queue.0) - 1
-}
-
-impl<L: Link> Domain<L> {
-    // Whether a server of that queue is left.
-    fn is_served(&self, queue: QueueId) -> bool
-        ensures { result ≡ has_server queue.0 self.now.servers.items }
-    {
-        self.servers
-            .iter()
-            .any(|server| server.queue == queue && !server.gone)
-    }
 }
 
 /// The server at that place, which is off, is given up; where it was the last of its queue, the queue's rows are withdrawn

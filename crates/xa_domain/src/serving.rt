@@ -7,21 +7,20 @@ ghost use Rattle.xa_events.specs.declared.event.Event.{Event};
 ghost use Rattle.xa_script.specs.declared.script.Client.{Client as ScriptClient};
 ghost use Rattle.xa_link.specs.Starts.{AsksStarters};
 ghost use Rattle.xa_stamp.specs.Merge.{IsDense};
-ghost use Rattle.xa_domain.specs.Standing.{IsNumbered, IsBooted, IsReady, IsClosedDown, HasGone, HaveGone, Stands, GoesOn, IsHalted, attempts};
+ghost use Rattle.xa_tables.specs.Resting.{IsNumbered, IsBooted, attempts};
+ghost use Rattle.xa_domain.specs.Standing.{IsReady, IsClosedDown, HasGone, HaveGone, Stands, GoesOn, IsHalted};
 ghost use Rattle.xa_domain.specs.Beginning.{HaveStamps};
 ghost use Rattle.xa_domain.specs.Serving.{IsBuiltOp, IsBuilt, NoneRestarts, ServeEnds, StarterShows, StartersMatch};
 
-use crate::boot::found;
 use crate::calling::call;
 use crate::closing::close_all;
-use crate::domain::Domain;
-use crate::halt::Halt;
 use crate::handing::{Handed, Room, hand_back, hand_none, room_for};
 use crate::starting::start_all;
 use std::alloc::Global;
 use xa_link::{Gate, Link, Starter, Yard};
 use xa_script::{Client, Script};
 use xa_stamp::Record;
+use xa_tables::{Domain, Halt, found};
 use xa_types::{Generation, Op, ServerId, Setup};
 
 /// A life of a server, and the pipes that its program had.

@@ -6,21 +6,19 @@ ghost use Rattle.xa_link.specs.Told.{Empty};
 ghost use Rattle.xa_events.specs.declared.event.Event.{Event};
 ghost use Rattle.xa_events.specs.declared.event.Started.{Started as StartedBy};
 ghost use Rattle.xa_script.specs.declared.script.Client.{Client as ScriptClient};
-ghost use Rattle.xa_domain.specs.declared.server.Attempt.TheVariants as tries;
-ghost use Rattle.xa_domain.specs.Steps.{Changed};
-ghost use Rattle.xa_domain.specs.Standing.{IsNumbered, IsServed, IsUp, IsBooted, IsReady, Stands, GoesOn, IsHalted, attempts, StartsOn};
+ghost use Rattle.xa_tables.specs.declared.server.Attempt.TheVariants as tries;
+ghost use Rattle.xa_tables.specs.Steps.{Changed};
+ghost use Rattle.xa_tables.specs.Resting.{IsNumbered, IsServed, IsUp, IsBooted, attempts};
+ghost use Rattle.xa_domain.specs.Standing.{IsReady, Stands, GoesOn, IsHalted, StartsOn};
 ghost use Rattle.xa_domain.specs.Serving.{NoneRestarts, StarterShows, StartersMatch, IsStarterBy};
 ghost use Rattle.xa_domain.specs.Beginning.{KeepsLife, StartsBeside, HasNewLife, IsBegun, MayBegin, HaveStamps};
 
-use crate::domain::Domain;
-use crate::halt::Halt;
-use crate::life::Lived;
 use crate::retiring::{fall, retire};
-use crate::server::LIFE;
 use std::alloc::Global;
 use xa_events::Started;
 use xa_link::{Link, StartRefused, Starter};
 use xa_pipe::Pipe;
+use xa_tables::{Domain, Halt, LIFE, Lived};
 
 // Keeps the pipes of a life that began. Answers its place.
 fn keep<L: Link>(alloc: Global, domain: &mut Domain<L>, server: usize, link: L) -> usize

@@ -8,8 +8,8 @@ use Rattle.xa_script.specs.declared.script.Client.{Client}
 use Rattle.xa_text.specs.InTurn.{AllInTurn}
 use Rattle.xa_text.proofs.InTurn.{run_in_turn}
 use Rattle.xa_domain.specs.declared.serving.Life.{Life}
-use Rattle.xa_domain.specs.declared.halt.Halt.{Halt}
-use Rattle.xa_domain.specs.declared.halt.Halt.TheVariants as halts
+use Rattle.xa_tables.specs.declared.halt.Halt.{Halt}
+use Rattle.xa_tables.specs.declared.halt.Halt.TheVariants as halts
 use Rattle.xa_domain.specs.Serving.{StarterShows, LinkTells, IsServedWhole, IsServedSoFar, IsWorn, ServeEnds}
 use Rattle.xa_program.specs.declared.words.Command.{Command}
 use Rattle.xa_program.specs.declared.words.Command.TheVariants.{Run}

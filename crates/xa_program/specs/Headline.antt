@@ -9,7 +9,7 @@ use Rattle.xa_script.specs.declared.script.Client.{Client}
 use Rattle.xa_script.specs.Script.{IsScript, IsFirstFault}
 use Rattle.xa_text.specs.Transcript.{transcript}
 use Rattle.xa_domain.specs.declared.serving.Life.{Life}
-use Rattle.xa_domain.specs.declared.halt.Halt.TheVariants as halts
+use Rattle.xa_tables.specs.declared.halt.Halt.TheVariants as halts
 use Rattle.xa_domain.specs.Serving.{StarterShows, LinkTells, IsServedWhole, IsServedSoFar, IsWorn}
 use Rattle.xa_program.specs.declared.words.Command.{Command}
 use Rattle.xa_program.specs.declared.words.Command.TheVariants.{Play, Server}

@@ -9,4 +9,4 @@ mod rows;
 pub use choice::choose;
 pub use laws::each_queue_is_listed_once;
 pub use priorities::priority;
-pub use rows::{admits, row_for};
+pub use rows::{admits, is_same, place_of_shape, row_for};

@@ -9,14 +9,15 @@ ghost use Rattle.xa_types.specs.Setup.{service_named};
 
 use xa_types::{Accepts, Kind, Name, QueueId, Row, ServiceSetup, Setup};
 
-fn is_same(a: &Name, b: &Name) -> bool
+/// Whether the names are the same.
+pub fn is_same(a: &Name, b: &Name) -> bool
     ensures { result ≡ bytes_eq a.now b.now }
 {
     a.octets() == b.octets()
 }
 
-// The place of the shape with that name, from 0.
-fn place_of_shape(setup: &Setup, subtype: &Name) -> Option<usize>
+/// The place of the shape with that name, from 0.
+pub fn place_of_shape(setup: &Setup, subtype: &Name) -> Option<usize>
     ensures { result ≡ position (λ shape. bytes_eq shape.name subtype.now) setup.now.shapes }
 {
     let mut shapes = setup.shapes.slice().iter();

@@ -1,20 +1,19 @@
 use Rattle.std.proofs.Common.{◌≡◌, ◌+◌, ◌<◌, length, false, IsSomeAnd, sym, ◌∙◌, ap, subst, arith}
 use Rattle.std.specs.Prelude.{slice_get}
+use Rattle.std.proofs.lemmas.Result.{IfErr-weaker, on_ok_weaker}
 use Rattle.xa_types.specs.declared.fault.Fault.TheVariants.{Inval, NoEnt, IType}
 use Rattle.xa_types.specs.Kind.{is_accepted}
 use Rattle.xa_events.specs.declared.event.Evidence.TheVariants.{Argument, Version}
 use Rattle.xa_domain.proofs.Choosing.{free_there, free_is}
 use Rattle.xa_domain.proofs.Looking.{row_chosen, kind_refused, client_there, clients_kept, rows_read, row_stands, made_since, seen_least, row_serves, no_row, no_kind, evidence_none, evidence_kind}
-use Rattle.xa_domain.proofs.Places.{attempts_kept}
+use Rattle.xa_tables.proofs.Places.{attempts_kept}
 use Rattle.xa_domain.proofs.Refused.{looks_up_keeps, looks_up_ready, looks_up_turn, looks_up_stands, turned_goes}
-use Rattle.xa_domain.proofs.Rests.{if_err}
-use Rattle.xa_domain.proofs.Settling.{on_ok}
 use Rattle.xa_domain.proofs.calling.call.Goals as goal
 
 pub returns-in_default-clause-goes : goal.returns-in_default-clause-goes
 returns-in_default-clause-goes g c =
-    on_ok c.turn_down.result _ _
-    (λ done script past none stands called. turned_goes c.args.client c.args.op Inval Argument c.args.domain.now c.turn_down.new.self done c.args.setup.now script past c.args.ask.now stands c.requires.ready c.requires.turn called c.in_default.ensures tt (λ version is. cc is)) c.turn_down.ensures.done
+    on_ok_weaker c.turn_down.result
+    (λ done script past none stands called. turned_goes c.args.client c.args.op Inval Argument c.args.domain.now c.turn_down.new.domain done c.args.setup.now script past c.args.ask.now stands c.requires.ready c.requires.turn called c.in_default.ensures tt (λ version is. cc is)) c.turn_down.ensures.done
 
 pub look_up-version-requires : goal.look_up-version-requires
 look_up-version-requires g c =
@@ -50,12 +49,12 @@ returns-in-NoRow-clause-attempts g c =
 
 pub returns-in-NoRow-clause-called : goal.returns-in-NoRow-clause-called
 returns-in-NoRow-clause-called g c =
-    on_ok c.turn_down-in-NoRow.result _ _ (made_since c.args.client c.args.op c.look_up-version.result c.in-Some.service c.args.domain.now c.look_up-version.new.self c.look_up-version.ensures c.turn_down-in-NoRow.new.self) c.turn_down-in-NoRow.ensures.called
+    on_ok_weaker c.turn_down-in-NoRow.result (made_since c.args.client c.args.op c.look_up-version.result c.in-Some.service c.args.domain.now c.look_up-version.new.self c.look_up-version.ensures c.turn_down-in-NoRow.new.domain) c.turn_down-in-NoRow.ensures.called
 
 pub returns-in-NoRow-clause-goes : goal.returns-in-NoRow-clause-goes
 returns-in-NoRow-clause-goes g c =
-    on_ok c.turn_down-in-NoRow.result _ _
-    (λ done script past none stands called. turned_goes c.args.client c.args.op NoEnt (Version c.look_up-version.result) c.look_up-version.new.self c.turn_down-in-NoRow.new.self done c.args.setup.now script past c.args.ask.now
+    on_ok_weaker c.turn_down-in-NoRow.result
+    (λ done script past none stands called. turned_goes c.args.client c.args.op NoEnt (Version c.look_up-version.result) c.look_up-version.new.self c.turn_down-in-NoRow.new.domain done c.args.setup.now script past c.args.ask.now
     (looks_up_stands c.args.client c.in-Some.service c.look_up-version.result c.args.domain.now c.look_up-version.new.self c.look_up-version.ensures c.args.setup.now script past stands) (looks_up_ready c.args.client c.in-Some.service c.look_up-version.result c.args.domain.now c.look_up-version.new.self c.look_up-version.ensures c.requires.ready) (looks_up_turn c.args.client c.in-Some.service c.look_up-version.result c.args.domain.now c.look_up-version.new.self c.look_up-version.ensures (λ op left. (c.args.op ≡ op + 1) × (left ≡ false)) c.requires.turn) called
     (no_row c.args.client c.args.op c.look_up-version.result c.in-Some.service c.args.domain.now c.look_up-version.new.self c.look_up-version.ensures c.args.setup.now (length script) past c.args.ask.now stands.holds c.in-Some.ensures.0 c.in-Some.ensures.1 (rows_read c.args.client c.args.op c.look_up-version.result c.in-Some.service c.args.domain.now c.look_up-version.new.self c.look_up-version.ensures c.index.result.now c.found-found.result.now c.as_slice.result.now c.index.ensures
     (subst (λ n. c.args.client < n) (sym (clients_kept c.args.client c.args.op c.look_up-version.result c.in-Some.service c.args.domain.now c.look_up-version.new.self c.look_up-version.ensures)) (client_there c.args.domain.now c.args.client (λ x. (c.args.op ≡ x.op + 1) × (x.left ≡ false)) c.requires.turn)) c.found-found.ensures (c.as_slice.ensures.value ∙ ap (λ f. f.rows) c.found.view_is) ∙ c.in-NoRow.ensures))
@@ -65,7 +64,7 @@ returns-in-NoRow-clause-goes g c =
 
 pub returns-in-NoRow-clause-failed : goal.returns-in-NoRow-clause-failed
 returns-in-NoRow-clause-failed g c =
-    if_err c.turn_down-in-NoRow.result _ _ (λ halt failed script past none stands called. failed c.args.setup.now (length script) past (looks_up_stands c.args.client c.in-Some.service c.look_up-version.result c.args.domain.now c.look_up-version.new.self c.look_up-version.ensures c.args.setup.now script past stands).holds) c.turn_down-in-NoRow.ensures.failed
+    IfErr-weaker c.turn_down-in-NoRow.result _ _ (λ halt failed script past none stands called. failed c.args.setup.now (length script) past (looks_up_stands c.args.client c.in-Some.service c.look_up-version.result c.args.domain.now c.look_up-version.new.self c.look_up-version.ensures c.args.setup.now script past stands).holds) c.turn_down-in-NoRow.ensures.failed
 
 pub returns-in-NoKind-clause-attempts : goal.returns-in-NoKind-clause-attempts
 returns-in-NoKind-clause-attempts g c =
@@ -73,12 +72,12 @@ returns-in-NoKind-clause-attempts g c =
 
 pub returns-in-NoKind-clause-called : goal.returns-in-NoKind-clause-called
 returns-in-NoKind-clause-called g c =
-    on_ok c.turn_down-in-NoKind.result _ _ (made_since c.args.client c.args.op c.look_up-version.result c.in-Some.service c.args.domain.now c.look_up-version.new.self c.look_up-version.ensures c.turn_down-in-NoKind.new.self) c.turn_down-in-NoKind.ensures.called
+    on_ok_weaker c.turn_down-in-NoKind.result (made_since c.args.client c.args.op c.look_up-version.result c.in-Some.service c.args.domain.now c.look_up-version.new.self c.look_up-version.ensures c.turn_down-in-NoKind.new.domain) c.turn_down-in-NoKind.ensures.called
 
 pub returns-in-NoKind-clause-goes : goal.returns-in-NoKind-clause-goes
 returns-in-NoKind-clause-goes g c =
-    on_ok c.turn_down-in-NoKind.result _ _
-    (λ done script past none stands called. turned_goes c.args.client c.args.op IType (Version c.look_up-version.result) c.look_up-version.new.self c.turn_down-in-NoKind.new.self done c.args.setup.now script past c.args.ask.now
+    on_ok_weaker c.turn_down-in-NoKind.result
+    (λ done script past none stands called. turned_goes c.args.client c.args.op IType (Version c.look_up-version.result) c.look_up-version.new.self c.turn_down-in-NoKind.new.domain done c.args.setup.now script past c.args.ask.now
     (looks_up_stands c.args.client c.in-Some.service c.look_up-version.result c.args.domain.now c.look_up-version.new.self c.look_up-version.ensures c.args.setup.now script past stands) (looks_up_ready c.args.client c.in-Some.service c.look_up-version.result c.args.domain.now c.look_up-version.new.self c.look_up-version.ensures c.requires.ready) (looks_up_turn c.args.client c.in-Some.service c.look_up-version.result c.args.domain.now c.look_up-version.new.self c.look_up-version.ensures (λ op left. (c.args.op ≡ op + 1) × (left ≡ false)) c.requires.turn) called
     (let refused = kind_refused c.args.setup.now c.as_slice.result.now c.kind.result c.in-NoKind.ensures in no_kind c.args.client c.args.op c.look_up-version.result c.in-Some.service c.args.domain.now c.look_up-version.new.self c.look_up-version.ensures c.args.setup.now (length script) past c.args.ask.now stands.holds c.in-Some.ensures.0 c.in-Some.ensures.1 refused.0 refused.1 (rows_read c.args.client c.args.op c.look_up-version.result c.in-Some.service c.args.domain.now c.look_up-version.new.self c.look_up-version.ensures c.index.result.now c.found-found.result.now c.as_slice.result.now c.index.ensures
     (subst (λ n. c.args.client < n) (sym (clients_kept c.args.client c.args.op c.look_up-version.result c.in-Some.service c.args.domain.now c.look_up-version.new.self c.look_up-version.ensures)) (client_there c.args.domain.now c.args.client (λ x. (c.args.op ≡ x.op + 1) × (x.left ≡ false)) c.requires.turn)) c.found-found.ensures (c.as_slice.ensures.value ∙ ap (λ f. f.rows) c.found.view_is) ∙ refused.2) (ap (is_accepted c.args.setup.now refused.0.accepts) (sym c.kind.ensures) ∙ refused.3))
@@ -88,21 +87,21 @@ returns-in-NoKind-clause-goes g c =
 
 pub returns-in-NoKind-clause-failed : goal.returns-in-NoKind-clause-failed
 returns-in-NoKind-clause-failed g c =
-    if_err c.turn_down-in-NoKind.result _ _ (λ halt failed script past none stands called. failed c.args.setup.now (length script) past (looks_up_stands c.args.client c.in-Some.service c.look_up-version.result c.args.domain.now c.look_up-version.new.self c.look_up-version.ensures c.args.setup.now script past stands).holds) c.turn_down-in-NoKind.ensures.failed
+    IfErr-weaker c.turn_down-in-NoKind.result _ _ (λ halt failed script past none stands called. failed c.args.setup.now (length script) past (looks_up_stands c.args.client c.in-Some.service c.look_up-version.result c.args.domain.now c.look_up-version.new.self c.look_up-version.ensures c.args.setup.now script past stands).holds) c.turn_down-in-NoKind.ensures.failed
 
 pub returns-in-Some-idle_server-clause-called : goal.returns-in-Some-idle_server-clause-called
 returns-in-Some-idle_server-clause-called g c =
-    on_ok c.carry.result _ _ (made_since c.args.client c.args.op c.look_up-version.result c.in-Some.service c.args.domain.now c.look_up-version.new.self c.look_up-version.ensures c.carry.new.domain) c.carry.ensures.called
+    on_ok_weaker c.carry.result (made_since c.args.client c.args.op c.look_up-version.result c.in-Some.service c.args.domain.now c.look_up-version.new.self c.look_up-version.ensures c.carry.new.domain) c.carry.ensures.called
 
 pub returns-in-Some-idle_server-clause-goes : goal.returns-in-Some-idle_server-clause-goes
 returns-in-Some-idle_server-clause-goes g c =
-    on_ok c.carry.result _ _ (λ goes script past none stands called. goes script past none (looks_up_stands c.args.client c.in-Some.service c.look_up-version.result c.args.domain.now c.look_up-version.new.self c.look_up-version.ensures c.args.setup.now script past stands) called
+    on_ok_weaker c.carry.result (λ goes script past none stands called. goes script past none (looks_up_stands c.args.client c.in-Some.service c.look_up-version.result c.args.domain.now c.look_up-version.new.self c.look_up-version.ensures c.args.setup.now script past stands) called
     (let chosen = row_chosen c.args.setup.now c.as_slice.result.now c.kind.result c.in-ByRow.row c.in-ByRow.ensures in row_serves c.args.client c.args.op c.look_up-version.result c.in-Some.service c.args.domain.now c.look_up-version.new.self c.look_up-version.ensures c.args.setup.now (length script) past c.args.ask.now stands.holds c.in-Some.ensures.0 c.in-Some.ensures.1 c.in-ByRow.row chosen.0 (rows_read c.args.client c.args.op c.look_up-version.result c.in-Some.service c.args.domain.now c.look_up-version.new.self c.look_up-version.ensures c.index.result.now c.found-found.result.now c.as_slice.result.now c.index.ensures
     (subst (λ n. c.args.client < n) (sym (clients_kept c.args.client c.args.op c.look_up-version.result c.in-Some.service c.args.domain.now c.look_up-version.new.self c.look_up-version.ensures)) (client_there c.args.domain.now c.args.client (λ x. (c.args.op ≡ x.op + 1) × (x.left ≡ false)) c.requires.turn)) c.found-found.ensures (c.as_slice.ensures.value ∙ ap (λ f. f.rows) c.found.view_is) ∙ chosen.1) (ap (is_accepted c.args.setup.now c.in-ByRow.row.accepts) (sym c.kind.ensures) ∙ chosen.2))) c.carry.ensures.goes
 
 pub returns-in-Some-idle_server-clause-failed : goal.returns-in-Some-idle_server-clause-failed
 returns-in-Some-idle_server-clause-failed g c =
-    if_err c.carry.result _ _ (λ halt failed script past none stands called. failed script past none (looks_up_stands c.args.client c.in-Some.service c.look_up-version.result c.args.domain.now c.look_up-version.new.self c.look_up-version.ensures c.args.setup.now script past stands) called
+    IfErr-weaker c.carry.result _ _ (λ halt failed script past none stands called. failed script past none (looks_up_stands c.args.client c.in-Some.service c.look_up-version.result c.args.domain.now c.look_up-version.new.self c.look_up-version.ensures c.args.setup.now script past stands) called
     (let chosen = row_chosen c.args.setup.now c.as_slice.result.now c.kind.result c.in-ByRow.row c.in-ByRow.ensures in row_serves c.args.client c.args.op c.look_up-version.result c.in-Some.service c.args.domain.now c.look_up-version.new.self c.look_up-version.ensures c.args.setup.now (length script) past c.args.ask.now stands.holds c.in-Some.ensures.0 c.in-Some.ensures.1 c.in-ByRow.row chosen.0 (rows_read c.args.client c.args.op c.look_up-version.result c.in-Some.service c.args.domain.now c.look_up-version.new.self c.look_up-version.ensures c.index.result.now c.found-found.result.now c.as_slice.result.now c.index.ensures
     (subst (λ n. c.args.client < n) (sym (clients_kept c.args.client c.args.op c.look_up-version.result c.in-Some.service c.args.domain.now c.look_up-version.new.self c.look_up-version.ensures)) (client_there c.args.domain.now c.args.client (λ x. (c.args.op ≡ x.op + 1) × (x.left ≡ false)) c.requires.turn)) c.found-found.ensures (c.as_slice.ensures.value ∙ ap (λ f. f.rows) c.found.view_is) ∙ chosen.1) (ap (is_accepted c.args.setup.now c.in-ByRow.row.accepts) (sym c.kind.ensures) ∙ chosen.2))) c.carry.ensures.failed
 

@@ -4,12 +4,12 @@ use Rattle.std.specs.Vec.{with_item}
 use Rattle.xa_types.specs.declared.data.Data.{Data}
 use Rattle.xa_pipe.specs.Pipe.{Piped, invoke_frame}
 use Rattle.xa_domain.specs.Calling.{Delivers}
-use Rattle.xa_domain.specs.Piping.{HearsBack}
-use Rattle.xa_domain.specs.Standing.{IsUp}
+use Rattle.xa_tables.specs.Piping.{HearsBack}
+use Rattle.xa_tables.specs.Resting.{IsUp}
 use Rattle.xa_domain.proofs.Exchanging.{exchange_keeps}
-use Rattle.xa_domain.proofs.Kept.{stood_here}
-use Rattle.xa_domain.proofs.Lists.{set_here, set_length}
-use Rattle.xa_domain.proofs.Places.{numbered_kept, attempts_kept, keeps_all}
+use Rattle.xa_tables.proofs.Kept.{stood_here}
+use Rattle.xa_tables.proofs.Lists.{set_here, set_length}
+use Rattle.xa_tables.proofs.Places.{numbered_kept, attempts_kept, keeps_all}
 use Rattle.xa_domain.proofs.Rests.{ready_same}
 use Rattle.xa_domain.proofs.Settling.{life_within, read_there, only_here, life_keeps, up_of, exchanged_by}
 use Rattle.xa_domain.proofs.calling.exchange.Goals as goal
@@ -38,7 +38,7 @@ returns-in_err-request-clause-numbered g c =
     let within = life_within d c.args.server c.index.result.now c.requires.ready.numbered up c.index.ensures in
     let asked = record d { lives = with_item d.lives life c.send-sent.new.self } in
     let keeps = life_keeps d life c.index_mut-its.result.now c.send-sent.new.self within c.index_mut-its.ensures.value (ap (λ y. y.server) c.send-sent.ensures.table) in
-    numbered_kept d c.deliver.new.self (keeps_all d asked c.deliver.new.self keeps.places c.in_err-request.ensures.kept) c.requires.ready.numbered
+    numbered_kept d c.deliver.new.domain (keeps_all d asked c.deliver.new.domain keeps.places c.in_err-request.ensures.kept) c.requires.ready.numbered
 
 pub returns-in_err-request-clause-attempts : goal.returns-in_err-request-clause-attempts
 returns-in_err-request-clause-attempts g c =
@@ -48,7 +48,7 @@ returns-in_err-request-clause-attempts g c =
     let within = life_within d c.args.server c.index.result.now c.requires.ready.numbered up c.index.ensures in
     let asked = record d { lives = with_item d.lives life c.send-sent.new.self } in
     let keeps = life_keeps d life c.index_mut-its.result.now c.send-sent.new.self within c.index_mut-its.ensures.value (ap (λ y. y.server) c.send-sent.ensures.table) in
-    attempts_kept d c.deliver.new.self (keeps_all d asked c.deliver.new.self keeps.places c.in_err-request.ensures.kept)
+    attempts_kept d c.deliver.new.domain (keeps_all d asked c.deliver.new.domain keeps.places c.in_err-request.ensures.kept)
 
 pub index_mut-its-requires-2 : goal.index_mut-its-requires-2
 index_mut-its-requires-2 g c =
@@ -58,7 +58,7 @@ index_mut-its-requires-2 g c =
     let within = life_within d c.args.server c.index.result.now c.requires.ready.numbered up c.index.ensures in
     let done = c.in_ok-request.ensures.done in
     let same = ap (λ v. length v.items) (done.receives.takes.others.2 ∙ done.sends.accepts.others.2) in
-    let long = c.deliver.new.self.lives.ok.0 in
+    let long = c.deliver.new.domain.lives.ok.0 in
     let set = set_length d.lives.items life c.send-sent.new.self in
     omega (arith, within, same, long, set)
 
@@ -74,7 +74,7 @@ returns-clause-done g c =
     let y1 = c.send-sent.new.self in
     let y2 = c.index_mut-its-2.result.now in
     let y3 = c.hear_back-back.new.self in
-    let noted = c.deliver.new.self in
+    let noted = c.deliver.new.domain in
     let done = c.in_ok-request.ensures.done in
     let lives = done.receives.takes.others.2 ∙ done.sends.accepts.others.2 in
     let same = ap (λ v. length v.items) lives in
@@ -99,14 +99,14 @@ returns-clause-done g c =
 
 pub returns-clause-numbered : goal.returns-clause-numbered
 returns-clause-numbered g c =
-    let noted = c.deliver.new.self in
+    let noted = c.deliver.new.domain in
     numbered_kept c.args.domain.now (record noted { lives = with_item noted.lives c.index.result.now.life c.hear_back-back.new.self })
     (exchange_keeps c.args.client c.args.op c.args.version c.args.row.now c.args.ask.now.payload c.args.server c.in_ok-request.request c.hear_back-back.result c.args.domain.now
     (record noted { lives = with_item noted.lives c.index.result.now.life c.hear_back-back.new.self }) (returns-clause-done g c) c.requires.ready c.requires.turn c.requires.up).places c.requires.ready.numbered
 
 pub returns-clause-attempts : goal.returns-clause-attempts
 returns-clause-attempts g c =
-    let noted = c.deliver.new.self in
+    let noted = c.deliver.new.domain in
     attempts_kept c.args.domain.now (record noted { lives = with_item noted.lives c.index.result.now.life c.hear_back-back.new.self })
     (exchange_keeps c.args.client c.args.op c.args.version c.args.row.now c.args.ask.now.payload c.args.server c.in_ok-request.request c.hear_back-back.result c.args.domain.now
     (record noted { lives = with_item noted.lives c.index.result.now.life c.hear_back-back.new.self }) (returns-clause-done g c) c.requires.ready c.requires.turn c.requires.up).places

@@ -1,12 +1,12 @@
 use Rattle.std.proofs.Common.{◌≡◌, ◌<◌, length, Some, None, refl, ap, arith}
 use Rattle.std.specs.Vec.{with_item}
 use Rattle.std.proofs.lemmas.Option.{slice_get_within}
-use Rattle.xa_domain.specs.declared.life.Lived.{Lived}
+use Rattle.xa_tables.specs.declared.life.Lived.{Lived}
 use Rattle.xa_domain.specs.Calling.{NextOr, OnlyLife}
-use Rattle.xa_domain.specs.Standing.{IsUp}
-use Rattle.xa_domain.proofs.Places.{numbered_kept}
+use Rattle.xa_tables.specs.Resting.{IsUp}
+use Rattle.xa_tables.proofs.Places.{numbered_kept, on_ok_both}
 use Rattle.xa_domain.proofs.Rests.{only_keeps}
-use Rattle.xa_domain.proofs.Settling.{life_within, read_there, on_ok_both, only_here, frees_none, frees_some}
+use Rattle.xa_domain.proofs.Settling.{life_within, read_there, only_here, frees_none, frees_some}
 use Rattle.xa_domain.proofs.calling.free.Goals as goal
 
 pub index_mut-its-requires : goal.index_mut-its-requires
@@ -40,7 +40,7 @@ returns-in-Ok-clause-done g c =
 
 pub returns-in-Err-clause-done : goal.returns-in-Err-clause-done
 returns-in-Err-clause-done g c =
-    on_ok_both c.fall.result _ _ _
+    on_ok_both c.fall.result
     (frees_some c.args.server c.index.result.now c.args.domain.now (record c.args.domain.now { lives = with_item c.args.domain.now.lives c.index.result.now.life c.await_next.new.self })
     (read_there c.args.domain.now.servers.items c.args.server c.index.result.now IsUp c.requires.up c.index.ensures) c.in-Err.cause c.fall.new.domain
     (only_here c.args.domain.now c.index.result.now.life c.index_mut-its.result.now c.await_next.new.self (λ y y'. (y' ≡ record y { pipe = y'.pipe }) × NextOr (Some c.in-Err.cause) y.pipe y'.pipe)

@@ -5,7 +5,7 @@ use Rattle.std.proofs.lemmas.List.Quantifiers.{position-Some}
 use Rattle.xa_types.specs.declared.setup.FieldSetup.{FieldSetup}
 use Rattle.xa_types.specs.declared.setup.ShapeSetup.{ShapeSetup}
 use Rattle.xa_types.specs.Kind.{is_sound}
-use Rattle.xa_domain.proofs.Kept.{stood_here}
+use Rattle.xa_tables.proofs.Kept.{stood_here}
 use Rattle.xa_domain.proofs.Sound.{size_in, place_in, size_at, no_size}
 use Rattle.xa_domain.proofs.calling.is_sound.Goals as goal
 

@@ -1,5 +1,5 @@
-use Rattle.xa_domain.proofs.Kept.{passed_on}
-use Rattle.xa_domain.proofs.Places.{numbered_kept, attempts_kept, keeps_all}
+use Rattle.xa_tables.proofs.Kept.{passed_on}
+use Rattle.xa_tables.proofs.Places.{numbered_kept, attempts_kept, keeps_all}
 use Rattle.xa_domain.proofs.ClosedDown.{closes_more, close_halts}
 use Rattle.xa_domain.proofs.closing.close_queues.Goals as goal
 

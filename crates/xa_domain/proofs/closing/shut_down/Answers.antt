@@ -1,10 +1,10 @@
 use Rattle.std.proofs.Common.{Option, IsSomeAnd, sym, subst, arith}
 use Rattle.std.proofs.lemmas.Result.{on_ok_weaker, IfErr-weaker}
-use Rattle.xa_domain.specs.declared.server.Server.{Server}
+use Rattle.xa_tables.specs.declared.server.Server.{Server}
 use Rattle.xa_domain.specs.Standing.{MayFall}
 use Rattle.xa_domain.specs.Closing.{MayEnd}
-use Rattle.xa_domain.proofs.Kept.{known_here, known_within, stood_here}
-use Rattle.xa_domain.proofs.Places.{numbered_kept, attempts_kept, on_ok_both}
+use Rattle.xa_tables.proofs.Kept.{known_here, known_within, stood_here}
+use Rattle.xa_tables.proofs.Places.{numbered_kept, attempts_kept, on_ok_both}
 use Rattle.xa_domain.proofs.ClosedDown.{life_within, over_now, leads_nowhere, may_fall_by, numbered_told, served_told, shut_keeps, shut_served, shut_tables, shut_goes, shut_halts, dropped_tables, dropped_goes, dropped_halts}
 use Rattle.xa_domain.proofs.closing.shut_down.Goals as goal
 

@@ -1,6 +1,6 @@
 use Rattle.std.proofs.Common.{◌≡◌, ◌++◌, map, vec_capacity}
 use Rattle.std.specs.Vec.Iter.{into_iter_items}
-use Rattle.xa_domain.specs.declared.client.Client.{Client}
+use Rattle.xa_tables.specs.declared.client.Client.{Client}
 use Rattle.xa_domain.proofs.handing.add_clients.Given as goal
 
 abbrev pub invariant-loop-home : goal.invariant-loop-home

@@ -1,8 +1,8 @@
 use Rattle.std.proofs.Common.{◌∷◌, refl, ◌∙◌}
 use Rattle.std.proofs.lemmas.Result.{on_ok_weaker, IfErr-weaker}
 use Rattle.xa_domain.specs.Standing.{MayFall, stop_of}
-use Rattle.xa_domain.proofs.Kept.{passed_on, known_here}
-use Rattle.xa_domain.proofs.Places.{numbered_kept, attempts_kept}
+use Rattle.xa_tables.proofs.Kept.{passed_on, known_here}
+use Rattle.xa_tables.proofs.Places.{numbered_kept, attempts_kept}
 use Rattle.xa_domain.proofs.Halted.{halts_at_server}
 use Rattle.xa_domain.proofs.Fallen.{keeps_stopped, served_stopped, may_retire, fallen_holds, tables_fallen}
 use Rattle.xa_domain.proofs.retiring.fall.Goals as goal

@@ -1,17 +1,20 @@
 use Rattle.std.proofs.Common.{◌≡◌, ℕ, ◌+◌, ◌<◌, ◌≤◌, ◌^◌, false, length, Option, Some, None, refl, sym, ◌∙◌, ap, subst, arith, IsSomeAnd}
 use Rattle.std.specs.Prelude.{slice_get}
 use Rattle.std.proofs.lemmas.Option.{slice_get_within}
+use Rattle.std.proofs.lemmas.Result.{IfErr-weaker, on_ok_weaker}
 use Rattle.xa_types.specs.declared.call.Ask.{Ask}
 use Rattle.xa_types.specs.declared.call.Op.{Op}
 use Rattle.xa_types.specs.declared.call.Op.TheVariants.{Call}
-use Rattle.xa_domain.specs.declared.client.Client.{Client}
+use Rattle.xa_tables.specs.declared.client.Client.{Client}
 use Rattle.xa_domain.specs.Serving.{IsBuiltOp}
 use Rattle.xa_domain.specs.Standing.{HasCalled, IsCallAt}
 use Rattle.xa_domain.specs.Making.{MakesOn}
 use Rattle.xa_domain.proofs.Halted.{halts_at_client}
-use Rattle.xa_domain.proofs.Kept.{stood_here, passed_on}
-use Rattle.xa_domain.proofs.Places.{numbered_kept, attempts_kept}
-use Rattle.xa_domain.proofs.Making.{makes_none, makes_more, next_turn, call_at, after_stands, numbered_leave, tried_leave, ready_leave, stays_till, gone_leave, goes_leave, ok_more, err_more, either_way, none_done}
+use Rattle.xa_tables.proofs.Kept.{stood_here, passed_on}
+use Rattle.xa_tables.proofs.Places.{numbered_kept, attempts_kept}
+use Rattle.xa_tables.proofs.Lists.{after_stands}
+use Rattle.xa_domain.proofs.Settling.{either_way}
+use Rattle.xa_domain.proofs.Making.{makes_none, makes_more, next_turn, call_at, numbered_leave, tried_leave, ready_leave, stays_till, gone_leave, goes_leave, none_done}
 use Rattle.xa_domain.proofs.serving.make_calls.Goals as goal
 
 pub loop-op-init : goal.loop-op-init
@@ -63,12 +66,12 @@ returns g c =
     let m : MakesOn setup client (length ops) ops old mid = subst (λ (n : ℕ). MakesOn setup client n ops old mid) all c.loop-op.invariant.makes in
     let here = stays_till setup client (length ops) ops old mid new m in
     record {
-      numbered = either_way result _ _ _ c.leave.ensures.done c.leave.ensures.kept (λ step. numbered_leave client mid new m.ready step (here step)) (λ keeps. numbered_kept mid new keeps m.ready.numbered);
-      attempts = either_way result _ _ _ c.leave.ensures.done c.leave.ensures.kept (λ step. tried_leave client mid new m.ready step (here step)) (λ keeps. attempts_kept mid new keeps) ∙ m.tried;
-      ready = ok_more result _ _ (λ step. ready_leave client mid new m.ready step (here step)) c.leave.ensures.done;
-      gone = ok_more result _ _ (λ step. gone_leave setup client (length ops) ops old mid new m step) c.leave.ensures.done;
-      goes = ok_more result _ _ (λ step. goes_leave setup client (length ops) ops old mid new m step) c.leave.ensures.done;
-      failed = err_more result _ _ (λ halt failed script past none stands its. let before = m.goes script past none stands its in
+      numbered = either_way result _ _ _ (λ step. numbered_leave client mid new m.ready step (here step)) (λ keeps. numbered_kept mid new keeps m.ready.numbered) c.leave.ensures.done c.leave.ensures.kept;
+      attempts = either_way result _ _ _ (λ step. tried_leave client mid new m.ready step (here step)) (λ keeps. attempts_kept mid new keeps) c.leave.ensures.done c.leave.ensures.kept ∙ m.tried;
+      ready = on_ok_weaker result (λ step. ready_leave client mid new m.ready step (here step)) c.leave.ensures.done;
+      gone = on_ok_weaker result (λ step. gone_leave setup client (length ops) ops old mid new m step) c.leave.ensures.done;
+      goes = on_ok_weaker result (λ step. goes_leave setup client (length ops) ops old mid new m step) c.leave.ensures.done;
+      failed = IfErr-weaker result _ _ (λ halt failed script past none stands its. let before = m.goes script past none stands its in
           halts_at_client setup (length script) before.now mid new halt before.stands.holds client failed) c.leave.ensures.failed;
     }
 

@@ -1,11 +1,13 @@
 use Rattle.std.proofs.Common.{◌≡◌, ℕ, ◌+◌, ◌<◌, ◌≤◌, length, Some, refl, sym, ◌∙◌, ap, subst, arith, All}
 use Rattle.std.specs.Prelude.{slice_get}
+use Rattle.std.proofs.lemmas.Result.{IfErr-weaker, on_ok_weaker}
 use Rattle.xa_types.specs.declared.call.Op.{Op}
 use Rattle.xa_script.specs.declared.script.Client.{Client as ScriptClient}
 use Rattle.xa_domain.specs.Serving.{IsBuiltOp, StartersMatch}
-use Rattle.xa_domain.specs.Standing.{attempts}
-use Rattle.xa_domain.proofs.Kept.{stood_here, passed_on}
-use Rattle.xa_domain.proofs.Making.{runs_none, runs_more, here_fresh, its_calls, all_away, all_gone, ok_more, err_more, both_ok, none_done}
+use Rattle.xa_tables.specs.Resting.{attempts}
+use Rattle.xa_tables.proofs.Kept.{stood_here, passed_on}
+use Rattle.xa_tables.proofs.Places.{on_ok_both}
+use Rattle.xa_domain.proofs.Making.{runs_none, runs_more, here_fresh, its_calls, all_away, all_gone, none_done}
 use Rattle.xa_domain.proofs.serving.run.Goals as goal
 
 pub start_all-requires : goal.start_all-requires
@@ -65,9 +67,9 @@ returns g c =
     record {
       numbered = c.close_all.ensures.numbered;
       starters = rw tried c.start_all.ensures.starters;
-      over = both_ok result _ _ _ (λ over same. (over, all_gone setup clients at.place c.args.domain.now at.domain at.invariant.runs c.loop-place-test.false c.close_all.new.domain same)) c.close_all.ensures.over c.close_all.ensures.clients;
-      goes = ok_more result _ _ (λ goes past none stands. let before = at.invariant.runs.goes past none stands in goes setup clients before.now c.requires.configured none before.stands) c.close_all.ensures.goes;
-      failed = err_more result _ _ (λ halt failed past none stands. let before = at.invariant.runs.goes past none stands in failed setup clients before.now c.requires.configured none before.stands) c.close_all.ensures.failed;
+      over = on_ok_both result (λ over same. (over, all_gone setup clients at.place c.args.domain.now at.domain at.invariant.runs c.loop-place-test.false c.close_all.new.domain same)) c.close_all.ensures.over c.close_all.ensures.clients;
+      goes = on_ok_weaker result (λ goes past none stands. let before = at.invariant.runs.goes past none stands in goes setup clients before.now c.requires.configured none before.stands) c.close_all.ensures.goes;
+      failed = IfErr-weaker result _ _ (λ halt failed past none stands. let before = at.invariant.runs.goes past none stands in failed setup clients before.now c.requires.configured none before.stands) c.close_all.ensures.failed;
     }
 
 pub returns-in_err-start_all : goal.returns-in_err-start_all

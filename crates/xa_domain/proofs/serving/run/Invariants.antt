@@ -1,5 +1,5 @@
 use Rattle.std.proofs.Common.{◌≡◌}
-use Rattle.xa_domain.specs.Standing.{attempts}
+use Rattle.xa_tables.specs.Resting.{attempts}
 use Rattle.xa_domain.specs.Making.{RunsOn}
 use Rattle.xa_domain.proofs.serving.run.Given as goal
 

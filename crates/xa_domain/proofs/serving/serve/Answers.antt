@@ -1,14 +1,15 @@
 use Rattle.std.proofs.Common.{◌≡◌, ℕ, ◌+◌, ◌<◌, ◌≤◌, List, [], length, Option, Some, OnOk, IfErr, inl, inr, refl, sym, ◌∙◌, ap, subst, arith, rules}
 use Rattle.std.specs.Result.{result_err}
+use Rattle.std.proofs.lemmas.Result.{IfErr-weaker, on_ok_weaker}
 use Rattle.xa_script.specs.declared.script.Client.{Client as ScriptClient}
-use Rattle.xa_domain.specs.declared.halt.Halt.{Halt}
-use Rattle.xa_domain.specs.Boot.{boot_past}
-use Rattle.xa_domain.specs.Standing.{Stands, GoesOn, IsHalted, attempts}
+use Rattle.xa_tables.specs.declared.halt.Halt.{Halt}
+use Rattle.xa_tables.specs.Boot.{boot_past}
+use Rattle.xa_tables.specs.Resting.{attempts}
+use Rattle.xa_domain.specs.Standing.{Stands, GoesOn, IsHalted}
 use Rattle.xa_domain.specs.Serving.{IsBuilt, LinkTells, StarterShows, StartersMatch, ServeEnds}
-use Rattle.xa_domain.proofs.Setups.{good}
+use Rattle.xa_tables.proofs.Setups.{good}
 use Rattle.xa_domain.proofs.Booted.{boot_stands, boot_stamps}
 use Rattle.xa_domain.proofs.Carrying.{starters_fresh}
-use Rattle.xa_domain.proofs.Making.{ok_more, err_more}
 use Rattle.xa_domain.proofs.Ends.{ends_here, booted_here, ends_none, dense_of_none, dense_after, taken, holds_after, room_left}
 use Rattle.xa_domain.proofs.serving.serve.Goals as goal
 
@@ -45,8 +46,8 @@ returns g c =
     let back = c.hand_back-homes-2.result in
     let its = c.hand_back-homes-2.ensures in
     let stands = boot_stands setup clients c.in-Ok-found.domain c.in-Ok-found.ensures.holds c.in-Ok-found.ensures.booted.fresh in
-    let goes : OnOk c.run.result (GoesOn setup clients d) = ok_more c.run.result _ _ (λ more. more (boot_past setup) c.requires.restarts stands) c.run.ensures.goes in
-    let halted : IfErr c.run.result (λ halt. IsHalted setup (length clients) halt d) = err_more c.run.result _ _ (λ halt more. more (boot_past setup) c.requires.restarts stands) c.run.ensures.failed in
+    let goes : OnOk c.run.result (GoesOn setup clients d) = on_ok_weaker c.run.result (λ more. more (boot_past setup) c.requires.restarts stands) c.run.ensures.goes in
+    let halted : IfErr c.run.result (λ halt. IsHalted setup (length clients) halt d) = IfErr-weaker c.run.result _ _ (λ halt more. more (boot_past setup) c.requires.restarts stands) c.run.ensures.failed in
     let long : c.in-Ok-starters.starters.len ≡ length c.run.new.starters = omega (arith, c.in-Ok-starters.starters.ok.0, ap length c.as_mut_slice.ensures.value, c.run.auto.starters) in
     let after = holds_after setup clients d c.run.result goes halted in
     record {
@@ -64,8 +65,8 @@ hand_back-homes-requires-2 g c =
     let clients = c.slice-clients.result.now in
     let d = c.run.new.domain in
     let stands = boot_stands setup clients c.in-Ok-found.domain c.in-Ok-found.ensures.holds c.in-Ok-found.ensures.booted.fresh in
-    let goes : OnOk c.run.result (GoesOn setup clients d) = ok_more c.run.result _ _ (λ more. more (boot_past setup) c.requires.restarts stands) c.run.ensures.goes in
-    let halted : IfErr c.run.result (λ halt. IsHalted setup (length clients) halt d) = err_more c.run.result _ _ (λ halt more. more (boot_past setup) c.requires.restarts stands) c.run.ensures.failed in
+    let goes : OnOk c.run.result (GoesOn setup clients d) = on_ok_weaker c.run.result (λ more. more (boot_past setup) c.requires.restarts stands) c.run.ensures.goes in
+    let halted : IfErr c.run.result (λ halt. IsHalted setup (length clients) halt d) = IfErr-weaker c.run.result _ _ (λ halt more. more (boot_past setup) c.requires.restarts stands) c.run.ensures.failed in
     let after = holds_after setup clients d c.run.result goes halted in
     room_left setup (length clients) after.0 d c.in-Ok.room c.in-Ok.ensures after.1 c.run.ensures.numbered
 

@@ -1,9 +1,9 @@
 use Rattle.std.proofs.Common.{◌≡◌, List, ℕ, sym, ◌∙◌, subst}
 use Rattle.std.proofs.lemmas.Result.{on_ok_weaker, IfErr-weaker}
-use Rattle.xa_domain.specs.declared.server.Attempt.{Attempt}
-use Rattle.xa_domain.specs.declared.server.Attempt.TheVariants as tries
-use Rattle.xa_domain.specs.Steps.{Changed}
-use Rattle.xa_domain.specs.Standing.{attempts}
+use Rattle.xa_tables.specs.declared.server.Attempt.{Attempt}
+use Rattle.xa_tables.specs.declared.server.Attempt.TheVariants as tries
+use Rattle.xa_tables.specs.Steps.{Changed}
+use Rattle.xa_tables.specs.Resting.{attempts}
 use Rattle.xa_domain.proofs.Begun.{numbered_begun, served_begun, beside_begins, new_life, up_begun, attempts_begun, clients_begun, is_begun}
 use Rattle.xa_domain.proofs.starting.begin.Goals as goal
 

@@ -1,11 +1,11 @@
 use Rattle.std.proofs.Common.{◌≡◌, List, ℕ, ◌∷◌, sym, ◌∙◌, subst}
 use Rattle.std.proofs.lemmas.Result.{on_ok_weaker, IfErr-weaker}
 use Rattle.xa_events.specs.declared.event.Event.TheVariants.{StartFailed}
-use Rattle.xa_domain.specs.declared.server.Attempt.{Attempt}
-use Rattle.xa_domain.specs.declared.server.Attempt.TheVariants as tries
-use Rattle.xa_domain.specs.Steps.{Changed}
-use Rattle.xa_domain.specs.Standing.{attempts}
-use Rattle.xa_domain.proofs.Places.{on_ok_both}
+use Rattle.xa_tables.specs.declared.server.Attempt.{Attempt}
+use Rattle.xa_tables.specs.declared.server.Attempt.TheVariants as tries
+use Rattle.xa_tables.specs.Steps.{Changed}
+use Rattle.xa_tables.specs.Resting.{attempts}
+use Rattle.xa_tables.proofs.Places.{on_ok_both}
 use Rattle.xa_domain.proofs.Begun.{numbered_failed, served_failed, retire_failed, attempts_failed, failed_holds, failed_on, failed_goes}
 use Rattle.xa_domain.proofs.starting.fail.Goals as goal
 

@@ -1,10 +1,11 @@
 use Rattle.std.proofs.Common.{◌≡◌, ◌∙◌, List, ℕ, Err, ap, sym, subst}
 use Rattle.std.specs.Prelude.{slice_get, IsSomeAnd}
 use Rattle.std.proofs.lemmas.Result.{on_ok_weaker, IfErr-weaker}
-use Rattle.xa_domain.specs.declared.server.Attempt.{Attempt}
+use Rattle.xa_tables.specs.declared.server.Attempt.{Attempt}
 use Rattle.xa_domain.specs.Serving.{IsStarterBy}
-use Rattle.xa_domain.specs.Standing.{attempts}
-use Rattle.xa_domain.proofs.Begun.{other_stands, numbered_room, attempts_room, on_room, room_stood, may_begin, stands_room, room_halts, shows_started, shows_failed, shows_same}
+use Rattle.xa_tables.specs.Resting.{attempts}
+use Rattle.xa_tables.proofs.Lists.{other_stands}
+use Rattle.xa_domain.proofs.Begun.{numbered_room, attempts_room, on_room, room_stood, may_begin, stands_room, room_halts, shows_started, shows_failed, shows_same}
 use Rattle.xa_domain.proofs.starting.start.Goals as goal
 
 -- ---- it is started

@@ -1,7 +1,7 @@
 use Rattle.std.proofs.Common.{refl, ◌∙◌, arith}
-use Rattle.xa_domain.specs.Standing.{attempts}
-use Rattle.xa_domain.proofs.Kept.{passed_on}
-use Rattle.xa_domain.proofs.Lists.{set_length}
+use Rattle.xa_tables.specs.Resting.{attempts}
+use Rattle.xa_tables.proofs.Kept.{passed_on}
+use Rattle.xa_tables.proofs.Lists.{set_length}
 use Rattle.xa_domain.proofs.ClosedDown.{leads_on, leads_to_halt}
 use Rattle.xa_domain.proofs.Begun.{match_long, match_at, match_set, starts_none, ready_all}
 use Rattle.xa_domain.proofs.starting.start_all.Goals as goal

@@ -1,5 +1,5 @@
 use Rattle.std.proofs.Common.{◌≡◌, length}
-use Rattle.xa_domain.specs.Standing.{attempts}
+use Rattle.xa_tables.specs.Resting.{attempts}
 use Rattle.xa_domain.specs.Serving.{StartersMatch}
 use Rattle.xa_domain.specs.Beginning.{IsStarting}
 use Rattle.xa_domain.proofs.starting.start_all.Given as goal

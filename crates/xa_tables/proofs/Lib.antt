@@ -1,0 +1,11 @@
+pub mod Lists
+pub mod Growing
+pub mod Finding
+pub mod Calls
+pub mod Servers
+pub mod Withdrawing
+pub mod Kept
+pub mod Places
+pub mod Setups
+pub mod Booting
+pub mod Founding

@@ -1,0 +1,16 @@
+use Rattle.std.proofs.lemmas.Result.{on_err_weaker}
+use Rattle.xa_tables.proofs.Kept.{server_fails, server_succeeds}
+use Rattle.xa_tables.proofs.Places.{server_keeps}
+use Rattle.xa_tables.proofs.domain.Domain.fail_start.Goals as goal
+
+pub returns-clause-failed : goal.returns-clause-failed
+returns-clause-failed g c =
+    server_fails c.args.self.now c.fail_start.result c.fail_start.new.latest c.args.server c.index_mut-off.result.now c.fail_start.new.self c.requires c.index_mut-off.ensures.value c.fail_start.ensures.failed
+
+pub returns-clause-succeeds : goal.returns-clause-succeeds
+returns-clause-succeeds g c =
+    server_succeeds c.args.self.now c.fail_start.result c.fail_start.new.latest c.args.server c.index_mut-off.result.now c.requires c.index_mut-off.ensures.value c.fail_start.ensures.succeeds
+
+pub returns-clause-kept : goal.returns-clause-kept
+returns-clause-kept g c =
+    on_err_weaker c.fail_start.result (server_keeps c.args.self.now c.fail_start.new.latest c.args.server c.index_mut-off.result.now c.fail_start.new.self c.requires c.index_mut-off.ensures.value) c.fail_start.ensures.kept

@@ -1,0 +1,10 @@
+pub mod Stamps
+pub mod Tables
+pub mod Lives
+pub mod Holding
+pub mod Resting
+pub mod Steps
+pub mod May
+pub mod Boot
+pub mod Booting
+pub mod Piping
