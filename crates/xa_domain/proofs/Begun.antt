@@ -1,5 +1,5 @@
 -- Servers that are started, one after another: what each step leaves, and that the events stand.
-use Rattle.std.proofs.Common.{◌≡◌, ◌⊎◌, ℕ, zero, suc, ◌+◌, ◌<◌, ◌≤◌, ◌^◌, true, false, List, [], ◌∷◌, ◌++◌, length, map, Option, Some, None, Result, Ok, Err, OnOk, OnErr, IsSomeAnd, inl, inr, refl, sym, ◌∙◌, ap, subst, arith, append_assoc, append-nil, get_or, ◌-◌, min}
+use Rattle.std.proofs.Common.{◌≡◌, ◌⊎◌, ℕ, zero, suc, ◌+◌, ◌<◌, ◌≤◌, ◌^◌, true, false, List, [], ◌∷◌, ◌++◌, length, map, Option, Some, None, IsSomeAnd, inl, inr, refl, sym, ◌∙◌, ap, subst, arith, append_assoc, append-nil, get_or, ◌-◌, min}
 use Rattle.std.specs.Prelude.{slice_get, slice_set, slice_index_or, option_map, vec_capacity, IsSome, IfSome}
 use Rattle.std.specs.List.{flat_map}
 use Rattle.std.proofs.lemmas.Bool.{cases_eq}
@@ -9,7 +9,6 @@ use Rattle.xa_types.specs.declared.ids.ServerId.{ServerId}
 use Rattle.xa_types.specs.declared.ids.Generation.{Generation}
 use Rattle.xa_types.specs.declared.setup.Setup.{Setup}
 use Rattle.xa_types.specs.declared.setup.ServerSetup.{ServerSetup}
-use Rattle.xa_types.specs.Configured.{is_configured}
 use Rattle.xa_types.specs.Setup.{numbered}
 use Rattle.xa_events.specs.declared.event.Event.{Event}
 use Rattle.xa_events.specs.declared.event.Event.TheVariants.{Start, StartFailed}
@@ -27,7 +26,6 @@ use Rattle.xa_pipe.specs.Life.Written.{Whole}
 use Rattle.xa_pipe.specs.Pipe.{Wrote, HasRead}
 use Rattle.xa_script.specs.declared.script.Client.{Client as ScriptClient}
 use Rattle.xa_tables.specs.declared.queue.Queue.{Queue}
-use Rattle.xa_tables.specs.declared.client.Client.{Client}
 use Rattle.xa_tables.specs.declared.server.Server.{Server}
 use Rattle.xa_tables.specs.declared.server.Attempt.{Attempt}
 use Rattle.xa_tables.specs.declared.server.Attempt.TheVariants.{NotYet, Started, Failed}
@@ -36,10 +34,10 @@ use Rattle.xa_tables.specs.declared.domain.Domain.{Domain}
 use Rattle.xa_tables.specs.declared.life.Lived.{Lived}
 use Rattle.xa_tables.specs.declared.halt.Halt.TheVariants.{NoMemory}
 use Rattle.xa_stamp.specs.Home.{last_stamp}
-use Rattle.xa_tables.specs.Holding.{BoardHolds, ServerHolds, Holds, lives_by, failed_by}
-use Rattle.xa_domain.specs.Living.{IsAt, IsUnborn, LifeShows, is_of_first_life}
+use Rattle.xa_tables.specs.Holding.{BoardHolds, ServerHolds, Holds, lives_by}
+use Rattle.xa_domain.specs.Living.{IsAt, IsUnborn, LifeShows}
 use Rattle.xa_tables.specs.Piping.{Greeted, NotGreeted}
-use Rattle.xa_tables.specs.Resting.{IsNumbered, IsServed, IsStill, IsBooted, IsFresh, IsUp, IsOver, attempts}
+use Rattle.xa_tables.specs.Resting.{IsNumbered, IsServed, IsBooted, IsFresh, IsUp, IsOver, attempts}
 use Rattle.xa_domain.specs.Standing.{IsReady, MayFall, MayRetire, Retires, RetiresTables, NoneRestarts, ServerLives, Stands, GoesOn, IsHalted, StartsOn, stop_of}
 use Rattle.xa_tables.specs.Steps.{Changed, KeepsPlaces, ServerNotes, Starts, FailsStart, HasRoom, server_place}
 use Rattle.xa_tables.specs.May.{StartMay}
@@ -56,7 +54,7 @@ use Rattle.xa_tables.proofs.Founding.{flat_map_none}
 use Rattle.xa_domain.proofs.Configured.{never_restarts}
 use Rattle.xa_domain.proofs.GivenUp.{left_same}
 use Rattle.xa_domain.proofs.Fallen.{stopped_by, served_kept}
-use Rattle.xa_domain.proofs.ClosedDown.{leads_on, leads_nowhere, told, other_life, lives_moved, lives_ended, holds_told, numbered_told, served_told}
+use Rattle.xa_domain.proofs.ClosedDown.{leads_nowhere, told, other_life, lives_moved, lives_ended, holds_told, numbered_told, served_told}
 
 -- ---- the tables once a server was tried
 

@@ -1,25 +1,22 @@
 -- A request carried to its answer: its end at the server, what its client is told, and the server behind it.
-use Rattle.std.proofs.Common.{◌≡◌, ◌⊎◌, ℕ, ◌+◌, ◌<◌, ◌≤◌, Bool, true, false, cond, List, [], ◌∷◌, ◌++◌, length, map, Option, Some, None, Result, Ok, Err, IsSomeAnd, inl, inr, refl, sym, ◌∙◌, ap, subst, arith}
-use Rattle.std.specs.Prelude.{slice_get, IfErr, if◌then◌else◌}
+use Rattle.std.proofs.Common.{◌≡◌, ℕ, ◌+◌, Bool, true, false, List, ◌∷◌, ◌++◌, length, Option, Some, None, Result, Ok, Err, IsSomeAnd, inl, inr, refl, sym, ◌∙◌, ap, subst, arith}
+use Rattle.std.specs.Prelude.{slice_get, if◌then◌else◌}
 use Rattle.std.specs.List.{list_all}
-use Rattle.std.proofs.lemmas.Bool.{cases_Bool, cases_eq}
+use Rattle.std.proofs.lemmas.Bool.{cases_eq}
 use Rattle.std.proofs.lemmas.Option.{same_Some}
 use Rattle.xa_types.specs.declared.ids.RequestId.{RequestId}
 use Rattle.xa_types.specs.declared.call.Ask.{Ask}
 use Rattle.xa_types.specs.declared.call.Op.TheVariants.{Call}
 use Rattle.xa_types.specs.declared.call.Rval.{Rval}
 use Rattle.xa_types.specs.declared.call.Rval.TheVariants.{Success, Fail, Exit as ExitValue}
-use Rattle.xa_types.specs.declared.data.Data.{Data}
 use Rattle.xa_types.specs.declared.reply.Answer.{Answer}
 use Rattle.xa_types.specs.declared.reply.Answer.TheVariants.{Success as SuccessAnswer, Failed as FailedAnswer, Error}
 use Rattle.xa_types.specs.declared.setup.Setup.{Setup}
 use Rattle.xa_types.specs.Configured.{is_configured}
-use Rattle.xa_types.specs.Kind.{is_sound}
 use Rattle.xa_types.specs.Setup.{numbered}
 use Rattle.xa_events.specs.declared.event.Event.{Event}
-use Rattle.xa_events.specs.declared.event.Event.TheVariants.{End, Stop, Answer as AnswerEvent}
+use Rattle.xa_events.specs.declared.event.Event.TheVariants.{End, Answer as AnswerEvent}
 use Rattle.xa_events.specs.declared.event.Ended.{Ended}
-use Rattle.xa_events.specs.declared.event.Stopped.{Stopped}
 use Rattle.xa_events.specs.declared.event.Doing.{Doing}
 use Rattle.xa_events.specs.declared.event.Doing.TheVariants.{Off, Idle, Busy}
 use Rattle.xa_events.specs.declared.event.Outcome.{Outcome}
@@ -29,31 +26,29 @@ use Rattle.xa_events.specs.Answers.{IsAnswerTo, reply_of, answer_to}
 use Rattle.xa_events.specs.Caller.{is_call_of}
 use Rattle.xa_events.specs.Calls.{FitsCall}
 use Rattle.xa_events.specs.Cases.{may_end_so}
-use Rattle.xa_events.specs.Request.{Settlement, WasSettled, settlement_in, is_accept_of, is_settled_by}
+use Rattle.xa_events.specs.Request.{Settlement, WasSettled, is_accept_of, is_settled_by}
 use Rattle.xa_events.specs.Request.Settlement.{EndedBy}
 use Rattle.xa_events.specs.Server.{after_end}
-use Rattle.xa_events.specs.Words.{count as counted, same_request}
+use Rattle.xa_events.specs.Words.{count as counted}
 use Rattle.xa_events.proofs.WordsLemmas.{same_request_of}
 use Rattle.xa_pipe.specs.declared.hearing.Return.{Return}
 use Rattle.xa_pipe.specs.Life.{IsLife, turn_behind}
 use Rattle.xa_pipe.specs.Life.Turn.{AwaitsInvoke, AwaitsNext}
 use Rattle.xa_pipe.specs.Pipe.{Piped, shown}
 use Rattle.xa_script.specs.declared.script.Client.{Client as ScriptClient}
-use Rattle.xa_tables.specs.declared.client.Client.{Client}
 use Rattle.xa_tables.specs.declared.server.Server.{Server}
 use Rattle.xa_tables.specs.declared.server.Attempt.{Attempt}
 use Rattle.xa_tables.specs.declared.server.Attempt.TheVariants.{Started}
 use Rattle.xa_tables.specs.declared.server.Last.TheVariants.{Nothing}
 use Rattle.xa_tables.specs.declared.domain.Domain.{Domain}
 use Rattle.xa_tables.specs.declared.life.Lived.{Lived}
-use Rattle.xa_domain.specs.Calling.{OnlyLife, IsBusy, MayEndWith, FallsOr, NextOr, Settles, Tells, Frees, cause_by, cause_heard, stop_events, ended_of, replied_of}
+use Rattle.xa_domain.specs.Calling.{FallsOr, NextOr, Settles, Tells, Frees, cause_by, cause_heard, stop_events, ended_of, replied_of}
 use Rattle.xa_tables.specs.Holding.{Holds}
 use Rattle.xa_domain.specs.Living.{IsAt, LifeShows, is_of_first_life}
-use Rattle.xa_tables.specs.May.{EndMay, AnswerMay}
+use Rattle.xa_tables.specs.May.{AnswerMay}
 use Rattle.xa_tables.specs.Resting.{IsNumbered}
-use Rattle.xa_domain.specs.Standing.{IsCallAt, NoneRestarts, ServerLives, Stands, GoesOn, Retires, RetiresTables, is_retiring, stop_of}
-use Rattle.xa_tables.specs.Steps.{Changed, Ends, Answers, KeepsPlaces, server_place}
-use Rattle.xa_tables.specs.Tables.{last_by}
+use Rattle.xa_domain.specs.Standing.{IsCallAt, NoneRestarts, ServerLives, GoesOn, Retires, is_retiring, stop_of}
+use Rattle.xa_tables.specs.Steps.{Ends}
 use Rattle.xa_tables.proofs.Calls.{answer_holds, fits_answer, other_call}
 use Rattle.xa_domain.proofs.Delivering.{IsWaiting}
 use Rattle.xa_domain.proofs.Exchanging.{LifeEnds}
@@ -63,7 +58,7 @@ use Rattle.xa_tables.proofs.Lists.{after_stands, other_stands, before_is}
 use Rattle.xa_domain.proofs.Tabled.{ends_keep}
 use Rattle.xa_domain.proofs.Rests.{some_is, some_of}
 use Rattle.xa_domain.proofs.Retired.{none_of_life}
-use Rattle.xa_domain.proofs.Underway.{Under, none_open, one_open, stands_of, under_more, under_beside, under_gone, under_behind, holds_beside, settles_one, settled_behind}
+use Rattle.xa_domain.proofs.Underway.{Under, none_open, one_open, stands_of, under_more, under_beside, under_gone, under_behind, settles_one, settled_behind}
 
 -- ---- the server at work
 

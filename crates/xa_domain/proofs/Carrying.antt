@@ -1,5 +1,5 @@
 -- What the tables tell of each server's start, its life and its starter.
-use Rattle.std.proofs.Common.{◌≡◌, ◌⊎◌, ℕ, zero, suc, ◌+◌, ◌-◌, ◌^◌, ◌<◌, ◌≤◌, ◌==◌, min, if◌then◌else◌, Bool, true, false, cond, List, [], ◌∷◌, ◌++◌, length, map, reverse, All, Option, Some, None, inl, inr, refl, sym, ◌∙◌, ap, subst, arith, eq-eqb, ne_eqb}
+use Rattle.std.proofs.Common.{◌≡◌, ◌⊎◌, ℕ, zero, suc, ◌+◌, ◌-◌, ◌^◌, ◌≤◌, ◌==◌, min, if◌then◌else◌, Bool, false, cond, List, [], ◌∷◌, ◌++◌, length, map, reverse, All, Option, Some, None, inl, inr, refl, sym, ◌∙◌, ap, subst, arith, eq-eqb, ne_eqb}
 use Rattle.std.specs.Prelude.{slice_get, IfSome, IsSomeAnd}
 use Rattle.std.specs.List.{filter, filter_map, flat_map, cons_option}
 use Rattle.std.proofs.lemmas.Bool.{cases_Bool}
@@ -17,7 +17,6 @@ use Rattle.xa_events.specs.declared.event.Doing.TheVariants.{Off}
 use Rattle.xa_events.specs.Words.{count as counted}
 use Rattle.xa_events.specs.State.{caller_of}
 use Rattle.xa_events.specs.Homes.{of_worker}
-use Rattle.xa_events.specs.Local.{worker_events}
 use Rattle.xa_events.specs.Server.{starts}
 use Rattle.xa_events.proofs.Owns.{server_own}
 use Rattle.xa_events.proofs.WordsLemmas.{count_no, filter_map_no}
@@ -30,7 +29,7 @@ use Rattle.xa_tables.specs.declared.domain.Domain.{Domain}
 use Rattle.xa_tables.specs.declared.life.Lived.{Lived}
 use Rattle.xa_domain.specs.declared.serving.Life.{Life}
 use Rattle.xa_tables.specs.Holding.{ServerHolds, Holds, starts_by, lives_by, failed_by}
-use Rattle.xa_tables.specs.Lives.{server_name_in, life_in, lives_from, lives_of, fails_start, failed_starts}
+use Rattle.xa_tables.specs.Lives.{server_name_in, life_in, lives_from, fails_start, failed_starts}
 use Rattle.xa_domain.specs.Living.{LifeShows}
 use Rattle.xa_tables.specs.Resting.{IsNumbered}
 use Rattle.xa_domain.specs.Standing.{ServerLives}

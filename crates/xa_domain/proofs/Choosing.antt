@@ -1,7 +1,7 @@
 -- The server that a call is sent to: one of the row's queue waits for a request.
-use Rattle.std.proofs.Common.{◌≡◌, ◌⊎◌, ℕ, zero, suc, ◌+◌, ◌<◌, ◌≤◌, ◌==◌, ◌||◌, not, Bool, true, false, cond, List, [], ◌∷◌, length, get_or, Option, Some, None, IsSomeAnd, inl, inr, refl, sym, ◌∙◌, ap, subst, arith, eq-eqb, eqb-true, lt-ltb, ltb-true}
+use Rattle.std.proofs.Common.{◌≡◌, ℕ, suc, ◌+◌, ◌==◌, ◌||◌, not, Bool, true, false, cond, List, [], ◌∷◌, length, Some, None, IsSomeAnd, inl, inr, refl, sym, ◌∙◌, ap, subst, arith, eqb-true, lt-ltb, ltb-true}
 use Rattle.std.specs.Prelude.{slice_get, nat_lt, ◌&&◌}
-use Rattle.std.specs.List.{All, Contains, find, list_any, position, position_or_len}
+use Rattle.std.specs.List.{Contains, find, list_any, position, position_or_len}
 use Rattle.std.proofs.lemmas.Bool.{cases_Bool, and_parts, and_from, not-true, or_left}
 use Rattle.std.proofs.lemmas.Option.{none-some, cond_some, slice_get_cases}
 use Rattle.std.proofs.lemmas.List.Elements.{All-contains}
@@ -9,13 +9,12 @@ use Rattle.std.proofs.lemmas.List.Folds.{find_at}
 use Rattle.std.proofs.lemmas.List.Quantifiers.{position-Some}
 use Rattle.xa_types.specs.declared.ids.QueueId.{QueueId}
 use Rattle.xa_types.specs.declared.row.Row.{Row}
-use Rattle.xa_events.specs.declared.event.Doing.{Doing}
-use Rattle.xa_events.specs.declared.event.Doing.TheVariants.{Off, Idle}
+use Rattle.xa_events.specs.declared.event.Doing.TheVariants.{Idle}
 use Rattle.xa_tables.specs.declared.queue.Queue.{Queue}
 use Rattle.xa_tables.specs.declared.server.Server.{Server}
 use Rattle.xa_tables.specs.declared.domain.Domain.{Domain}
 use Rattle.xa_tables.specs.Tables.{is_idle}
-use Rattle.xa_tables.specs.Resting.{IsFresh, IsUp, IsOver, has_server}
+use Rattle.xa_tables.specs.Resting.{has_server}
 use Rattle.xa_domain.specs.Standing.{IsReady}
 use Rattle.xa_domain.proofs.Rests.{some_there, some_of}
 

@@ -1,5 +1,5 @@
 -- The course of a call that a row serves: what holds after each of its steps.
-use Rattle.std.proofs.Common.{◌≡◌, ◌⊎◌, ℕ, ◌+◌, ◌<◌, ◌≤◌, Bool, true, false, List, [], ◌∷◌, ◌++◌, length, Option, Some, None, Result, Ok, Err, IfErr, IsSomeAnd, inl, inr, refl, sym, ◌∙◌, ap, subst}
+use Rattle.std.proofs.Common.{◌≡◌, ◌⊎◌, ℕ, ◌+◌, ◌<◌, Bool, true, false, List, ◌∷◌, length, Option, Some, None, Result, IfErr, IsSomeAnd, inl, inr, refl, sym, ◌∙◌, ap, subst}
 use Rattle.std.specs.Prelude.{slice_get}
 use Rattle.std.specs.Option.{is_some}
 use Rattle.std.proofs.lemmas.Option.{slice_get_within}
@@ -32,8 +32,7 @@ use Rattle.xa_tables.specs.Steps.{Changed}
 use Rattle.xa_domain.proofs.Carried.{IsServerAs, IsSettled, settled_retires, settled_events, settle_known, settle_told, tell_holds, tell_known, over_stands, freed_stands}
 use Rattle.xa_domain.proofs.Delivering.{IsWaiting, IsBetween}
 use Rattle.xa_domain.proofs.Exchanging.{LifeEnds, exchange_keeps, exchange_between, exchange_called, exchange_server, exchange_there, exchange_same, life_between, its_accept, its_take, exchange_holds, exchange_under, exchange_ends}
-use Rattle.xa_domain.proofs.Heard.{heard_ends, heard_may, heard_idle}
-use Rattle.xa_tables.proofs.Places.{numbered_kept, attempts_kept}
+use Rattle.xa_domain.proofs.Heard.{heard_ends, heard_may}
 use Rattle.xa_tables.proofs.Lists.{after_stands}
 use Rattle.xa_domain.proofs.Rests.{some_is, some_there, changed_as, IsSteady, steady_of, steady_kept}
 use Rattle.xa_domain.proofs.Tabled.{IsTold, IsBehind, settles_steady, settles_between, settles_clients, tells_keep, tells_between, tells_called, frees_steady, frees_between, frees_clients, ready_of}

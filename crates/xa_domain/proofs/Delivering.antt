@@ -1,8 +1,8 @@
 -- The request of a call at its queue and at its server: what the tables keep, and that both events hold.
-use Rattle.std.proofs.Common.{◌≡◌, ◌⊎◌, ℕ, ◌+◌, ◌-◌, ◌^◌, ◌<◌, ◌≤◌, ◌||◌, not, min, Bool, true, false, cond, List, [], ◌∷◌, length, map, Option, Some, None, IsSomeAnd, inl, inr, refl, sym, ◌∙◌, ap, subst, arith}
+use Rattle.std.proofs.Common.{◌≡◌, ◌⊎◌, ℕ, ◌+◌, ◌-◌, ◌^◌, ◌<◌, ◌≤◌, ◌||◌, not, min, Bool, true, false, cond, List, [], ◌∷◌, length, map, Some, None, IsSomeAnd, inl, inr, refl, sym, ◌∙◌, ap, subst, arith}
 use Rattle.std.specs.Prelude.{slice_get}
-use Rattle.std.specs.List.{All, filter, find}
-use Rattle.std.proofs.lemmas.Bool.{cases_Bool, cases_eq, cond_both}
+use Rattle.std.specs.List.{All, find}
+use Rattle.std.proofs.lemmas.Bool.{cases_Bool}
 use Rattle.std.proofs.lemmas.List.Elements.{All-head, All-tail}
 use Rattle.std.proofs.lemmas.List.Sums.{length-filter, count_by-le-length}
 use Rattle.std.proofs.lemmas.Option.{none-some, same_Some, slice_get_within}
@@ -19,32 +19,30 @@ use Rattle.xa_types.specs.Rows.{is_row_of, row_of}
 use Rattle.xa_types.specs.Setup.{capacity_of}
 use Rattle.xa_events.specs.declared.event.Event.{Event}
 use Rattle.xa_events.specs.declared.event.Event.TheVariants.{Accept, Take}
-use Rattle.xa_events.specs.declared.event.Accepted.{Accepted}
-use Rattle.xa_events.specs.declared.event.Doing.TheVariants.{Off, Idle, Busy}
-use Rattle.xa_events.specs.Board.{published, rows_of_version}
+use Rattle.xa_events.specs.declared.event.Doing.TheVariants.{Idle, Busy}
+use Rattle.xa_events.specs.Board.{rows_of_version}
 use Rattle.xa_events.specs.Caller.{accepted, accepts_for}
 use Rattle.xa_events.specs.Cases.{RowAdmits}
 use Rattle.xa_events.specs.Homes.{of_worker}
 use Rattle.xa_events.specs.Local.{worker_events}
-use Rattle.xa_events.specs.Words.{count as counted}
 use Rattle.xa_tables.specs.declared.queue.Queue.{Queue}
 use Rattle.xa_tables.specs.declared.client.Client.{Client}
 use Rattle.xa_tables.specs.declared.server.Server.{Server}
 use Rattle.xa_tables.specs.declared.server.Last.TheVariants.{Nothing}
 use Rattle.xa_tables.specs.declared.domain.Domain.{Domain}
 use Rattle.xa_tables.specs.declared.life.Lived.{Lived}
-use Rattle.xa_domain.specs.Calling.{Sends, Receives, Delivers, IsBusy, accepted_of, taken_of, request_of}
+use Rattle.xa_domain.specs.Calling.{Sends, Receives, Delivers, IsBusy, accepted_of, taken_of}
 use Rattle.xa_tables.specs.Holding.{Holds}
 use Rattle.xa_tables.specs.May.{AcceptMay, TakeMay}
 use Rattle.xa_tables.specs.Resting.{IsNumbered, IsFresh, IsUp, IsOver}
 use Rattle.xa_domain.specs.Standing.{IsReady, RowServes}
-use Rattle.xa_tables.specs.Steps.{Changed, KeepsPlaces, server_place}
+use Rattle.xa_tables.specs.Steps.{server_place}
 use Rattle.xa_tables.proofs.Lists.{each_changed, after_stands, before_is}
 use Rattle.xa_tables.proofs.Calls.{accept_holds}
 use Rattle.xa_domain.proofs.Configured.{has_capacity}
 use Rattle.xa_tables.proofs.Finding.{rows_are}
 use Rattle.xa_tables.proofs.Places.{map-changed, numbered_kept}
-use Rattle.xa_domain.proofs.Rests.{some_is, some_of, some_there, KeepsRest, keeps_rest_all, state_of_queue, state_of_server}
+use Rattle.xa_domain.proofs.Rests.{some_is, some_of, KeepsRest, state_of_queue, state_of_server}
 use Rattle.xa_tables.proofs.Servers.{take_holds, takes_bound, counted_within}
 
 -- ---- what stays

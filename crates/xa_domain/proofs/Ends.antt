@@ -1,5 +1,5 @@
 -- What a domain that is over, or that came to a halt, hands back: the merge of its homes is its events, and the lives and the starters are those of these events.
-use Rattle.std.proofs.Common.{◌≡◌, ℕ, zero, suc, ◌+◌, ◌<◌, ◌≤◌, ◌^◌, List, [], ◌∷◌, ◌++◌, length, take, map, reverse, All, Contains, Option, Some, None, Result, Ok, Err, OnOk, IfErr, inl, inr, refl, sym, ◌∙◌, ap, subst, arith}
+use Rattle.std.proofs.Common.{◌≡◌, ℕ, zero, suc, ◌+◌, ◌<◌, List, [], ◌∷◌, ◌++◌, length, take, reverse, Contains, Option, Some, None, Result, Ok, Err, OnOk, IfErr, inl, inr, refl, sym, ◌∙◌, ap, subst, arith}
 use Rattle.std.specs.Prelude.{slice_get, IsSomeAnd}
 use Rattle.std.specs.Result.{result_err}
 use Rattle.std.proofs.lemmas.Option.{slice_get_cases, slice_get_within}
@@ -24,10 +24,10 @@ use Rattle.xa_tables.specs.declared.halt.Halt.{Halt}
 use Rattle.xa_tables.specs.declared.halt.Halt.TheVariants.{NoMemory, Worn}
 use Rattle.xa_domain.specs.declared.serving.Life.{Life}
 use Rattle.xa_tables.specs.Holding.{Holds}
-use Rattle.xa_tables.specs.Lives.{lives_from, lives_of}
-use Rattle.xa_domain.specs.Merging.{AreHomes, homes_kept}
+use Rattle.xa_tables.specs.Lives.{lives_from}
+use Rattle.xa_domain.specs.Merging.{AreHomes}
 use Rattle.xa_tables.specs.Stamps.{HaltsAt}
-use Rattle.xa_tables.specs.Resting.{IsNumbered, IsOver, attempts}
+use Rattle.xa_tables.specs.Resting.{IsNumbered, attempts}
 use Rattle.xa_domain.specs.Standing.{IsClosedDown, IsHalted, HaveGone, Stands, GoesOn}
 use Rattle.xa_domain.specs.declared.handing.Room.{Room}
 use Rattle.xa_domain.specs.Handing.{HasRoomFor, AreHomesOf, AreHanded}

@@ -1,12 +1,11 @@
 -- The exchange of a call with the program of a server: what the tables are then, that its events hold, and what is known of the life.
-use Rattle.std.proofs.Common.{◌≡◌, ◌⊎◌, ℕ, ◌+◌, ◌^◌, ◌%◌, ◌<◌, ◌≤◌, Bool, true, false, cond, List, [], ◌∷◌, length, Option, Some, None, Result, Ok, Err, IsSomeAnd, inl, inr, refl, sym, ◌∙◌, ap, subst, arith}
+use Rattle.std.proofs.Common.{◌≡◌, ◌⊎◌, ℕ, ◌+◌, ◌^◌, ◌%◌, true, false, List, ◌∷◌, length, Some, None, Result, Ok, Err, IsSomeAnd, inl, inr, refl, sym, ◌∙◌, ap, subst, arith}
 use Rattle.std.specs.Prelude.{slice_get}
 use Rattle.std.proofs.lemmas.Bool.{cases_eq}
 use Rattle.std.proofs.lemmas.Option.{same_Some}
 use Rattle.xa_types.specs.declared.ids.RequestId.{RequestId}
 use Rattle.xa_types.specs.declared.call.Ask.{Ask}
 use Rattle.xa_types.specs.declared.call.Mode.TheVariants.{Reply}
-use Rattle.xa_types.specs.declared.call.Op.{Op}
 use Rattle.xa_types.specs.declared.call.Op.TheVariants.{Call}
 use Rattle.xa_types.specs.declared.data.Data.{Data}
 use Rattle.xa_types.specs.declared.row.Row.{Row}
@@ -25,12 +24,11 @@ use Rattle.xa_events.specs.declared.event.Doing.TheVariants.{Idle}
 use Rattle.xa_events.specs.declared.event.StopCause.{StopCause}
 use Rattle.xa_events.specs.Caller.{is_call_of}
 use Rattle.xa_events.specs.Calls.{CallSent, FitsCall}
-use Rattle.xa_events.specs.Homes.{worker_of}
-use Rattle.xa_events.specs.Request.{SentAs, sent_as, sent_after, is_accept_of, is_settled_by}
-use Rattle.xa_events.specs.Words.{count as counted, same_request}
+use Rattle.xa_events.specs.Request.{SentAs, sent_as, is_accept_of, is_settled_by}
+use Rattle.xa_events.specs.Words.{count as counted}
 use Rattle.xa_events.proofs.WordsLemmas.{same_request_of}
 use Rattle.xa_pipe.specs.declared.hearing.Return.{Return}
-use Rattle.xa_pipe.specs.Life.{IsLife, turn_behind, outcome_by, lost_by}
+use Rattle.xa_pipe.specs.Life.{IsLife, turn_behind, lost_by}
 use Rattle.xa_pipe.specs.Life.Turn.{AwaitsInvoke}
 use Rattle.xa_pipe.specs.Pipe.{Piped, shown, invoke_frame}
 use Rattle.xa_script.specs.declared.script.Client.{Client as ScriptClient}
@@ -41,11 +39,11 @@ use Rattle.xa_tables.specs.declared.server.Attempt.{Attempt}
 use Rattle.xa_tables.specs.declared.server.Attempt.TheVariants.{Started}
 use Rattle.xa_tables.specs.declared.domain.Domain.{Domain}
 use Rattle.xa_tables.specs.declared.life.Lived.{Lived}
-use Rattle.xa_domain.specs.Calling.{OnlyLife, Delivers, Exchanges, IsBusy, accepted_of, taken_of, request_of, outcome_heard}
+use Rattle.xa_domain.specs.Calling.{Exchanges, IsBusy, accepted_of, taken_of, request_of, outcome_heard}
 use Rattle.xa_tables.specs.Holding.{Holds}
 use Rattle.xa_domain.specs.Living.{IsAt, LifeShows, is_of_first_life}
 use Rattle.xa_tables.specs.Piping.{Exchanged}
-use Rattle.xa_tables.specs.Resting.{IsNumbered, IsFresh, IsUp, IsOver}
+use Rattle.xa_tables.specs.Resting.{IsFresh, IsUp, IsOver}
 use Rattle.xa_domain.specs.Standing.{IsReady, IsCallAt, RowServes, ServerLives, Stands}
 use Rattle.xa_tables.specs.Steps.{Changed}
 use Rattle.xa_tables.proofs.Calls.{fits_accept, order_take, other_call}
@@ -53,7 +51,7 @@ use Rattle.xa_domain.proofs.Delivering.{IsServedBy, IsWaiting, IsBetween, sends_
 use Rattle.xa_domain.proofs.Lives.{first_life, of_first, of_other, at_idle, behind, lost}
 use Rattle.xa_tables.proofs.Places.{numbered_kept}
 use Rattle.xa_tables.proofs.Lists.{after_stands, other_stands, before_is}
-use Rattle.xa_domain.proofs.Rests.{some_is, some_of, changed_as, KeepsRest, keeps_rest_all, only_keeps, ready_same}
+use Rattle.xa_domain.proofs.Rests.{some_is, changed_as, KeepsRest, keeps_rest_all, only_keeps, ready_same}
 use Rattle.xa_domain.proofs.Underway.{Under, none_open, one_open, under_of, under_more, under_beside, holds_beside, opens_one}
 
 -- what is known of a life once the request ends, by what was heard

@@ -1,5 +1,5 @@
 -- A call that looks its service up: what follows by the rows that its client's reader found.
-use Rattle.std.proofs.Common.{◌≡◌, ◌⊎◌, ℕ, ◌+◌, ◌<◌, ◌≤◌, Bool, true, false, List, [], ◌∷◌, length, get_or, Option, Some, None, IsSomeAnd, inl, inr, refl, sym, ◌∙◌, ap, subst, arith}
+use Rattle.std.proofs.Common.{◌≡◌, ℕ, ◌<◌, Bool, true, false, List, [], ◌∷◌, length, get_or, Option, IsSomeAnd, refl, sym, ◌∙◌, ap, subst, arith}
 use Rattle.std.specs.Prelude.{slice_get, ◌&&◌}
 use Rattle.std.specs.List.{All, Contains}
 use Rattle.std.specs.Str.{bytes_eq}
@@ -18,17 +18,13 @@ use Rattle.xa_events.specs.declared.event.Evidence.TheVariants.{Version}
 use Rattle.xa_events.specs.Board.{published, rows_of_version, listed_in}
 use Rattle.xa_events.specs.Calls.{CallRefused, is_invalid_call, is_accepted_by}
 use Rattle.xa_events.specs.Cases.{IsEvidenceFor}
-use Rattle.xa_board.specs.Board.{rows_seen}
-use Rattle.xa_board.specs.Reader.{Finds}
-use Rattle.xa_script.specs.declared.script.Client.{Client as ScriptClient}
 use Rattle.xa_domain.specs.declared.calling.Choice.TheVariants.{NoKind, ByRow}
 use Rattle.xa_tables.specs.declared.client.Client.{Client}
 use Rattle.xa_tables.specs.declared.domain.Domain.{Domain}
 use Rattle.xa_tables.specs.Boot.{LooksUp}
 use Rattle.xa_domain.specs.Calling.{ChoiceIs}
 use Rattle.xa_tables.specs.Holding.{Holds}
-use Rattle.xa_domain.specs.Standing.{HasCalled, RowServes, Stands}
-use Rattle.xa_tables.specs.Steps.{Changed}
+use Rattle.xa_domain.specs.Standing.{HasCalled, RowServes}
 use Rattle.xa_tables.proofs.Lists.{changed_length, changed_twice}
 use Rattle.xa_tables.proofs.Calls.{looked_up}
 use Rattle.xa_tables.proofs.Kept.{stood_here}

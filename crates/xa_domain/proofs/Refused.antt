@@ -1,5 +1,5 @@
 -- A call that is refused, and a lookup, which is no event.
-use Rattle.std.proofs.Common.{◌≡◌, ◌⊎◌, ℕ, ◌+◌, ◌<◌, ◌≤◌, Bool, true, false, List, [], ◌∷◌, length, map, Option, Some, None, IsSomeAnd, inl, inr, refl, sym, ◌∙◌, ap, subst, arith}
+use Rattle.std.proofs.Common.{◌≡◌, ◌⊎◌, ℕ, ◌+◌, Bool, true, false, List, ◌∷◌, length, map, Some, None, IsSomeAnd, inl, inr, refl, sym, ◌∙◌, ap, subst, arith}
 use Rattle.std.specs.Prelude.{slice_get}
 use Rattle.std.proofs.lemmas.Bool.{cases_eq}
 use Rattle.xa_types.specs.declared.call.Ask.{Ask}
@@ -10,7 +10,6 @@ use Rattle.xa_types.specs.Setup.{numbered}
 use Rattle.xa_events.specs.declared.event.Event.{Event}
 use Rattle.xa_events.specs.declared.event.Event.TheVariants.{Refuse}
 use Rattle.xa_events.specs.declared.event.Evidence.{Evidence}
-use Rattle.xa_events.specs.declared.event.Refused.{Refused}
 use Rattle.xa_events.specs.Caller.{is_call_of, version_in}
 use Rattle.xa_events.specs.Calls.{CallRefused, FitsCall}
 use Rattle.xa_events.specs.Cases.{IsEvidenceFor}

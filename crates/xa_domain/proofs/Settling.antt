@@ -1,5 +1,5 @@
 -- The end of a request with the life of its server, or without it, and a life behind a request: how the functions show it.
-use Rattle.std.proofs.Common.{◌≡◌, ◌⊎◌, ℕ, ◌<◌, List, [], ◌∷◌, length, get_or, Option, Some, None, Result, Ok, Err, OnOk, OnErr, IfErr, IsSomeAnd, inl, inr, refl, sym, ◌∙◌, ap, subst, true}
+use Rattle.std.proofs.Common.{◌≡◌, ℕ, ◌<◌, List, [], ◌∷◌, length, get_or, Some, None, Result, Ok, Err, OnOk, OnErr, IfErr, IsSomeAnd, inl, inr, refl, sym, ◌∙◌, ap, subst, true}
 use Rattle.std.specs.Prelude.{slice_get}
 use Rattle.std.specs.Vec.{with_item}
 use Rattle.std.proofs.lemmas.Option.{slice_get_within}
@@ -8,24 +8,21 @@ use Rattle.xa_types.specs.declared.setup.Setup.{Setup}
 use Rattle.xa_types.specs.Configured.{is_configured}
 use Rattle.xa_events.specs.declared.event.Event.{Event}
 use Rattle.xa_events.specs.declared.event.Event.TheVariants.{End}
-use Rattle.xa_events.specs.declared.event.Doing.{Doing}
-use Rattle.xa_events.specs.declared.event.Doing.TheVariants.{Off, Idle, Dying}
+use Rattle.xa_events.specs.declared.event.Doing.TheVariants.{Off, Idle}
 use Rattle.xa_events.specs.declared.event.Outcome.{Outcome}
 use Rattle.xa_events.specs.declared.event.StopCause.{StopCause}
-use Rattle.xa_events.specs.declared.event.StopCause.TheVariants.{Exit}
 use Rattle.xa_events.specs.Cases.{may_end_so}
 use Rattle.xa_events.specs.Server.{after_end}
 use Rattle.xa_frame.specs.declared.frame.Frame.{Frame}
 use Rattle.xa_pipe.specs.declared.hearing.Return.{Return}
 use Rattle.xa_pipe.specs.Pipe.{Piped}
 use Rattle.xa_tables.specs.declared.server.Server.{Server}
-use Rattle.xa_tables.specs.declared.server.Last.{Last}
-use Rattle.xa_tables.specs.declared.server.Last.TheVariants.{Nothing, Badly}
+use Rattle.xa_tables.specs.declared.server.Last.TheVariants.{Nothing}
 use Rattle.xa_tables.specs.declared.domain.Domain.{Domain}
 use Rattle.xa_tables.specs.declared.life.Lived.{Lived}
-use Rattle.xa_domain.specs.Calling.{OnlyLife, IsBusy, MayEndWith, NextOr, Settles, Frees, ended_of, stop_events}
+use Rattle.xa_domain.specs.Calling.{OnlyLife, IsBusy, MayEndWith, NextOr, Settles, Frees, ended_of}
 use Rattle.xa_tables.specs.Holding.{Holds}
-use Rattle.xa_tables.specs.May.{EndMay, MayStop}
+use Rattle.xa_tables.specs.May.{MayStop}
 use Rattle.xa_tables.specs.Resting.{IsNumbered, IsUp}
 use Rattle.xa_domain.specs.Standing.{IsReady, MayFall, NoneRestarts, Retires, RetiresTables, stop_of}
 use Rattle.xa_tables.specs.Steps.{Ends}

@@ -1,5 +1,5 @@
 -- Sound data by the configured shapes.
-use Rattle.std.proofs.Common.{◌≡◌, ℕ, ◌+◌, ◌*◌, ◌<◌, ◌≤◌, ◌==◌, Bool, true, false, List, [], ◌∷◌, length, get_or, Option, Some, None, inl, inr, refl, sym, ◌∙◌, ap, subst, arith, add-one, eqb-true, leb-true}
+use Rattle.std.proofs.Common.{◌≡◌, ℕ, ◌*◌, ◌≤◌, ◌==◌, true, false, List, [], ◌∷◌, length, Option, Some, None, inl, inr, refl, sym, ◌∙◌, ap, subst, arith, add-one, eqb-true, leb-true}
 use Rattle.std.specs.Prelude.{slice_get, nat_le}
 use Rattle.std.specs.List.{list_all, sum_by, position}
 use Rattle.std.specs.Str.{bytes_eq}
@@ -17,7 +17,7 @@ use Rattle.xa_types.specs.declared.setup.FieldKind.{FieldKind}
 use Rattle.xa_types.specs.declared.setup.FieldKind.TheVariants.{Short, Int, Long, Char, Text}
 use Rattle.xa_types.specs.Configured.{is_configured, is_valid_kind, is_valid_field, is_valid_shape, are_valid_shapes}
 use Rattle.xa_types.specs.Kind.{field_size, has_size, shape_named, is_sound}
-use Rattle.xa_types.specs.Name.{IsName, is_name, is_identifier}
+use Rattle.xa_types.specs.Name.{IsName, is_identifier}
 use Rattle.xa_types.specs.Setup.{numbered, counted_from_1}
 use Rattle.xa_frame.specs.Spelling.{IsData}
 use Rattle.xa_domain.proofs.Configured.{passes_at}

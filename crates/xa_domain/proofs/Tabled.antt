@@ -1,5 +1,5 @@
 -- The tables once a request has ended, its client was told, and its server is free or over.
-use Rattle.std.proofs.Common.{◌≡◌, ◌⊎◌, ℕ, ◌+◌, ◌<◌, ◌≤◌, Bool, true, false, List, [], ◌∷◌, length, map, Option, Some, None, IsSomeAnd, inl, inr, refl, sym, ◌∙◌, ap, subst, arith}
+use Rattle.std.proofs.Common.{◌≡◌, ◌⊎◌, ℕ, false, List, map, Option, Some, None, IsSomeAnd, inl, inr, refl, sym, ◌∙◌, ap, subst}
 use Rattle.std.specs.Prelude.{slice_get}
 use Rattle.std.proofs.lemmas.Bool.{cases_eq}
 use Rattle.xa_types.specs.declared.ids.RequestId.{RequestId}
@@ -12,19 +12,19 @@ use Rattle.xa_events.specs.Server.{after_end}
 use Rattle.xa_tables.specs.declared.queue.Queue.{Queue}
 use Rattle.xa_tables.specs.declared.client.Client.{Client}
 use Rattle.xa_tables.specs.declared.server.Server.{Server}
-use Rattle.xa_tables.specs.declared.server.Attempt.TheVariants.{NotYet, Started}
+use Rattle.xa_tables.specs.declared.server.Attempt.TheVariants.{Started}
 use Rattle.xa_tables.specs.declared.server.Last.TheVariants.{Nothing}
 use Rattle.xa_tables.specs.declared.domain.Domain.{Domain}
 use Rattle.xa_tables.specs.declared.life.Lived.{Lived}
-use Rattle.xa_domain.specs.Calling.{OnlyLife, IsBusy, FallsOr, Settles, Tells, Frees, ended_of, replied_of}
+use Rattle.xa_domain.specs.Calling.{IsBusy, FallsOr, Settles, Tells, Frees, ended_of}
 use Rattle.xa_tables.specs.Resting.{IsNumbered, IsServed, IsFresh, IsUp, IsOver}
-use Rattle.xa_domain.specs.Standing.{IsReady, RetiresTables}
+use Rattle.xa_domain.specs.Standing.{IsReady}
 use Rattle.xa_tables.specs.Steps.{Changed, Ends, server_place}
-use Rattle.xa_tables.proofs.Lists.{each_changed, after_stands, other_stands, before_is, changed_twice}
+use Rattle.xa_tables.proofs.Lists.{after_stands, other_stands, changed_twice}
 use Rattle.xa_domain.proofs.Delivering.{IsWaiting, IsBetween}
 use Rattle.xa_domain.proofs.Exchanging.{between_same}
 use Rattle.xa_tables.proofs.Places.{map-changed}
-use Rattle.xa_domain.proofs.Rests.{some_is, some_of, some_there, changed_as, KeepsRest, IsSteady, steady_kept, steady_retired, only_keeps, state_of_queue, state_of_server}
+use Rattle.xa_domain.proofs.Rests.{some_is, some_of, some_there, KeepsRest, IsSteady, steady_kept, steady_retired, only_keeps, state_of_queue, state_of_server}
 
 -- ---- the end of a request
 

@@ -1,5 +1,5 @@
 -- The events while a call is under way: what they are to the order of the queues, to the script, to the requests, and to the lives of all servers but the one at work.
-use Rattle.std.proofs.Common.{◌≡◌, ◌⊎◌, ℕ, ◌+◌, ◌<◌, ◌≤◌, Bool, true, false, cond, List, [], ◌∷◌, ◌++◌, length, Option, Some, None, IsSomeAnd, inl, inr, refl, sym, ◌∙◌, ap, subst, arith}
+use Rattle.std.proofs.Common.{◌≡◌, ℕ, ◌+◌, true, false, cond, List, [], ◌∷◌, ◌++◌, length, Option, Some, IsSomeAnd, inl, inr, refl, sym, ◌∙◌, ap, subst, arith}
 use Rattle.std.specs.Prelude.{slice_get}
 use Rattle.std.specs.List.{list_all}
 use Rattle.std.proofs.lemmas.Bool.{cases_Bool, cases_eq}
@@ -9,7 +9,7 @@ use Rattle.xa_events.specs.declared.event.Event.{Event}
 use Rattle.xa_events.specs.Words.{count, same_request, AtEach}
 use Rattle.xa_events.specs.Cases.{WorkerPart}
 use Rattle.xa_events.specs.Local.{worker_events}
-use Rattle.xa_events.specs.Request.{is_accept_of, is_settled_by, settlement_in, Settlement, WasSettled}
+use Rattle.xa_events.specs.Request.{is_accept_of, is_settled_by, Settlement, WasSettled}
 use Rattle.xa_events.specs.Order.{TakesNext, TakesInOrder}
 use Rattle.xa_events.specs.Caller.{is_call_of}
 use Rattle.xa_events.specs.Calls.{FitsCall, FitsCalls}
@@ -26,10 +26,9 @@ use Rattle.xa_tables.specs.Holding.{Holds, BoardHolds, QueueHolds, ClientHolds, 
 use Rattle.xa_domain.specs.Living.{is_of_first_life, LifeShows}
 use Rattle.xa_tables.specs.Resting.{IsNumbered}
 use Rattle.xa_domain.specs.Standing.{ServerLives, Stands, RetiresTables, is_retiring}
-use Rattle.xa_tables.specs.Steps.{Changed}
-use Rattle.xa_tables.proofs.Lists.{after_stands, other_stands}
+use Rattle.xa_tables.proofs.Lists.{other_stands}
 use Rattle.xa_domain.proofs.Rests.{some_is}
-use Rattle.xa_domain.proofs.Retired.{StandsBeside, beside_retiring, lives_idle, lives_retiring, some_weaker}
+use Rattle.xa_domain.proofs.Retired.{StandsBeside, beside_retiring, lives_idle, lives_retiring}
 
 -- no request is open
 abbrev pub none_open : RequestId → ℕ

@@ -1,5 +1,5 @@
 -- How a call goes (this project's own). No public contract rests on this file.
-use Rattle.std.specs.Prelude.{◌≡◌, ◌⊎◌, ℕ, ◌+◌, ◌-◌, ◌^◌, ◌%◌, ◌<◌, ◌≤◌, ◌||◌, min, Bool, true, false, List, [], ◌∷◌, Option, Some, None, Result, Ok, Err, slice_get}
+use Rattle.std.specs.Prelude.{◌≡◌, ◌⊎◌, ℕ, ◌+◌, ◌-◌, ◌^◌, ◌%◌, ◌||◌, min, Bool, true, false, List, [], ◌∷◌, Option, Some, None, Result, Ok, Err, slice_get}
 use Rattle.xa_types.specs.declared.setup.Setup.{Setup}
 use Rattle.xa_types.specs.declared.ids.RequestId.{RequestId}
 use Rattle.xa_types.specs.declared.data.Data.{Data}
@@ -22,7 +22,6 @@ use Rattle.xa_events.specs.declared.event.Refused.{Refused}
 use Rattle.xa_events.specs.declared.event.Replied.{Replied}
 use Rattle.xa_events.specs.declared.event.Evidence.{Evidence}
 use Rattle.xa_events.specs.declared.event.Outcome.{Outcome}
-use Rattle.xa_events.specs.declared.event.Doing.{Doing}
 use Rattle.xa_events.specs.declared.event.Doing.TheVariants.{Off, Idle, Busy, Dying}
 use Rattle.xa_events.specs.declared.event.StopCause.{StopCause}
 use Rattle.xa_events.specs.declared.event.StopCause.TheVariants.{Exit}

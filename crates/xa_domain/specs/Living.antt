@@ -1,8 +1,7 @@
 -- The lives of servers between two calls: what went through the pipes of each, by the events so far (this project's own). No public contract
 -- rests on this file.
-use Rattle.std.specs.Prelude.{◌≡◌, ℕ, ◌%◌, ◌^◌, ◌==◌, ◌&&◌, Bool, false, List, [], Option, Some, None}
+use Rattle.std.specs.Prelude.{◌≡◌, ℕ, ◌%◌, ◌^◌, Bool, false, List, []}
 use Rattle.xa_types.specs.declared.setup.Setup.{Setup}
-use Rattle.xa_types.specs.declared.call.Rval.{Rval}
 use Rattle.xa_events.specs.declared.event.Event.{Event}
 use Rattle.xa_events.specs.declared.event.Event.TheVariants.{Take, Forward, End, Stop}
 use Rattle.xa_events.specs.declared.event.Doing.{Doing}

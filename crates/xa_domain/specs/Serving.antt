@@ -1,5 +1,5 @@
 -- What serving a script comes to (this project's own).
-use Rattle.std.specs.Prelude.{◌≡◌, ◌⊎◌, ◌≤◌, ◌<◌, ◌^◌, ◌+◌, ◌-◌, min, not, ℕ, zero, suc, true, List, [], ◌∷◌, ◌++◌, length, reverse, map, Option, Some, None, IfSome, ⊤}
+use Rattle.std.specs.Prelude.{◌≡◌, ◌≤◌, ◌<◌, ◌^◌, ◌+◌, ◌-◌, min, not, ℕ, zero, suc, true, List, [], ◌∷◌, ◌++◌, length, reverse, map, Option, Some, None, IfSome, ⊤}
 use Rattle.std.specs.List.{All, Contains, list_all}
 use Rattle.xa_types.specs.declared.setup.Setup.{Setup}
 use Rattle.xa_types.specs.declared.setup.ServerSetup.{ServerSetup}
@@ -15,7 +15,7 @@ use Rattle.xa_events.specs.Run.{Run, IsFinal}
 use Rattle.xa_events.specs.Order.{TakesInOrder}
 use Rattle.xa_events.specs.Calls.{MadeCalls}
 use Rattle.xa_stamp.specs.Home.{Notes}
-use Rattle.xa_stamp.specs.Merge.{IsMerged, IsDense, stamps_of}
+use Rattle.xa_stamp.specs.Merge.{IsMerged, stamps_of}
 use Rattle.xa_script.specs.declared.script.Client.{Client}
 use Rattle.xa_pipe.specs.Life.{IsLife}
 use Rattle.xa_domain.specs.declared.serving.Life.{Life}

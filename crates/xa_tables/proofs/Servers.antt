@@ -42,9 +42,9 @@ use Rattle.xa_tables.specs.declared.domain.Domain.{Domain}
 use Rattle.xa_tables.specs.Lives.{life_in}
 use Rattle.xa_tables.specs.Tables.{last_by}
 use Rattle.xa_tables.specs.Holding.{IsHomeOf, QueueReads, QueueHolds, ServerReads, ServerHolds, Holds, list_of, last_in, starts_by, lives_by, failed_by}
-use Rattle.xa_tables.specs.Steps.{Changed, QueueNotes, ServerNotes, Starts, FailsStart, Ends, Stops, Takes, GivesUp}
+use Rattle.xa_tables.specs.Steps.{Changed, ServerNotes, Starts, FailsStart, Ends, Stops, Takes, GivesUp}
 use Rattle.xa_tables.specs.May.{StartMay, EndMay, MayStop, StopMay, TakeMay, GiveUpMay, IsShutAt}
-use Rattle.xa_tables.proofs.Growing.{noted_here, noted_stamp, noted_elsewhere, home_here, worker_here, Parts, at_queue_of_server, of_server, queue_noted}
+use Rattle.xa_tables.proofs.Growing.{noted_here, noted_stamp, noted_elsewhere, worker_here, Parts, at_queue_of_server, of_server, queue_noted}
 
 -- ---- what a server's events read once a start is among them
 

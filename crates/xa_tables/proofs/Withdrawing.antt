@@ -1,45 +1,43 @@
 -- A queue whose servers are all given up: its rows are withdrawn one after another, and then it goes down.
-use Rattle.std.proofs.Common.{◌≡◌, ℕ, ◌+◌, ◌-◌, ◌<◌, ◌≤◌, ◌==◌, not, Bool, true, false, cond, List, [], ◌∷◌, ◌++◌, length, map, reverse, Option, Some, None, inl, inr, refl, sym, ◌∙◌, ap, subst, suc, zero, arith, eq-eqb, eqb-true, append_assoc, append-nil, length-append}
+use Rattle.std.proofs.Common.{◌≡◌, ℕ, ◌+◌, ◌-◌, ◌<◌, ◌≤◌, ◌==◌, not, Bool, true, false, cond, List, [], ◌∷◌, ◌++◌, length, map, reverse, Some, None, inl, inr, refl, sym, ◌∙◌, ap, subst, suc, zero, arith, eq-eqb, eqb-true, append_assoc, append-nil, length-append}
 use Rattle.std.specs.Prelude.{slice_get, slice_index_or, is_some, IsSome}
 use Rattle.std.specs.List.{All, AllPairs, filter, find, list_all}
 use Rattle.std.specs.Str.{bytes_eq}
 use Rattle.std.proofs.lemmas.Bool.{cases_Bool, cond_both, and_parts, and_from, and_right, not-true, true≢false}
 use Rattle.std.proofs.lemmas.Option.{slice_get_cases}
-use Rattle.std.proofs.lemmas.List.{map-append, reverse-append, reverse-reverse, length-reverse, length-map}
+use Rattle.std.proofs.lemmas.List.{reverse-append, length-reverse, length-map}
 use Rattle.std.proofs.lemmas.List.Elements.{All-nil, All-cons, All-head, All-tail, All-push, All-filter, All-weaker, filter_passes}
 use Rattle.std.proofs.lemmas.List.Kept.{AllPairs-cons, AllPairs-filter}
 use Rattle.std.proofs.lemmas.Slice.Eq.{bytes_eq-Decides}
 use Rattle.xa_types.specs.declared.stamp.Stamp.{Stamp}
 use Rattle.xa_types.specs.declared.row.Row.{Row}
 use Rattle.xa_types.specs.declared.setup.Setup.{Setup}
-use Rattle.xa_types.specs.declared.setup.ServiceSetup.{ServiceSetup}
 use Rattle.xa_types.specs.Setup.{capacity_of, service_named}
-use Rattle.xa_types.specs.Rows.{Change, is_row_of, row_of, row_with, row_for, rows}
+use Rattle.xa_types.specs.Rows.{Change, is_row_of, row_of, row_for, rows}
 use Rattle.xa_types.specs.Rows.Change.{Put, Remove}
 use Rattle.xa_events.specs.declared.event.Event.{Event}
 use Rattle.xa_events.specs.declared.event.Event.TheVariants.{Withdraw, Down}
 use Rattle.xa_events.specs.declared.event.Withdrawn.{Withdrawn}
-use Rattle.xa_events.specs.Homes.{Home, home_of, at_home}
+use Rattle.xa_events.specs.Homes.{home_of}
 use Rattle.xa_events.specs.Homes.Home.{BoardHome, QueueHome}
 use Rattle.xa_events.specs.Board.{boot, changes, published, rows_of_version}
 use Rattle.xa_events.specs.Queue.{waiting, takes, is_down, is_down_of, is_closed}
 use Rattle.xa_events.specs.Server.{is_gone, AllGone}
 use Rattle.xa_events.specs.Cases.{DownHome, WithdrawHome, NoRows}
 use Rattle.xa_events.specs.Local.{Local, SawNoRows, home_events}
-use Rattle.xa_events.proofs.Owns.{board_own, server_own}
+use Rattle.xa_events.proofs.Owns.{server_own}
 use Rattle.xa_events.proofs.WordsLemmas.{list_any_yes}
 use Rattle.xa_stamp.specs.declared.home.Stamped.{Stamped}
 use Rattle.xa_stamp.specs.Home.{Notes}
-use Rattle.xa_board.specs.Board.{Standing, past_of, version_of, stamp_of, IsAsConfigured}
+use Rattle.xa_board.specs.Board.{Standing, version_of, stamp_of, IsAsConfigured}
 use Rattle.xa_board.specs.Changes.{is_on, rows_on, without, withdrawals, cleared, larger}
-use Rattle.xa_board.proofs.Listed.{rows-listed}
 use Rattle.xa_board.proofs.Noted.{rows_of_version-last}
 use Rattle.xa_board.proofs.Withdrawn.{cleared-noted}
 use Rattle.xa_tables.specs.declared.queue.Queue.{Queue}
 use Rattle.xa_tables.specs.declared.client.Client.{Client}
 use Rattle.xa_tables.specs.declared.server.Server.{Server}
 use Rattle.xa_tables.specs.declared.domain.Domain.{Domain}
-use Rattle.xa_tables.specs.Stamps.{stamped, entries_of}
+use Rattle.xa_tables.specs.Stamps.{entries_of}
 use Rattle.xa_tables.specs.Holding.{QueueReads, QueueHolds, ClientHolds, ServerHolds, BoardHolds, Holds, is_home_in}
 use Rattle.xa_tables.specs.Steps.{GoesDown}
 use Rattle.xa_tables.specs.May.{AllGivenUp}

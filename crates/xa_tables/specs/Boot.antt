@@ -1,12 +1,11 @@
 -- The boot, and the withdrawal of a queue's rows, as events (this project's own). What `serve` says doesn't rest on this file.
 use Rattle.std.specs.Prelude.{◌≡◌, ℕ, ◌+◌, ◌^◌, ◌≤◌, max, false, List, [], ◌∷◌, length, map, reverse}
 use Rattle.xa_types.specs.declared.setup.Setup.{Setup}
-use Rattle.xa_types.specs.declared.stamp.Stamp.{Stamp}
 use Rattle.xa_types.specs.Rows.{Change, Put, Remove, configured}
 use Rattle.xa_events.specs.declared.event.Event.{Event}
 use Rattle.xa_events.specs.declared.event.Event.TheVariants.{Advertise}
 use Rattle.xa_stamp.specs.declared.home.Stamped.{Stamped}
-use Rattle.xa_board.specs.Board.{Standing, version_of, stamp_of, rows_seen}
+use Rattle.xa_board.specs.Board.{Standing, version_of, stamp_of}
 use Rattle.xa_board.specs.Changes.{rows_on, withdrawals, cleared}
 use Rattle.xa_board.specs.Reader.{Finds}
 use Rattle.xa_tables.specs.declared.client.Client.{Client}

@@ -7,8 +7,6 @@ use Rattle.xa_types.specs.declared.stamp.Stamp.{Stamp}
 use Rattle.xa_types.specs.Setup.{numbered, queue_of}
 use Rattle.xa_events.specs.declared.event.Event.{Event}
 use Rattle.xa_events.specs.declared.event.Outcome.{Outcome}
-use Rattle.xa_events.specs.declared.event.Doing.{Doing}
-use Rattle.xa_events.specs.declared.event.Doing.TheVariants.{Off, Idle}
 use Rattle.xa_events.specs.State.{caller_of}
 use Rattle.xa_events.specs.Board.{boot, published}
 use Rattle.xa_events.specs.Homes.{Home, home_of}

@@ -1,5 +1,5 @@
 -- When an event may come next, by what the tables keep (this project's own). What `serve` says doesn't rest on this file.
-use Rattle.std.specs.Prelude.{◌≡◌, ◌⊎◌, ℕ, ◌+◌, ◌<◌, ◌≤◌, true, false, List, [], Option, Some, None, IsSome, IsSomeAnd, slice_get}
+use Rattle.std.specs.Prelude.{◌≡◌, ◌⊎◌, ℕ, ◌+◌, ◌<◌, ◌≤◌, true, false, List, Some, None, IsSome, IsSomeAnd, slice_get}
 use Rattle.xa_types.specs.declared.setup.Setup.{Setup}
 use Rattle.xa_types.specs.declared.setup.ServerSetup.{ServerSetup}
 use Rattle.xa_types.specs.declared.ids.ServerId.{ServerId}
@@ -16,7 +16,7 @@ use Rattle.xa_events.specs.declared.event.Stopped.{Stopped}
 use Rattle.xa_events.specs.declared.event.Replied.{Replied}
 use Rattle.xa_events.specs.declared.event.Refused.{Refused}
 use Rattle.xa_events.specs.declared.event.StopCause.{StopCause}
-use Rattle.xa_events.specs.declared.event.StopCause.TheVariants.{Shutdown, Exit}
+use Rattle.xa_events.specs.declared.event.StopCause.TheVariants.{Exit}
 use Rattle.xa_events.specs.declared.event.Doing.TheVariants.{Off, Idle, Busy, Dying as IsDying}
 use Rattle.xa_events.specs.Board.{published, rows_of_version}
 use Rattle.xa_events.specs.Caller.{version_in}

@@ -1,4 +1,4 @@
-use Rattle.std.proofs.Common.{◌≡◌, None, length, sym, ◌∙◌, ap, subst}
+use Rattle.std.proofs.Common.{length, ◌∙◌}
 use Rattle.std.proofs.lemmas.Result.{IfErr-weaker}
 use Rattle.xa_tables.specs.declared.halt.Halt.TheVariants.{NoMemory}
 use Rattle.xa_domain.proofs.Course.{none_tested, some_tested, course_fits, course_may, heard_steady, heard_busy, heard_holds, client_within, ended_holds, told_steady, told_ready, told_made, told_up, told_holds, over_goes, freed_goes, freed_ready, freed_made}

@@ -1,8 +1,8 @@
-use Rattle.std.proofs.Common.{◌≡◌, ℕ, ◌+◌, ◌%◌, ◌^◌, ◌<◌, length, get_or, Some, refl, sym, ◌∙◌, ap, subst, arith}
+use Rattle.std.proofs.Common.{◌≡◌, ℕ, ◌+◌, ◌%◌, ◌^◌, ◌<◌, length, Some, refl, sym, ◌∙◌, ap, subst, arith}
 use Rattle.std.specs.Prelude.{slice_get}
 use Rattle.std.specs.Vec.{with_item}
 use Rattle.xa_types.specs.declared.data.Data.{Data}
-use Rattle.xa_pipe.specs.Pipe.{Piped, invoke_frame}
+use Rattle.xa_pipe.specs.Pipe.{invoke_frame}
 use Rattle.xa_domain.specs.Calling.{Delivers}
 use Rattle.xa_tables.specs.Piping.{HearsBack}
 use Rattle.xa_tables.specs.Resting.{IsUp}

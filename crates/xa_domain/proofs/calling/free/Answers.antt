@@ -1,8 +1,6 @@
-use Rattle.std.proofs.Common.{◌≡◌, ◌<◌, length, Some, None, refl, ap, arith}
+use Rattle.std.proofs.Common.{◌≡◌, Some, None, ap, arith}
 use Rattle.std.specs.Vec.{with_item}
-use Rattle.std.proofs.lemmas.Option.{slice_get_within}
-use Rattle.xa_tables.specs.declared.life.Lived.{Lived}
-use Rattle.xa_domain.specs.Calling.{NextOr, OnlyLife}
+use Rattle.xa_domain.specs.Calling.{NextOr}
 use Rattle.xa_tables.specs.Resting.{IsUp}
 use Rattle.xa_tables.proofs.Places.{numbered_kept, on_ok_both}
 use Rattle.xa_domain.proofs.Rests.{only_keeps}

@@ -1,4 +1,4 @@
-use Rattle.std.proofs.Common.{◌≡◌, Option, Some, None, OnOk, sym, ◌∙◌, subst}
+use Rattle.std.proofs.Common.{Option, OnOk, sym, ◌∙◌, subst}
 use Rattle.std.proofs.lemmas.Result.{IfErr-weaker}
 use Rattle.xa_events.specs.declared.event.StopCause.{StopCause}
 use Rattle.xa_domain.specs.Calling.{MayEndWith, IsBusy, Settles, ended_of}

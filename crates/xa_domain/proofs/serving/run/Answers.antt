@@ -1,10 +1,8 @@
-use Rattle.std.proofs.Common.{◌≡◌, ℕ, ◌+◌, ◌<◌, ◌≤◌, length, Some, refl, sym, ◌∙◌, ap, subst, arith, All}
+use Rattle.std.proofs.Common.{◌≡◌, ◌<◌, length, Some, refl, sym, ◌∙◌, ap, subst, All}
 use Rattle.std.specs.Prelude.{slice_get}
 use Rattle.std.proofs.lemmas.Result.{IfErr-weaker, on_ok_weaker}
-use Rattle.xa_types.specs.declared.call.Op.{Op}
 use Rattle.xa_script.specs.declared.script.Client.{Client as ScriptClient}
-use Rattle.xa_domain.specs.Serving.{IsBuiltOp, StartersMatch}
-use Rattle.xa_tables.specs.Resting.{attempts}
+use Rattle.xa_domain.specs.Serving.{IsBuiltOp}
 use Rattle.xa_tables.proofs.Kept.{stood_here, passed_on}
 use Rattle.xa_tables.proofs.Places.{on_ok_both}
 use Rattle.xa_domain.proofs.Making.{runs_none, runs_more, here_fresh, its_calls, all_away, all_gone, none_done}

@@ -1,12 +1,10 @@
-use Rattle.std.proofs.Common.{◌≡◌, ℕ, ◌+◌, ◌<◌, ◌≤◌, List, [], length, Option, Some, OnOk, IfErr, inl, inr, refl, sym, ◌∙◌, ap, subst, arith, rules}
-use Rattle.std.specs.Result.{result_err}
+use Rattle.std.proofs.Common.{◌≡◌, List, length, OnOk, IfErr, inl, inr, refl, sym, ◌∙◌, ap, subst, arith}
 use Rattle.std.proofs.lemmas.Result.{IfErr-weaker, on_ok_weaker}
 use Rattle.xa_script.specs.declared.script.Client.{Client as ScriptClient}
-use Rattle.xa_tables.specs.declared.halt.Halt.{Halt}
 use Rattle.xa_tables.specs.Boot.{boot_past}
 use Rattle.xa_tables.specs.Resting.{attempts}
-use Rattle.xa_domain.specs.Standing.{Stands, GoesOn, IsHalted}
-use Rattle.xa_domain.specs.Serving.{IsBuilt, LinkTells, StarterShows, StartersMatch, ServeEnds}
+use Rattle.xa_domain.specs.Standing.{GoesOn, IsHalted}
+use Rattle.xa_domain.specs.Serving.{IsBuilt, StartersMatch}
 use Rattle.xa_tables.proofs.Setups.{good}
 use Rattle.xa_domain.proofs.Booted.{boot_stands, boot_stamps}
 use Rattle.xa_domain.proofs.Carrying.{starters_fresh}

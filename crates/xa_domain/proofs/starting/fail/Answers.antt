@@ -1,5 +1,5 @@
-use Rattle.std.proofs.Common.{◌≡◌, List, ℕ, ◌∷◌, sym, ◌∙◌, subst}
-use Rattle.std.proofs.lemmas.Result.{on_ok_weaker, IfErr-weaker}
+use Rattle.std.proofs.Common.{◌≡◌, List, ℕ, ◌∷◌, sym, subst}
+use Rattle.std.proofs.lemmas.Result.{IfErr-weaker}
 use Rattle.xa_events.specs.declared.event.Event.TheVariants.{StartFailed}
 use Rattle.xa_tables.specs.declared.server.Attempt.{Attempt}
 use Rattle.xa_tables.specs.declared.server.Attempt.TheVariants as tries

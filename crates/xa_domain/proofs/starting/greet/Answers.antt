@@ -2,8 +2,8 @@ use Rattle.std.proofs.Common.{◌∷◌, ◌∙◌, arith}
 use Rattle.std.proofs.lemmas.Result.{IfErr-weaker}
 use Rattle.xa_events.specs.declared.event.Event.TheVariants.{Start}
 use Rattle.xa_tables.specs.Resting.{IsUp}
-use Rattle.xa_tables.proofs.Kept.{known_here, known_within, stood_here}
-use Rattle.xa_tables.proofs.Places.{numbered_kept, attempts_kept, on_ok_both}
+use Rattle.xa_tables.proofs.Kept.{known_here, stood_here}
+use Rattle.xa_tables.proofs.Places.{attempts_kept, on_ok_both}
 use Rattle.xa_domain.proofs.ClosedDown.{keeps_told, numbered_told, served_told}
 use Rattle.xa_domain.proofs.Begun.{fresh_life, life_there, greeted_on, greeted_goes, cut_on, cut_goes, holds_begun, may_fall_there}
 use Rattle.xa_domain.proofs.starting.greet.Goals as goal
