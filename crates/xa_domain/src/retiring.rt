@@ -32,6 +32,21 @@ impl<L: Link> Domain<L> {
             .iter()
             .any(|server| server.queue == queue && !server.gone)
     }
+
+    // The program of the server at that place, whose life ends by that cause, is ended by force and waited for; one that
+    // returned TPEXIT ends by itself.
+    fn end_program(&mut self, server: usize, cause: StopCause)
+        requires numbered { IsNumbered self.old }
+        requires may { IsSomeAnd (slice_get self.old.servers.items server) (MayFall cause) }
+        ensures { self.new ≡ self.old }
+    {
+        if matches!(cause, StopCause::Exit) {
+            return;
+        }
+        let life = self.servers[server].life;
+        let its = &mut self.lives[life];
+        its.kill();
+    }
 }
 
 /// The server at that place, which is off, is given up; where it was the last of its queue, the queue's rows are withdrawn
@@ -61,7 +76,8 @@ pub fn retire<L: Link>(domain: &mut Domain<L>, server: usize) -> Result<(), Halt
     domain.go_down(place)
 }
 
-/// The life of the server at that place ends, and the server is given up.
+/// The life of the server at that place ends, by no SHUTDOWN: its program is ended by force, but behind TPEXIT, and the
+/// server is given up.
 pub fn fall<L: Link>(domain: &mut Domain<L>, server: usize, cause: StopCause) -> Result<(), Halt>
     requires numbered { IsNumbered domain.old }
     requires served { IsServed domain.old }
@@ -75,6 +91,7 @@ pub fn fall<L: Link>(domain: &mut Domain<L>, server: usize, cause: StopCause) ->
     ensures failed { IfErr result (λ halt. (setup : Setup) (count : ℕ) (past : List Event) → is_configured setup ≡ true → NoneRestarts setup
         → Holds setup count past domain.old → IsHalted setup count halt domain.new) }
 {
+    domain.end_program(server, cause);
     let stopped = Stopped {
         server: domain.servers[server].id,
         generation: LIFE,
