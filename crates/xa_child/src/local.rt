@@ -215,6 +215,9 @@ impl Link for LocalLink {
     ghost reads_alone = { λ _. refl };
 
     ghost writes_alone = { λ _. refl };
+
+    // The program runs only within a write.
+    fn kill(&mut self) {}
 }
 
 /// Starts a server's program in memory, and tells what it was asked for.

@@ -22,6 +22,21 @@ pub fn place_of(queue: QueueId) -> usize
     usize::from(queue.0) - 1
 }
 
+// The program of the server at that place, whose life ends by that cause, is ended by force and waited for; one that
+// returned TPEXIT ends by itself.
+fn end_program<L: Link>(domain: &mut Domain<L>, server: usize, cause: StopCause)
+    requires numbered { IsNumbered domain.old }
+    requires may { IsSomeAnd (slice_get domain.old.servers.items server) (MayFall cause) }
+    ensures { domain.new ≡ domain.old }
+{
+    if matches!(cause, StopCause::Exit) {
+        return;
+    }
+    let life = domain.servers[server].life;
+    let its = &mut domain.lives[life];
+    its.kill();
+}
+
 /// The server at that place, which is off, is given up; where it was the last of its queue, the queue's rows are withdrawn
 /// and it goes down.
 pub fn retire<L: Link>(domain: &mut Domain<L>, server: usize) -> Result<(), Halt>
@@ -49,7 +64,8 @@ pub fn retire<L: Link>(domain: &mut Domain<L>, server: usize) -> Result<(), Halt
     domain.go_down(place)
 }
 
-/// The life of the server at that place ends, and the server is given up.
+/// The life of the server at that place ends, by no SHUTDOWN: its program is ended by force, but behind TPEXIT, and the
+/// server is given up.
 pub fn fall<L: Link>(domain: &mut Domain<L>, server: usize, cause: StopCause) -> Result<(), Halt>
     requires numbered { IsNumbered domain.old }
     requires served { IsServed domain.old }
@@ -63,6 +79,7 @@ pub fn fall<L: Link>(domain: &mut Domain<L>, server: usize, cause: StopCause) ->
     ensures failed { IfErr result (λ halt. (setup : Setup) (count : ℕ) (past : List Event) → is_configured setup ≡ true → NoneRestarts setup
         → Holds setup count past domain.old → IsHalted setup count halt domain.new) }
 {
+    end_program(domain, server, cause);
     let stopped = Stopped {
         server: domain.servers[server].id,
         generation: LIFE,

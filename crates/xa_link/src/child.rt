@@ -18,7 +18,8 @@ use std::rt::Files;
 use std::{env, io};
 use xa_types::{Generation, Name, NoMemory, Octets, ServerSetup, Setup};
 
-/// A process and its two pipes. Where it is dropped, both pipes are closed, and then the process is waited for.
+/// A process and its two pipes. Where it is dropped, both pipes are closed, and then the process is waited for, unless
+/// it was before.
 pub struct ChildLink<P: OpenProcess + Drop> {
     child: Child<P>,
     from: ReadSource<P::Stdout>,
@@ -47,6 +48,15 @@ fn finish<P: OpenProcess>(
 {
     drop(to);
     drop(from);
+    child.wait()?;
+    Ok(())
+}
+
+// Ends the process by force, and then waits for it.
+fn end<P: OpenProcess>(child: &mut Child<P>) -> io::Result<()>
+    ensures { OnOk result (IsSome (child_status child.new)) }
+{
+    child.kill()?;
     child.wait()?;
     Ok(())
 }
@@ -98,6 +108,12 @@ impl<P: OpenProcess + Drop> Link for ChildLink<P> {
     ghost reads_alone = { λ _. refl };
 
     ghost writes_alone = { λ _. refl };
+
+    // Where the system refuses to end the process, it is waited for only behind its pipes, as the link is dropped: it may
+    // wait for its input.
+    fn kill(&mut self) {
+        let _ = end(&mut self.child);
+    }
 }
 
 /// Starts a server as a process, with the words `server` and the server's name.
@@ -221,6 +237,7 @@ fn spawn<R: Processes + Files>(
     let mut child = spawn_connected(rt, &mut command, program, server)?;
     let Some(from) = child.stdout.take() else {
         drop(to);
+        let _ = child.kill();
         let _ = child.wait();
         return Err(io::Error::from(io::ErrorKind::BrokenPipe));
     };

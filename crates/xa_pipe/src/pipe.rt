@@ -157,6 +157,13 @@ impl<L: Link> Pipe<L> {
         write(&mut self.link, &self.due)
     }
 
+    /// Ends the program by force, and waits for it. What went through the pipes stays as it is.
+    pub fn kill(&mut self)
+        ensures { self.new ≡ self.old }
+    {
+        self.link.kill();
+    }
+
     // Reads the next frame, or says why there is none.
     pub(crate) fn read(&mut self) -> Result<Frame, StopCause>
         ensures frame { IfOk result (λ f. (frames : List Frame) → HasRead self.old frames → HasRead self.new (frames ++ f ∷ [])) }

@@ -78,4 +78,11 @@ impl<L: Link> Lived<L> {
     {
         self.pipe.shut_down()
     }
+
+    /// Its program is ended by force, and waited for.
+    pub fn kill(&mut self)
+        ensures { self.new ≡ self.old }
+    {
+        self.pipe.kill();
+    }
 }

@@ -119,7 +119,7 @@ fn commands_are_told_apart(rt: HostRuntime) {
     for (words, script, end, wrote) in ROWS {
         let mut yard = LocalYard::new(rt.alloc());
         assert!(rt;
-            runs(&rt, words, &[], script, &mut yard, (end, wrote)),
+            runs(&rt, words, (&[], &[]), script, &mut yard, (end, wrote)),
             "{words:?}, {wrote:?}"
         );
     }

@@ -27,8 +27,15 @@ const ONCE: &[u8] = b"client a\ncall ECHO none\n";
 // The configuration, the script with its faults, how it ends, and what is written.
 type Row = (&'static [u8], Script<'static>, End, &'static [u8]);
 
-const ROWS: [Row; 17] = [
+const ROWS: [Row; 19] = [
     (ONE, (b"client a\n", &[], &[]), End::Done, b""),
+    // Clients without calls before and behind one with a call.
+    (
+        ONE,
+        (b"client a\nclient b\ncall ECHO none\nclient c\n", &[], &[]),
+        End::Done,
+        b"b 1 OK 0 none\n",
+    ),
     (
         ONE,
         (
@@ -118,6 +125,12 @@ const ROWS: [Row; 17] = [
         b"",
     ),
     (
+        b"[[shape]]\nname = \"entry\"\nfields = [\"rate float\"]\n",
+        (ONCE, &[], &[]),
+        End::ConfigFault(9, "shape[0].fields[0]"),
+        b"",
+    ),
+    (
         b"[[queue]]\nname = \"Q\"\n[[queue]]\nname = \"P\"\n[[server]]\nname = \"S\"\nqueue = \"P\"\n",
         (ONCE, &[], &[]),
         End::ConfigFault(11, "queue[0]"),
@@ -131,22 +144,31 @@ const ROWS: [Row; 17] = [
     ),
 ];
 
-fn is_run<Y: Yard>(rt: &HostRuntime, yard: &mut Y, row: Row) -> bool
+// Whether the row is run so, from a shelf of which these reads fail.
+fn is_run<Y: Yard>(rt: &HostRuntime, yard: &mut Y, row: Row, fails: &[u64]) -> bool
 where
     Y::Line: Drop,
     Y::Start: Drop,
 {
     let (config, script, end, wrote) = row;
     let files: [(&[u8], &[u8]); 1] = [(b"c", config)];
-    runs(rt, &["run", "c"], &files, script, yard, (end, wrote))
+    runs(rt, &["run", "c"], (&files, fails), script, yard, (end, wrote))
 }
 
 #[test]
 fn each_configuration_is_run(rt: HostRuntime) {
     for (place, row) in ROWS.iter().enumerate() {
         let mut yard = LocalYard::new(rt.alloc());
-        assert!(rt; is_run(&rt, &mut yard, *row), "row {place}");
+        assert!(rt; is_run(&rt, &mut yard, *row, &[]), "row {place}");
     }
+}
+
+// The script isn't read then.
+#[test]
+fn a_configuration_that_is_not_read_is_told(rt: HostRuntime) {
+    let mut yard = LocalYard::new(rt.alloc());
+    let row: Row = (ONE, (b"bogus\n", &[1], &[]), End::ConfigRead, b"");
+    assert!(rt; is_run(&rt, &mut yard, row, &[1]));
 }
 
 // Two queues with a server each, and a service on both, that of the second server first.
@@ -160,6 +182,6 @@ const BOTH: &[u8] = b"[[queue]]\nname = \"Q\"\n[[queue]]\nname = \"P\"\n\
 fn a_service_on_two_queues_outlives_one(rt: HostRuntime) -> Result<(), Fail> {
     let row: Row = (BOTH, (ONCE, &[], &[]), End::Done, b"a 1 OK 0 none\n");
     let mut yard = yard_of(rt.alloc(), Some(&[READY, NEXT, SUCCESS, NEXT]), SOUND)?;
-    assert!(rt; is_run(&rt, &mut yard, row));
+    assert!(rt; is_run(&rt, &mut yard, row, &[]));
     Ok(())
 }

@@ -3,6 +3,8 @@
 #![tactic(auto)]
 
 #[cfg(test)]
+mod bank;
+#[cfg(test)]
 mod commands;
 #[cfg(test)]
 mod configurations;
@@ -12,3 +14,5 @@ mod lives;
 mod running;
 #[cfg(test)]
 mod sizes;
+#[cfg(test)]
+mod worked;

@@ -161,7 +161,7 @@ fn serves(rt: &HostRuntime, (script, life, faults, wrote): Row) -> bool {
             runs(
                 rt,
                 &["play", "ECHO"],
-                &[],
+                (&[], none),
                 (script, none, none),
                 &mut yard,
                 want,

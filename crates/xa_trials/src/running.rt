@@ -2,9 +2,13 @@
 ghost use Rattle.std.specs.Prelude.{◌<◌};
 
 use std::alloc::Global;
+use xa_events::Event;
 use xa_link::{MemoryShelf, MemorySink, MemorySource, OpenGate, Yard};
-use xa_program::{Input, Outcome, Status, run};
+use xa_program::{Input, Life, Outcome, Status, run};
 use xa_types::{NoMemory, Octets};
+
+/// The files of a shelf, by their names, and the reads of it that fail.
+pub type Files<'a> = (&'a [(&'a [u8], &'a [u8])], &'a [u64]);
 
 /// The input of a command, the reads of it that fail, and the writes of its output that take nothing.
 pub type Script<'a> = (&'a [u8], &'a [u64], &'a [u64]);
@@ -59,12 +63,12 @@ fn words_of(alloc: Global, words: &[&str]) -> Result<Vec<String>, NoMemory> {
     Ok(texts)
 }
 
-fn shelf_of(alloc: Global, files: &[(&[u8], &[u8])]) -> Result<MemoryShelf, NoMemory> {
+fn shelf_of(alloc: Global, (files, fails): Files<'_>) -> Result<MemoryShelf, NoMemory> {
     let mut all = Vec::new(alloc);
     for (name, octets) in files {
         all.push((Octets::of(alloc, name)?, Octets::of(alloc, octets)?))?;
     }
-    Ok(MemoryShelf::new(all, Vec::new(alloc)))
+    Ok(MemoryShelf::new(all, Vec::from_slice(alloc, fails)?))
 }
 
 /// The source of these octets, of which reads with these numbers fail, and give at most so many.
@@ -96,7 +100,7 @@ pub fn sink_of(
 fn set_up(
     alloc: Global,
     words: &[&str],
-    files: &[(&[u8], &[u8])],
+    files: Files<'_>,
     script: Script<'_>,
 ) -> Result<Stage, NoMemory> {
     let (octets, fails, idle) = script;
@@ -108,7 +112,12 @@ fn set_up(
     })
 }
 
-fn ends<Y: Yard>(rt: &HostRuntime, stage: &mut Stage, yard: &mut Y, want: (End, &[u8])) -> bool
+fn end<Y: Yard>(
+    rt: &HostRuntime,
+    stage: &mut Stage,
+    yard: &mut Y,
+    want: (End, &[u8]),
+) -> Option<(Vec<Event>, Vec<Life<Y::Line>>)>
 where
     Y::Line: Drop,
     Y::Start: Drop,
@@ -116,8 +125,8 @@ where
     let Outcome {
         status,
         homes: _,
-        history: _,
-        lives: _,
+        history,
+        lives,
         starters: _,
     } = run(
         rt,
@@ -129,14 +138,35 @@ where
         yard,
         &OpenGate,
     );
-    ends_so(&status, want.0) && stage.out.taken() == want.1
+    let as_wanted = ends_so(&status, want.0) && stage.out.taken() == want.1;
+    as_wanted.then_some((history, lives))
 }
 
-/// Whether a command of these words, with these files, this script and this yard, ends so and has written that.
+/// The history and the lives of a command of these words, with these files, this script and this yard, where it ends so
+/// and has written that.
+pub fn run_of<Y: Yard>(
+    rt: &HostRuntime,
+    words: &[&str],
+    files: Files<'_>,
+    script: Script<'_>,
+    yard: &mut Y,
+    want: (End, &[u8]),
+) -> Option<(Vec<Event>, Vec<Life<Y::Line>>)>
+where
+    Y::Line: Drop,
+    Y::Start: Drop,
+{
+    match set_up(rt.alloc(), words, files, script) {
+        Ok(mut stage) => end(rt, &mut stage, yard, want),
+        Err(_) => None,
+    }
+}
+
+/// Whether such a command ends so and has written that.
 pub fn runs<Y: Yard>(
     rt: &HostRuntime,
     words: &[&str],
-    files: &[(&[u8], &[u8])],
+    files: Files<'_>,
     script: Script<'_>,
     yard: &mut Y,
     want: (End, &[u8]),
@@ -145,8 +175,5 @@ where
     Y::Line: Drop,
     Y::Start: Drop,
 {
-    match set_up(rt.alloc(), words, files, script) {
-        Ok(mut stage) => ends(rt, &mut stage, yard, want),
-        Err(_) => false,
-    }
+    run_of(rt, words, files, script, yard, want).is_some()
 }

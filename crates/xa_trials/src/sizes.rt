@@ -60,7 +60,7 @@ fn octets_of(alloc: Global, (first, again, last): Long, count: usize) -> Result<
 fn is_run(rt: &HostRuntime, words: &[&str], input: &[u8], want: (End, &[u8])) -> bool {
     let mut yard = LocalYard::new(rt.alloc());
     let none: &[u64] = &[];
-    runs(rt, words, &[], (input, none, none), &mut yard, want)
+    runs(rt, words, (&[], none), (input, none, none), &mut yard, want)
 }
 
 // How long the configuration is, a comment, and how it ends.
@@ -69,18 +69,19 @@ const CONFIGURATIONS: [(usize, End); 2] = [
     (262_145, End::TooLong(Input::Configuration)),
 ];
 
-fn is_refused(rt: &HostRuntime, config: &[u8], end: End) -> bool {
+fn is_configured(rt: &HostRuntime, config: &[u8], script: &[u8], want: (End, &[u8])) -> bool {
     let mut yard = LocalYard::new(rt.alloc());
     let files: [(&[u8], &[u8]); 1] = [(b"c", config)];
-    let none: (&[u8], &[u64], &[u64]) = (b"", &[], &[]);
-    runs(rt, &["run", "c"], &files, none, &mut yard, (end, b""))
+    let none: &[u64] = &[];
+    let script = (script, none, none);
+    runs(rt, &["run", "c"], (&files, none), script, &mut yard, want)
 }
 
 #[test]
 fn the_longest_configuration_is_read(rt: HostRuntime) -> Result<(), Fail> {
     for (count, end) in CONFIGURATIONS {
         let config = octets_of(rt.alloc(), (b"", b"#", b""), count)?;
-        assert!(rt; is_refused(&rt, &config, end), "{count}");
+        assert!(rt; is_configured(&rt, &config, b"", (end, b"")), "{count}");
     }
     Ok(())
 }
@@ -98,22 +99,40 @@ fn the_longest_data_and_script_are_played(rt: HostRuntime) -> Result<(), Fail> {
     Ok(())
 }
 
-const CALLS: u32 = 1_001;
-
-fn lines_of(alloc: Global) -> Result<Vec<u8>, Fail> {
+// So many lines, or pairs of lines, with the number of each, from 1, between the two texts.
+fn lines_of(alloc: Global, first: &str, last: &str, count: u32) -> Result<Vec<u8>, Fail> {
     let mut lines = Vec::new(alloc);
-    for call in 1..=CALLS {
-        let line = format!(in alloc; "a {call} OK 0 none\n")?;
+    for number in 1..=count {
+        let line = format!(in alloc; "{first}{number}{last}\n")?;
         lines.extend_from_slice(line.as_bytes())?;
     }
     Ok(lines)
 }
 
+const CALLS: u32 = 1_001;
+
 #[test]
 fn many_calls_are_played(rt: HostRuntime) -> Result<(), Fail> {
     let calls: Long = (b"client a\n", b"call ECHO none\n", b"");
     let script = octets_of(rt.alloc(), calls, CALLS as usize)?;
-    let lines = lines_of(rt.alloc())?;
+    let lines = lines_of(rt.alloc(), "a ", " OK 0 none", CALLS)?;
     assert!(rt; is_run(&rt, PLAY, &script, (End::Done, &lines)));
+    Ok(())
+}
+
+const ONE: &[u8] = b"[[queue]]\nname = \"Q\"\n\
+    [[server]]\nname = \"S\"\nqueue = \"Q\"\n\
+    [[service]]\nname = \"ECHO\"\nqueues = [\"Q\"]\n";
+
+// How many clients with a call each there are, how many are served, and how it ends: each has two lines.
+const CLIENTS: [(u32, u32, End); 2] = [(64, 64, End::Done), (65, 0, End::BadLine(129, 7))];
+
+#[test]
+fn as_many_clients_as_may_be_are_served(rt: HostRuntime) -> Result<(), Fail> {
+    for (count, served, end) in CLIENTS {
+        let script = lines_of(rt.alloc(), "client c", "\ncall ECHO none", count)?;
+        let wrote = lines_of(rt.alloc(), "c", " 1 OK 0 none", served)?;
+        assert!(rt; is_configured(&rt, ONE, &script, (end, &wrote)), "{count}");
+    }
     Ok(())
 }

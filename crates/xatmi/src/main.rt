@@ -4,6 +4,8 @@
 #[cfg(test)]
 mod process_tests;
 #[cfg(test)]
+mod run_tests;
+#[cfg(test)]
 mod tests;
 
 ghost use Rattle.std.specs.Prelude.{◌≡◌};

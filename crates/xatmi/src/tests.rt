@@ -1,82 +1,12 @@
-// What the program does with real processes, and what it says as it ends.
+// What the program says as it ends, and which words it was given.
 use crate::report;
 use std::alloc::Global;
 use std::fmt::Display;
+use std::io;
 use std::test::Fail;
-use std::{fs, io};
-use xa_link::{ChildYard, FileShelf, MemoryArguments, MemorySink, MemorySource, OpenGate};
-use xa_program::{Input, Outcome, Status, all_words, run, words_behind};
+use xa_link::MemoryArguments;
+use xa_program::{Input, Status, all_words, words_behind};
 use xa_types::{Octets, Stamp};
-
-// READY and NEXT of the server S, in the words of the shell's printf.
-const GREETING: &str = "printf 'XA\\001\\001\\000\\000\\000\\002\\000\\000\\000\\000\\001S\
-                        XA\\001\\002\\000\\000\\000\\000\\000\\000\\000\\000'";
-
-// A call waits once its first octet has come.
-const SCRIPT: &[u8] = b"client a\ncall ECHO none\ncall ECHO none\n";
-
-const ENDS: [&str; 2] = [
-    "head -c 1 >/dev/null",
-    "head -c 1 >/dev/null; kill -9 $$ >/dev/null & wait; exec sleep 60",
-];
-
-// One server, whose program is the shell.
-const CONFIG: &str = "[[queue]]\nname = \"Q\"\n\
-                      [[server]]\nname = \"S\"\nqueue = \"Q\"\nprogram = \"/bin/sh\"\n\
-                      [[service]]\nname = \"ECHO\"\nqueues = [\"Q\"]\n";
-
-const COMMANDS: [[&str; 2]; 2] = [["play", "ECHO"], ["run", "config"]];
-
-// Whether the command serves the script by one process, which dies with the first call.
-fn dies(rt: &HostRuntime, [command, argument]: [&str; 2]) -> Result<bool, Fail> {
-    let alloc = rt.alloc();
-    let words = [
-        String::from_str(alloc, command)?,
-        String::from_str(alloc, argument)?,
-    ];
-    let mut out = MemorySink::new(alloc, Vec::new(alloc), Vec::new(alloc), 64);
-    let Outcome {
-        status,
-        homes: _,
-        history: _,
-        lives,
-        starters: _,
-    } = run(
-        rt,
-        alloc,
-        words.as_slice(),
-        &mut FileShelf::new(rt.clone()?, alloc),
-        &mut MemorySource::new(Octets::of(alloc, SCRIPT)?, Vec::new(alloc), 64),
-        &mut out,
-        &mut ChildYard::new(rt.clone()?, Octets::of(alloc, b"sh")?),
-        &OpenGate,
-    );
-    let told = out.taken() == b"a 1 TPESVCERR\na 2 TPENOENT\n".as_slice();
-    Ok(told && status.number() == 0 && lives.len() == 1)
-}
-
-// The monitor starts a process with the words `server S`, so `sh` reads its script from the file `server`.
-#[test]
-fn a_process_that_ends_is_a_server_that_died(rt: HostRuntime) -> Result<(), Fail> {
-    fs::write(&rt, "config", CONFIG)?;
-    for end in ENDS {
-        fs::write(
-            &rt,
-            "server",
-            format!(in rt.alloc(); "{GREETING}; {end}\n")?,
-        )?;
-        for command in COMMANDS {
-            assert!(rt; dies(&rt, command)?);
-            assert_eq!(rt;
-                fs::read_to_string(&rt, "/proc/thread-self/children")?.as_str(),
-                ""
-            );
-        }
-    }
-    fs::remove_file(&rt, "server")?;
-    fs::remove_file(&rt, "config")?;
-    Ok(())
-}
 
 const LINES: [(Status, u8, &str); 11] = [
     (Status::Done, 0, ""),

@@ -80,4 +80,7 @@ impl Link for MemoryLink {
     ghost reads_alone = { λ _. refl };
 
     ghost writes_alone = { λ _. refl };
+
+    // There is no program to end.
+    fn kill(&mut self) {}
 }

@@ -1,0 +1,83 @@
+//! Runs of one server, worked out by hand: what its program got, and what stands in the history.
+use crate::lives::{NEXT, SOUND, yard_of};
+use crate::running::{End, run_of};
+use xa_events::{Event, Evidence, Refused};
+
+// One queue with one server, and three services.
+const CONFIG: &[u8] = b"[[queue]]\nname = \"Q1\"\n\
+    [[server]]\nname = \"S1\"\nqueue = \"Q1\"\n\
+    [[service]]\nname = \"ECHO\"\nqueues = [\"Q1\"]\n\
+    [[service]]\nname = \"LEN\"\nqueues = [\"Q1\"]\n\
+    [[service]]\nname = \"FAIL\"\nqueues = [\"Q1\"]\n";
+
+const READY: &[u8] = b"XA\x01\x01\0\0\0\x03\0\0\0\0\x02S1";
+
+// RETURN of success to the first invocation, with code 0 and hello.
+const RETURN: &[u8] = b"XA\x01\x04\0\0\0\x0f\0\0\0\x01\0\0\0\0\0\x01\0\0\0\x05hello";
+
+const SHUTDOWN: &[u8] = b"XA\x01\x13\0\0\0\0\0\0\0\0";
+
+// The script, what the program says, what is written, what the program got, and the version of the board that a refused
+// call kept.
+type Row = (
+    &'static [u8],
+    &'static [&'static [u8]],
+    &'static [u8],
+    &'static [u8],
+    Option<u64>,
+);
+
+const ROWS: [Row; 3] = [
+    (b"", &[READY, NEXT], b"", SHUTDOWN, None),
+    (
+        b"client a\ncall ECHO text \"hello\"\n",
+        &[READY, NEXT, RETURN, NEXT],
+        b"a 1 OK 0 octet 68656c6c6f\n",
+        b"XA\x01\x11\0\0\0\x15\0\0\0\x01\x04ECHO\x04ECHO\0\x01\0\0\0\x05hello\
+        XA\x01\x13\0\0\0\0\0\0\0\0",
+        None,
+    ),
+    // The board has a row of each service by then.
+    (
+        b"client a\ncall NOPE none\n",
+        &[READY, NEXT],
+        b"a 1 TPENOENT\n",
+        SHUTDOWN,
+        Some(3),
+    ),
+];
+
+// The version that the first refused call kept.
+fn version_of(history: &[Event]) -> Option<u64> {
+    history.iter().find_map(|event| match event {
+        Event::Refuse(Refused {
+            evidence: Evidence::Version(version),
+            ..
+        }) => Some(*version),
+        _ => None,
+    })
+}
+
+fn is_worked(rt: &HostRuntime, (script, said, wrote, got, version): Row) -> bool {
+    let Ok(mut yard) = yard_of(rt.alloc(), Some(said), SOUND) else {
+        return false;
+    };
+    let files: [(&[u8], &[u8]); 1] = [(b"c", CONFIG)];
+    let none: &[u64] = &[];
+    let want = (End::Done, wrote);
+    let script = (script, none, none);
+    match run_of(rt, &["run", "c"], (&files, none), script, &mut yard, want) {
+        Some((history, lives)) => match lives.as_slice() {
+            [life] => life.link.taken() == got && version_of(&history) == version,
+            _ => false,
+        },
+        None => false,
+    }
+}
+
+#[test]
+fn a_server_gets_what_is_due(rt: HostRuntime) {
+    for (place, row) in ROWS.iter().enumerate() {
+        assert!(rt; is_worked(&rt, *row), "row {place}");
+    }
+}
