@@ -1,6 +1,6 @@
 //! What `xatmi play` does for ECHO, written by hand: the same script, frames and transcript, and the same events of
-//! each call that is answered, in types of the same shape and kept as long. It starts itself as its server. Nothing of
-//! it is proved, and a server that dies ends the run.
+//! each call that is answered, in types of the same shape, with their stamps, in the same homes and with the same merge,
+//! and kept as long. It starts itself as its server. Nothing of it is proved, and a server that dies ends the run.
 //! usage: play play SERVICE, and play server NAME
 // The types of calls and events have all their fields, since their size is part of what is measured.
 #![allow(dead_code)]
@@ -43,18 +43,21 @@ struct RequestId {
     number: u64,
 }
 
+#[derive(Clone)]
 enum Outcome {
     Returned(i32, Data),
     Failed(i32, Data),
     Died,
 }
 
+#[derive(Clone)]
 enum Answer {
     Success(i32, Data),
     Failed(i32, Data),
     Error(u8),
 }
 
+#[derive(Clone)]
 struct Accepted {
     by: u16,
     op: u32,
@@ -68,6 +71,7 @@ struct Accepted {
     payload: Data,
 }
 
+#[derive(Clone)]
 enum Event {
     Accept(Accepted),
     Take { request: RequestId, server: u16, generation: u64, k: u64 },
@@ -269,20 +273,38 @@ impl Pipe {
     }
 }
 
-struct Account {
-    history: Vec<Event>,
-    lines: Octets,
+struct Stamped {
+    stamp: u64,
+    event: Event,
 }
 
-impl Account {
-    fn call(&mut self, pipe: &mut Pipe, service: &Name, client: &Name, op: u32, ask: Ask) -> Done<()> {
+#[derive(Default)]
+struct Home(Vec<Stamped>);
+
+// The homes, of which that of the board and of the clock stay empty.
+#[derive(Default)]
+struct Domain {
+    latest: u64,
+    board: Home,
+    queue: Home,
+    clock: Home,
+    client: Home,
+    server: Home,
+}
+
+fn note(latest: &mut u64, home: &mut Home, event: Event) {
+    *latest += 1;
+    home.0.push(Stamped { stamp: *latest, event });
+}
+
+impl Domain {
+    fn call(&mut self, pipe: &mut Pipe, service: &Name, op: u32, ask: &Ask) -> Done<()> {
         if ask.service != service.octets() {
-            put_line(&mut self.lines, client, op, &Answer::Error(1))?;
-            self.history.push(Event::Refuse { by: 1, op, fault: 1, version: 1 });
+            note(&mut self.latest, &mut self.client, Event::Refuse { by: 1, op, fault: 1, version: 1 });
             return Ok(());
         }
         let request = RequestId { caller: 1, number: u64::from(op) };
-        let frame = Frame { tag: op, body: Body::Invoke(*service, *service, 0, ask.payload) };
+        let frame = Frame { tag: op, body: Body::Invoke(*service, *service, 0, ask.payload.clone()) };
         pipe.send(&frame)?;
         self.note_taken(service, request, op, frame);
         let Frame { tag, body: Body::Return(value, code, payload) } = pipe.read()? else {
@@ -291,7 +313,7 @@ impl Account {
         if tag != op {
             return Err("RETURN to another INVOKE".into());
         }
-        self.note_ended(client, request, op, (value, code, payload))?;
+        self.note_ended(request, op, (value, code, payload));
         pipe.read_next()
     }
 
@@ -299,7 +321,7 @@ impl Account {
         let Body::Invoke(_, _, mode, payload) = frame.body else {
             unreachable!();
         };
-        self.history.push(Event::Accept(Accepted {
+        let accepted = Accepted {
             by: 1,
             op,
             request,
@@ -310,42 +332,67 @@ impl Account {
             priority: 50,
             mode,
             payload,
-        }));
-        self.history.push(Event::Take { request, server: 1, generation: 1, k: request.number });
+        };
+        note(&mut self.latest, &mut self.queue, Event::Accept(accepted));
+        let taken = Event::Take { request, server: 1, generation: 1, k: request.number };
+        note(&mut self.latest, &mut self.queue, taken);
     }
 
-    fn note_ended(&mut self, client: &Name, request: RequestId, op: u32, back: (u8, i32, Data)) -> io::Result<()> {
+    fn note_ended(&mut self, request: RequestId, op: u32, back: (u8, i32, Data)) {
         let (value, code, payload) = back;
         let copy = payload.clone();
         let (outcome, answer) = match value {
             0 => (Outcome::Returned(code, payload), Answer::Success(code, copy)),
             _ => (Outcome::Failed(code, payload), Answer::Failed(code, copy)),
         };
-        self.history.push(Event::End { request, server: 1, generation: 1, outcome });
-        put_line(&mut self.lines, client, op, &answer)?;
-        self.history.push(Event::Answer { by: 1, op, request, answer });
-        Ok(())
+        note(&mut self.latest, &mut self.server, Event::End { request, server: 1, generation: 1, outcome });
+        note(&mut self.latest, &mut self.client, Event::Answer { by: 1, op, request, answer });
     }
+
+    // All events of all homes, by stamp.
+    fn merge(&self) -> Vec<Event> {
+        let homes = [&self.board, &self.queue, &self.clock, &self.client, &self.server];
+        let mut places = Vec::new();
+        for (number, home) in homes.iter().enumerate() {
+            places.extend(home.0.iter().enumerate().map(|(index, noted)| (noted.stamp, number, index)));
+        }
+        places.sort_unstable();
+        places.iter().map(|&(_, number, index)| homes[number].0[index].event.clone()).collect()
+    }
+}
+
+fn lines_of(client: &Name, history: &[Event]) -> io::Result<Octets> {
+    let mut lines = Vec::with_capacity(62 * history.len());
+    for event in history {
+        match event {
+            Event::Answer { op, answer, .. } => put_line(&mut lines, client, *op, answer)?,
+            Event::Refuse { op, fault, .. } => put_line(&mut lines, client, *op, &Answer::Error(*fault))?,
+            _ => {}
+        }
+    }
+    Ok(lines)
 }
 
 fn play(service: &Name, mut input: File, mut output: File) -> Done<()> {
     let (client, ops) = script_in(&read_all(&mut input)?).ok_or("the script is faulty")?;
-    let history = Vec::with_capacity(10 + 4 * ops.len());
-    let mut account = Account { history, lines: Vec::with_capacity(248 * ops.len()) };
+    let mut domain = Domain::default();
     let mut pipe = Pipe::start()?;
-    if let Some(client) = client {
-        for (op, number) in ops.into_iter().zip(1..) {
+    if client.is_some() {
+        for (op, number) in ops.iter().zip(1..) {
             match op {
-                Op::Call(ask) => account.call(&mut pipe, service, &client, number, ask)?,
+                Op::Call(ask) => domain.call(&mut pipe, service, number, ask)?,
                 Op::Cancel(_) => unreachable!(),
             }
         }
-        account.history.push(Event::Leave(1));
+        note(&mut domain.latest, &mut domain.client, Event::Leave(1));
     }
     pipe.send(&Frame { tag: 0, body: Body::Shutdown })?;
-    output.write_all(&account.lines)?;
+    let history = domain.merge();
+    if let Some(client) = client {
+        output.write_all(&lines_of(&client, &history)?)?;
+    }
     pipe.end()?;
-    forget(account.history);
+    forget((ops, domain, history));
     Ok(())
 }
 
