@@ -96,5 +96,14 @@ fn the_bank_is_served_as_the_guide_shows(rt: HostRuntime) {
     let none: &[u64] = &[];
     let script = (SCRIPT, none, none);
     let want = (End::Done, WROTE);
-    assert!(rt; runs(&rt, &["run", "bank.toml"], (&files, none), script, &mut yard, want));
+    assert!(rt;
+        runs(
+            &rt,
+            &["run", "bank.toml"],
+            (&files, none),
+            script,
+            &mut yard,
+            want
+        )
+    );
 }

@@ -152,7 +152,14 @@ where
 {
     let (config, script, end, wrote) = row;
     let files: [(&[u8], &[u8]); 1] = [(b"c", config)];
-    runs(rt, &["run", "c"], (&files, fails), script, yard, (end, wrote))
+    runs(
+        rt,
+        &["run", "c"],
+        (&files, fails),
+        script,
+        yard,
+        (end, wrote),
+    )
 }
 
 #[test]

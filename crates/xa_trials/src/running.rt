@@ -112,7 +112,8 @@ fn set_up(
     })
 }
 
-fn end<Y: Yard>(
+// The history and the lives, where the command ends so and has written that.
+fn ended<Y: Yard>(
     rt: &HostRuntime,
     stage: &mut Stage,
     yard: &mut Y,
@@ -157,7 +158,7 @@ where
     Y::Start: Drop,
 {
     match set_up(rt.alloc(), words, files, script) {
-        Ok(mut stage) => end(rt, &mut stage, yard, want),
+        Ok(mut stage) => ended(rt, &mut stage, yard, want),
         Err(_) => None,
     }
 }

@@ -50,10 +50,12 @@ const ROWS: [Row; 3] = [
 // The version that the first refused call kept.
 fn version_of(history: &[Event]) -> Option<u64> {
     history.iter().find_map(|event| match event {
-        Event::Refuse(Refused {
-            evidence: Evidence::Version(version),
-            ..
-        }) => Some(*version),
+        Event::Refuse(
+            Refused {
+                evidence: Evidence::Version(version),
+                ..
+            },
+        ) => Some(*version),
         _ => None,
     })
 }

@@ -150,7 +150,8 @@ const ENDS: [&str; 3] = [
 ];
 
 // The second one answers where the process of the first is gone.
-const OTHER: &str = "for n in 1 2; do take; if test -e /proc/$(cat pid); then exit; fi; give $n; next; done\n\
+const OTHER: &str =
+    "for n in 1 2; do take; if test -e /proc/$(cat pid); then exit; fi; give $n; next; done\n\
     cat >/dev/null";
 
 const PAIRED: &str = "a 1 TPESVCERR\na 2 OK 0 none\nb 1 OK 0 none\n";
