@@ -53,6 +53,14 @@ fn serves(
     Ok(told && status.number() == 0 && lives.len() == count)
 }
 
+// Removes the files that a test wrote.
+fn remove(rt: &HostRuntime, names: &[&str]) -> Result<(), Fail> {
+    for name in names {
+        fs::remove_file(rt, name)?;
+    }
+    Ok(())
+}
+
 fn none_is_left(rt: &HostRuntime) -> Result<bool, Fail> {
     Ok(fs::read_to_string(rt, "/proc/thread-self/children")?.is_empty())
 }
@@ -131,7 +139,7 @@ fn a_server_that_fails_is_ended(rt: HostRuntime) -> Result<(), Fail> {
             assert_eq!(rt; fs::remove_file(&rt, "ended").is_ok(), ends, "{server}");
         }
     }
-    Ok(())
+    remove(&rt, &["config", "server"])
 }
 
 // ---- several servers
@@ -168,7 +176,7 @@ fn the_other_server_of_a_queue_goes_on(rt: HostRuntime) -> Result<(), Fail> {
         assert!(rt; serves(&rt, ["run", "config"], script, PAIRED, 2)?, "{end}");
         assert!(rt; none_is_left(&rt)?, "{end}");
     }
-    Ok(())
+    remove(&rt, &["config", "server", "pid"])
 }
 
 // Three queues with a server each: the program of the first isn't there, that of the second is a file that can't be
@@ -189,5 +197,5 @@ fn a_server_that_cannot_be_started_takes_its_queue_alone(rt: HostRuntime) -> Res
     let wrote = "a 1 TPENOENT\na 2 TPENOENT\na 3 OK 0 none\n";
     assert!(rt; serves(&rt, ["run", "config"], script, wrote, 1)?);
     assert!(rt; none_is_left(&rt)?);
-    Ok(())
+    remove(&rt, &["config", "server"])
 }
