@@ -16,6 +16,7 @@ use Rattle.xa_tables.specs.declared.server.Server.{Server}
 use Rattle.xa_tables.specs.declared.server.Attempt.TheVariants.{NotYet}
 use Rattle.xa_tables.specs.declared.server.Last.TheVariants.{Nothing}
 use Rattle.xa_tables.specs.declared.domain.Domain.{Domain}
+use Rattle.xa_tables.specs.declared.boot.Tables.{Tables}
 use Rattle.xa_tables.specs.Boot.{boot_events, stamped_behind}
 use Rattle.xa_tables.specs.Lives.{server_name_in}
 
@@ -109,7 +110,15 @@ pub record IsNewServer (setup : Setup) (first : Stamp) (number : ℕ) (x : Serve
   pub gone : x.gone ≡ false
   pub shut : x.shut ≡ false
 
--- the tables behind the boot
+-- the tables beside the board, whose version is that
+pub record AreTables {L : Type 0} (setup : Setup) (count : ℕ) (first : Stamp) (version : ℕ) (tables : Tables L) : Type 0 where
+  pub queues : AreNew (IsNewQueue first) (length setup.queues) tables.queues.items
+  pub clients : AreNew (IsNewClient first version) count tables.clients.items
+  pub servers : AreNew (IsNewServer setup first) (length setup.servers) tables.servers.items
+  pub lives : tables.lives.items ≡ []
+  pub room : length tables.servers.items ≤ vec_capacity tables.lives
+
+-- the domain behind the boot
 pub record IsFounded {L : Type 0} (setup : Setup) (count : ℕ) (first : Stamp) (d : Domain L) : Type 0 where
   pub board : IsBehind setup (configured setup) d.board d.latest
   pub at : first.0 ≡ d.latest

@@ -1,5 +1,5 @@
 -- Stamps on one thread: each event has one more than the newest before it (this project's own).
-use Rattle.std.specs.Prelude.{◌≡◌, ℕ, ◌+◌, ◌^◌, ◌≤◌, max, List, [], ◌∷◌, ◌++◌, length, reverse}
+use Rattle.std.specs.Prelude.{◌≡◌, ℕ, ◌+◌, ◌^◌, ◌<◌, ◌≤◌, max, List, [], ◌∷◌, ◌++◌, length, reverse}
 use Rattle.std.specs.List.{filter}
 use Rattle.xa_types.specs.declared.setup.Setup.{Setup}
 use Rattle.xa_events.specs.declared.event.Event.{Event}
@@ -23,6 +23,13 @@ pub record IsNoted (newest : ℕ) (event : Event) (old new : Notes) (newest_afte
 -- no event of the home has a later stamp than the newest
 abbrev pub IsInTime : ℕ → Notes → Type 0
 IsInTime newest home = last_stamp home.first home.entries ≤ newest
+
+-- there is room at the home for one event more, and stamps aren't at their end
+pub record HasRoomFor (newest : ℕ) (old new : Notes) : Type 0 where
+  pub early : newest < 2 ^ 63
+  pub room : 0 < new.room
+  pub first : new.first ≡ old.first
+  pub entries : new.entries ≡ old.entries
 
 -- why nothing was noted: memory ran out, or the newest stamp is the last, or so many before it as a queue has rows, at most 256
 abbrev pub HaltsAt : ℕ → Halt → Type 0

@@ -8,7 +8,7 @@ ghost use Rattle.xa_board.specs.Board.{version_of};
 ghost use Rattle.xa_tables.specs.declared.halt.Halt.TheVariants as halts;
 ghost use Rattle.xa_tables.specs.Holding.{Holds};
 ghost use Rattle.xa_tables.specs.Boot.{boot_past};
-ghost use Rattle.xa_tables.specs.Booting.{IsBehind, MayAdvertise, Advertises, AreNew, IsNewQueue, IsNewClient, IsNewServer};
+ghost use Rattle.xa_tables.specs.Booting.{IsBehind, MayAdvertise, Advertises, AreNew, IsNewQueue, IsNewClient, IsNewServer, AreTables};
 ghost use Rattle.xa_tables.specs.Resting.{IsBooted};
 
 use crate::client::Client;
@@ -198,6 +198,39 @@ fn lives_for<L: Link>(alloc: Global, count: usize) -> Result<Vec<Lived<L>>, NoMe
     Ok(Vec::with_capacity(alloc, count)?)
 }
 
+// The tables of a domain beside its board.
+struct Tables<L: Link> {
+    queues: Vec<Queue>,
+    clients: Vec<Client>,
+    servers: Vec<Server>,
+    lives: Vec<Lived<L>>,
+}
+
+// The tables beside that board, with so many clients, and with room for a life of each server.
+fn tables_of<L: Link>(
+    alloc: Global,
+    setup: &Setup,
+    board: &Board,
+    count: u16,
+    first: Stamp,
+) -> Result<Tables<L>, NoMemory>
+    requires configured { is_configured setup.now ≡ true }
+    requires few { count ≤ 64 }
+    requires first { first.0 ≤ 2 ^ 63 }
+    ensures { IfOk result (AreTables setup.now count first (version_of board.now)) }
+{
+    let queues = queues_of(alloc, setup, first)?;
+    let clients = clients_of(alloc, board, count, first)?;
+    let servers = servers_of(alloc, setup, first)?;
+    let lives = lives_for(alloc, servers.len())?;
+    Ok(Tables {
+        queues,
+        clients,
+        servers,
+        lives,
+    })
+}
+
 /// The domain behind its boot, with so many clients, and with room for a life of each server.
 pub fn found<L: Link>(alloc: Global, setup: &Setup, count: u16) -> Result<Domain<L>, Halt>
     requires configured { is_configured setup.now ≡ true }
@@ -209,11 +242,12 @@ pub fn found<L: Link>(alloc: Global, setup: &Setup, count: u16) -> Result<Domain
     let mut latest = Latest::new(Stamp(0));
     let mut board = Board::new(alloc, Stamp(0))?;
     advertise_all(setup, &mut board, &mut latest)?;
-    let first = latest.stamp();
-    let queues = queues_of(alloc, setup, first)?;
-    let clients = clients_of(alloc, &board, count, first)?;
-    let servers = servers_of(alloc, setup, first)?;
-    let lives = lives_for(alloc, servers.len())?;
+    let Tables {
+        queues,
+        clients,
+        servers,
+        lives,
+    } = tables_of(alloc, setup, &board, count, latest.stamp())?;
     Ok(Domain {
         latest,
         board,
