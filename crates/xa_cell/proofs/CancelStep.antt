@@ -14,7 +14,7 @@ use Rattle.xa_cell.specs.Dealing.{cells_in}
 use Rattle.xa_cell.specs.Rule.{total, word, owns, held, Cell, Ruled}
 use Rattle.xa_cell.specs.Steps.{cancels}
 use Rattle.xa_cell.proofs.Lists.{decided, total_set, among_append}
-use Rattle.xa_cell.proofs.OneCell.{SlotOf, Spot, AtHome, fits, owner, none_filled, none_given, quiet, slot_same, keeps_filled}
+use Rattle.xa_cell.proofs.OneCell.{SlotOf, Spot, AtHome, fits, owner, none_filled, none_given, quiet, same_waits, no_waits, slot_same, keeps_filled}
 use Rattle.xa_cell.proofs.ShutPlace.{shut_cell}
 use Rattle.xa_cell.proofs.Lifting.{StateOf, MineOf, Site, at_seat, word_at, spot, After, kept, becomes, stays}
 
@@ -35,7 +35,7 @@ module _ {A : Type 0} where
       let le : once (p.count == c.n) ≡ 1 = ap once (eq-eqb p.count c.n counted) in omega arith) in
       let drop_ : (m : ℕ) → total (λ (y : Part A). among m y.dropped) (set ps id p') ≤ total (λ (y : Part A). among m y.given_up) (set ps id p') = λ m. let gb = total_set (λ (y : Part A). among m y.given_up) ps id p p' here in
       let db = total_set (λ (y : Part A). among m y.dropped) ps id p p' here in let ta = among_append m p.given_up (p.count ∷ []) in let old = c.dropped m in omega arith in
-      shut_cell z 0 p.taking 1 gs z.home own un (omega arith) idle gs_fit once' (λ _. can) drop_ (⊎_elim (λ (h : (total held ps ≡ 0) × AtHome z.home ps c.n c.open_ c.unspent c.q).
+      shut_cell z 0 p.taking 1 gs z.home own un (omega arith) idle gs_fit once' (λ _. can) drop_ (no_waits z p' refl refl 0 1 (omega arith) (c.waiting.none_waits (omega arith))) (⊎_elim (λ (h : (total held ps ≡ 0) × AtHome z.home ps c.n c.open_ c.unspent c.q).
       let y = h.0 in inl ((omega arith), (h.1.0, h.1.1, record { pending = λ _. h.1.2.pending un; closed = λ _. h.1.2.pending un; filled = λ x y. absurd (omega arith) })))
       (λ (h : total held ps ≡ 1). inr (omega arith)) c.slot)
 
@@ -43,7 +43,7 @@ module _ {A : Type 0} where
   came_cell z own open_ ne = let c = z.c in let p = z.p in let o = owner z own in let a = o.asked in let op : c.open_ ≡ 1 = omega arith in let few = c.few in let ft = fits z in
       let not : c.unspent ≢ 1 = λ h. ne (c.word_is ∙ (λ i. word (sym o.count i) (op i) (h i))) in let un : c.unspent ≡ 0 = omega (arith, not) in
       let p' : Part A = record p { settled = 1 } in
-      quiet z p' z.home refl refl refl refl refl (record {
+      quiet z p' z.home refl refl refl refl refl (same_waits z p' refl refl refl) (record {
         side = inl (record { one = o.one; count = o.count; asked = o.asked; request = o.request; settled = (omega arith); taking = o.taking; alone = o.alone });
         tickets = ft.tickets;
         filling = ft.filling;

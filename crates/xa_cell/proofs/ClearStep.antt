@@ -14,7 +14,7 @@ use Rattle.xa_cell.specs.Dealing.{cells_in}
 use Rattle.xa_cell.specs.Rule.{total, word, held, Owner, Other, Cell, Ruled}
 use Rattle.xa_cell.specs.Steps.{cleared, clears}
 use Rattle.xa_cell.proofs.Lists.{decided, total_set, total_zero, among_append, among_none}
-use Rattle.xa_cell.proofs.OneCell.{SlotOf, HomeOf, Spot, fits, ticket_names, ticket_is, lone_ticket, one_holds, no_taking, changed, same_once, keeps_filled}
+use Rattle.xa_cell.proofs.OneCell.{SlotOf, HomeOf, Spot, fits, ticket_names, ticket_is, lone_ticket, one_holds, no_taking, changed, same_once, no_waits, keeps_filled}
 use Rattle.xa_cell.proofs.Lifting.{MineOf, Site, at_seat, spot, After, back, of_none}
 
 module _ {A : Type 0} where
@@ -35,7 +35,7 @@ module _ {A : Type 0} where
         c.word_is ∙ (λ i. word (sym nn i) (op i) (un i)),
         changed z p' (word t.number 0 0) home' c.n 0 0 c.q (omega arith) (omega arith) (λ i. word (nn i) 0 0) refl (omega arith) (λ e h. h) (same_once z p' refl refl) (omega arith) (omega arith) (λ a b. absurd (omega arith)) drop_
             (λ j r ne e o. record { one = o.one; count = o.count; asked = o.asked ∙ op; request = o.request; settled = (let y = o.settled in omega arith); taking = (let y = o.taking in omega arith); alone = (let y = o.alone in omega arith) })
-            (λ j r ne e. inl (lone_ticket z tn.0 j r ne e))
+            (λ j r ne e. inl (lone_ticket z tn.0 j r ne e)) (no_waits z p' refl refl 0 0 (omega arith) (c.waiting.none_waits (omega arith)))
             (record {
               side = ⊎_elim (λ (o : Owner c.n c.open_ c.unspent c.q p). inl (record { one = o.one; count = o.count; asked = o.asked ∙ op; request = o.request; settled = (let y = o.settled in omega arith); taking = (let y = o.taking in omega arith); alone = (let y = o.alone in omega arith) }))
                   (λ (o : Other p). inr (record { none_ = o.none_; count = o.count; asked = o.asked; settled = o.settled; taking = o.taking })) ft.side;

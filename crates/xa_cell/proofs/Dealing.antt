@@ -207,6 +207,7 @@ module _ {A : Type 0} where
         filled_once = λ m. omega arith;
         cancelled = λ a b. absurd (omega arith);
         dropped = λ m. omega arith;
+        waiting = record { waits = 0; none_waits = λ lt. refl; one_waits = λ lt. absurd (omega arith); here = refl; before = λ m ne. refl };
         each = λ j p e. fits d j p e;
         slot = inl (refl, (None, refl, record { pending = λ h. refl; closed = λ h. refl; filled = λ h k. absurd (omega arith) }));
       }

@@ -15,8 +15,8 @@ use Rattle.xa_cell.specs.Counts.{once, times, among}
 use Rattle.xa_cell.specs.Dealing.{cells_in}
 use Rattle.xa_cell.specs.Rule.{total, word, IsIn, WasFilled, held, Owner, Other, Cell, Ruled}
 use Rattle.xa_cell.specs.Steps.{delivered, too_late, fills}
-use Rattle.xa_cell.proofs.Lists.{decided, total_set, set_mine, in_left, in_right, was_here, times_append}
-use Rattle.xa_cell.proofs.OneCell.{SlotOf, HomeOf, Spot, fits, ticket_names, ticket_is, lone_ticket, one_holds, no_taking, none_filled, none_given, resided, grown, changed, quiet, slot_same, same_dropped, keeps_filled}
+use Rattle.xa_cell.proofs.Lists.{decided, total_set, total_zero, set_mine, in_left, in_right, was_here, times_append}
+use Rattle.xa_cell.proofs.OneCell.{SlotOf, HomeOf, Spot, fits, ticket_names, ticket_is, lone_ticket, one_holds, no_taking, none_filled, none_given, resided, grown, changed, quiet, same_waits, slot_same, same_dropped, keeps_filled}
 use Rattle.xa_cell.proofs.Lifting.{StateOf, MineOf, Site, at_seat, word_at, spot, After, kept, back, becomes, stays}
 
 module _ {A : Type 0} where
@@ -42,6 +42,15 @@ module _ {A : Type 0} where
       changed z p' (word t.number 1 0) home' c.n 1 0 c.q (omega arith) (omega arith) (λ i. word (nn i) 1 0) refl (omega arith) f once' (omega arith) (omega arith) (λ a b. absurd (omega arith)) (same_dropped z p' refl refl)
       (λ j r ne e o. record { one = o.one; count = o.count; asked = o.asked ∙ op; request = o.request; settled = (let y = o.settled in omega arith); taking = (let y = o.taking in omega arith); alone = (let y = o.alone in omega arith) })
       (λ j r ne e. inl (lone_ticket z own j r ne e))
+      (record {
+        waits = 1;
+        none_waits = λ lt. absurd (omega arith);
+        one_waits = λ lt. let b = total_set (λ (y : Part A). y.taking) ps id p p' here in let none_ = total_zero (λ (y : Part A). y.taking) ps (λ j r e. no_taking ps c.n c.open_ c.unspent c.q r un c.opened (c.each j r e)) in omega arith;
+        here = (let h = c.waiting.here in let none_ = c.waiting.none_waits (omega arith) in let a' = total_set (λ (y : Part A). times c.n y.taken) ps id p p' here in let b = total_set (λ (y : Part A). times c.n y.filled) ps id p p' here in let ta = times_append c.n p.filled (e0 ∷ []) in
+            let le : once (t.number == c.n) ≡ 1 = ap once (eq-eqb t.number c.n nn) in omega arith);
+        before = λ m ne. let h = c.waiting.before m ne in let a' = total_set (λ (y : Part A). times m y.taken) ps id p p' here in let b = total_set (λ (y : Part A). times m y.filled) ps id p p' here in let ta = times_append m p.filled (e0 ∷ []) in
+            let le : once (t.number == m) ≡ 0 = ap once (ne_eqb t.number m (λ e. ne (sym e ∙ nn))) in omega arith;
+      })
       (record {
         side = ⊎_elim (λ (o : Owner c.n c.open_ c.unspent c.q p). inl (record { one = o.one; count = o.count; asked = o.asked ∙ op; request = o.request; settled = (let y = o.settled in omega arith); taking = (let y = o.taking in omega arith); alone = (let y = o.alone in omega arith) }))
             (λ (o : Other p). inr (record { none_ = o.none_; count = o.count; asked = o.asked; settled = o.settled; taking = o.taking })) ft.side;
@@ -78,7 +87,7 @@ module _ {A : Type 0} where
       let nn : t.number ≡ c.n = ap (λ (o : Opening). o.number) tn.1 in let le = c.opened in
       let shut : c.open_ ≢ 1 = λ op. ne (c.word_is ∙ (λ i. word (sym nn i) (op i) (un i))) in
       let op : c.open_ ≡ 0 = omega (arith, shut) in
-      quiet z p' z.home refl refl refl refl refl (record {
+      quiet z p' z.home refl refl refl refl refl (same_waits z p' refl refl refl) (record {
         side = resided c.n c.open_ c.unspent c.q p p.tickets p.filling 1 p.taken p.filled ft.side;
         tickets = ft.tickets;
         filling = ft.filling;

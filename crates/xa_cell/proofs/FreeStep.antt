@@ -13,7 +13,7 @@ use Rattle.xa_cell.specs.Dealing.{cells_in}
 use Rattle.xa_cell.specs.Rule.{total, word, owns, unspent_in, held, Cell, Ruled}
 use Rattle.xa_cell.specs.Steps.{freed, withdrew, frees, withdraws}
 use Rattle.xa_cell.proofs.Lists.{total_set, total_one, total_zero}
-use Rattle.xa_cell.proofs.OneCell.{SlotOf, HomeOf, Spot, fits, owner, ticket_names, ticket_is, lone_ticket, at_home, one_holds, others_free, not_owner, changed, same_once, same_dropped, keeps_filled}
+use Rattle.xa_cell.proofs.OneCell.{SlotOf, HomeOf, Spot, fits, owner, ticket_names, ticket_is, lone_ticket, at_home, one_holds, others_free, not_owner, changed, same_once, same_dropped, no_waits, keeps_filled}
 use Rattle.xa_cell.proofs.ShutPlace.{shut_cell}
 use Rattle.xa_cell.proofs.Lifting.{MineOf, Site, at_seat, spot, After, kept, back, of_none}
 
@@ -24,6 +24,7 @@ module _ {A : Type 0} where
       let zero_held : total held (set ps id p') ≡ 0 = (let b = total_set held ps id p p' here in omega arith) in (
         c.word_is ∙ (λ i. word (sym o.count i) (op i) (un i)),
         shut_cell z 1 0 0 p.given_up home' own un (omega arith) refl (All-weaker (λ (g : ℕ). g + c.open_ ≤ c.n) (λ (g : ℕ). g + 0 ≤ c.n) (λ g h. omega arith) p.given_up ft.given_up) (same_once z p' refl refl) (λ h. absurd (omega arith)) (same_dropped z p' refl refl)
+            (no_waits z p' refl refl 0 0 (omega arith) (let one = c.waiting.one_waits (omega arith) in let some_ = total_one (λ (y : Part A). y.taking) ps id p here in omega arith))
             (inl (zero_held, (None, at', record { pending = λ _. refl; closed = λ _. refl; filled = λ h k. absurd (omega arith) }))),
       )
 
@@ -49,7 +50,7 @@ module _ {A : Type 0} where
       let zero_held : total held (set ps id p') ≡ 0 = (let b = total_set held ps id p p' here in let y = total_zero held ps (others_free z tn.0 idle) in omega arith) in
       let lt = ft.late in (
         c.word_is ∙ (λ i. word (sym o.count i) (op i) (un i)),
-        changed z p' (word p.count 0 0) z.home c.n 0 0 c.q (omega arith) (omega arith) (λ i. word (o.count i) 0 0) refl (omega arith) (λ e h. h) (same_once z p' refl refl) (omega arith) (omega arith) (λ a b. absurd (omega arith)) (same_dropped z p' refl refl) (not_owner z own) (λ j r ne e. inl (lone_ticket z tn.0 j r ne e)) (record {
+        changed z p' (word p.count 0 0) z.home c.n 0 0 c.q (omega arith) (omega arith) (λ i. word (o.count i) 0 0) refl (omega arith) (λ e h. h) (same_once z p' refl refl) (omega arith) (omega arith) (λ a b. absurd (omega arith)) (same_dropped z p' refl refl) (not_owner z own) (λ j r ne e. inl (lone_ticket z tn.0 j r ne e)) (no_waits z p' refl refl 0 0 (omega arith) (c.waiting.none_waits (omega arith))) (record {
           side = inl (record { one = o.one; count = o.count; asked = refl; request = All-nil (λ (y : RequestId). y ≡ c.q); settled = (omega arith); taking = (omega arith); alone = (omega arith) });
           tickets = All-nil (λ (y : Opening). y ≡ opening c.n c.q);
           filling = (omega arith);

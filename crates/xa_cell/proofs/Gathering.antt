@@ -47,6 +47,9 @@ module _ {A : Type 0} where
   merged_times : (m : ℕ) (ps : List (Part A)) → times m (merged ps).filled ≡ times m (flat_map (λ p. p.filled) ps)
   merged_times m ps = merged_many (λ (p : Part A). p.filled) (λ e. e.opening.number == m) refl (λ p q. refl) ps
 
+  merged_taken_times : (m : ℕ) (ps : List (Part A)) → times m (merged ps).taken ≡ times m (flat_map (λ p. p.taken) ps)
+  merged_taken_times m ps = merged_many (λ (p : Part A). p.taken) (λ e. e.opening.number == m) refl (λ p q. refl) ps
+
   merged_given : (m : ℕ) (ps : List (Part A)) → among m (merged ps).given_up ≡ among m (flat_map (λ p. p.given_up) ps)
   merged_given m ps = merged_many (λ (p : Part A). p.given_up) (λ x. x == m) refl (λ p q. refl) ps
 
@@ -107,8 +110,21 @@ module _ {A : Type 0} where
         walk (p ∷ ps) (suc i) g f (inl w) = absurd (subst (IsIn e) (f 0 p (λ z. omega arith) refl) w)
         walk (p ∷ ps) (suc i) g f (inr w) = walk ps i g (λ j q ne x. f (suc j) q (λ z. ne (omega arith)) x) w
 
-    answered : (k : ℕ) (ss : List (Seat A)) → k < cells_in limits → Gathers ss v → Answered k ss
-    answered k ss lt g =
+    -- so what all parts of a cell have is what this one has
+    all_here : (k : ℕ) (f : Part A → ℕ) → f blank ≡ 0 → ((q : Part A) → Idle q → f q ≡ 0) → total f (map (at k) s.views) ≡ f (at k v)
+    all_here k f none_ idle_none = let ps : List (Part A) = map (at k) s.views in
+        let none_else : total f (set ps id blank) ≡ 0 = total_zero f (set ps id blank) (at_each (λ (z : Part A). f z ≡ 0) ps id blank none_ (λ j q ne e. idle_none q (part_idle k j q ne e))) in
+        let sum_ = total_set f ps id (at k v) blank (at_map (at k) s.views id v here) in omega arith
+
+    -- where no place is open the cell isn't
+    closed : (k : ℕ) (ss : List (Seat A)) (lt : k < cells_in limits) → Gathers ss v → All IsShut ss → (r.cell k lt).open_ ≡ 0
+    closed k ss lt g shut = let c = r.cell k lt in let ps : List (Part A) = map (at k) s.views in let p_here = at_map (at k) s.views id v here in
+        let shut' : length (at k v).asked ≡ 0 = ap (λ (z : Part A). length z.asked) (g.parts k) ∙ merged_shut k ss shut in
+        let one = c.one_owner in let own = all_here k owns refl (λ q o. o.3) in
+        let o = owner_side ps c.n c.open_ c.unspent c.q (at k v) (omega arith) (c.each id (at k v) p_here) in let asked = o.asked in omega arith
+
+    answered : (k : ℕ) (ss : List (Seat A)) → k < cells_in limits → Gathers ss v → All IsShut ss → Answered k ss
+    answered k ss lt g shut =
         let c = r.cell k lt in let ps : List (Part A) = map (at k) s.views in let p_here = at_map (at k) s.views id v here in let fits = c.each id (at k v) p_here in let is = g.parts k in
         let P : Fill A → Type 0 = λ e. Contains (flat_map (λ p. p.filled) (parts_of k ss)) e in
         let filled_there : (e : Fill A) → WasFilled ps e → P e = λ e w. in_contains e (flat_map (λ p. p.filled) (parts_of k ss)) (merged_filled (parts_of k ss) e (subst (λ (z : Part A). IsIn e z.filled) is (only_filled k e w))) in record {
@@ -117,9 +133,13 @@ module _ {A : Type 0} where
               let t = merged_times m (parts_of k ss) in let u = merged_given m (parts_of k ss) in
               let same : times m (at k v).filled ≡ times m (merged (parts_of k ss)).filled = ap (λ (z : Part A). times m z.filled) is in
               let same' : among m (at k v).given_up ≡ among m (merged (parts_of k ss)).given_up = ap (λ (z : Part A). among m z.given_up) is in omega arith;
-          dropped = λ m. let none_else : total (λ (z : Part A). among m z.given_up) (set ps id blank) ≡ 0 = total_zero (λ (z : Part A). among m z.given_up) (set ps id blank)
-              (at_each (λ (z : Part A). among m z.given_up ≡ 0) ps id blank refl (λ j q ne e. ap (among m) (part_idle k j q ne e).4)) in
-              let sum_ = total_set (λ (z : Part A). among m z.given_up) ps id (at k v) blank p_here in let one = total_one (λ (z : Part A). among m z.dropped) ps id (at k v) p_here in let most = c.dropped m in
+          all = λ m. let a = all_here k (λ (z : Part A). times m z.taken) refl (λ q o. ap (times m) o.0) in let b = all_here k (λ (z : Part A). times m z.filled) refl (λ q o. ap (times m) o.1) in
+              let ta = ap (λ (z : Part A). times m z.taken) is ∙ merged_taken_times m (parts_of k ss) in let tb = ap (λ (z : Part A). times m z.filled) is ∙ merged_times m (parts_of k ss) in
+              let w = c.waiting in let here' = w.here in let none_ = w.none_waits (let op = closed k ss lt g shut in omega arith) in
+              ⊎_elim (λ (em : m ≡ c.n). let ea = ap (λ (i : ℕ). total (λ (z : Part A). times i z.taken) ps) em in let eb = ap (λ (i : ℕ). total (λ (z : Part A). times i z.filled) ps) em in
+              let y : times m (flat_map (λ p. p.taken) (parts_of k ss)) ≡ times m (flat_map (λ p. p.filled) (parts_of k ss)) = omega arith in y)
+              (λ (ne : m ≢ c.n). let e = w.before m ne in let y : times m (flat_map (λ p. p.taken) (parts_of k ss)) ≡ times m (flat_map (λ p. p.filled) (parts_of k ss)) = omega arith in y) (decided m c.n);
+          dropped = λ m. let all_given = all_here k (λ (z : Part A). among m z.given_up) refl (λ q o. ap (among m) o.4) in let one = total_one (λ (z : Part A). among m z.dropped) ps id (at k v) p_here in let most = c.dropped m in
               let t = merged_dropped m (parts_of k ss) in let u = merged_given m (parts_of k ss) in
               let same : among m (at k v).dropped ≡ among m (merged (parts_of k ss)).dropped = ap (λ (z : Part A). among m z.dropped) is in
               let same' : among m (at k v).given_up ≡ among m (merged (parts_of k ss)).given_up = ap (λ (z : Part A). among m z.given_up) is in omega arith;
@@ -129,14 +149,7 @@ module _ {A : Type 0} where
     emptied : (k : ℕ) (ss : List (Seat A)) → k < cells_in limits → Gathers ss v → All IsShut ss → get_elem? s.homes k ≡ some (some None)
     emptied k ss lt g shut =
         let c = r.cell k lt in let ps : List (Part A) = map (at k) s.views in let p_here = at_map (at k) s.views id v here in let is = g.parts k in
-        let calm : held (at k v) ≡ 0 = ap held is ∙ merged_calm k ss in let shut' : length (at k v).asked ≡ 0 = ap (λ (z : Part A). length z.asked) is ∙ merged_shut k ss shut in
-        let none_has : total held ps ≡ 0 = total_zero held ps (λ j q e. ⊎_elim (λ (same : j ≡ id). ap held (some-injective q (at k v) (sym e ∙ (ap (get_elem? ps) same ∙ p_here))) ∙ calm)
-        (λ (ne : j ≢ id). (part_idle k j q ne e).2) (decided j id)) in
-        let one = c.one_owner in
-        let none_else : total owns (set ps id blank) ≡ 0 = total_zero owns (set ps id blank) (at_each (λ (z : Part A). owns z ≡ 0) ps id blank refl (λ j q ne e. (part_idle k j q ne e).3)) in
-        let sum_ = total_set owns ps id (at k v) blank p_here in
-        let own : owns (at k v) ≡ 1 = omega arith in
-        let o = owner_side ps c.n c.open_ c.unspent c.q (at k v) own (c.each id (at k v) p_here) in let asked = o.asked in let op : c.open_ ≡ 0 = omega arith in
+        let calm : held (at k v) ≡ 0 = ap held is ∙ merged_calm k ss in let all_held = all_here k held refl (λ q o. o.2) in let none_has : total held ps ≡ 0 = omega arith in let op = closed k ss lt g shut in
         ⊎_elim (λ (h : (total held ps ≡ 0) × ((x : SlotOf A) × (get_elem? s.homes k ≡ some (some x)) × Content ps c.n c.open_ c.unspent c.q x)).
         h.1.1 ∙ ap (λ (z : SlotOf A). let y : maybe.Option (maybe.Option (SlotOf A)) = some (some z) in y) (h.1.2.closed op))
         (λ (h : total held ps ≡ 1). absurd (omega arith)) c.slot
@@ -145,7 +158,7 @@ module _ {A : Type 0} where
   pub ends : (limits : List ℕ) (id : ℕ) (v : View A) (ws : List ℕ) (xs : List (SlotOf A)) (ss : List (Seat A)) → Final (Seen (Ruled limits) id v) ws xs → length ss ≡ length limits → Gathers ss v → All IsShut ss
       → ((k : ℕ) → k < cells_in limits → Answered k ss) × ((k : ℕ) → k < cells_in limits → get_elem? xs k ≡ some None)
   ends limits id v ws xs ss f n g shut = let all = g.callers ∙ n in (
-    (λ k lt. answered limits f.0 f.1.0 id v f.1.1 all k ss lt g),
+    (λ k lt. answered limits f.0 f.1.0 id v f.1.1 all k ss lt g shut),
     λ k lt. f.4 k None (emptied limits f.0 f.1.0 id v f.1.1 all k ss lt g shut),
   )
 
@@ -164,5 +177,6 @@ module _ {A : Type 0} where
       let blanks = All-weaker (IsSeatOf cells) (λ (s : Seat A). at k (known s) ≡ blank) (λ s e. let words = ap (λ t. t.words) e in let wide = s.caller.wide in nth_past (known s).parts k (omega arith)) ss of_these in record {
         taken = All-none (λ (e : Fill A). Contains (flat_map (λ p. p.filled) (parts_of k ss)) e) (flat_map (λ p. p.taken) (parts_of k ss)) (ap length (blank_flat (λ (p : Part A). p.taken) refl k ss blanks));
         once = λ m. let a = ap (times m) (blank_flat (λ (p : Part A). p.filled) refl k ss blanks) in let b = ap (among m) (blank_flat (λ (p : Part A). p.given_up) refl k ss blanks) in omega arith;
+        all = λ m. ap (times m) (blank_flat (λ (p : Part A). p.taken) refl k ss blanks) ∙ sym (ap (times m) (blank_flat (λ (p : Part A). p.filled) refl k ss blanks));
         dropped = λ m. let a = ap (among m) (blank_flat (λ (p : Part A). p.dropped) refl k ss blanks) in let b = ap (among m) (blank_flat (λ (p : Part A). p.given_up) refl k ss blanks) in omega arith;
       }

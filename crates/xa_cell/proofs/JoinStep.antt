@@ -83,6 +83,15 @@ module _ {A : Type 0} where
             let d1 = total_set (λ (y : Part A). among m y.dropped) ps id p pr here in let d2 = total_set (λ (y : Part A). among m y.dropped) mid other r blank mid_at in let tdm = among_append m p.dropped r.dropped in let old = c.dropped m in omega arith;
         filled_once = λ m. let y1 = total_set (λ (y : Part A). among m y.given_up) ps id p pr here in let y2 = total_set (λ (y : Part A). among m y.given_up) mid other r blank mid_at in let tgm = among_append m p.given_up r.given_up in
             let x1 = total_set (λ (y : Part A). times m y.filled) ps id p pr here in let x2 = total_set (λ (y : Part A). times m y.filled) mid other r blank mid_at in let tm = times_append m p.filled r.filled in let old = c.filled_once m in omega arith;
+        waiting = let w = c.waiting in let totals : (m : ℕ) → (total (λ (y : Part A). times m y.taken) after ≡ total (λ (y : Part A). times m y.taken) ps) × (total (λ (y : Part A). times m y.filled) after ≡ total (λ (y : Part A). times m y.filled) ps) =
+            λ m. let y1 = total_set (λ (y : Part A). times m y.taken) ps id p pr here in let y2 = total_set (λ (y : Part A). times m y.taken) mid other r blank mid_at in let ty = times_append m p.taken r.taken in
+            let x1 = total_set (λ (y : Part A). times m y.filled) ps id p pr here in let x2 = total_set (λ (y : Part A). times m y.filled) mid other r blank mid_at in let tx = times_append m p.filled r.filled in (omega arith, omega arith) in record {
+              waits = w.waits;
+              none_waits = w.none_waits;
+              one_waits = λ lt. let one = w.one_waits lt in let k1 = total_set (λ (y : Part A). y.taking) ps id p pr here in let k2 = total_set (λ (y : Part A). y.taking) mid other r blank mid_at in omega arith;
+              here = (let t = totals c.n in let t0 = t.0 in let t1 = t.1 in let h = w.here in omega arith);
+              before = λ m ne. let t = totals m in let t0 = t.0 in let t1 = t.1 in let h = w.before m ne in omega arith;
+            };
         each = at_each (Fits after c.n c.open_ c.unspent c.q) mid other blank empty (λ j y apart e. at_each (Fits after c.n c.open_ c.unspent c.q) ps id pr joined (λ i x apart' k. moved x (c.each i x k)) j y e);
         slot = ⊎_elim (λ (k : (total held ps ≡ 0) × AtHome z.home ps c.n c.open_ c.unspent c.q). let y = k.0 in
             inl ((omega arith), (k.1.0, k.1.1, content_grows ps after c.n c.open_ c.unspent c.q k.1.0 grow k.1.2)))

@@ -9,7 +9,7 @@ use Rattle.xa_cell.specs.Changes.{looked}
 use Rattle.xa_cell.specs.Dealing.{cells_in}
 use Rattle.xa_cell.specs.Rule.{word, owns, Cell, Ruled}
 use Rattle.xa_cell.specs.Steps.{looks}
-use Rattle.xa_cell.proofs.OneCell.{SlotOf, Spot, fits, owner, slot_same, quiet, keeps_filled}
+use Rattle.xa_cell.proofs.OneCell.{SlotOf, Spot, fits, owner, slot_same, quiet, same_waits, keeps_filled}
 use Rattle.xa_cell.proofs.Lifting.{Site, word_at, spot, kept}
 
 module _ {A : Type 0} where
@@ -20,7 +20,7 @@ module _ {A : Type 0} where
     o.settled,
     (let a = o.asked in let b = c.opened in omega arith),
     c.word_is ∙ (λ i. word (sym o.count i) (sym o.asked i) c.unspent),
-    quiet z p' z.home refl refl refl refl refl (record {
+    quiet z p' z.home refl refl refl refl refl (same_waits z p' refl refl refl) (record {
       side = inl (record { one = o.one; count = o.count; asked = o.asked; request = o.request; settled = (omega arith); taking = o.taking; alone = o.alone });
       tickets = ft.tickets;
       filling = ft.filling;

@@ -1,5 +1,5 @@
 -- One cell, and the part that the stepping seat has of it: what is known there, and what a step has to show.
-use Rattle.std.proofs.Common.{◌≡◌, ◌≢◌, ℕ, ◌+◌, ◌≤◌, List, [], ◌∷◌, length, set, sym, refl, ap, ◌∙◌, subst, arith, Option, None, ◌⊎◌, inl, inr, ⊎_elim}
+use Rattle.std.proofs.Common.{◌≡◌, ◌≢◌, ℕ, ◌+◌, ◌<◌, ◌≤◌, List, [], ◌∷◌, length, set, sym, refl, ap, ◌∙◌, subst, arith, Option, None, ◌⊎◌, inl, inr, ⊎_elim}
 use Rattle.std.proofs.lemmas.List.Elements.{All-nil, All-head, All-weaker}
 use Rattle.std.specs.List.{All}
 use mathlib.Core.Option.{some, some-injective}
@@ -12,7 +12,7 @@ use Rattle.xa_cell.specs.declared.view.Part.{Part}
 use Rattle.xa_cell.specs.declared.view.Carried.{Carried}
 use Rattle.xa_cell.specs.Views.{opening, fill}
 use Rattle.xa_cell.specs.Counts.{times, among}
-use Rattle.xa_cell.specs.Rule.{total, word, IsIn, WasFilled, owns, unspent_in, held, Owner, Other, Fits, Content, Slotted, Cell}
+use Rattle.xa_cell.specs.Rule.{total, word, IsIn, WasFilled, owns, unspent_in, held, Owner, Other, Fits, Content, Slotted, Waits, Cell}
 use Rattle.xa_cell.proofs.Lists.{decided, total_set, total_one, total_two, total_zero, at_each, All-none, was_set, times_none, among_none}
 
 -- what a slot has
@@ -139,14 +139,36 @@ module _ {A : Type 0} where
           let y = h.0 in inl ((omega arith), (h.1.0, h.1.1, content_grows z.ps after z.c.n z.c.open_ z.c.unspent z.c.q h.1.0 (grown f) h.1.2)))
           (λ (h : total held z.ps ≡ 1). inr (omega arith)) z.c.slot
 
+      same_total : (m : ℕ) (f : Part A → List (Fill A)) → f p' ≡ f z.p → total (λ (y : Part A). times m (f y)) after ≡ total (λ (y : Part A). times m (f y)) z.ps
+      same_total m f e = let t = total_set (λ (y : Part A). times m (f y)) z.ps z.id z.p p' z.here in let same : times m (f p') ≡ times m (f z.p) = ap (times m) e in omega arith
+
+      -- what was taken and filled stays, and nothing waits
+      pub no_waits : p'.taken ≡ z.p.taken → p'.filled ≡ z.p.filled → (op' un' : ℕ) → op' ≤ un' → z.c.waiting.waits ≡ 0 → Waits after z.c.n op' un'
+      no_waits et ef op' un' le none_ = let w = z.c.waiting in let h = w.here in let a = same_total z.c.n (λ (y : Part A). y.taken) et in let b = same_total z.c.n (λ (y : Part A). y.filled) ef in record {
+        waits = 0;
+        none_waits = λ lt. refl;
+        one_waits = λ lt. absurd (omega arith);
+        here = (omega arith);
+        before = λ m ne. same_total m (λ (y : Part A). y.taken) et ∙ (w.before m ne ∙ sym (same_total m (λ (y : Part A). y.filled) ef));
+      }
+
+      pub same_waits : p'.taken ≡ z.p.taken → p'.filled ≡ z.p.filled → p'.taking ≡ z.p.taking → Waits after z.c.n z.c.open_ z.c.unspent
+      same_waits et ef ek = let w = z.c.waiting in let h = w.here in let a = same_total z.c.n (λ (y : Part A). y.taken) et in let b = same_total z.c.n (λ (y : Part A). y.filled) ef in let t = total_set (λ (y : Part A). y.taking) z.ps z.id z.p p' z.here in record {
+        waits = w.waits;
+        none_waits = w.none_waits;
+        one_waits = λ lt. let one = w.one_waits lt in omega arith;
+        here = (omega arith);
+        before = λ m ne. same_total m (λ (y : Part A). y.taken) et ∙ (w.before m ne ∙ sym (same_total m (λ (y : Part A). y.filled) ef));
+      }
+
       pub changed : (w' : ℕ) (home' : HomeOf A) (n' op' un' : ℕ) (q' : RequestId) → op' ≤ 1 → un' ≤ 1 → w' ≡ word n' op' un' → owns p' ≡ owns z.p → unspent_in p' + z.c.unspent ≡ unspent_in z.p + un'
           → ((e : Fill A) → IsIn e z.p.filled → IsIn e p'.filled) → ((m : ℕ) → total (λ (y : Part A). times m y.filled) after + total (λ (y : Part A). among m y.given_up) after ≤ 1)
           → z.c.n + un' ≤ n' + z.c.unspent → z.c.n + op' ≤ n' + z.c.open_
           → (op' ≡ 0 → un' ≡ 1 → total (λ (y : Part A). among n' y.given_up) after ≡ 1) → ((m : ℕ) → total (λ (y : Part A). among m y.dropped) after ≤ total (λ (y : Part A). among m y.given_up) after)
           → ((j : ℕ) (r : Part A) → j ≢ z.id → get_elem? z.ps j ≡ some r → Owner z.c.n z.c.open_ z.c.unspent z.c.q r → Owner n' op' un' q' r)
           → ((j : ℕ) (r : Part A) → j ≢ z.id → get_elem? z.ps j ≡ some r → (unspent_in r ≡ 0) ⊎ ((n' ≡ z.c.n) × (q' ≡ z.c.q) × (op' ≤ z.c.open_)))
-          → Fits after n' op' un' q' p' → Slotted home' after n' op' un' q' → Cell w' home' after
-      changed w' home' n' op' un' q' one few is own tick f once_ le le_op can drop_ owners tickets mine slot = let a = total_set owns z.ps z.id z.p p' z.here in let b = total_set unspent_in z.ps z.id z.p p' z.here in
+          → Waits after n' op' un' → Fits after n' op' un' q' p' → Slotted home' after n' op' un' q' → Cell w' home' after
+      changed w' home' n' op' un' q' one few is own tick f once_ le le_op can drop_ owners tickets waiting mine slot = let a = total_set owns z.ps z.id z.p p' z.here in let b = total_set unspent_in z.ps z.id z.p p' z.here in
           let oo = z.c.one_owner in let ot = z.c.one_ticket in record {
             n = n';
             open_ = op';
@@ -160,6 +182,7 @@ module _ {A : Type 0} where
             filled_once = once_;
             cancelled = can;
             dropped = drop_;
+            waiting = waiting;
             each = at_each (Fits after n' op' un' q') z.ps z.id p' mine
                 (λ j r ne e. other_fits z.ps after z.c.n z.c.open_ z.c.unspent n' op' un' z.c.q q' r (grown f) le le_op one (owners j r ne e) (tickets j r ne e) (z.c.each j r e));
             slot = slot;
@@ -167,9 +190,9 @@ module _ {A : Type 0} where
 
       -- a step of which the other seats learn nothing
       pub quiet : (home' : HomeOf A) → owns p' ≡ owns z.p → unspent_in p' ≡ unspent_in z.p → p'.filled ≡ z.p.filled → p'.given_up ≡ z.p.given_up → p'.dropped ≡ z.p.dropped
-          → Fits after z.c.n z.c.open_ z.c.unspent z.c.q p' → Slotted home' after z.c.n z.c.open_ z.c.unspent z.c.q → Cell z.w home' after
-      quiet home' own tick f eg ed mine slot = changed z.w home' z.c.n z.c.open_ z.c.unspent z.c.q z.c.opened z.c.few z.c.word_is own (omega arith) (λ e h. subst (IsIn e) (sym f) h) (same_once f eg) (omega arith) (omega arith)
-          (λ a b. same_given eg z.c.n ∙ z.c.cancelled a b) (same_dropped eg ed) (λ j r ne e o. o) (λ j r ne e. inr (refl, refl, omega arith)) mine slot
+          → Waits after z.c.n z.c.open_ z.c.unspent → Fits after z.c.n z.c.open_ z.c.unspent z.c.q p' → Slotted home' after z.c.n z.c.open_ z.c.unspent z.c.q → Cell z.w home' after
+      quiet home' own tick f eg ed waiting mine slot = changed z.w home' z.c.n z.c.open_ z.c.unspent z.c.q z.c.opened z.c.few z.c.word_is own (omega arith) (λ e h. subst (IsIn e) (sym f) h) (same_once f eg) (omega arith) (omega arith)
+          (λ a b. same_given eg z.c.n ∙ z.c.cancelled a b) (same_dropped eg ed) (λ j r ne e o. o) (λ j r ne e. inr (refl, refl, omega arith)) waiting mine slot
 
       -- what was taken is filled still
       pub keeps_filled : p'.filled ≡ z.p.filled → All (WasFilled after) z.p.taken

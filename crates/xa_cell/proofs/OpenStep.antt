@@ -1,5 +1,5 @@
 -- open: the owner makes a FREE cell PENDING, with the next number, and has the ticket.
-use Rattle.std.proofs.Common.{◌≡◌, ℕ, ◌+◌, ◌<◌, ◌≤◌, ◌==◌, List, [], ◌∷◌, length, set, sym, refl, ap, ◌∙◌, subst, arith, Some, inl, ⊎_elim}
+use Rattle.std.proofs.Common.{◌≡◌, ◌≢◌, ℕ, ◌+◌, ◌<◌, ◌≤◌, ◌==◌, List, [], ◌∷◌, length, set, sym, refl, ap, ◌∙◌, subst, arith, Some, inl, ⊎_elim}
 use Rattle.std.proofs.lemmas.List.Elements.{All-nil, All-cons, All-weaker}
 use mathlib.Core.Option.{some}
 use prog.Atomic.{either}
@@ -12,10 +12,11 @@ use Rattle.xa_cell.specs.declared.view.Part.{Part}
 use Rattle.xa_cell.specs.declared.view.View.{View}
 use Rattle.xa_cell.specs.declared.view.Carried.TheVariants.{Asked}
 use Rattle.xa_cell.specs.Views.{opening, at}
+use Rattle.xa_cell.specs.Counts.{times}
 use Rattle.xa_cell.specs.Dealing.{cells_in}
 use Rattle.xa_cell.specs.Rule.{total, word, owns, unspent_in, held, Owner, Other, Cell, Ruled}
 use Rattle.xa_cell.specs.Steps.{begun, opens}
-use Rattle.xa_cell.proofs.Lists.{total_set, total_one, total_zero}
+use Rattle.xa_cell.proofs.Lists.{decided, total_set, total_one, total_zero}
 use Rattle.xa_cell.proofs.OneCell.{SlotOf, Spot, fits, owner, at_home, not_owner, changed, same_once, same_dropped, keeps_filled}
 use Rattle.xa_cell.proofs.Lifting.{MineOf, Site, spot, After, kept, becomes}
 
@@ -33,9 +34,21 @@ module _ {A : Type 0} where
       let x = at_home z none_has in
       let mine : unspent_in p ≡ 0 = no_ticket z.id p z.here in
       let fl = ft.filling in let tk = o.taking in let lt = ft.late in
+      let old = c.waiting in
+      let same : (m : ℕ) → (total (λ (y : Part A). times m y.taken) (set z.ps z.id p') ≡ total (λ (y : Part A). times m y.taken) z.ps) × (total (λ (y : Part A). times m y.filled) (set z.ps z.id p') ≡ total (λ (y : Part A). times m y.filled) z.ps) =
+      λ m. let a = total_set (λ (y : Part A). times m y.taken) z.ps z.id p p' z.here in let b' = total_set (λ (y : Part A). times m y.filled) z.ps z.id p p' z.here in (omega arith, omega arith) in
       let zero_held : total held (set z.ps z.id p') ≡ 0 = (let t = total_set held z.ps z.id p p' z.here in let y = total_zero held z.ps none_has in omega arith) in (
         c.word_is ∙ (λ i. word (sym cn i) (op i) (un i)),
         changed z p' (word (p.count + 1) 1 1) z.home (p.count + 1) 1 1 q (omega arith) (omega arith) refl refl (omega arith) (λ e h. h) (same_once z p' refl refl) (omega arith) (omega arith) (λ a b. absurd (omega arith)) (same_dropped z p' refl refl) (not_owner z own) (λ j r ne e. inl (no_ticket j r e))
+            (record {
+              waits = 0;
+              none_waits = λ lt. refl;
+              one_waits = λ lt. absurd (omega arith);
+              here = (let t = same (p.count + 1) in let t0 = t.0 in let t1 = t.1 in let e = old.before (p.count + 1) (λ e. omega arith) in omega arith);
+              before = λ m ne. let t = same m in let t0 = t.0 in let t1 = t.1 in ⊎_elim (λ (em : m ≡ c.n). let h = old.here in let none_ = old.none_waits (omega arith) in
+                  let e = ap (λ (i : ℕ). total (λ (y : Part A). times i y.taken) z.ps) em in let f = ap (λ (i : ℕ). total (λ (y : Part A). times i y.filled) z.ps) em in let k : total (λ (y : Part A). times m y.taken) (set z.ps z.id p') ≡ total (λ (y : Part A). times m y.filled) (set z.ps z.id p') = omega arith in k)
+                  (λ (en : m ≢ c.n). let e = old.before m en in let k : total (λ (y : Part A). times m y.taken) (set z.ps z.id p') ≡ total (λ (y : Part A). times m y.filled) (set z.ps z.id p') = omega arith in k) (decided m c.n);
+            })
             (record {
               side = inl (record { one = own; count = refl; asked = refl; request = All-cons (λ (r : RequestId). r ≡ q) q [] refl (All-nil (λ (r : RequestId). r ≡ q)); settled = (omega arith); taking = (omega arith); alone = (omega arith) });
               tickets = All-cons (λ (t : Opening). t ≡ opening (p.count + 1) q) (opening (p.count + 1) q) [] refl (All-nil (λ (t : Opening). t ≡ opening (p.count + 1) q));

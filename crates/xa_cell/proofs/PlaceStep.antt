@@ -10,7 +10,7 @@ use Rattle.xa_cell.specs.Dealing.{cells_in}
 use Rattle.xa_cell.specs.Rule.{total, word, held, Cell, Ruled}
 use Rattle.xa_cell.specs.Steps.{placed, places}
 use Rattle.xa_cell.proofs.Lists.{total_set, total_zero}
-use Rattle.xa_cell.proofs.OneCell.{SlotOf, HomeOf, Spot, fits, ticket_names, ticket_is, at_home, others_free, no_taking, resided, quiet, keeps_filled}
+use Rattle.xa_cell.proofs.OneCell.{SlotOf, HomeOf, Spot, fits, ticket_names, ticket_is, at_home, others_free, no_taking, resided, quiet, same_waits, keeps_filled}
 use Rattle.xa_cell.proofs.Lifting.{MineOf, Site, at_seat, spot, out}
 
 module _ {A : Type 0} where
@@ -24,7 +24,7 @@ module _ {A : Type 0} where
         c.opened,
         c.word_is ∙ (λ i. word (sym (ap (λ (o : Opening). o.number) tn.1) i) c.open_ (un i)),
         x.1 ∙ ap (λ (y : SlotOf A). let h : HomeOf A = some (some y) in h) (x.2.pending un),
-        λ home'. quiet z p' home' refl refl refl refl refl (record {
+        λ home'. quiet z p' home' refl refl refl refl refl (same_waits z p' refl refl refl) (record {
           side = resided c.n c.open_ c.unspent c.q p p.tickets 1 p.late p.taken p.filled ft.side;
           tickets = ft.tickets;
           filling = own;

@@ -22,11 +22,11 @@ use Rattle.xa_cell.proofs.Lifting.{StateOf}
 module _ {A : Type 0} where
   -- a seat's part of a cell is cut in two
   cut_cell : (z : Spot A) (l r : Part A) → owns l + owns r ≡ owns z.p → unspent_in l + unspent_in r ≡ unspent_in z.p → held l + held r ≡ held z.p
-      → ((m : ℕ) → times m l.filled + times m r.filled ≡ times m z.p.filled) → ((m : ℕ) → among m l.given_up + among m r.given_up ≡ among m z.p.given_up) → ((m : ℕ) → among m l.dropped + among m r.dropped ≡ among m z.p.dropped)
+      → l.taking + r.taking ≡ z.p.taking → ((m : ℕ) → times m l.taken + times m r.taken ≡ times m z.p.taken) → ((m : ℕ) → times m l.filled + times m r.filled ≡ times m z.p.filled) → ((m : ℕ) → among m l.given_up + among m r.given_up ≡ among m z.p.given_up) → ((m : ℕ) → among m l.dropped + among m r.dropped ≡ among m z.p.dropped)
       → ((e : Fill A) → IsIn e z.p.filled → IsIn e l.filled ⊎ IsIn e r.filled)
       → ((all : List (Part A)) (n op un : ℕ) (q : RequestId) → Fits all n op un q z.p → Fits all n op un q l × Fits all n op un q r)
       → Cell z.w z.home (set z.ps z.id l ++ r ∷ [])
-  cut_cell z l r o u h t tg td f parts = let c = z.c in let p = z.p in let ps = z.ps in let id = z.id in let here = z.here in
+  cut_cell z l r o u h tk tt' t tg td f parts = let c = z.c in let p = z.p in let ps = z.ps in let id = z.id in let here = z.here in
       let after : List (Part A) = set ps id l ++ r ∷ [] in let oo = c.one_owner in let ot = c.one_ticket in
       let a1 = total_set owns ps id p l here in let a2 = total_snoc owns (set ps id l) r in
       let b1 = total_set unspent_in ps id p l here in let b2 = total_snoc unspent_in (set ps id l) r in
@@ -48,6 +48,15 @@ module _ {A : Type 0} where
             let d1 = total_set (λ (y : Part A). among m y.dropped) ps id p l here in let d2 = total_snoc (λ (y : Part A). among m y.dropped) (set ps id l) r in let tdm = td m in let old = c.dropped m in omega arith;
         filled_once = λ m. let y1 = total_set (λ (y : Part A). among m y.given_up) ps id p l here in let y2 = total_snoc (λ (y : Part A). among m y.given_up) (set ps id l) r in let tgm = tg m in
             let x1 = total_set (λ (y : Part A). times m y.filled) ps id p l here in let x2 = total_snoc (λ (y : Part A). times m y.filled) (set ps id l) r in let tm = t m in let old = c.filled_once m in omega arith;
+        waiting = let w = c.waiting in let totals : (m : ℕ) → (total (λ (y : Part A). times m y.taken) after ≡ total (λ (y : Part A). times m y.taken) ps) × (total (λ (y : Part A). times m y.filled) after ≡ total (λ (y : Part A). times m y.filled) ps) =
+            λ m. let y1 = total_set (λ (y : Part A). times m y.taken) ps id p l here in let y2 = total_snoc (λ (y : Part A). times m y.taken) (set ps id l) r in let ty = tt' m in
+            let x1 = total_set (λ (y : Part A). times m y.filled) ps id p l here in let x2 = total_snoc (λ (y : Part A). times m y.filled) (set ps id l) r in let tx = t m in (omega arith, omega arith) in record {
+              waits = w.waits;
+              none_waits = w.none_waits;
+              one_waits = λ lt. let one = w.one_waits lt in let k1 = total_set (λ (y : Part A). y.taking) ps id p l here in let k2 = total_snoc (λ (y : Part A). y.taking) (set ps id l) r in omega arith;
+              here = (let s = totals c.n in let s0 = s.0 in let s1 = s.1 in let e = w.here in omega arith);
+              before = λ m ne. let s = totals m in let s0 = s.0 in let s1 = s.1 in let e = w.before m ne in omega arith;
+            };
         each = λ j y e. ⊎_elim (λ (k : get_elem? (set ps id l) j ≡ some y). at_each (Fits after c.n c.open_ c.unspent c.q) ps id l (moved l two.0) (λ i x ne g. moved x (c.each i x g)) j y k)
             (λ (k : r ≡ y). subst (Fits after c.n c.open_ c.unspent c.q) k (moved r two.1)) (at_snoc (set ps id l) r y j e);
         slot = ⊎_elim (λ (k : (total held ps ≡ 0) × AtHome z.home ps c.n c.open_ c.unspent c.q). let y = k.0 in
@@ -95,7 +104,7 @@ module _ {A : Type 0} where
       (λ n. absurd (omega arith))
       (λ n k. subst Idle (sym (right_at k)) (refl, refl, (let i = idle k in omega arith), refl, refl))
       (λ k c. subst (λ (y : Part A × Part A). Cell (get_or s.words k 0) (get_elem? s.homes k) (set (map (at k) s.views) id y.0 ++ y.1 ∷ [])) (λ i. (sym (left_at k) i, sym (right_at k) i))
-      (cut_cell (seen s id k v here c) (rest_part (at k v)) (ticket_part (at k v)) (omega arith) (omega arith) (omega arith) (λ m. omega arith) (λ m. omega arith) (λ m. omega arith) (λ e h. inl h)
+      (cut_cell (seen s id k v here c) (rest_part (at k v)) (ticket_part (at k v)) (omega arith) (omega arith) (omega arith) (omega arith) (λ m. omega arith) (λ m. omega arith) (λ m. omega arith) (λ m. omega arith) (λ e h. inl h)
       (λ all n op un q f. let f1 = f.cancelled in let b = blank_fits all n op un q (omega arith) in (
         record {
           side = resided n op un q (at k v) [] 0 0 (at k v).taken (at k v).filled f.side;
@@ -127,7 +136,7 @@ module _ {A : Type 0} where
 
   -- a cell's part goes either way
   cut_either : (b : Bool) (z : Spot A) → Cell z.w z.home (set z.ps z.id (cond b blank z.p) ++ cond b z.p blank ∷ [])
-  cut_either b z = cut_cell z (cond b blank z.p) (cond b z.p blank) (sums owns refl b) (sums unspent_in refl b) (sums held refl b) (λ m. sums (λ q. times m q.filled) refl b) (λ m. sums (λ q. among m q.given_up) refl b) (λ m. sums (λ q. among m q.dropped) refl b)
+  cut_either b z = cut_cell z (cond b blank z.p) (cond b z.p blank) (sums owns refl b) (sums unspent_in refl b) (sums held refl b) (sums (λ q. q.taking) refl b) (λ m. sums (λ q. times m q.taken) refl b) (λ m. sums (λ q. times m q.filled) refl b) (λ m. sums (λ q. among m q.given_up) refl b) (λ m. sums (λ q. among m q.dropped) refl b)
       (λ e h. either_in e b h) (λ all n op un q f. both_fit all n op un q f b)
     where
       sums : (f : Part A → ℕ) → f blank ≡ 0 → (b : Bool) → f (cond b blank z.p) + f (cond b z.p blank) ≡ f z.p

@@ -1,5 +1,5 @@
 -- take: the owner loads the word, and from then on it has the slot with the answer.
-use Rattle.std.proofs.Common.{◌≡◌, ◌≢◌, ℕ, ◌+◌, ◌<◌, ◌≤◌, List, [], ◌∷◌, ◌++◌, length, set, sym, refl, ap, ◌∙◌, subst, arith, Some, inl, inr, ⊎_elim}
+use Rattle.std.proofs.Common.{◌≡◌, ◌≢◌, ℕ, ◌+◌, ◌<◌, ◌≤◌, ◌==◌, List, [], ◌∷◌, ◌++◌, length, set, sym, refl, ap, ◌∙◌, subst, arith, Some, inl, inr, ⊎_elim, eq-eqb, ne_eqb}
 use Rattle.std.proofs.lemmas.List.Elements.{All-nil, All-cons, All-head, All-append}
 use Rattle.std.specs.List.{All}
 use mathlib.Core.Option.{none, some, some-injective}
@@ -11,10 +11,11 @@ use Rattle.xa_cell.specs.declared.view.Part.{Part}
 use Rattle.xa_cell.specs.declared.view.View.{View}
 use Rattle.xa_cell.specs.declared.view.Carried.TheVariants.{Answer}
 use Rattle.xa_cell.specs.Views.{opening, fill, at}
+use Rattle.xa_cell.specs.Counts.{once, times}
 use Rattle.xa_cell.specs.Dealing.{cells_in}
 use Rattle.xa_cell.specs.Rule.{total, WasFilled, owns, unspent_in, held, Owner, Other, Cell, Ruled}
 use Rattle.xa_cell.specs.Steps.{taking, takes}
-use Rattle.xa_cell.proofs.Lists.{decided, total_set, total_one, total_zero}
+use Rattle.xa_cell.proofs.Lists.{decided, total_set, total_one, total_zero, times_append}
 use Rattle.xa_cell.proofs.OneCell.{SlotOf, HomeOf, Spot, fits, owner, at_home, lone_owner, grown, quiet, keeps_filled}
 use Rattle.xa_cell.proofs.Lifting.{Site, spot, out}
 
@@ -43,6 +44,15 @@ module _ {A : Type 0} where
         a,
         x.1 ∙ ap (λ (y : SlotOf A). let h : HomeOf A = some (some y) in h) got.1,
         λ home'. quiet z p' home' refl refl refl refl refl (record {
+          waits = 0;
+          none_waits = λ lt. refl;
+          one_waits = λ lt. let b = total_set (λ (y : Part A). y.taking) ps id p p' here in let none_ = total_zero (λ (y : Part A). y.taking) ps (λ j r e. let y = none_has j r e in omega arith) in omega arith;
+          here = (let h = c.waiting.here in let one = c.waiting.one_waits (omega arith) in let none_ = total_zero (λ (y : Part A). y.taking) ps (λ j r e. let y = none_has j r e in omega arith) in
+              let a' = total_set (λ (y : Part A). times c.n y.taken) ps id p p' here in let b = total_set (λ (y : Part A). times c.n y.filled) ps id p p' here in let ta = times_append c.n p.taken (e0 ∷ []) in
+              let le : once (p.count == c.n) ≡ 1 = ap once (eq-eqb p.count c.n o.count) in omega arith);
+          before = λ m ne. let h = c.waiting.before m ne in let a' = total_set (λ (y : Part A). times m y.taken) ps id p p' here in let b = total_set (λ (y : Part A). times m y.filled) ps id p p' here in let ta = times_append m p.taken (e0 ∷ []) in
+              let le : once (p.count == m) ≡ 0 = ap once (ne_eqb p.count m (λ e. ne (sym e ∙ o.count))) in omega arith;
+        }) (record {
           side = inl (record { one = o.one; count = o.count; asked = o.asked; request = o.request; settled = o.settled; taking = (omega arith); alone = (omega arith) });
           tickets = ft.tickets;
           filling = ft.filling;

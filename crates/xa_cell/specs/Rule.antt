@@ -1,7 +1,7 @@
 -- The rule of the cells: what holds between any two steps of the words, the slots and the views of all seats. No public contract rests on this file.
 -- Each cell has a word and a slot, and each view has a part for it. A word is four times the number of its last opening, modulo 2 ^ 62, and two
 -- bits: 2 where the place is open, and 1 where the ticket is unspent. So it is FREE at 0, CANCELLED at 1, FILLED at 2 and PENDING at 3.
-use Rattle.std.specs.Prelude.{◌≡◌, ℕ, ◌+◌, ◌*◌, ◌%◌, ◌^◌, ◌<◌, ◌≤◌, List, [], ◌∷◌, map, length, slice_index, ◌⊎◌, Option, Some, None}
+use Rattle.std.specs.Prelude.{◌≡◌, ◌≢◌, ℕ, ◌+◌, ◌*◌, ◌%◌, ◌^◌, ◌<◌, ◌≤◌, List, [], ◌∷◌, map, length, slice_index, ◌⊎◌, Option, Some, None}
 use Rattle.std.specs.List.{All}
 use mathlib.Core.Option.{some}
 use mathlib.Core.Option as maybe
@@ -88,6 +88,14 @@ module _ {A : Type 0} where
   abbrev pub Slotted : maybe.Option (maybe.Option (Option (Carried A))) → List (Part A) → ℕ → ℕ → ℕ → RequestId → Type 0
   Slotted home ps n open_ unspent q = ((total held ps ≡ 0) × ((x : Option (Carried A)) × (home ≡ some (some x)) × Content ps n open_ unspent q x)) ⊎ (total held ps ≡ 1)
 
+  -- each answer that was filled was taken, but for the one that waits where the cell is FILLED
+  pub record Waits (ps : List (Part A)) (n open_ unspent : ℕ) : Type 0 where
+    pub waits : ℕ
+    pub none_waits : open_ ≤ unspent → waits ≡ 0
+    pub one_waits : unspent < open_ → waits + total (λ p. p.taking) ps ≡ 1
+    pub here : total (λ p. times n p.taken) ps + waits ≡ total (λ p. times n p.filled) ps
+    pub before : (m : ℕ) → m ≢ n → total (λ p. times m p.taken) ps ≡ total (λ p. times m p.filled) ps
+
   -- one cell, of which the views have these parts
   pub record Cell (w : ℕ) (home : maybe.Option (maybe.Option (Option (Carried A)))) (ps : List (Part A)) : Type 0 where
     pub n : ℕ
@@ -104,6 +112,7 @@ module _ {A : Type 0} where
     -- a cell that is cancelled was given up at this opening, and what was dropped was given up
     pub cancelled : open_ ≡ 0 → unspent ≡ 1 → total (λ p. among n p.given_up) ps ≡ 1
     pub dropped : (m : ℕ) → total (λ p. among m p.dropped) ps ≤ total (λ p. among m p.given_up) ps
+    pub waiting : Waits ps n open_ unspent
     pub each : (j : ℕ) (p : Part A) → get_elem? ps j ≡ some p → Fits ps n open_ unspent q p
     pub slot : Slotted home ps n open_ unspent q
 
