@@ -70,7 +70,7 @@ module _ {A : Type 0} where
 
   merged_shut : (k : ℕ) (ss : List (Seat A)) → All IsShut ss → length (merged (parts_of k ss)).asked ≡ 0
   merged_shut k [] h = refl
-  merged_shut k (s ∷ ss) h = let r = merged_shut k ss (All-tail IsShut s ss h) in let here = ap length (All-head IsShut s ss h k) in let l = length-append (merged (parts_of k ss)).asked (at k (known s)).asked in omega arith
+  merged_shut k (s ∷ ss) h = let r = merged_shut k ss (All-tail IsShut s ss h) in let here = ap length ((All-head IsShut s ss h).asked k) in let l = length-append (merged (parts_of k ss)).asked (at k (known s)).asked in omega arith
 
   merged_calm : (k : ℕ) (ss : List (Seat A)) → held (merged (parts_of k ss)) ≡ 0
   merged_calm k [] = refl

@@ -88,5 +88,5 @@ module _ {A : Type 0} where
     opened_opens u stand shut = record {
       shut = shut;
       asked = ap (λ (z : Part A). z.asked) opened_at;
-      others = λ j ne. let e = put_else v k (record (at k v) { count = (at k v).count + 1; asked = q ∷ []; settled = 0 }) (opened k q v).deeds j ne in let s = ap (λ (z : Part A). z.settled) e in let h = stand j in let le = h.1 in (ap (λ (z : Part A). z.asked) e ∙ h.0, omega arith);
+      others = λ j ne. let e = put_else v k (record (at k v) { count = (at k v).count + 1; asked = q ∷ []; settled = 0 }) (opened k q v).deeds j ne in let s = ap (λ (z : Part A). z.settled) e in let h = stand.each j in let le = h.1 in (ap (λ (z : Part A). z.asked) e ∙ h.0, omega arith);
     }

@@ -18,7 +18,7 @@ module _ {A : Type 0} where
   stands_same v w j e = let same = ap (λ (p : Part A). p.settled) e in (ap (λ (p : Part A). p.asked) e, omega arith)
 
   pub stand_trans : (u v w : View A) → Stand u v → Stand v w → Stand u w
-  stand_trans u v w h g j = let a = (h j).1 in let b = (g j).1 in ((g j).0 ∙ (h j).0, omega arith)
+  stand_trans u v w h g = record { each = λ j. let x = h.each j in let y = g.each j in let a = x.1 in let b = y.1 in (y.0 ∙ x.0, omega arith) }
 
   module _ (v : View A) (k : ℕ) (p : Part A) (ds : List Deed) where
     pub put_else : (j : ℕ) → j ≢ k → at j (viewed v k p ds) ≡ at j v
@@ -47,8 +47,8 @@ module _ {A : Type 0} where
       }
 
       pub put_stands : p.asked ≡ (at k v).asked → (at k v).settled ≤ p.settled → Stand v (viewed v k p ds)
-      put_stands asked settled j = ⊎_elim (λ (e : j ≡ k). subst (λ (i : ℕ). StandsAt i v (viewed v k p ds)) (sym e) (let s = ap (λ (q : Part A). q.settled) put_is in (ap (λ (q : Part A). q.asked) put_is ∙ asked, omega arith)))
-          (λ (ne : j ≢ k). stands_same v (viewed v k p ds) j (put_else j ne)) (decided j k)
+      put_stands asked settled = record { each = λ j. ⊎_elim (λ (e : j ≡ k). subst (λ (i : ℕ). StandsAt i v (viewed v k p ds)) (sym e) (let s = ap (λ (q : Part A). q.settled) put_is in (ap (λ (q : Part A). q.asked) put_is ∙ asked, omega arith)))
+          (λ (ne : j ≢ k). stands_same v (viewed v k p ds) j (put_else j ne)) (decided j k) }
 
       pub put_shuts : p.asked ≡ [] → Shuts k v (viewed v k p ds)
       put_shuts shut = record { shut = ap (λ (q : Part A). q.asked) put_is ∙ shut; others = λ j ne. stands_same v (viewed v k p ds) j (put_else j ne) }

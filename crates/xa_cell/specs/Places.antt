@@ -14,16 +14,16 @@ requests_at k (p ∷ ps) = if p.0 == k then p.1 ∷ requests_at k ps else reques
 
 module _ {A : Type 0} where
   -- the open places are these
-  abbrev pub OpenAre : List (ℕ × RequestId) → View A → Type 0
-  OpenAre ps v = (k : ℕ) → (at k v).asked ≡ requests_at k ps
+  pub record OpenAre (ps : List (ℕ × RequestId)) (v : View A) : Type 0 where
+    pub asked : (k : ℕ) → (at k v).asked ≡ requests_at k ps
 
   -- at the cell k a place is open for the same request or none is, and where the seat knew that its ticket is spent it still does
   abbrev pub StandsAt : ℕ → View A → View A → Type 0
   StandsAt k v w = ((at k w).asked ≡ (at k v).asked) × ((at k v).settled ≤ (at k w).settled)
 
   -- so it is at each cell
-  abbrev pub Stand : View A → View A → Type 0
-  Stand v w = (k : ℕ) → StandsAt k v w
+  pub record Stand (v w : View A) : Type 0 where
+    pub each : (k : ℕ) → StandsAt k v w
 
   -- one place more is open, and the others stand
   pub record Opens (k : ℕ) (q : RequestId) (v w : View A) : Type 0 where

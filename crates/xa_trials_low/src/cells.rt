@@ -1,5 +1,5 @@
 //! Reply cells: one caller with one cell, and a caller beside the thread that fills its cell.
-ghost use Rattle.std.specs.Prelude.{◌≡◌, [], ◌∷◌, Some, None};
+ghost use Rattle.std.specs.Prelude.{◌≡◌, [], ◌∷◌, IsSomeAnd, None};
 ghost use Rattle.xa_cell.specs.Known.{known, IsSeatOf, IsTicketOf};
 ghost use Rattle.xa_cell.specs.Places.{OpenAre, IsShut, Stand};
 
@@ -28,8 +28,10 @@ fn a_cell_is_filled_or_given_up(rt: HostRuntime) -> Result<(), Fail> {
     let Ok((place, ticket)) = cells.begin(&mut seat, request(1)) else {
         panic!(rt; "full")
     };
-    let full = matches!(cells.begin(&mut seat, request(2)), Err(full) if full.0 == 1);
-    assert!(rt; full);
+    match cells.begin(&mut seat, request(2)) {
+        Err(full) => assert!(rt; full.0 == 1),
+        Ok(_) => panic!(rt; "not full"),
+    }
     assert!(rt; matches!(cells.look(&mut seat, &place), Look::Pending));
     assert!(rt; matches!(cells.fill(&mut seat, ticket, 7), Filled::Delivered));
     match cells.look(&mut seat, &place) {
@@ -59,21 +61,21 @@ fn fill(
     answer: u32,
 ) -> Option<u32>
     requires table { IsSeatOf cells.now seat.old }
-    requires ticket { (t : Ticket u32) × (ticket.old ≡ Some t) × IsTicketOf cells.now t }
+    requires ticket { IsSomeAnd ticket.old (λ t. IsTicketOf cells.now t) }
     ensures table { IsSeatOf cells.now seat.new }
     ensures spent { ticket.new ≡ None }
-    ensures open { Stand (known seat.old) (known seat.new) }
+    ensures stand { Stand (known seat.old) (known seat.new) }
 {
-    let Some(ticket) = ticket.take() else {
+    let Some(spent) = ticket.take() else {
         unreachable!()
     };
-    match cells.fill(seat, ticket, answer) {
+    match cells.fill(seat, spent, answer) {
         Filled::Delivered => None,
         Filled::Dropped(answer) => Some(answer),
     }
 }
 
-// Looks so often, or until the answer has come, and gives the place up then. The answer, if it came.
+// Looks so often, or until the answer has come, and then gives the place up. The answer, where it came.
 fn wait(
     cells: &Cells<u32>,
     seat: &mut Seat<u32>,
@@ -82,20 +84,21 @@ fn wait(
     looks: u32,
 ) -> Option<u32>
     requires table { IsSeatOf cells.now seat.old }
-    requires place { (p : Place) × (place.old ≡ Some p) × OpenAre ((p.cell, request) ∷ []) (known seat.old) }
+    requires place { IsSomeAnd place.old (λ p. OpenAre ((p.cell, request) ∷ []) (known seat.old)) }
     ensures table { IsSeatOf cells.now seat.new }
     ensures spent { place.new ≡ None }
     ensures shut { IsShut seat.new }
 {
-    let Some(place) = place.take() else {
+    let Some(mine) = place.take() else {
         unreachable!()
     };
-    for _ in 0..looks {
-        if let Look::Come = cells.look(seat, &place) {
-            return Some(cells.take(seat, place));
+    for _look in 0..looks {
+        if let Look::Come = cells.look(seat, &mine) {
+            let answer = cells.take(seat, mine);
+            return Some(answer);
         }
     }
-    match cells.cancel(seat, place) {
+    match cells.cancel(seat, mine) {
         Cancelled::Under => None,
         Cancelled::Came(answer) => Some(answer),
     }
@@ -105,26 +108,26 @@ fn wait(
 fn is_taken_or_dropped<R: Threads + Sync>(
     rt: &R,
     cells: &Cells<u32>,
-    mine: &mut Seat<u32>,
-    theirs: &mut Seat<u32>,
+    owner: &mut Seat<u32>,
+    filler: &mut Seat<u32>,
     number: u32,
 ) -> bool
-    requires table { IsSeatOf cells.now mine.old × IsSeatOf cells.now theirs.old }
-    requires shut { IsShut mine.old × IsShut theirs.old }
-    ensures table { IsSeatOf cells.now mine.new × IsSeatOf cells.now theirs.new }
-    ensures shut { IsShut mine.new × IsShut theirs.new }
+    requires table { IsSeatOf cells.now owner.old × IsSeatOf cells.now filler.old }
+    requires shut { IsShut owner.old × IsShut filler.old }
+    ensures table { IsSeatOf cells.now owner.new × IsSeatOf cells.now filler.new }
+    ensures shut { IsShut owner.new × IsShut filler.new }
 {
     let request = request(number);
-    let Ok((place, ticket)) = cells.begin(mine, request) else {
+    let Ok((opened, named)) = cells.begin(owner, request) else {
         return false;
     };
     let looks = number % 500 * (number % 9);
-    let mut place = Some(place);
-    let mut ticket = Some(ticket);
+    let mut place = Some(opened);
+    let mut ticket = Some(named);
     let (dropped, taken) = join_mut(
         rt,
-        &mut || fill(cells, theirs, &mut ticket, number),
-        &mut || wait(cells, mine, &mut place, request, looks),
+        &mut || fill(cells, filler, &mut ticket, number),
+        &mut || wait(cells, owner, &mut place, request, looks),
     );
     match (place, ticket) {
         (None, None) => {}
@@ -139,16 +142,16 @@ fn is_taken_or_dropped<R: Threads + Sync>(
 fn are_taken_or_dropped<R: Threads + Sync>(
     rt: &R,
     cells: &Cells<u32>,
-    mine: &mut Seat<u32>,
-    theirs: &mut Seat<u32>,
+    owner: &mut Seat<u32>,
+    filler: &mut Seat<u32>,
 ) -> bool
-    requires table { IsSeatOf cells.now mine.old × IsSeatOf cells.now theirs.old }
-    requires shut { IsShut mine.old × IsShut theirs.old }
-    ensures table { IsSeatOf cells.now mine.new × IsSeatOf cells.now theirs.new }
-    ensures shut { IsShut mine.new × IsShut theirs.new }
+    requires table { IsSeatOf cells.now owner.old × IsSeatOf cells.now filler.old }
+    requires shut { IsShut owner.old × IsShut filler.old }
+    ensures table { IsSeatOf cells.now owner.new × IsSeatOf cells.now filler.new }
+    ensures shut { IsShut owner.new × IsShut filler.new }
 {
     for number in 0..ROUNDS {
-        if !is_taken_or_dropped(rt, cells, mine, theirs, number) {
+        if !is_taken_or_dropped(rt, cells, owner, filler, number) {
             return false;
         }
     }
@@ -160,15 +163,15 @@ fn each_answer_is_taken_once_or_dropped_once(rt: HostRuntime) -> Result<(), Fail
     let Ok((cells, mut seats)) = Cells::<u32>::new(rt.alloc(), &[1, 1]) else {
         panic!(rt; "no memory")
     };
-    let Some(mut theirs) = seats.pop() else {
+    let Some(mut filler) = seats.pop() else {
         panic!(rt; "no seat")
     };
-    let Some(mut mine) = seats.pop() else {
+    let Some(mut owner) = seats.pop() else {
         panic!(rt; "no seat")
     };
-    assert!(rt; are_taken_or_dropped(&rt, &cells, &mut mine, &mut theirs));
-    seats.push_reserved(mine);
-    seats.push_reserved(theirs);
+    assert!(rt; are_taken_or_dropped(&rt, &cells, &mut owner, &mut filler));
+    seats.push_reserved(owner);
+    seats.push_reserved(filler);
     cells.close(seats);
     Ok(())
 }
