@@ -17,16 +17,6 @@ use Rattle.xa_cell.specs.Views.{opening, at}
 use Rattle.xa_cell.specs.Changes.{looked, opened, took, cancelled, filled, dropped}
 use Rattle.xa_cell.specs.Known.{known, named, IsTicketOf}
 
--- what a look says of the ticket: unspent or not
-abbrev pub Says : Look → ℕ → Type 0
-Says Pending unspent = unspent ≡ 1
-Says Come unspent = unspent ≡ 0
-
--- that the answer has come, the seat knows then
-abbrev pub Shows : Look → ℕ → Type 0
-Shows Pending settled = Unit {0}
-Shows Come settled = 0 < settled
-
 module _ {A : Type 0} where
   -- the looks at the cells from this one on, by whether they found the tickets unspent
   abbrev pub after_looks : ℕ → List ℕ → View A → View A
@@ -43,7 +33,7 @@ module _ {A : Type 0} where
     pub unspent : List ℕ
     pub cell : place.cell ≡ s.first + length unspent
     pub own : place.cell < s.first + s.count
-    pub taken : NoneFree s.first unspent (known s)
+    pub none_free : NoneFree s.first unspent (known s)
     pub view : known s' ≡ opened place.cell q (looked place.cell 0 (after_looks s.first unspent (known s)))
     pub ticket_cell : t.cell ≡ place.cell
     pub names : named t ≡ opening ((at place.cell (known s)).count + 1) q ∷ []
@@ -53,15 +43,13 @@ module _ {A : Type 0} where
   pub record AllTaken (s s' : Seat A) : Type 0 where
     pub unspent : List ℕ
     pub count : length unspent ≡ s.count
-    pub taken : NoneFree s.first unspent (known s)
+    pub none_free : NoneFree s.first unspent (known s)
     pub view : known s' ≡ after_looks s.first unspent (known s)
 
-  -- the look answers what the word said at its step
-  pub record LookedAs (k : ℕ) (v w : View A) (answer : Look) : Type 0 where
-    pub unspent : ℕ
-    pub says : Says answer unspent
-    pub view : w ≡ looked k unspent v
-    pub come : Shows answer (at k w).settled
+  -- the look answers what the word said at its step; that the answer has come the seat knows then
+  abbrev pub LookedAs : ℕ → View A → View A → Look → Type 0
+  LookedAs k v w Pending = w ≡ looked k 1 v
+  LookedAs k v w Come = (w ≡ looked k 0 v) × (0 < (at k w).settled)
 
   -- this answer to the request of the place was taken
   abbrev pub TookAs : ℕ → A → View A → View A → Type 0

@@ -44,7 +44,8 @@ impl<A> Cells<A> {
             .table
             .shared
             .compare_exchange::<rule::Fill>(&mut seat.inner, cell, pending, filled);
-        if found == pending {
+        let is_first = found == pending;
+        if is_first {
             return Filled::Delivered;
         }
         let back = self.table.shared.exchange(&mut seat.inner, cell, None);

@@ -151,7 +151,8 @@ impl<A> Cells<A> {
             .table
             .shared
             .compare_exchange::<rule::Cancel>(&mut seat.inner, cell, pending, cancelled);
-        if found == pending {
+        let is_first = found == pending;
+        if is_first {
             let Place { cell: _ } = place;
             Cancelled::Under
         } else {

@@ -6,7 +6,7 @@ pub look-requires-clause-place : goal.look-requires-clause-place
 look-requires-clause-place c = is_among [] [] _ _ c.loop-look.invariant.places
 
 pub take-answer-requires-clause-come : goal.take-answer-requires-clause-come
-take-answer-requires-clause-come c = (is_among [] [] _ _ (still_open c.loop-look.invariant.places c.look.ensures.open), c.in-Come.ensures.known.come)
+take-answer-requires-clause-come c = (is_among [] [] _ _ (still_open c.loop-look.invariant.places c.look.ensures.open), c.in-Come.ensures.known.1)
 
 pub loop-look-preserved : goal.loop-look-preserved
 loop-look-preserved c = record { table = c.look.ensures.seat.0; places = still_open c.loop-look.invariant.places c.look.ensures.open }

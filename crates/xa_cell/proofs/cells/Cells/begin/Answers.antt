@@ -32,7 +32,7 @@ returns-in-Some-clause-ok g c = let s = c.args.seat.now in let f = s.first in le
       unspent = d.0;
       cell = at_;
       own = high;
-      taken = d.3;
+      none_free = d.3;
       view = o.known ∙ ap (opened k q) d.4;
       ticket_cell = o.ticket.of_cell;
       names = o.ticket.names ∙ ap (λ m. opening (m + 1) q ∷ []) (ap (λ w. (at k w).count) d.4 ∙ (ap (λ p. p.count) here ∙ ap (λ p. p.count) beyond));

@@ -40,18 +40,18 @@ invariant_of-seat g c = let s = c.args.seat.now in let k = c.args.place.cell in 
 pub take-requires-clause-come : goal.take-requires-clause-come
 take-requires-clause-come g c = let s = c.args.seat.now in let k = c.args.place.cell in let v = s.inner.me.0 in let cells = s.inner.table_id.words in let range = s.caller.mine k c.requires.place in let high = range.1 in let room = s.caller.room in let inside : k < cells = omega arith in
     let l = c.load-word.ensures in let u = l.2.0 in let then_ = looked_caller s.first s.count cells k v s.caller inside u in let here = looked_at s.first s.count cells k v s.caller inside u in
-    let now = c.compare_exchange-found.ensures.2.1 c.if-found-pending.false in let w = looked k u v in let is = ap (λ m. m.0) now ∙ ap (λ m. looked k 0 m.0) l.2.4 in let again = looked_at s.first s.count cells k w then_ inside 0 in
+    let now = c.compare_exchange-found.ensures.2.1 c.if-is_first.false in let w = looked k u v in let is = ap (λ m. m.0) now ∙ ap (λ m. looked k 0 m.0) l.2.4 in let again = looked_at s.first s.count cells k w then_ inside 0 in
     let a = ap (λ x. length (at k x).asked) is ∙ (ap (λ p. length p.asked) again ∙ ap (λ p. length p.asked) here) in let b = ap (λ x. (at k x).settled) is ∙ ap (λ p. p.settled) again in let open_ = c.requires.place in
     ((omega arith), omega arith)
 
-pub returns-then-found-pending-clause-shut : goal.returns-then-found-pending-clause-shut
-returns-then-found-pending-clause-shut g c = let s = c.args.seat.now in let k = c.args.place.cell in let v = s.inner.me.0 in let cells = s.inner.table_id.words in let range = s.caller.mine k c.requires.place in let high = range.1 in let room = s.caller.room in let inside : k < cells = omega arith in
+pub returns-then-is_first-clause-shut : goal.returns-then-is_first-clause-shut
+returns-then-is_first-clause-shut g c = let s = c.args.seat.now in let k = c.args.place.cell in let v = s.inner.me.0 in let cells = s.inner.table_id.words in let range = s.caller.mine k c.requires.place in let high = range.1 in let room = s.caller.room in let inside : k < cells = omega arith in
     let l = c.load-word.ensures in let u = l.2.0 in let then_ = looked_caller s.first s.count cells k v s.caller inside u in let here = looked_at s.first s.count cells k v s.caller inside u in
-    let now = c.compare_exchange-found.ensures.2.0 c.if-found-pending.true in let is = ap (λ m. m.0) now ∙ ap (λ m. cancelled k m.0) l.2.4 in
+    let now = c.compare_exchange-found.ensures.2.0 c.if-is_first.true in let is = ap (λ m. m.0) now ∙ ap (λ m. cancelled k m.0) l.2.4 in
     subst (Shuts k v) (sym is) (shuts_after k v (looked k u v) _ (looked_else s.first s.count cells k v s.caller inside u) (cancelled_shuts s.first s.count cells k (looked k u v) then_ inside))
 
-pub returns-else-found-pending-clause-shut : goal.returns-else-found-pending-clause-shut
-returns-else-found-pending-clause-shut g c = let s = c.args.seat.now in let k = c.args.place.cell in let v = s.inner.me.0 in let cells = s.inner.table_id.words in let range = s.caller.mine k c.requires.place in let high = range.1 in let room = s.caller.room in let inside : k < cells = omega arith in
+pub returns-else-is_first-clause-shut : goal.returns-else-is_first-clause-shut
+returns-else-is_first-clause-shut g c = let s = c.args.seat.now in let k = c.args.place.cell in let v = s.inner.me.0 in let cells = s.inner.table_id.words in let range = s.caller.mine k c.requires.place in let high = range.1 in let room = s.caller.room in let inside : k < cells = omega arith in
     let l = c.load-word.ensures in let u = l.2.0 in let then_ = looked_caller s.first s.count cells k v s.caller inside u in let here = looked_at s.first s.count cells k v s.caller inside u in
-    let now = c.compare_exchange-found.ensures.2.1 c.if-found-pending.false in let w = looked k u v in let is = ap (λ m. m.0) now ∙ ap (λ m. looked k 0 m.0) l.2.4 in
+    let now = c.compare_exchange-found.ensures.2.1 c.if-is_first.false in let w = looked k u v in let is = ap (λ m. m.0) now ∙ ap (λ m. looked k 0 m.0) l.2.4 in
     shuts_after k v _ _ (λ j ne. ap (at j) is ∙ (looked_else s.first s.count cells k w then_ inside 0 j ne ∙ looked_else s.first s.count cells k v s.caller inside u j ne)) c.take.ensures.shut

@@ -44,30 +44,30 @@ invariant_of-seat g c = let s = c.args.seat.now in let k = c.args.ticket.cell in
     let l = c.load-word.ensures in let m2 = placed_me s.first s.count cells k v s.caller inside o.0 _ _ l.2.0 m1 in
     let a = c.args.answer in let m3 = moved_slot _ _ (holding k o.0 v) k None (Some (Answer a)) [] m2 refl c.exchange.ensures.3 in let here = holding_at s.first s.count cells k v s.caller inside o.0 in
     let x = c.compare_exchange-found.ensures in let y = x.2 o.0 a (ap (λ m. (at k m.0).tickets) m3 ∙ ap (λ p. p.tickets) here) (ap (λ m. m.1) m3) in
-    let m4 = delivered_me s.first s.count cells k v s.caller inside o.0 a _ _ _ (y.0 c.if-found-pending.true) m3 in
+    let m4 = delivered_me s.first s.count cells k v s.caller inside o.0 a _ _ _ (y.0 c.if-is_first.true) m3 in
     record {
       empty = empty_of _ (ap (λ m. m.1) m4);
       caller = caller_is _ _ _ _ _ _ (ap (λ z. z.words) (x.0 ∙ (c.exchange.ensures.0 ∙ (l.0 ∙ j.0)))) (ap (λ m. m.0) m4) (filled_caller s.first s.count cells k v s.caller inside o.0 a);
     }
 
-pub returns-then-found-pending-clause-known : goal.returns-then-found-pending-clause-known
-returns-then-found-pending-clause-known g c = let s = c.args.seat.now in let k = c.args.ticket.cell in let v = s.inner.me.0 in let cells = s.inner.table_id.words in let t = view_of c.args.ticket.badge.views in
+pub returns-then-is_first-clause-known : goal.returns-then-is_first-clause-known
+returns-then-is_first-clause-known g c = let s = c.args.seat.now in let k = c.args.ticket.cell in let v = s.inner.me.0 in let cells = s.inner.table_id.words in let t = view_of c.args.ticket.badge.views in
     let is = ticket_is k k _ cells t t refl (ap (λ z. z.words) (c.requires.0 ∙ sym c.requires.1)) refl c.args.ticket.ticket in let inside = is.inside in let o = ticket_of k cells t is in
     let j = c.join_seat.ensures in let m1 = joined_me s.first s.count cells k v s.caller inside t o.0 is o.1 s.inner.me _ _ j.2 refl (ap (λ m. m.1) s.empty) (ap view_of c.into_seat.ensures.2) in
     let l = c.load-word.ensures in let m2 = placed_me s.first s.count cells k v s.caller inside o.0 _ _ l.2.0 m1 in
     let a = c.args.answer in let m3 = moved_slot _ _ (holding k o.0 v) k None (Some (Answer a)) [] m2 refl c.exchange.ensures.3 in let here = holding_at s.first s.count cells k v s.caller inside o.0 in
     let x = c.compare_exchange-found.ensures in let y = x.2 o.0 a (ap (λ m. (at k m.0).tickets) m3 ∙ ap (λ p. p.tickets) here) (ap (λ m. m.1) m3) in
-    let m4 = delivered_me s.first s.count cells k v s.caller inside o.0 a _ _ _ (y.0 c.if-found-pending.true) m3 in
+    let m4 = delivered_me s.first s.count cells k v s.caller inside o.0 a _ _ _ (y.0 c.if-is_first.true) m3 in
     (o.0, o.1, ap (λ m. m.0) m4)
 
-pub returns-then-found-pending-clause-open : goal.returns-then-found-pending-clause-open
-returns-then-found-pending-clause-open g c = let s = c.args.seat.now in let k = c.args.ticket.cell in let v = s.inner.me.0 in let cells = s.inner.table_id.words in let t = view_of c.args.ticket.badge.views in
+pub returns-then-is_first-clause-open : goal.returns-then-is_first-clause-open
+returns-then-is_first-clause-open g c = let s = c.args.seat.now in let k = c.args.ticket.cell in let v = s.inner.me.0 in let cells = s.inner.table_id.words in let t = view_of c.args.ticket.badge.views in
     let is = ticket_is k k _ cells t t refl (ap (λ z. z.words) (c.requires.0 ∙ sym c.requires.1)) refl c.args.ticket.ticket in let inside = is.inside in let o = ticket_of k cells t is in
     let j = c.join_seat.ensures in let m1 = joined_me s.first s.count cells k v s.caller inside t o.0 is o.1 s.inner.me _ _ j.2 refl (ap (λ m. m.1) s.empty) (ap view_of c.into_seat.ensures.2) in
     let l = c.load-word.ensures in let m2 = placed_me s.first s.count cells k v s.caller inside o.0 _ _ l.2.0 m1 in
     let a = c.args.answer in let m3 = moved_slot _ _ (holding k o.0 v) k None (Some (Answer a)) [] m2 refl c.exchange.ensures.3 in let here = holding_at s.first s.count cells k v s.caller inside o.0 in
     let x = c.compare_exchange-found.ensures in let y = x.2 o.0 a (ap (λ m. (at k m.0).tickets) m3 ∙ ap (λ p. p.tickets) here) (ap (λ m. m.1) m3) in
-    let m4 = delivered_me s.first s.count cells k v s.caller inside o.0 a _ _ _ (y.0 c.if-found-pending.true) m3 in
+    let m4 = delivered_me s.first s.count cells k v s.caller inside o.0 a _ _ _ (y.0 c.if-is_first.true) m3 in
     subst (Stand v) (sym (ap (λ m. m.0) m4)) (filled_stands s.first s.count cells k v s.caller inside o.0 a)
 
 pub exchange-back-requires : goal.exchange-back-requires
@@ -77,7 +77,7 @@ exchange-back-requires g c = let s = c.args.seat.now in let k = c.args.ticket.ce
     let l = c.load-word.ensures in let m2 = placed_me s.first s.count cells k v s.caller inside o.0 _ _ l.2.0 m1 in
     let a = c.args.answer in let m3 = moved_slot _ _ (holding k o.0 v) k None (Some (Answer a)) [] m2 refl c.exchange.ensures.3 in let here = holding_at s.first s.count cells k v s.caller inside o.0 in
     let x = c.compare_exchange-found.ensures in let y = x.2 o.0 a (ap (λ m. (at k m.0).tickets) m3 ∙ ap (λ p. p.tickets) here) (ap (λ m. m.1) m3) in
-    let l4 = late_me s.first s.count cells k v s.caller inside o.0 _ _ _ (y.1 c.if-found-pending.false) m3 in
+    let l4 = late_me s.first s.count cells k v s.caller inside o.0 _ _ _ (y.1 c.if-is_first.false) m3 in
     (x.0 ∙ (c.exchange.ensures.0 ∙ (l.0 ∙ (j.0 ∙ c.requires.0))), has_slot _ _ k (Some (Answer a)) [] l4)
 
 pub fetch_sub-requires : goal.fetch_sub-requires
@@ -88,7 +88,7 @@ fetch_sub-requires g c = let s = c.args.seat.now in let k = c.args.ticket.cell i
     let l = c.load-word.ensures in let m2 = placed_me s.first s.count cells k v s.caller inside o.0 _ _ l.2.0 m1 in
     let a = c.args.answer in let m3 = moved_slot _ _ (holding k o.0 v) k None (Some (Answer a)) [] m2 refl c.exchange.ensures.3 in let here = holding_at s.first s.count cells k v s.caller inside o.0 in
     let x = c.compare_exchange-found.ensures in let y = x.2 o.0 a (ap (λ m. (at k m.0).tickets) m3 ∙ ap (λ p. p.tickets) here) (ap (λ m. m.1) m3) in
-    let l4 = late_me s.first s.count cells k v s.caller inside o.0 _ _ _ (y.1 c.if-found-pending.false) m3 in
+    let l4 = late_me s.first s.count cells k v s.caller inside o.0 _ _ _ (y.1 c.if-is_first.false) m3 in
     let l5 = moved_slot _ _ (tardy k o.0 v) k (Some (Answer a)) None [] l4 refl c.exchange-back.ensures.3 in let late = tardy_at s.first s.count cells k v s.caller inside o.0 in
     (c.exchange-back.ensures.0 ∙ (x.0 ∙ (c.exchange.ensures.0 ∙ (l.0 ∙ (j.0 ∙ c.requires.0)))), omega arith, clears_at _ _ _ k _ (tardy k o.0 v) o.0 l5 (omega arith) (tardy_long s.first s.count cells k v s.caller inside o.0) (ap (λ p. p.tickets) late) (ap (λ p. p.late) late))
 
@@ -99,7 +99,7 @@ invariant_of-seat-2 g c = let s = c.args.seat.now in let k = c.args.ticket.cell 
     let l = c.load-word.ensures in let m2 = placed_me s.first s.count cells k v s.caller inside o.0 _ _ l.2.0 m1 in
     let a = c.args.answer in let m3 = moved_slot _ _ (holding k o.0 v) k None (Some (Answer a)) [] m2 refl c.exchange.ensures.3 in let here = holding_at s.first s.count cells k v s.caller inside o.0 in
     let x = c.compare_exchange-found.ensures in let y = x.2 o.0 a (ap (λ m. (at k m.0).tickets) m3 ∙ ap (λ p. p.tickets) here) (ap (λ m. m.1) m3) in
-    let l4 = late_me s.first s.count cells k v s.caller inside o.0 _ _ _ (y.1 c.if-found-pending.false) m3 in
+    let l4 = late_me s.first s.count cells k v s.caller inside o.0 _ _ _ (y.1 c.if-is_first.false) m3 in
     let l5 = moved_slot _ _ (tardy k o.0 v) k (Some (Answer a)) None [] l4 refl c.exchange-back.ensures.3 in let late = tardy_at s.first s.count cells k v s.caller inside o.0 in
     let z = c.fetch_sub.ensures in let l6 = cleared_me s.first s.count cells k v s.caller inside o.0 _ _ _ (z.2 o.0 (ap (λ m. (at k m.0).tickets) l5 ∙ ap (λ p. p.tickets) late)) l5 in
     record {
@@ -114,7 +114,7 @@ answer_in-requires g c = let s = c.args.seat.now in let k = c.args.ticket.cell i
     let l = c.load-word.ensures in let m2 = placed_me s.first s.count cells k v s.caller inside o.0 _ _ l.2.0 m1 in
     let a = c.args.answer in let m3 = moved_slot _ _ (holding k o.0 v) k None (Some (Answer a)) [] m2 refl c.exchange.ensures.3 in let here = holding_at s.first s.count cells k v s.caller inside o.0 in
     let x = c.compare_exchange-found.ensures in let y = x.2 o.0 a (ap (λ m. (at k m.0).tickets) m3 ∙ ap (λ p. p.tickets) here) (ap (λ m. m.1) m3) in
-    let l4 = late_me s.first s.count cells k v s.caller inside o.0 _ _ _ (y.1 c.if-found-pending.false) m3 in
+    let l4 = late_me s.first s.count cells k v s.caller inside o.0 _ _ _ (y.1 c.if-is_first.false) m3 in
     (a, sym (slot_found _ _ _ _ _ _ (ap (λ m. m.1) l4) c.exchange-back.ensures.2))
 
 pub returns-clause-known : goal.returns-clause-known
@@ -124,7 +124,7 @@ returns-clause-known g c = let s = c.args.seat.now in let k = c.args.ticket.cell
     let l = c.load-word.ensures in let m2 = placed_me s.first s.count cells k v s.caller inside o.0 _ _ l.2.0 m1 in
     let a = c.args.answer in let m3 = moved_slot _ _ (holding k o.0 v) k None (Some (Answer a)) [] m2 refl c.exchange.ensures.3 in let here = holding_at s.first s.count cells k v s.caller inside o.0 in
     let x = c.compare_exchange-found.ensures in let y = x.2 o.0 a (ap (λ m. (at k m.0).tickets) m3 ∙ ap (λ p. p.tickets) here) (ap (λ m. m.1) m3) in
-    let l4 = late_me s.first s.count cells k v s.caller inside o.0 _ _ _ (y.1 c.if-found-pending.false) m3 in
+    let l4 = late_me s.first s.count cells k v s.caller inside o.0 _ _ _ (y.1 c.if-is_first.false) m3 in
     let l5 = moved_slot _ _ (tardy k o.0 v) k (Some (Answer a)) None [] l4 refl c.exchange-back.ensures.3 in let late = tardy_at s.first s.count cells k v s.caller inside o.0 in
     let z = c.fetch_sub.ensures in let l6 = cleared_me s.first s.count cells k v s.caller inside o.0 _ _ _ (z.2 o.0 (ap (λ m. (at k m.0).tickets) l5 ∙ ap (λ p. p.tickets) late)) l5 in
     let found = slot_found _ _ _ _ _ _ (ap (λ m. m.1) l4) c.exchange-back.ensures.2 in let same : c.answer_in.result ≡ a = cc (found, c.answer_in.ensures) in
@@ -137,7 +137,7 @@ returns-clause-open g c = let s = c.args.seat.now in let k = c.args.ticket.cell 
     let l = c.load-word.ensures in let m2 = placed_me s.first s.count cells k v s.caller inside o.0 _ _ l.2.0 m1 in
     let a = c.args.answer in let m3 = moved_slot _ _ (holding k o.0 v) k None (Some (Answer a)) [] m2 refl c.exchange.ensures.3 in let here = holding_at s.first s.count cells k v s.caller inside o.0 in
     let x = c.compare_exchange-found.ensures in let y = x.2 o.0 a (ap (λ m. (at k m.0).tickets) m3 ∙ ap (λ p. p.tickets) here) (ap (λ m. m.1) m3) in
-    let l4 = late_me s.first s.count cells k v s.caller inside o.0 _ _ _ (y.1 c.if-found-pending.false) m3 in
+    let l4 = late_me s.first s.count cells k v s.caller inside o.0 _ _ _ (y.1 c.if-is_first.false) m3 in
     let l5 = moved_slot _ _ (tardy k o.0 v) k (Some (Answer a)) None [] l4 refl c.exchange-back.ensures.3 in let late = tardy_at s.first s.count cells k v s.caller inside o.0 in
     let z = c.fetch_sub.ensures in let l6 = cleared_me s.first s.count cells k v s.caller inside o.0 _ _ _ (z.2 o.0 (ap (λ m. (at k m.0).tickets) l5 ∙ ap (λ p. p.tickets) late)) l5 in
     subst (Stand v) (sym (ap (λ m. m.0) l6)) (dropped_stands s.first s.count cells k v s.caller inside o.0)

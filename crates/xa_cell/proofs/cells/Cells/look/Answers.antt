@@ -1,5 +1,6 @@
 use Rattle.std.proofs.Common.{arith, ◌∙◌, ◌≡◌, ◌<◌, ◌-◌, ap, sym, subst}
 use Rattle.xa_cell.specs.Views.{at}
+use Rattle.xa_cell.specs.Changes.{looked}
 use Rattle.xa_cell.specs.Places.{Stand}
 use Rattle.xa_cell.proofs.LookStep.{looks_keep}
 use Rattle.xa_cell.proofs.Viewed.{looked_caller, looked_at, looked_stands}
@@ -20,12 +21,13 @@ invariant_of-seat g c = let s = c.args.seat.now in let k = c.args.place.now.cell
 pub returns-then-word-eq-FILLED-clause-known : goal.returns-then-word-eq-FILLED-clause-known
 returns-then-word-eq-FILLED-clause-known g c = let s = c.args.seat.now in let k = c.args.place.now.cell in let range = s.caller.mine k c.requires.place in let high = range.1 in let room = s.caller.room in let e = c.load-word.ensures.2 in let is = ap (λ m. m.0) e.4 in
     let u1 = e.1 in let small = e.2 in let found = e.3 in let two = c.if-word-eq-FILLED.true in let open_ = c.requires.place in let u0 : e.0 ≡ 0 = omega arith in
-    let at_ = ap (λ w. (at k w).settled) is ∙ (ap (λ p. p.settled) (looked_at s.first s.count s.inner.table_id.words k s.inner.me.0 s.caller (omega arith) e.0) ∙ ap (λ u. 1 - u) u0) in record {
-      unspent = e.0;
-      says = u0;
-      view = is;
-      come = (omega arith);
-    }
+    let settled = ap (λ w. (at k w).settled) is ∙ (ap (λ p. p.settled) (looked_at s.first s.count s.inner.table_id.words k s.inner.me.0 s.caller (omega arith) e.0) ∙ ap (λ u. 1 - u) u0) in
+    (is ∙ ap (λ u. looked k u s.inner.me.0) u0, omega arith)
+
+pub returns-else-word-eq-FILLED-clause-known : goal.returns-else-word-eq-FILLED-clause-known
+returns-else-word-eq-FILLED-clause-known g c = let s = c.args.seat.now in let k = c.args.place.now.cell in let e = c.load-word.ensures.2 in
+    let u1 = e.1 in let small = e.2 in let found = e.3 in let two = c.if-word-eq-FILLED.false in let open_ = c.requires.place in let u : e.0 ≡ 1 = omega (arith, two) in
+    ap (λ m. m.0) e.4 ∙ ap (λ n. looked k n s.inner.me.0) u
 
 pub returns-then-word-eq-FILLED-clause-open : goal.returns-then-word-eq-FILLED-clause-open
 returns-then-word-eq-FILLED-clause-open g c = let s = c.args.seat.now in let k = c.args.place.now.cell in let range = s.caller.mine k c.requires.place in let high = range.1 in let room = s.caller.room in let e = c.load-word.ensures.2 in
