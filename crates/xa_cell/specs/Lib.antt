@@ -1,0 +1,14 @@
+pub mod Views
+pub mod Changes
+pub mod Counts
+pub mod Places
+pub mod Known
+pub mod Calls
+pub mod Law
+pub mod Rule
+pub mod Steps
+pub mod Tokens
+pub mod Dealing
+pub mod Finding
+pub mod Joined
+pub mod Gathered
