@@ -15,7 +15,9 @@ use crate::refused::Refused;
 use crate::threads::{enter_all, make_passes};
 use std::env;
 use std::process::ExitCode;
-use std::rt::Env;
+use std::rt::{Clock, Env};
+use std::sync::Wait;
+use std::thread::Threads;
 
 #[derive(Clone, Copy)]
 enum Command {
@@ -46,13 +48,15 @@ fn read_command<R: Env + AllocGlobal>(rt: &R) -> Result<Command, Refused> {
     command_of(first.as_str(), second.as_deref(), third.as_deref()).ok_or(Refused::Usage)
 }
 
-fn run(rt: HostRuntime) -> Result<(), Refused> {
-    match read_command(&rt)? {
+fn run<R: Threads + Wait + Sync + Clock + Env + AllocGlobal + Print + Eprint>(
+    rt: &R,
+) -> Result<(), Refused> {
+    match read_command(rt)? {
         Command::Enter(threads, enters, steps) => {
             if threads == 0 {
                 return Err(Refused::Usage);
             }
-            let (entries, took) = enter_all(&rt, rt.alloc(), threads, enters, steps)?;
+            let (entries, took) = enter_all(rt, rt.alloc(), threads, enters, steps)?;
             eprintln!(rt; "{took}")?;
             println!(rt; "{entries} entries")?;
         }
@@ -68,7 +72,7 @@ fn run(rt: HostRuntime) -> Result<(), Refused> {
 }
 
 fn main(rt: HostRuntime) -> ExitCode {
-    match run(rt) {
+    match run(&rt) {
         Ok(()) => ExitCode::SUCCESS,
         Err(refused) => {
             let _ = eprintln!(rt; "{refused:?}");

@@ -1,7 +1,6 @@
 // Threads that enter one lock.
-ghost use Rattle.std.specs.Prelude.{◌≡◌, ◌<◌, ◌^◌, [], length, map, IfOk};
+ghost use Rattle.std.specs.Prelude.{◌≡◌, ◌<◌, ◌^◌, ℕ, length, slice_index_or, IfOk, IsSomeAnd};
 ghost use Rattle.std.specs.List.{All};
-ghost use Rattle.xa_lock.specs.Pages.{first_pages};
 ghost use Rattle.xa_lock.specs.Known.{known, IsPassOf};
 ghost use Rattle.xa_enters.specs.Passes.{HasPass, HaveEach};
 
@@ -78,30 +77,26 @@ fn places_of(
     passes: Vec<LockPass<Entry>>,
 ) -> Result<Vec<Option<LockPass<Entry>>>, Refused>
     requires lock { All (IsPassOf lock.now) passes.items }
-    requires makers { map known passes.items ≡ first_pages [] 0 (length passes.items) }
+    requires makers { (k : ℕ) (d : _) → k < length passes.items → (known (slice_index_or passes.items k d)).maker ≡ k }
     ensures passes { IfOk result (λ places. HaveEach lock.now places.items) }
     ensures count { IfOk result (λ places. length places.items ≡ length passes.items) }
 {
     let _ = lock;
-    let mut places = Vec::with_capacity(alloc, passes.len())?;
-    for pass in passes {
-        places.push_reserved(Some(pass));
-    }
-    Ok(places)
+    Ok(passes.into_iter().map(Some).collect(alloc)?)
 }
 
 fn passes_in(
     alloc: Global,
     lock: &Guarded<Log>,
-    places: Vec<Option<LockPass<Entry>>>,
+    mut places: Vec<Option<LockPass<Entry>>>,
 ) -> Result<Vec<LockPass<Entry>>, Refused>
-    requires { HaveEach lock.now places.items }
+    requires { All (λ place. IsSomeAnd place (IsPassOf lock.now)) places.items }
     ensures lock { IfOk result (λ passes. All (IsPassOf lock.now) passes.items) }
     ensures count { IfOk result (λ passes. length passes.items ≡ length places.items) }
 {
     let _ = lock;
     let mut passes = Vec::with_capacity(alloc, places.len())?;
-    for place in places {
+    while let Some(place) = places.pop() {
         match place {
             Some(pass) => passes.push_reserved(pass),
             None => unreachable!(),

@@ -5,11 +5,11 @@ use Rattle.std.proofs.lemmas.List.Elements.{filter-append, All-nil, All-cons, Al
 use Rattle.std.specs.List.{All}
 use mathlib.Core.Option.{some, some-injective, some-ne-none}
 use native.Mathlib.Decide.{ℕ_discrete}
-use lib.ListN.{get_elem?}
+use lib.ListN.{get_elem?, get_or, get_or-map}
 use Rattle.xa_lock.specs.declared.pass.Page.{Page}
 use Rattle.xa_lock.specs.declared.pass.Ticket.{Ticket}
-use Rattle.xa_lock.specs.Pages.{StartsWith, Knows, GrewBy, entries_by, page, page_leaving, first_own, first_pages, first_of}
-use Rattle.xa_lock.specs.Tickets.{rest_of}
+use Rattle.xa_lock.specs.Pages.{StartsWith, Knows, GrewBy, entries_by, page_leaving, first_own, first_page, first_of}
+use Rattle.xa_lock.specs.Tickets.{rest_of, first_pages}
 use Rattle.xa_lock.specs.Rule.{total, times, once}
 
 at_most_one : (a b : ℕ) → once (a == b) ≤ 1
@@ -65,6 +65,17 @@ module _ {E : Type 0} where
   length-first_pages es k zero = refl
   length-first_pages es k (suc n) = let r = length-first_pages es (suc k) n in omega arith
 
+  first_pages-at : (es : List E) (from n k : ℕ) (d : Page E) → k < n → get_or (first_pages es from n) k d ≡ first_page (from + k) es
+  first_pages-at es from zero k d lt = absurd (omega arith)
+  first_pages-at es from (suc n) zero d lt = let same : from ≡ from + 0 = omega arith in ap (λ (i : ℕ). first_page i es) same
+  first_pages-at es from (suc n) (suc k) d lt = let same : suc from + k ≡ from + suc k = omega arith in first_pages-at es (suc from) n k d (omega (arith, lt)) ∙ ap (λ (i : ℕ). first_page i es) same
+
+  -- the pages of passes, where in order they are those at the start
+  pub first_at : {X : Type 0} (f : X → Page E) (es : List E) (n : ℕ) (xs : List X) → map f xs ≡ first_pages es 0 n → (k : ℕ) (d : X) → k < n → f (get_or xs k d) ≡ first_page k es
+  first_at f es n xs same k d lt =
+      let here : 0 + k ≡ k = omega arith in
+      sym (get_or-map f xs k d) ∙ (ap (λ (l : List (Page E)). get_or l k (f d)) same ∙ (first_pages-at es 0 n k (f d) lt ∙ ap (λ (i : ℕ). first_page i es) here))
+
   pub none_before : (es : List E) (m k n : ℕ) → m < k → times m (first_pages es k n) ≡ 0
   none_before es m k zero lt = refl
   none_before es m k (suc n) lt = let r = none_before es m (suc k) n (omega arith) in let no : once (k == m) ≡ 0 = ap once (ne_eqb k m (λ e. omega arith)) in omega arith
@@ -114,7 +125,7 @@ module _ {E : Type 0} where
     -- the pages at the start fit the list at the start
     pub first_known : (all : ℕ) (es : List E) (k n : ℕ) → All (λ e. maker e ≡ 0) es → k + n ≤ all → All (λ p. (p.maker < all) × Knows maker p es) (first_pages es k n)
     first_known all es k zero h le = All-nil (λ (p : Page E). (p.maker < all) × Knows maker p es)
-    first_known all es k (suc n) h le = All-cons (λ (p : Page E). (p.maker < all) × Knows maker p es) (page k (first_own es k) es) (first_pages es (suc k) n) (omega arith, (own k, starts_itself es)) (first_known all es (suc k) n h (omega arith))
+    first_known all es k (suc n) h le = All-cons (λ (p : Page E). (p.maker < all) × Knows maker p es) (first_page k es) (first_pages es (suc k) n) (omega arith, (own k, starts_itself es)) (first_known all es (suc k) n h (omega arith))
       where
         own : (j : ℕ) → entries_by maker j es ≡ first_own es j
         own zero = by_all 0 es h

@@ -12,8 +12,8 @@ use Rattle.atomic_table.specs.Table.{State, Me, Act, step, keeps, takes, gives, 
 use Rattle.atomic_table.proofs.Lists.{at_set, at_snoc, at_longer, set_here, set_else, set_again}
 use Rattle.xa_lock.specs.declared.pass.Page.{Page}
 use Rattle.xa_lock.specs.declared.pass.Ticket.{Ticket}
-use Rattle.xa_lock.specs.Pages.{StartsWith, Knows, GrewBy, page, mine, page_seeing, page_leaving, first_pages}
-use Rattle.xa_lock.specs.Tickets.{ticket, number_of, first_only, but_first, before, IsWaiting}
+use Rattle.xa_lock.specs.Pages.{StartsWith, Knows, GrewBy, page, mine, page_seeing, page_leaving}
+use Rattle.xa_lock.specs.Tickets.{ticket, number_of, first_only, but_first, before, first_pages, IsWaiting}
 use Rattle.xa_lock.specs.Rule.{waits, times, total, IsInTurn, Stands, IsPlaced, Locked, Draws, Looks, Raises}
 use Rattle.xa_lock.proofs.Lists.{total_set, total_snoc, total_two, set_mine, times-append, times_mine, elsewhere, length-first_pages, once_each, starts_itself, leaving_page, other_page, first_known}
 

@@ -38,10 +38,9 @@ module _ {E : Type 0} where
   first_own entries zero = entries
   first_own entries (suc k) = []
 
-  -- the pages at the start of so many makers, from maker k on: all have seen these entries
-  abbrev pub first_pages : List E → ℕ → ℕ → List (Page E)
-  first_pages entries k zero = []
-  first_pages entries k (suc count) = page k (first_own entries k) entries ∷ first_pages entries (suc k) count
+  -- the page of maker k at the start
+  abbrev pub first_page : ℕ → List E → Page E
+  first_page k entries = page k (first_own entries k) entries
 
   module _ (maker : E → ℕ) where
     -- the entries of one maker

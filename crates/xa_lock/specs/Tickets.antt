@@ -1,9 +1,9 @@
 -- What a seat of a lock's table knows. No public contract rests on this file.
-use Rattle.std.specs.Prelude.{◌≡◌, ℕ, Bool, false, List, [], ◌∷◌, ◌++◌, Option, Some, None}
+use Rattle.std.specs.Prelude.{◌≡◌, ℕ, zero, suc, Bool, false, List, [], ◌∷◌, ◌++◌, Option, Some, None}
 use Rattle.atomic_table.specs.Table.{Me}
 use Rattle.xa_lock.specs.declared.pass.Page.{Page}
 use Rattle.xa_lock.specs.declared.pass.Ticket.{Ticket}
-use Rattle.xa_lock.specs.Pages.{first_of, mine}
+use Rattle.xa_lock.specs.Pages.{first_of, mine, first_page}
 
 abbrev number_or : Option ℕ → ℕ
 number_or None = 0
@@ -29,6 +29,11 @@ module _ {E : Type 0} where
 
   abbrev pub before : Ticket E → Ticket E → Ticket E
   before v other = ticket (other.pages ++ v.pages) None false
+
+  -- the pages of so many makers at the start, from maker k on
+  abbrev pub first_pages : List E → ℕ → ℕ → List (Page E)
+  first_pages entries k zero = []
+  first_pages entries k (suc count) = first_page k entries ∷ first_pages entries (suc k) count
 
 -- the seat has drawn a number and waits
 abbrev pub IsWaiting : {T E : Type 0} → Me (Option T) (Ticket E) → Type 0

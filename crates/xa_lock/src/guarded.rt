@@ -1,8 +1,8 @@
 //! The lock. Who enters draws a number, waits until that number is served, and takes the value; who leaves puts it back and
 //! lets the next number be served. So passes enter in the order in which they came.
-ghost use Rattle.std.specs.Prelude.{◌≡◌, ◌<◌, ◌≤◌, ◌+◌, ℕ, IfOk, IfErr, map, length, None, false, [], ◌∷◌, vec_len, vec_capacity};
+ghost use Rattle.std.specs.Prelude.{◌≡◌, ◌<◌, ◌≤◌, ◌+◌, ℕ, IfOk, IfErr, map, length, slice_index_or, None, false, [], ◌∷◌, vec_len, vec_capacity};
 ghost use Rattle.std.specs.List.{All};
-ghost use Rattle.xa_lock.specs.Pages.{GrewBy, Knows, page_seeing, page_leaving, first_pages};
+ghost use Rattle.xa_lock.specs.Pages.{GrewBy, Knows, page_seeing, page_leaving, first_page};
 ghost use Rattle.xa_lock.specs.Tickets.{ticket};
 
 use crate::chronicle::Chronicle;
@@ -52,9 +52,9 @@ impl<T: Chronicle + Drop> Guarded<T> {
     ) -> Result<(Guarded<T>, Vec<LockPass<T::Entry>>), NoMemory>
         requires some { 0 < passes }
         requires first { All (λ entry. T.maker entry ≡ 0) (T.entries value) }
-        ensures count { IfOk result (λ made. passes_of made.0 ≡ passes) }
+        ensures count { IfOk result (λ made. (length made.1.items ≡ passes) × (passes_of made.0 ≡ passes)) }
         ensures lock { IfOk result (λ made. All (IsPassOf made.0) made.1.items) }
-        ensures known { IfOk result (λ made. map known made.1.items ≡ first_pages (T.entries value) 0 passes) }
+        ensures known { IfOk result (λ made. (k : ℕ) (d : _) → k < passes → known (slice_index_or made.1.items k d) ≡ first_page k (T.entries value)) }
     {
         match Guarded::try_new(alloc, value, passes) {
             Ok(made) => Ok(made),
@@ -74,9 +74,9 @@ impl<T: Chronicle> Guarded<T> {
     ) -> Result<(Guarded<T>, Vec<LockPass<T::Entry>>), T>
         requires some { 0 < passes }
         requires first { All (λ entry. T.maker entry ≡ 0) (T.entries value) }
-        ensures count { IfOk result (λ made. passes_of made.0 ≡ passes) }
+        ensures count { IfOk result (λ made. (length made.1.items ≡ passes) × (passes_of made.0 ≡ passes)) }
         ensures lock { IfOk result (λ made. All (IsPassOf made.0) made.1.items) }
-        ensures known { IfOk result (λ made. map known made.1.items ≡ first_pages (T.entries value) 0 passes) }
+        ensures known { IfOk result (λ made. (k : ℕ) (d : _) → k < passes → known (slice_index_or made.1.items k d) ≡ first_page k (T.entries value)) }
         ensures back { IfErr result (λ back. back ≡ value) }
     {
         let Ok(mut all) = Vec::with_capacity(alloc, passes as usize) else {

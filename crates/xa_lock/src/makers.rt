@@ -1,10 +1,9 @@
 //! Who made the entries of a home. An event doesn't tell: a withdrawal of the domain is noted in the work of the server that
 //! went last, and which number that one has depends on how many clients there are.
-ghost use Rattle.std.specs.Prelude.{◌≡◌, ◌+◌, ◌-◌, ◌≤◌, ◌++◌, [], OnOk, IsOk, map, replicate, vec_len, vec_capacity};
+ghost use Rattle.std.specs.Prelude.{◌≡◌, ◌+◌, ◌-◌, ◌≤◌, ◌++◌, [], OnOk, IsOk, replicate, vec_len, vec_capacity};
 
 use std::alloc::Global;
 use std::marker::Model;
-use std::snapshot::Snapshot;
 use xa_stamp::Stamped;
 use xa_types::{CallerId, NoMemory};
 
@@ -16,32 +15,33 @@ pub struct Made {
     pub noted: Stamped,
 }
 
-/// The makers of a home's entries, in their order. Only contracts read them, and they take no memory.
+/// The makers of a home's entries, in their order. Each takes two octets.
 #[derive(Drop)]
 pub struct Makers {
-    makers: Vec<Snapshot<CallerId>>,
+    makers: Vec<CallerId>,
 }
 
 impl Model for Makers {
-    ghost use Rattle.std.specs.Prelude.{◌-◌, map, vec_len, vec_capacity};
+    ghost use Rattle.std.specs.Prelude.{◌-◌, vec_len, vec_capacity};
     ghost use Rattle.xa_lock.specs.Makers.{MakerList};
 
     ghost Value = { MakerList };
 
     ghost view = { λ m. record {
-      all = map (λ one. one.value) m.makers.items;
+      all = m.makers.items;
       room = vec_capacity m.makers - vec_len m.makers;
     } };
 }
 
-fn add_each(makers: &mut Vec<Snapshot<CallerId>>, maker: CallerId, count: usize)
+// Adds the maker so often.
+fn add_each(makers: &mut Vec<CallerId>, maker: CallerId, count: usize)
     requires { vec_len makers.old + count ≤ vec_capacity makers.old }
-    ensures all { map (λ one. one.value) makers.new.items ≡ map (λ one. one.value) makers.old.items ++ replicate count maker }
+    ensures all { makers.new.items ≡ makers.old.items ++ replicate count maker }
     ensures len { vec_len makers.new ≡ vec_len makers.old + count }
     ensures capacity { vec_capacity makers.new ≡ vec_capacity makers.old }
 {
     for _ in 0..count {
-        makers.push_reserved(Snapshot::of(&maker));
+        makers.push_reserved(maker);
     }
 }
 

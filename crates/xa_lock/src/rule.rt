@@ -20,8 +20,7 @@ pub struct InTurn<T> {
 }
 
 impl<T: Chronicle> TableRule<Option<T>, Ticket<T::Entry>, Start<T>> for InTurn<T> {
-    ghost use Rattle.xa_lock.specs.Pages.{first_pages};
-    ghost use Rattle.xa_lock.specs.Tickets.{ticket};
+    ghost use Rattle.xa_lock.specs.Tickets.{ticket, first_pages};
     ghost use Rattle.xa_lock.specs.Rule.{Locked};
     ghost use Rattle.std.specs.Prelude.{None, false};
 
