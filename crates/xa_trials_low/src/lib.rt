@@ -17,6 +17,8 @@ mod lines;
 #[cfg(test)]
 mod links;
 #[cfg(test)]
+mod locks;
+#[cfg(test)]
 mod memory;
 #[cfg(test)]
 mod pipes;

@@ -1,0 +1,6 @@
+pub mod Pages
+pub mod Known
+pub mod Makers
+pub mod Lending
+pub mod Tickets
+pub mod Rule
