@@ -33,9 +33,11 @@ module _ {A : Type 0} where
 
   -- `begin` that answers a place, by its clause `open`
   pub one_more_open : {ps : List (ℕ × RequestId)} {k : ℕ} {q : RequestId} {v w : View A} → OpenAre ps v → Opens k q v w → OpenAre ((k, q) ∷ ps) w
-  one_more_open {ps} {k} {q} {v} {w} h o = record { asked = λ j. ⊎_elim
-      (λ (e : j ≡ k). subst (λ (i : ℕ). (at i w).asked ≡ requests_at i ((k, q) ∷ ps)) (sym e) (o.asked ∙ (ap (λ l. q ∷ l) (sym o.shut ∙ h.asked k) ∙ sym (here_too k (k, q) ps refl))))
-      (λ (ne : j ≢ k). (o.others j ne).0 ∙ (h.asked j ∙ sym (not_here j (k, q) ps (λ e. ne (sym e))))) (decided j k) }
+  one_more_open {ps} {k} {q} {v} {w} h o = record {
+    asked = λ j. ⊎_elim
+        (λ (e : j ≡ k). subst (λ (i : ℕ). (at i w).asked ≡ requests_at i ((k, q) ∷ ps)) (sym e) (o.asked ∙ (ap (λ l. q ∷ l) (sym o.shut ∙ h.asked k) ∙ sym (here_too k (k, q) ps refl))))
+        (λ (ne : j ≢ k). (o.others j ne).0 ∙ (h.asked j ∙ sym (not_here j (k, q) ps (λ e. ne (sym e))))) (decided j k);
+  }
 
   -- a call behind which all places stand: `look`, `fill`, and `begin` that is full
   pub still_open : {ps : List (ℕ × RequestId)} {v w : View A} → OpenAre ps v → Stand v w → OpenAre ps w
@@ -47,8 +49,10 @@ module _ {A : Type 0} where
 
   -- `take`, `cancel` or `withdraw`, by its clause `shut`
   pub one_less_open : (ps qs : List (ℕ × RequestId)) {k : ℕ} (q : RequestId) (s : Seat A) {w : View A} → OpenAre (ps ++ (k, q) ∷ qs) (known s) → Shuts k (known s) w → OpenAre (ps ++ qs) w
-  one_less_open ps qs {k} q s {w} h t = record { asked = λ j. ⊎_elim
-      (λ (e : j ≡ k). let few = s.caller.few k in let a = ap length (h.asked k ∙ with_this k q ps qs) in let b = length-append (requests_at k ps) (q ∷ requests_at k qs) in
-      let c = ap length (in_both k ps qs) in let d = length-append (requests_at k ps) (requests_at k qs) in
-      subst (λ (i : ℕ). (at i w).asked ≡ requests_at i (ps ++ qs)) (sym e) (t.shut ∙ sym (none_in (requests_at k (ps ++ qs)) (omega arith))))
-      (λ (ne : j ≢ k). (t.others j ne).0 ∙ (h.asked j ∙ (in_both j ps ((k, q) ∷ qs) ∙ (ap (λ l. requests_at j ps ++ l) (not_here j (k, q) qs (λ e. ne (sym e))) ∙ sym (in_both j ps qs))))) (decided j k) }
+  one_less_open ps qs {k} q s {w} h t = record {
+    asked = λ j. ⊎_elim
+        (λ (e : j ≡ k). let few = s.caller.few k in let a = ap length (h.asked k ∙ with_this k q ps qs) in let b = length-append (requests_at k ps) (q ∷ requests_at k qs) in
+        let c = ap length (in_both k ps qs) in let d = length-append (requests_at k ps) (requests_at k qs) in
+        subst (λ (i : ℕ). (at i w).asked ≡ requests_at i (ps ++ qs)) (sym e) (t.shut ∙ sym (none_in (requests_at k (ps ++ qs)) (omega arith))))
+        (λ (ne : j ≢ k). (t.others j ne).0 ∙ (h.asked j ∙ (in_both j ps ((k, q) ∷ qs) ∙ (ap (λ l. requests_at j ps ++ l) (not_here j (k, q) qs (λ e. ne (sym e))) ∙ sym (in_both j ps qs))))) (decided j k);
+  }

@@ -47,8 +47,10 @@ module _ {A : Type 0} where
       }
 
       pub put_stands : p.asked ≡ (at k v).asked → (at k v).settled ≤ p.settled → Stand v (viewed v k p ds)
-      put_stands asked settled = record { each = λ j. ⊎_elim (λ (e : j ≡ k). subst (λ (i : ℕ). StandsAt i v (viewed v k p ds)) (sym e) (let s = ap (λ (q : Part A). q.settled) put_is in (ap (λ (q : Part A). q.asked) put_is ∙ asked, omega arith)))
-          (λ (ne : j ≢ k). stands_same v (viewed v k p ds) j (put_else j ne)) (decided j k) }
+      put_stands asked settled = record {
+        each = λ j. ⊎_elim (λ (e : j ≡ k). subst (λ (i : ℕ). StandsAt i v (viewed v k p ds)) (sym e) (let s = ap (λ (q : Part A). q.settled) put_is in (ap (λ (q : Part A). q.asked) put_is ∙ asked, omega arith)))
+            (λ (ne : j ≢ k). stands_same v (viewed v k p ds) j (put_else j ne)) (decided j k);
+      }
 
       pub put_shuts : p.asked ≡ [] → Shuts k v (viewed v k p ds)
       put_shuts shut = record { shut = ap (λ (q : Part A). q.asked) put_is ∙ shut; others = λ j ne. stands_same v (viewed v k p ds) j (put_else j ne) }

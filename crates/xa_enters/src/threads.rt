@@ -63,12 +63,15 @@ fn all_work<R: Threads + Wait + Sync>(
     ensures { HaveEach lock.now places.new }
 {
     let threads = places.len();
-    thread::for_each_mut(rt, places, threads, &|number, place| -> ()
-        requires { (number < 2 ^ 32) × HasPass lock.now number place.now }
-        ensures { HasPass lock.entry.now number place.exit.now }
-    {
-        work(rt, lock, enters, steps, number as u32, place)
-    });
+    thread::for_each_mut(
+        rt,
+        places,
+        threads,
+        &|number, place| -> ()
+            requires { (number < 2 ^ 32) × HasPass lock.now number place.now }
+            ensures { HasPass lock.entry.now number place.exit.now }
+        { work(rt, lock, enters, steps, number as u32, place) },
+    );
 }
 
 fn places_of(

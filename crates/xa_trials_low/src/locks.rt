@@ -66,12 +66,15 @@ fn all_work<R: Threads + Wait + Sync>(
     requires passes { HaveEach lock.now places.old }
     ensures { HaveEach lock.now places.new }
 {
-    thread::for_each_mut(rt, places, usize::from(threads), &|number, place| -> ()
-        requires { (number < 2 ^ 16) × HasPass lock.now number place.now }
-        ensures { HasPass lock.entry.now number place.exit.now }
-    {
-        work(rt, lock, each, CallerId(number as u16), place)
-    });
+    thread::for_each_mut(
+        rt,
+        places,
+        usize::from(threads),
+        &|number, place| -> ()
+            requires { (number < 2 ^ 16) × HasPass lock.now number place.now }
+            ensures { HasPass lock.entry.now number place.exit.now }
+        { work(rt, lock, each, CallerId(number as u16), place) },
+    );
 }
 
 fn places_of(
