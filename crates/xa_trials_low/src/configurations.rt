@@ -89,21 +89,33 @@ fn has_service(setup: &Setup) -> bool {
         && service.conversational)
 }
 
-fn is_read(alloc: Global) -> bool {
-    read(alloc, GOOD).is_ok_and(|setup| {
-        setup.block_time == 30
-            && setup.blocks == 16
-            && has_shape(&setup)
-            && has_queue(&setup)
-            && has_server(&setup)
-            && has_service(&setup)
-    })
+fn has_tables(setup: &Setup) -> bool {
+    setup.block_time == 30
+        && setup.blocks == 16
+        && has_shape(setup)
+        && has_queue(setup)
+        && has_server(setup)
+        && has_service(setup)
 }
 
-fn is_faulty(alloc: Global, octets: &[u8], want: u8, at: &str) -> bool {
+fn is_read(alloc: Global) -> bool {
+    match read(alloc, GOOD) {
+        Ok(setup) => has_tables(&setup),
+        Err(_) => false,
+    }
+}
+
+fn is_fault(refused: &ConfigRefused, want: u8, at: &[u8]) -> bool {
+    match refused {
+        ConfigRefused::Fault { number, key } => *number == want && key.slice() == at,
+        ConfigRefused::NoMemory => false,
+    }
+}
+
+fn is_faulty(alloc: Global, octets: &[u8], want: u8, at: &[u8]) -> bool {
     match read(alloc, octets) {
-        Err(ConfigRefused::Fault { number, key }) => number == want && key.slice() == at.as_bytes(),
-        Ok(_) | Err(ConfigRefused::NoMemory) => false,
+        Ok(_) => false,
+        Err(refused) => is_fault(&refused, want, at),
     }
 }
 
@@ -111,6 +123,9 @@ fn is_faulty(alloc: Global, octets: &[u8], want: u8, at: &str) -> bool {
 fn configurations_are_read(rt: HostRuntime) {
     assert!(rt; is_read(rt.alloc()));
     for (number, key, octets) in FAULTY {
-        assert!(rt; is_faulty(rt.alloc(), octets, number, key), "{octets:?}");
+        assert!(rt;
+            is_faulty(rt.alloc(), octets, number, key.as_bytes()),
+            "{octets:?}"
+        );
     }
 }

@@ -52,15 +52,14 @@ pub fn link_of(
 
 /// Whether reads of five octets give these, and fail where a `None` stands.
 pub fn gives<S: Source>(source: &mut S, want: &[Option<&str>]) -> bool {
+    let mut given = true;
     for text in want {
         let mut piece = [0u8; 5];
-        let got = match source.read(&mut piece) {
-            Ok(n) => Some(&piece[..n]),
-            Err(_) => None,
+        given &= match (source.read(&mut piece), text) {
+            (Ok(n), Some(text)) => &piece[..n] == text.as_bytes(),
+            (Ok(_), None) => false,
+            (Err(_), text) => text.is_none(),
         };
-        if got != text.map(|text| text.as_bytes()) {
-            return false;
-        }
     }
-    true
+    given
 }

@@ -74,9 +74,9 @@ const SAID: [Said; 14] = [
 
 fn talk<L: Link>(pipe: &mut Pipe<L>, server: &Name) -> Result<i32, StopCause> {
     pipe.greet(server)?;
-    let back = pipe.hear(1)?;
+    let code = pipe.hear(1)?.code;
     pipe.read_next()?;
-    Ok(back.code)
+    Ok(code)
 }
 
 // The link of a program that says these.

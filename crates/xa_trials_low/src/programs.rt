@@ -46,7 +46,7 @@ fn a_step_echoes(rt: HostRuntime) -> Result<(), Fail> {
     let echo = Name::read(b"ECHO")?;
     let (mut child, _) = Child::start(rt.alloc(), &echo)?;
     let frame = invoke(echo);
-    assert!(rt; steps(rt.alloc(), &mut child, &frame, 2));
-    assert!(rt; steps(rt.alloc(), &mut child, &frame, 0));
+    let echoed = steps(rt.alloc(), &mut child, &frame, 2);
+    assert!(rt; echoed && steps(rt.alloc(), &mut child, &frame, 0));
     Ok(())
 }

@@ -50,16 +50,16 @@ const SCRIPTS: [(&[u8], u16, Told<'static>); 23] = [
 
 // What is read of a script of at most so many clients; too long a one isn't tried.
 fn tried(alloc: Global, octets: &[u8], most: u16) -> Result<Script, ScriptRefused> {
-    let Ok(setup) = xa_config::read(alloc, SETUP) else {
-        return Err(ScriptRefused::NoMemory);
-    };
     if octets.len() > 100_000 || most == 0 || most > 64 {
         return Err(ScriptRefused::NoMemory);
     }
-    match most {
-        64 => read(alloc, octets, &setup),
-        _ => read_upto(alloc, octets, &setup, most),
+    let Ok(setup) = xa_config::read(alloc, SETUP) else {
+        return Err(ScriptRefused::NoMemory);
+    };
+    if most == 64 {
+        return read(alloc, octets, &setup);
     }
+    read_upto(alloc, octets, &setup, most)
 }
 
 // The text of the last call of the last client.

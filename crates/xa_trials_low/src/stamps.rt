@@ -104,17 +104,26 @@ fn many(alloc: Global) -> Result<Record, NoMemory> {
     })
 }
 
+// The stamp and the number of a home's event, which is below the largest number.
+fn event_at(home: &Home, place: usize) -> Option<(u64, u32)> {
+    let noted = home.entries().get(place)?;
+    Some((noted.stamp.0, number(&noted.event)?))
+}
+
 // Of the homes' next events the one with the least stamp, of the first such home: the home, and the event's number.
 fn least(record: &Record, next: &[usize]) -> Option<(usize, u32)> {
-    let mut least: Option<(Stamp, usize, u32)> = None;
-    for (at, (home, place)) in record.homes.slice().iter().zip(next).enumerate() {
-        if let Some(noted) = home.entries().get(*place) {
-            if least.is_none_or(|found| noted.stamp < found.0) {
-                least = number(&noted.event).map(|number| (noted.stamp, at, number));
+    let mut least = None;
+    let mut stamp = u64::MAX;
+    for (at, home) in record.homes.slice().iter().enumerate() {
+        let place = next.get(at).copied().unwrap_or(usize::MAX);
+        if let Some((noted, number)) = event_at(home, place) {
+            if noted < stamp {
+                stamp = noted;
+                least = Some((at, number));
             }
         }
     }
-    least.map(|found| (found.1, found.2))
+    least
 }
 
 fn is_plain_order(record: &Record, merged: &[Event]) -> bool {
