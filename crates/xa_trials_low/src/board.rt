@@ -95,53 +95,16 @@ fn is_done(answer: Result<(u64, Stamp), BoardRefused>, told: Told) -> bool {
     }
 }
 
-fn has_found(rows: &[Row], queues: &[u16]) -> bool {
-    if rows.len() != queues.len() {
+fn has_found(rows: &[Row], told: Told) -> bool {
+    let Told::Found(queues) = told else {
         return false;
-    }
-    for place in 0..rows.len() {
-        if rows[place].queue.0 != queues[place] {
+    };
+    for (row, queue) in rows.iter().zip(queues) {
+        if row.queue.0 != *queue {
             return false;
         }
     }
-    true
-}
-
-// Whether a row with that routine is put, or refused, as it should be.
-fn is_put(
-    board: &mut Board,
-    seen: Stamp,
-    names: (Name, &[u8]),
-    queue: QueueId,
-    told: Told,
-) -> bool {
-    let Ok(routine) = Name::read(names.1) else {
-        return false;
-    };
-    let row = Row {
-        service: names.0,
-        queue,
-        routine,
-        priority: 50,
-        conversational: false,
-        accepts: Accepts::all(),
-    };
-    is_done(board.advertise(seen, CallerId(9), 1, row), told)
-}
-
-fn is_out(board: &mut Board, seen: Stamp, queue: QueueId, told: Told) -> bool {
-    match board.withdraw_all(seen, queue) {
-        Ok(stamp) => matches!(told, Told::Done(want) if stamp.0 == want),
-        Err(why) => is_refused(why, told),
-    }
-}
-
-fn is_found(board: &Board, reader: &mut Reader, service: &Name, told: Told) -> bool {
-    board.lookup(reader, service, false);
-    match told {
-        Told::Found(queues) => has_found(&reader.found().rows, queues),
-        _ => false,
-    }
+    rows.len() == queues.len()
 }
 
 // Whether a call for the service is told what it should be.
@@ -150,38 +113,54 @@ fn is_told(board: &mut Board, reader: &mut Reader, service: Name, step: Step) ->
     let seen = Stamp(seen.min(END));
     let queue = QueueId(queue);
     match ask {
-        Ask::Put(routine) => is_put(board, seen, (service, routine), queue, told),
+        Ask::Put(routine) => {
+            let Ok(routine) = Name::read(routine) else {
+                return false;
+            };
+            let row = Row {
+                service,
+                queue,
+                routine,
+                priority: 50,
+                conversational: false,
+                accepts: Accepts::all(),
+            };
+            is_done(board.advertise(seen, CallerId(9), 1, row), told)
+        }
         Ask::Out => is_done(board.withdraw(seen, CallerId(9), 1, &service, queue), told),
-        Ask::OutAll => is_out(board, seen, queue, told),
-        Ask::Find => is_found(board, reader, &service, told),
+        Ask::OutAll => match board.withdraw_all(seen, queue) {
+            Ok(stamp) => matches!(told, Told::Done(want) if stamp.0 == want),
+            Err(why) => is_refused(why, told),
+        },
+        Ask::Find => {
+            board.lookup(reader, &service, false);
+            has_found(&reader.found().rows, told)
+        }
     }
 }
 
 fn are_told(board: &mut Board, reader: &mut Reader, service: Name, steps: &[Step]) -> bool {
-    let mut told = true;
     for step in steps {
-        told &= is_told(board, reader, service, *step);
+        if !is_told(board, reader, service, *step) {
+            return false;
+        }
     }
-    told
-}
-
-// Puts the rows that stand before the calls.
-fn are_put(board: &mut Board, service: Name, rows: u16) -> bool {
-    let mut put = true;
-    for queue in 0..rows {
-        let told = Told::Done(u64::from(queue) + 1);
-        put &= is_put(board, Stamp(0), (service, b"R"), QueueId(queue), told);
-    }
-    put
+    true
 }
 
 fn plays(alloc: Global, service: Name, rows: u16, steps: &[Step]) -> Result<bool, NoMemory> {
     let mut board = Board::new(alloc, Stamp(0))?;
     let mut reader = board.reader(alloc)?;
-    let put = are_put(&mut board, service, rows);
+    for queue in 0..rows {
+        let told = Told::Done(u64::from(queue) + 1);
+        let step = (0, Ask::Put(b"R"), queue, told);
+        if !is_told(&mut board, &mut reader, service, step) {
+            return Ok(false);
+        }
+    }
     board.tell(&mut reader);
     let told = are_told(&mut board, &mut reader, service, steps);
-    Ok(put && told && !board.home().entries().is_empty())
+    Ok(told && !board.home().entries().is_empty())
 }
 
 #[test]

@@ -43,13 +43,6 @@ fn is_said(frame: &Frame) -> bool {
     }
 }
 
-fn is_written(alloc: Global, frame: &Frame, octets: &[u8]) -> bool {
-    match encode(alloc, frame) {
-        Ok(again) => again.slice() == octets,
-        Err(_) => false,
-    }
-}
-
 // Whether a frame comes of these octets, one at a time, and is written again as they are.
 fn comes_back(alloc: Global, octets: &[u8]) -> bool {
     let mut reader = Reader::new(alloc);
@@ -60,7 +53,9 @@ fn comes_back(alloc: Global, octets: &[u8]) -> bool {
         }
     }
     match reader.next() {
-        Ok(Some(frame)) => is_said(&frame) && is_written(alloc, &frame, octets),
+        Ok(Some(frame)) => {
+            is_said(&frame) && encode(alloc, &frame).is_ok_and(|again| again.slice() == octets)
+        }
         Ok(None) | Err(_) => false,
     }
 }
@@ -72,8 +67,12 @@ fn is_refused(alloc: Global, octets: &[u8]) -> bool {
         return false;
     }
     matches!(reader.next(), Ok(Some(_)))
-        && matches!(reader.next(), Err(NextRefused::BadFrame(12)))
-        && matches!(reader.next(), Err(NextRefused::BadFrame(12)))
+        && reader
+            .next()
+            .is_err_and(|why| why == NextRefused::BadFrame(12))
+        && reader
+            .next()
+            .is_err_and(|why| why == NextRefused::BadFrame(12))
 }
 
 #[test]

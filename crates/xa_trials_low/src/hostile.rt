@@ -1,7 +1,7 @@
 //! Spellings of frames, changed at one octet and cut, against a decoder that is written by the documentation of
 //! `xa_frame`.
 use std::alloc::Global;
-use xa_frame::{Body, Frame, NextRefused, Reader, encode};
+use xa_frame::{Body, NextRefused, Reader, encode};
 
 const SPELLINGS: [&[u8]; 6] = [
     b"XA\x01\x01\0\0\0\x03\0\0\0\0\x02S1",
@@ -15,7 +15,7 @@ const SPELLINGS: [&[u8]; 6] = [
 const HEADER: usize = 12;
 
 // What the octets are: a frame of that kind and tag, which they begin with, less than a frame, or none.
-#[derive(Clone, Copy, PartialEq, Eq)]
+#[derive(Clone, Copy, Debug, PartialEq, Eq)]
 enum Said {
     Whole(u8, u64),
     Partial,
@@ -129,16 +129,6 @@ fn kind(body: &Body) -> u8 {
     }
 }
 
-// What a frame is, where it is written as the octets begin.
-fn whole(alloc: Global, frame: &Frame, octets: &[u8]) -> Option<Said> {
-    match encode(alloc, frame) {
-        Ok(again) if octets.starts_with(again.slice()) => {
-            Some(Said::Whole(kind(&frame.body), u64::from(frame.tag)))
-        }
-        Ok(_) | Err(_) => None,
-    }
-}
-
 // What the reader says of the octets, where that is without a fault and the frame is written again as they stand.
 fn read(alloc: Global, octets: &[u8]) -> Option<Said> {
     let mut reader = Reader::new(alloc);
@@ -148,8 +138,11 @@ fn read(alloc: Global, octets: &[u8]) -> Option<Said> {
     match reader.next() {
         Ok(None) => Some(Said::Partial),
         Err(NextRefused::BadFrame(0)) => Some(Said::Malformed),
-        Ok(Some(frame)) => whole(alloc, &frame, octets),
-        Err(_) => None,
+        Ok(Some(frame))
+            if encode(alloc, &frame).is_ok_and(|again| octets.starts_with(again.slice())) => {
+            Some(Said::Whole(kind(&frame.body), u64::from(frame.tag)))
+        }
+        Ok(Some(_)) | Err(_) => None,
     }
 }
 
