@@ -11,7 +11,7 @@ use Rattle.xa_types.specs.declared.row.Row.{Row}
 use Rattle.xa_types.specs.Rows.{Change, configured, rows, rows_at, row_of, is_row_of}
 use Rattle.xa_types.specs.Setup.{queue_of, capacity_of}
 use Rattle.xa_events.specs.declared.event.Event.{Event}
-use Rattle.xa_events.specs.declared.event.Event.TheVariants.{Advertise, Withdraw, Accept, Take, Forward, Gone, Down, Close, Start, StartFailed, End, Stop, Answer, Refuse, Leave}
+use Rattle.xa_events.specs.declared.event.Event.TheVariants.{Advertise, Withdraw, Accept, Take, Forward, Sweep, Gone, Down, Close, Start, StartFailed, End, Stop, Answer, Refuse, Leave}
 use Rattle.xa_events.specs.declared.event.Started.{Started}
 use Rattle.xa_events.specs.Words.{AtEach, IsEarlier, has, without, added, greatest}
 use Rattle.xa_events.specs.State.{State, opening, noted, caller_of}
@@ -21,7 +21,7 @@ use Rattle.xa_events.specs.Board.{changes, published, boot, rows_of_version}
 use Rattle.xa_events.specs.Queue.{waiting, takes, is_down, is_closed, comes_in, goes_out, is_close_of}
 use Rattle.xa_events.specs.Server.{doing, doing_after, starts, is_gone, is_gone_of, was_shut_down, is_shutdown_stop, last_outcome, outcome_in, may_start, AllGone}
 use Rattle.xa_events.specs.Caller.{newest_call, op_of, accepted_in, accepted, open_descriptors, versions, ticks, tick_floor, has_left, is_leaving, descriptor_limit}
-use Rattle.xa_events.specs.Cases.{Case, HomePart, WorkerPart, NamedBefore, IsActive, IsNextCall, IsShut, NoRows, idle_stops, dying_stops}
+use Rattle.xa_events.specs.Cases.{Case, HomePart, WorkerPart, NamedBefore, EntryHome, IsActive, IsNextCall, IsShut, NoRows, idle_stops, dying_stops}
 use Rattle.xa_events.specs.Run.{Run}
 use Rattle.xa_events.specs.Local.{Local, SeenBefore, SawNoRows, SawShut, home_events, worker_events}
 use Rattle.xa_events.proofs.Owns.{board_own, queue_own, server_own, caller_own}
@@ -173,6 +173,13 @@ all_gone setup clients queue past gone server low high of =
 
 -- ---- the home part, among all events
 
+entry_whole : (setup : Setup) (clients : ℕ) (past : List Event) (queue : ℕ) → EntryHome setup queue (home_events setup clients (QueueHome queue) past) → EntryHome setup queue past
+entry_whole setup clients past queue h = record {
+  not_down = sym (down_own setup clients past queue) ∙ h.not_down;
+  not_closed = sym (closed_own setup clients past queue) ∙ h.not_closed;
+  room = subst (λ (rs : List RequestId). length rs < capacity_of setup queue) (waiting_own setup clients past queue) h.room;
+}
+
 home_whole : (setup : Setup) (clients : ℕ) (past : List Event) (e : Event) → HomePart setup e (home_events setup clients (home_of setup clients e) past) → HomePart setup e past
 home_whole setup clients past (Advertise a) h = record {
   booting = sym (ap (slice_get (configured setup)) (published_own setup clients past)) ∙ h.booting;
@@ -182,15 +189,16 @@ home_whole setup clients past (Withdraw w) h = record {
   stands = subst (λ (standing : List Row). IsSome (row_of w.service w.queue.0 standing)) (stands_own setup clients past) h.stands;
   version = h.version ∙ ap (λ n. n + 1) (published_own setup clients past);
 }
-home_whole setup clients past (Accept a) h = record {
-  not_down = sym (down_own setup clients past a.queue.0) ∙ h.not_down;
-  not_closed = sym (closed_own setup clients past a.queue.0) ∙ h.not_closed;
-  room = subst (λ (rs : List RequestId). length rs < capacity_of setup a.queue.0) (waiting_own setup clients past a.queue.0) h.room;
-}
+home_whole setup clients past (Accept a) h = entry_whole setup clients past a.queue.0 h
 home_whole setup clients past (Take t) h = record {
   not_down = sym (down_own setup clients past (queue_of setup t.server.0)) ∙ h.not_down;
   waits = sym (ap (has t.request) (waiting_own setup clients past (queue_of setup t.server.0))) ∙ h.waits;
   count = h.count ∙ ap (λ n. n + 1) (takes_own setup clients past (queue_of setup t.server.0));
+}
+home_whole setup clients past (Forward f) h = entry_whole setup clients past f.queue.0 h
+home_whole setup clients past (Sweep x) h = record {
+  down = sym (down_own setup clients past x.queue.0) ∙ h.down;
+  oldest = sym (ap (λ rs. slice_get rs 0) (waiting_own setup clients past x.queue.0)) ∙ h.oldest;
 }
 home_whole setup clients past (Gone server) h = record { known = h.known; not_gone = sym (gone_here setup clients server.0 past) ∙ h.not_gone }
 home_whole setup clients past (Down queue) h = record { known = h.known; not_down = sym (down_own setup clients past queue.0) ∙ h.not_down; gone = all_gone setup clients queue.0 past h.gone }
@@ -304,13 +312,16 @@ no_rows_more setup queue _ past part booted none = (none, booted)
 
 -- ---- a closed queue at which nothing waits stays so
 
-none_enters : (setup : Setup) (queue : ℕ) (e : Event) (past : List Event) → HomePart setup e past → is_closed queue past ≡ true → comes_in queue e ≡ None
-none_enters setup queue (Accept a) past part shut =
-    elim (cases_Bool (a.queue.0 == queue)) [
-      | inl y ↦ let still : is_closed queue past ≡ false = subst (λ (n : ℕ). is_closed n past ≡ false) (eqb-true a.queue.0 queue y) part.not_closed in absurd (cc (still, shut))
-      | inr n ↦ ap (λ b. if b then Some a.request else None) n
+entry_shut : (setup : Setup) (entered queue : ℕ) (request : RequestId) (past : List Event) → EntryHome setup entered past → is_closed queue past ≡ true → (if entered == queue then Some request else None) ≡ None
+entry_shut setup entered queue request past part shut =
+    elim (cases_Bool (entered == queue)) [
+      | inl y ↦ let still : is_closed queue past ≡ false = subst (λ (n : ℕ). is_closed n past ≡ false) (eqb-true entered queue y) part.not_closed in absurd (cc (still, shut))
+      | inr n ↦ ap (λ b. if b then Some request else None) n
     ]
-none_enters setup queue (Forward f) past part shut = absurd part
+
+none_enters : (setup : Setup) (queue : ℕ) (e : Event) (past : List Event) → HomePart setup e past → is_closed queue past ≡ true → comes_in queue e ≡ None
+none_enters setup queue (Accept a) past part shut = entry_shut setup a.queue.0 queue a.request past part shut
+none_enters setup queue (Forward f) past part shut = entry_shut setup f.queue.0 queue f.request past part shut
 none_enters setup queue _ past part shut = refl
 
 without_none : (o : Option RequestId) → without o [] ≡ []

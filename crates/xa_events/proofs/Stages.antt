@@ -91,8 +91,8 @@ found s (Accept a) r case agree m =
     let count : accepted a.request.caller.0 s.past ≡ accepted a.by.0 s.past = ap (λ c. accepted c.0 s.past) case.worker.caller in
     rw (← same_request_is a.request r m, agree.fresh a.request (omega (arith, count, case.worker.number))) tt
 found s (Take t) r case agree m = rw (← same_request_is t.request r m, agree.waits (queue_of s.setup t.server.0) t.request case.home.waits) refl
-found s (Forward f) r case agree m = absurd case.home
-found s (Sweep x) r case agree m = absurd case.home
+found s (Forward f) r case agree m = absurd case.worker
+found s (Sweep x) r case agree m = absurd case.worker
 found s (End e) r case agree m = rw (← same_request_is e.request r m, agree.busy e.server.0 e.generation e.request case.worker.busy) refl
 found s _ r case agree m = cc m
 

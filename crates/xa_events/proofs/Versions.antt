@@ -46,7 +46,7 @@ reads_so s (Withdraw w) caller version case h = rw (← (cond_some (w.by.0 == ca
 reads_so s (Accept a) caller version case h =
     let i = cond_some (a.by.0 == caller) a.version version h in
     rw (← eqb-true a.by.0 caller i.0, ← i.1) (inl (case.worker.not_older, case.before.named.version))
-reads_so s (Forward f) caller version case h = absurd case.home
+reads_so s (Forward f) caller version case h = absurd case.worker
 reads_so s (End e) caller version case h = absurd (no_version s.setup e.outcome version case.worker.may (if_some _ (version_of e.outcome) version h).1)
 reads_so s (Refuse r) caller version case h =
     let i = if_some (r.by.0 == caller) (version_in r.evidence) version h in

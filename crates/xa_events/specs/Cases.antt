@@ -1,6 +1,6 @@
 -- When an event may come next. A case has three parts: what is asked of the events of its own home (Home), what is asked of those of its own
 -- worker (Worker), and which events of other homes stand before (Before). Where a case names no other source its rule is this project's own.
--- A kind whose parts are ⊥ isn't built yet: it has no case. `Unit` is where nothing is asked.
+-- A kind of which a part is ⊥ isn't built yet: it has no case. `Unit` is where nothing is asked.
 use Rattle.std.specs.Prelude.{◌≡◌, ℕ, ◌+◌, ◌<◌, ◌≤◌, ◌⊎◌, Bool, true, false, List, [], length, Option, Some, None, IsSome, IsSomeAnd, slice_get}
 use Rattle.xa_types.specs.declared.setup.Setup.{Setup}
 use Rattle.xa_types.specs.declared.row.Row.{Row}
@@ -17,6 +17,7 @@ use Rattle.xa_events.specs.declared.event.Advertised.{Advertised}
 use Rattle.xa_events.specs.declared.event.Withdrawn.{Withdrawn}
 use Rattle.xa_events.specs.declared.event.Accepted.{Accepted}
 use Rattle.xa_events.specs.declared.event.Taken.{Taken}
+use Rattle.xa_events.specs.declared.event.Swept.{Swept}
 use Rattle.xa_events.specs.declared.event.Started.{Started}
 use Rattle.xa_events.specs.declared.event.Ended.{Ended}
 use Rattle.xa_events.specs.declared.event.Stopped.{Stopped}
@@ -75,10 +76,11 @@ pub record IsNextCall (clients caller op : ℕ) (past : List Event) : Type 0 whe
 
 -- ---- Accept: a queue accepts the request of a call (XATMI, tpcall)
 
-pub record AcceptHome (setup : Setup) (a : Accepted) (past : List Event) : Type 0 where
-  pub not_down : is_down a.queue.0 past ≡ false
-  pub not_closed : is_closed a.queue.0 past ≡ false
-  pub room : length (waiting setup a.queue.0 past) < capacity_of setup a.queue.0
+-- what lets a request in at a queue, where it is accepted or forwarded: the queue isn't down or closed, and has room
+pub record EntryHome (setup : Setup) (queue : ℕ) (past : List Event) : Type 0 where
+  pub not_down : is_down queue past ≡ false
+  pub not_closed : is_closed queue past ≡ false
+  pub room : length (waiting setup queue past) < capacity_of setup queue
 
 pub record AcceptWorker (setup : Setup) (clients : ℕ) (a : Accepted) (past : List Event) : Type 0 where
   pub call : IsNextCall clients a.by.0 a.op past
@@ -110,6 +112,12 @@ pub record TakeHome (setup : Setup) (t : Taken) (past : List Event) : Type 0 whe
 pub record TakeWorker (clients : ℕ) (t : Taken) (past : List Event) : Type 0 where
   pub idle : doing t.server.0 past ≡ Idle t.generation
   pub none : open_descriptors (caller_of clients t.server.0) past ≡ []
+
+-- ---- Sweep: of a queue that is down, the request that waits longest is given up (this project's own)
+
+pub record SweepHome (setup : Setup) (x : Swept) (past : List Event) : Type 0 where
+  pub down : is_down x.queue.0 past ≡ true
+  pub oldest : slice_get (waiting setup x.queue.0 past) 0 ≡ Some x.request
 
 -- ---- Gone: a server that is off and may not start again is given up (after Tuxedo, RESTART and MAXGEN of UBBCONFIG)
 
@@ -235,10 +243,10 @@ pub record LeaveWorker (clients client : ℕ) (past : List Event) : Type 0 where
 abbrev pub HomePart : Setup → Event → List Event → Type 0
 HomePart setup (Advertise a) past = AdvertiseHome setup a past
 HomePart setup (Withdraw w) past = WithdrawHome setup w past
-HomePart setup (Accept a) past = AcceptHome setup a past
+HomePart setup (Accept a) past = EntryHome setup a.queue.0 past
 HomePart setup (Take t) past = TakeHome setup t past
-HomePart setup (Forward f) past = ⊥
-HomePart setup (Sweep x) past = ⊥
+HomePart setup (Forward f) past = EntryHome setup f.queue.0 past
+HomePart setup (Sweep x) past = SweepHome setup x past
 HomePart setup (Gone server) past = GoneHome setup server.0 past
 HomePart setup (Down queue) past = DownHome setup queue.0 past
 HomePart setup (Close queue) past = CloseHome setup queue.0 past

@@ -23,7 +23,7 @@ use Rattle.xa_events.specs.Words.{added, without, has}
 use Rattle.xa_events.specs.Homes.{Home, same_home, home_of, worker_of}
 use Rattle.xa_events.specs.Homes.Home.{BoardHome, QueueHome, ClockHome, CallerHome}
 use Rattle.xa_events.specs.Local.{home_events, worker_events}
-use Rattle.xa_events.specs.Cases.{IsActive, IsNextCall, AcceptHome, AcceptWorker, AnswerWorker, RefuseWorker, LeaveWorker, CloseHome}
+use Rattle.xa_events.specs.Cases.{IsActive, IsNextCall, EntryHome, AcceptWorker, AnswerWorker, RefuseWorker, LeaveWorker, CloseHome}
 use Rattle.xa_events.specs.Board.{boot, published}
 use Rattle.xa_events.specs.Queue.{waiting, takes, is_down, is_closed}
 use Rattle.xa_events.specs.Caller.{is_call_of, is_numbered_by, call_in, number_in, op_of, newest_call, last_op, just_accepted, accepted_in, accepted, open_descriptors, reads, versions, version_in, least_version, has_left, is_leaving, is_client, descriptor_limit, AllLeft}
@@ -226,7 +226,7 @@ module _ (setup : Setup) (count : ℕ) (past : List Event) where
       accept_by : a.by.0 ≡ j + 1
       accept_by = ap (λ z. z.0) may.by ∙ accept_client.id
 
-      accept_home : AcceptHome setup a (home_events setup count (QueueHome a.queue.0) past)
+      accept_home : EntryHome setup a.queue.0 (home_events setup count (QueueHome a.queue.0) past)
       accept_home =
           let q : QueueHolds setup count (i + 1) past step.queues.before = accept_queue in
           let none : waiting setup (i + 1) (home_events setup count (QueueHome (i + 1)) past) ≡ [] = q.reads.waits ∙ ap list_of may.empty in
