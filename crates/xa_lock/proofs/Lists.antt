@@ -7,9 +7,9 @@ use mathlib.Core.Option.{some, some-injective, some-ne-none}
 use native.Mathlib.Decide.{ℕ_discrete}
 use lib.ListN.{get_elem?, get_or, get_or-map}
 use Rattle.xa_lock.specs.declared.pass.Page.{Page}
-use Rattle.xa_lock.specs.declared.pass.Ticket.{Ticket}
+use Rattle.xa_lock.specs.declared.pass.SeatView.{SeatView}
 use Rattle.xa_lock.specs.Pages.{StartsWith, Knows, GrewBy, entries_by, page_leaving, first_own, first_page, first_of}
-use Rattle.xa_lock.specs.Tickets.{rest_of, first_pages}
+use Rattle.xa_lock.specs.Views.{rest_of, first_pages}
 use Rattle.xa_lock.specs.Rule.{total, times, once}
 
 at_most_one : (a b : ℕ) → once (a == b) ≤ 1
@@ -19,28 +19,28 @@ decided : (a b : ℕ) → (a ≡ b) ⊎ (a ≢ b)
 decided a b = elim (ℕ_discrete a b) [ yes e ↦ inl e | no ne ↦ inr ne ]
 
 module _ {E : Type 0} where
-  pub total_set : (f : Ticket E → ℕ) (l : List (Ticket E)) (i : ℕ) (v w : Ticket E) → get_elem? l i ≡ some v → total f (set l i w) + f v ≡ total f l + f w
+  pub total_set : (f : SeatView E → ℕ) (l : List (SeatView E)) (i : ℕ) (v w : SeatView E) → get_elem? l i ≡ some v → total f (set l i w) + f v ≡ total f l + f w
   total_set f [] i v w e = absurd (some-ne-none v (sym e))
   total_set f (x ∷ xs) zero v w e = let is : f x ≡ f v = ap f (some-injective x v e) in omega arith
   total_set f (x ∷ xs) (suc i) v w e = let r = total_set f xs i v w e in omega arith
 
-  pub total_snoc : (f : Ticket E → ℕ) (l : List (Ticket E)) (w : Ticket E) → total f (l ++ w ∷ []) ≡ total f l + f w
+  pub total_snoc : (f : SeatView E → ℕ) (l : List (SeatView E)) (w : SeatView E) → total f (l ++ w ∷ []) ≡ total f l + f w
   total_snoc f [] w = omega arith
   total_snoc f (x ∷ xs) w = let r = total_snoc f xs w in omega arith
 
-  pub total_one : (f : Ticket E → ℕ) (l : List (Ticket E)) (i : ℕ) (v : Ticket E) → get_elem? l i ≡ some v → f v ≤ total f l
+  pub total_one : (f : SeatView E → ℕ) (l : List (SeatView E)) (i : ℕ) (v : SeatView E) → get_elem? l i ≡ some v → f v ≤ total f l
   total_one f [] i v e = absurd (some-ne-none v (sym e))
   total_one f (x ∷ xs) zero v e = let is : f x ≡ f v = ap f (some-injective x v e) in omega arith
   total_one f (x ∷ xs) (suc i) v e = let r = total_one f xs i v e in omega arith
 
-  pub total_two : (f : Ticket E → ℕ) (l : List (Ticket E)) (i j : ℕ) (v w : Ticket E) → i ≢ j → get_elem? l i ≡ some v → get_elem? l j ≡ some w → f v + f w ≤ total f l
+  pub total_two : (f : SeatView E → ℕ) (l : List (SeatView E)) (i j : ℕ) (v w : SeatView E) → i ≢ j → get_elem? l i ≡ some v → get_elem? l j ≡ some w → f v + f w ≤ total f l
   total_two f [] i j v w n e g = absurd (some-ne-none v (sym e))
   total_two f (x ∷ xs) zero zero v w n e g = absurd (n refl)
   total_two f (x ∷ xs) zero (suc j) v w n e g = let is : f x ≡ f v = ap f (some-injective x v e) in let r = total_one f xs j w g in omega arith
   total_two f (x ∷ xs) (suc i) zero v w n e g = let is : f x ≡ f w = ap f (some-injective x w g) in let r = total_one f xs i v e in omega arith
   total_two f (x ∷ xs) (suc i) (suc j) v w n e g = let r = total_two f xs i j v w (λ h. n (ap suc h)) e g in omega arith
 
-  pub set_mine : (l : List (Ticket E)) (i : ℕ) (v w : Ticket E) → get_elem? l i ≡ some v → get_elem? (set l i w) i ≡ some w
+  pub set_mine : (l : List (SeatView E)) (i : ℕ) (v w : SeatView E) → get_elem? l i ≡ some v → get_elem? (set l i w) i ≡ some w
   set_mine [] i v w e = absurd (some-ne-none v (sym e))
   set_mine (x ∷ xs) zero v w e = refl
   set_mine (x ∷ xs) (suc i) v w e = set_mine xs i v w e

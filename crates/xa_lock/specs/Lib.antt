@@ -2,5 +2,5 @@ pub mod Pages
 pub mod Known
 pub mod Makers
 pub mod Lending
-pub mod Tickets
+pub mod Views
 pub mod Rule

@@ -2,7 +2,7 @@
 use Rattle.std.specs.Prelude.{◌≡◌, ℕ, zero, suc, ◌==◌, List, [], ◌∷◌, ◌++◌, length, drop}
 use Rattle.std.specs.List.{All, filter}
 use Rattle.xa_lock.specs.declared.pass.Page.{Page}
-use Rattle.xa_lock.specs.declared.pass.Ticket.{Ticket}
+use Rattle.xa_lock.specs.declared.pass.SeatView.{SeatView}
 
 -- a list begins with another
 abbrev pub StartsWith : {A : Type 0} → List A → List A → Type 0
@@ -18,10 +18,10 @@ module _ {E : Type 0} where
   first_of (p ∷ ps) = p
 
   -- the page of a seat that has one
-  abbrev pub mine : Ticket E → Page E
+  abbrev pub mine : SeatView E → Page E
   mine v = first_of v.pages
 
-  abbrev pub page_of : List (Ticket E) → Page E
+  abbrev pub page_of : List (SeatView E) → Page E
   page_of [] = page 0 [] []
   page_of (v ∷ vs) = mine v
 

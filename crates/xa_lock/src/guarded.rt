@@ -1,15 +1,15 @@
-//! The lock. Who enters draws a number, waits until that number is served, and takes the value; who leaves puts it back and
-//! lets the next number be served. So passes enter in the order in which they came.
-ghost use Rattle.std.specs.Prelude.{◌≡◌, ◌<◌, ◌≤◌, ◌+◌, ℕ, IfOk, IfErr, map, length, slice_index_or, None, false, [], ◌∷◌, vec_len, vec_capacity};
+//! The lock. One word says whether the value is at home. Who enters waits until it is, and takes it; who leaves puts it back.
+//! Those who wait enter in no set order.
+ghost use Rattle.std.specs.Prelude.{◌≡◌, ◌<◌, ◌≤◌, ◌+◌, ℕ, IfOk, IfErr, map, length, slice_index_or, [], ◌∷◌, vec_len, vec_capacity};
 ghost use Rattle.std.specs.List.{All};
 ghost use Rattle.xa_lock.specs.Pages.{GrewBy, Knows, page_seeing, page_leaving, first_page};
-ghost use Rattle.xa_lock.specs.Tickets.{ticket};
+ghost use Rattle.xa_lock.specs.Views.{idle};
 
 use crate::chronicle::Chronicle;
 use crate::held::{Held, Turned};
-use crate::pass::{LockPass, Ticket};
-use crate::rule::{Before, Draw, First, InTurn, Raise, Start};
-use crate::waiters::Waiters;
+use crate::pass::{LockPass, SeatView};
+use crate::rule::{Before, First, OneAtATime, Put, Start};
+use crate::waiting::FREE;
 use atomic_table::{Refused, Seat, Table};
 use std::alloc::Global;
 use std::snapshot::Snapshot;
@@ -19,9 +19,8 @@ use xa_types::NoMemory;
 /// A value under a lock. It may be shared by threads where the value may be sent to one.
 #[derive(Drop)]
 pub struct Guarded<T: Chronicle> {
-    pub(crate) table: Table<Option<T>, Ticket<T::Entry>, Start<T>, InTurn<T>, Global>,
-    pub(crate) waiters: Waiters,
-    ghost sized: { (table.shared.table_id.words ≡ 2) × (table.shared.table_id.slots ≡ 1) },
+    pub(crate) table: Table<Option<T>, SeatView<T::Entry>, Start<T>, OneAtATime<T>, Global>,
+    ghost sized: { (table.shared.table_id.words ≡ 1) × (table.shared.table_id.slots ≡ 1) },
     ghost some: { 0 < table.shared.key.passes },
 }
 
@@ -90,12 +89,9 @@ impl<T: Chronicle> Guarded<T> {
             value: Snapshot::of(&value),
         };
         slots.push_reserved(Some(value));
-        match Table::new(alloc, &[0, 0], slots, &start) {
+        match Table::new(alloc, &[FREE], slots, &start) {
             Ok((table, seat)) => {
-                let lock = Guarded {
-                    table,
-                    waiters: Waiters::new(),
-                };
+                let lock = Guarded { table };
                 lock.deal(seat, passes, &mut all);
                 Ok((lock, all))
             }
@@ -103,8 +99,8 @@ impl<T: Chronicle> Guarded<T> {
         }
     }
 
-    /// Waits for its turn, and takes the value. What the pass saw is a front of the entries that it finds, and those of its
-    /// maker among them are its own. It takes no memory.
+    /// Waits until the value is at home, and takes it. What the pass saw is a front of the entries that it finds, and those
+    /// of its maker among them are its own. It takes no memory.
     pub fn enter<R: Wait>(&self, rt: &R, pass: LockPass<T::Entry>) -> Held<T>
         requires lock { IsPassOf self.now pass }
         ensures lock { IsHeldOf self.now result }
@@ -112,10 +108,8 @@ impl<T: Chronicle> Guarded<T> {
         ensures knows { Knows T.maker (known pass) (T.entries (value_of result)) }
     {
         let mut seat = pass.into_seat();
-        let shared = &self.table.shared;
-        let number = shared.fetch_add::<Draw>(&mut seat, 0, 1);
-        self.await_turn(rt, &mut seat, number);
-        let value = shared.exchange(&mut seat, 0, None).unwrap();
+        self.take_out(rt, &mut seat);
+        let value = self.table.shared.exchange(&mut seat, 0, None).unwrap();
         Held {
             turned: Turned { seat },
             value,
@@ -137,20 +131,20 @@ impl<T: Chronicle> Guarded<T> {
             None => {}
             Some(_) => unreachable!(),
         }
-        let served = shared.fetch_add::<Raise>(&mut seat, 1, 1);
-        self.waiters.of(served.wrapping_add(1)).notify_all();
+        let found = shared.swap::<Put>(&mut seat, 0, FREE);
+        self.wake(found);
         LockPass::of(seat)
     }
 
     // Cuts the pages of a seat into passes.
     fn deal(
         &self,
-        mut seat: Seat<Option<T>, Ticket<T::Entry>>,
+        mut seat: Seat<Option<T>, SeatView<T::Entry>>,
         passes: u32,
         all: &mut Vec<LockPass<T::Entry>>,
     )
         requires table { seat.table_id ≡ self.now.table.shared.table_id }
-        requires idle { seat.me ≡ (ticket seat.me.0.pages None false, []) }
+        requires free { seat.me ≡ (idle seat.me.0.pages, []) }
         requires count { (length seat.me.0.pages ≡ passes) × (0 < passes) }
         requires room { (vec_len all.old ≡ 0) × (passes ≤ vec_capacity all.old) }
         ensures lock { All (IsPassOf self.now) all.new.items }
@@ -164,11 +158,11 @@ impl<T: Chronicle> Guarded<T> {
     }
 
     // Brings the passes together in one seat.
-    fn gather(&self, mut passes: Vec<LockPass<T::Entry>>) -> Seat<Option<T>, Ticket<T::Entry>>
+    fn gather(&self, mut passes: Vec<LockPass<T::Entry>>) -> Seat<Option<T>, SeatView<T::Entry>>
         requires lock { All (IsPassOf self.now) passes.items }
         requires some { 0 < length passes.items }
         ensures table { result.table_id ≡ self.now.table.shared.table_id }
-        ensures me { result.me ≡ (ticket (map known passes.items) None false, []) }
+        ensures me { result.me ≡ (idle (map known passes.items), []) }
     {
         let Some(last) = passes.pop() else {
             unreachable!()
@@ -191,7 +185,7 @@ impl<T: Chronicle> Guarded<T> {
         ensures makers { All (λ entry. T.maker entry < passes_of self) (T.entries result) }
     {
         let seat = self.gather(passes);
-        let Guarded { table, waiters: _ } = self;
+        let Guarded { table } = self;
         let mut closed = table.close_with(seat);
         let value = closed.take(0).unwrap();
         closed.free();

@@ -1,16 +1,16 @@
 //! A value that is out.
-ghost use Rattle.std.specs.Prelude.{◌≡◌, None, Some, true, [], ◌∷◌};
+ghost use Rattle.std.specs.Prelude.{◌≡◌, None, [], ◌∷◌};
 ghost use Rattle.xa_lock.specs.Pages.{mine};
-ghost use Rattle.xa_lock.specs.Tickets.{ticket, number_of};
+ghost use Rattle.xa_lock.specs.Views.{holding};
 
 use crate::chronicle::Chronicle;
-use crate::pass::Ticket;
+use crate::pass::SeatView;
 use atomic_table::Seat;
 
 // The seat that a value is out with. It stands apart from the value, so that the value can be lent.
 pub(crate) struct Turned<T, E> {
-    pub(crate) seat: Seat<Option<T>, Ticket<E>>,
-    ghost out: { seat.me ≡ (ticket (mine seat.me.0 ∷ []) (Some (number_of seat.me.0)) true, (0, None) ∷ []) },
+    pub(crate) seat: Seat<Option<T>, SeatView<E>>,
+    ghost out: { seat.me ≡ (holding (mine seat.me.0), (0, None) ∷ []) },
 }
 
 /// The value of a lock, with the pass that entered. It has to go back by `leave`.

@@ -11,8 +11,7 @@ pub mod laws;
 mod makers;
 mod pass;
 mod rule;
-mod turn;
-mod waiters;
+mod waiting;
 
 pub use chronicle::Chronicle;
 pub use guarded::Guarded;

@@ -1,7 +1,7 @@
 //! The passes of a lock, and what each of them knows.
-ghost use Rattle.std.specs.Prelude.{◌≡◌, None, false, [], ◌∷◌};
+ghost use Rattle.std.specs.Prelude.{◌≡◌, [], ◌∷◌};
 ghost use Rattle.xa_lock.specs.Pages.{page_of};
-ghost use Rattle.xa_lock.specs.Tickets.{ticket};
+ghost use Rattle.xa_lock.specs.Views.{idle};
 
 use atomic_table::{Badge, Seat};
 use std::collections::LinkedList;
@@ -13,10 +13,9 @@ pub struct Page<E> {
     pub seen: LinkedList<E>,
 }
 
-// The pages of a seat, the number that it drew, and whether the value is out with it. No value of it is made.
-pub struct Ticket<E> {
+// The pages of a seat, and whether the value is out with it. No value of it is made.
+pub struct SeatView<E> {
     pub pages: LinkedList<Page<E>>,
-    pub number: Option<u64>,
     pub holds: bool,
 }
 
@@ -24,13 +23,13 @@ pub struct Ticket<E> {
 /// type. Once it is dropped the lock can't be closed any more.
 #[derive(Drop)]
 pub struct LockPass<E> {
-    pub(crate) badge: Badge<Ticket<E>>,
-    ghost idle: { badge.views ≡ ticket (page_of badge.views ∷ []) None false ∷ [] },
+    pub(crate) badge: Badge<SeatView<E>>,
+    ghost free: { badge.views ≡ idle (page_of badge.views ∷ []) ∷ [] },
 }
 
 impl<E> LockPass<E> {
-    pub(crate) fn of<T>(seat: Seat<Option<T>, Ticket<E>>) -> LockPass<E>
-        requires { (page : Page E) × (seat.me ≡ (ticket (page ∷ []) None false, [])) }
+    pub(crate) fn of<T>(seat: Seat<Option<T>, SeatView<E>>) -> LockPass<E>
+        requires { (page : Page E) × (seat.me ≡ (idle (page ∷ []), [])) }
         ensures table { result.badge.table_id ≡ seat.table_id }
         ensures views { result.badge.views ≡ seat.me.0 ∷ [] }
     {
@@ -39,9 +38,9 @@ impl<E> LockPass<E> {
         }
     }
 
-    pub(crate) fn into_seat<T>(self) -> Seat<Option<T>, Ticket<E>>
+    pub(crate) fn into_seat<T>(self) -> Seat<Option<T>, SeatView<E>>
         ensures table { result.table_id ≡ self.badge.table_id }
-        ensures me { result.me ≡ (ticket (page_of self.badge.views ∷ []) None false, []) }
+        ensures me { result.me ≡ (idle (page_of self.badge.views ∷ []), []) }
     {
         let LockPass { badge } = self;
         badge.into_seat()

@@ -1,8 +1,6 @@
 //! The rule of a lock's table, and what its steps tell.
-ghost use Rattle.std.specs.Prelude.{◌≡◌, ℕ};
-
 use crate::chronicle::Chronicle;
-use crate::pass::Ticket;
+use crate::pass::SeatView;
 use atomic_table::{Join, Play, Split, TableRule};
 use std::marker::PhantomData;
 use std::snapshot::Snapshot;
@@ -14,53 +12,43 @@ pub struct Start<T> {
     pub value: Snapshot<T>,
 }
 
-/// The value is at home, or out with the seat whose number is served.
-pub struct InTurn<T> {
+/// The value is at home, or out with one seat.
+pub struct OneAtATime<T> {
     marker: PhantomData<T>,
 }
 
-impl<T: Chronicle> TableRule<Option<T>, Ticket<T::Entry>, Start<T>> for InTurn<T> {
-    ghost use Rattle.xa_lock.specs.Tickets.{ticket, first_pages};
+impl<T: Chronicle> TableRule<Option<T>, SeatView<T::Entry>, Start<T>> for OneAtATime<T> {
+    ghost use Rattle.xa_lock.specs.Views.{idle, first_pages};
     ghost use Rattle.xa_lock.specs.Rule.{Locked};
-    ghost use Rattle.std.specs.Prelude.{None, false};
 
     ghost holds = { λ start. Locked T.entries T.maker start.passes };
 
-    ghost first = { λ start. ticket (first_pages (T.entries start.value.value) 0 start.passes) None false };
+    ghost first = { λ start. idle (first_pages (T.entries start.value.value) 0 start.passes) };
 }
 
-/// A number is drawn.
-pub struct Draw;
+/// The value is taken out, where it is at home.
+pub struct Take;
 
-impl<T: Chronicle> Play<Option<T>, Ticket<T::Entry>> for Draw {
-    ghost use Rattle.xa_lock.specs.Rule.{Draws};
+impl<T: Chronicle> Play<Option<T>, SeatView<T::Entry>> for Take {
+    ghost use Rattle.xa_lock.specs.Rule.{Takes};
 
-    ghost then = { Draws };
+    ghost then = { Takes T.entries T.maker };
 }
 
-/// The number that is served is read.
-pub struct Look;
+/// The value is put back.
+pub struct Put;
 
-impl<T: Chronicle> Play<Option<T>, Ticket<T::Entry>> for Look {
-    ghost use Rattle.xa_lock.specs.Rule.{Looks};
+impl<T: Chronicle> Play<Option<T>, SeatView<T::Entry>> for Put {
+    ghost use Rattle.xa_lock.specs.Rule.{Puts};
 
-    ghost then = { Looks T.entries T.maker };
-}
-
-/// The next number is served.
-pub struct Raise;
-
-impl<T: Chronicle> Play<Option<T>, Ticket<T::Entry>> for Raise {
-    ghost use Rattle.xa_lock.specs.Rule.{Raises};
-
-    ghost then = { Raises T.entries };
+    ghost then = { Puts T.entries T.maker };
 }
 
 /// The first page goes to a new seat.
 pub struct First;
 
-impl<E> Split<Ticket<E>> for First {
-    ghost use Rattle.xa_lock.specs.Tickets.{but_first, first_only};
+impl<E> Split<SeatView<E>> for First {
+    ghost use Rattle.xa_lock.specs.Views.{but_first, first_only};
 
     ghost left = { but_first };
 
@@ -70,11 +58,11 @@ impl<E> Split<Ticket<E>> for First {
 /// The pages of the other seat go before one's own.
 pub struct Before;
 
-impl<E> Join<Ticket<E>> for Before {
-    ghost use Rattle.xa_lock.specs.Tickets.{ticket, before};
-    ghost use Rattle.std.specs.Prelude.{None, false, []};
+impl<E> Join<SeatView<E>> for Before {
+    ghost use Rattle.xa_lock.specs.Views.{idle, before};
+    ghost use Rattle.std.specs.Prelude.{[]};
 
     ghost both = { before };
 
-    ghost spent = { ticket [] None false };
+    ghost spent = { idle [] };
 }

@@ -3,7 +3,7 @@ use Rattle.std.proofs.lemmas.List.{map_push}
 use Rattle.xa_lock.specs.declared.pass.LockPass.{LockPass}
 use Rattle.std.proofs.lemmas.List.Elements.{All-pop}
 use Rattle.xa_lock.specs.Known.{known}
-use Rattle.xa_lock.specs.Tickets.{before}
+use Rattle.xa_lock.specs.Views.{before}
 use Rattle.xa_lock.proofs.Lists.{gathered}
 use Rattle.xa_lock.proofs.Steps.{joins_keep, idle_is}
 use Rattle.xa_lock.proofs.guarded.Guarded.gather.Goals as goal
