@@ -1,5 +1,5 @@
 -- Each step of a lock keeps its rule.
-use Rattle.std.proofs.Common.{◌≡◌, ◌≢◌, ℕ, zero, suc, ◌+◌, ◌<◌, ◌≤◌, ◌==◌, Bool, true, false, true≢false, List, [], ◌∷◌, ◌++◌, get_or, set, sym, refl, ap, ◌∙◌, subst, arith, length-set, get_or-set_same, length-append, Option, Some, inl, inr, ⊎_elim}
+use Rattle.std.proofs.Common.{◌≡◌, ◌≢◌, ℕ, zero, suc, ◌+◌, ◌<◌, ◌==◌, true, false, true≢false, List, [], ◌∷◌, ◌++◌, get_or, set, sym, refl, ap, ◌∙◌, subst, arith, length-set, get_or-set_same, length-append, Option, Some, inl, inr, ⊎_elim}
 use Rattle.std.proofs.lemmas.List.Elements.{All-nil, All-cons, All-head, All-tail, All-weaker, All-append}
 use Rattle.std.specs.List.{All}
 use mathlib.Core.Logic.{dite}
@@ -15,7 +15,7 @@ use Rattle.xa_lock.specs.declared.pass.Page.{Page}
 use Rattle.xa_lock.specs.declared.pass.SeatView.{SeatView}
 use Rattle.xa_lock.specs.Pages.{StartsWith, Knows, GrewBy, page, mine, page_seeing, page_leaving}
 use Rattle.xa_lock.specs.Views.{idle, holding, IsIdle, first_only, but_first, before, first_pages}
-use Rattle.xa_lock.specs.Rule.{once, times, total, holders, IsPlaced, Locked, TakesOut, Takes, Puts}
+use Rattle.xa_lock.specs.Rule.{once, times, holders, IsPlaced, Locked, Takes, Puts}
 use Rattle.xa_lock.proofs.Lists.{total_set, total_snoc, total_one, total_two, set_mine, times-append, times_mine, elsewhere, length-first_pages, once_each, starts_itself, leaving_page, other_page, first_known}
 
 -- the word of the table after it changed

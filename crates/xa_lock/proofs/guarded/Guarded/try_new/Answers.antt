@@ -1,4 +1,4 @@
-use Rattle.std.proofs.Common.{arith, ◌∙◌, ◌∷◌, ◌++◌, [], List, Option, Some, sym, ap, subst, length}
+use Rattle.std.proofs.Common.{◌∙◌, ◌∷◌, ◌++◌, [], List, Option, Some, sym, ap, subst, length}
 use Rattle.std.proofs.lemmas.List.{length-map}
 use Rattle.atomic_table.specs.Table.{opening}
 use Rattle.xa_lock.specs.Known.{known}
