@@ -94,9 +94,7 @@ impl Home {
         ensures kept { OnErr result (self.new ≡ self.old) }
     {
         let stamp = Stamp::after(seen, self.last())?;
-        let Ok(()) = self.entries.push(Stamped { stamp, event }) else {
-            unreachable!()
-        };
+        self.entries.push_reserved(Stamped { stamp, event });
         Ok(stamp)
     }
 }
