@@ -1,0 +1,117 @@
+-- Changes of a queue: what each leaves, and why it is refused (this project's own; the order of takes is that of `IsNext`).
+use Rattle.std.specs.Prelude.{◌≡◌, ℕ, ◌+◌, ◌<◌, ◌^◌, ◌==◌, max, Bool, true, false, if◌then◌else◌, List, [], ◌∷◌, ◌++◌, length, Option, Some, None}
+use Rattle.xa_types.specs.declared.ids.QueueId.{QueueId}
+use Rattle.xa_types.specs.declared.ids.ServerId.{ServerId}
+use Rattle.xa_types.specs.declared.ids.Generation.{Generation}
+use Rattle.xa_types.specs.declared.stamp.Stamp.{Stamp}
+use Rattle.xa_types.specs.declared.stamp.Worn.{Worn}
+use Rattle.xa_events.specs.declared.event.Event.{Event}
+use Rattle.xa_events.specs.declared.event.Event.TheVariants.{Accept, Take, Forward, Sweep, Gone, Down, Close}
+use Rattle.xa_stamp.specs.Home.{last_stamp}
+use Rattle.xa_queue.specs.declared.entry.Entry.{Entry}
+use Rattle.xa_queue.specs.declared.queue.Refusal.{Refusal}
+use Rattle.xa_queue.specs.declared.queue.Refusal.TheVariants as refusals
+use Rattle.xa_queue.specs.declared.queue.Taken.{Taken}
+use Rattle.xa_queue.specs.declared.queue.Taken.TheVariants as takes
+use Rattle.xa_queue.specs.Line.{IsNext}
+use Rattle.xa_queue.specs.Queue.{Standing, none_left}
+
+module _ {C : Type 0} where
+  -- a queue as it is made
+  abbrev pub opened : QueueId → ℕ → List ServerId → Stamp → Standing C
+  opened id capacity servers first = record { id = id; capacity = capacity; servers = servers; first = first; entries = []; waiting = []; takes = 0; down = false; closed = false; gone = []; drained = false }
+
+  -- the event sends the entry's request to the queue, with the entry's priority
+  abbrev pub IsEntry : QueueId → Entry C → Event → Type 0
+  IsEntry id entry (Accept a) = (a.request ≡ entry.request) × (a.queue ≡ id) × (a.priority ≡ entry.priority)
+  IsEntry id entry (Forward f) = (f.request ≡ entry.request) × (f.queue ≡ id) × (f.priority ≡ entry.priority)
+  IsEntry id entry _ = ⊥
+
+  -- the larger of a stamp that was seen and of the last one
+  abbrev pub larger : Stamp → Standing C → ℕ
+  larger seen queue = max seen.0 (last_stamp queue.first queue.entries)
+
+  -- the stamp of the next event
+  abbrev pub next_stamp : Stamp → Standing C → Stamp
+  next_stamp seen queue = record { 0 = larger seen queue + 1 }
+
+  -- the queue with one more event
+  abbrev pub noted : Stamp → Event → Standing C → Standing C
+  noted stamp event queue = record queue { entries = queue.entries ++ record { stamp = stamp; event = event } ∷ [] }
+
+  -- the event is noted with the next stamp, which is at most 2^63, and the queue is else as `left`
+  pub record Notes (seen stamp : Stamp) (event : Event) (left new old : Standing C) : Type 0 where
+    pub fresh : larger seen old < 2 ^ 63
+    pub stamp : stamp ≡ next_stamp seen old
+    pub new : new ≡ noted stamp event left
+
+  -- nothing changes: stamps would pass their end, 2^63
+  pub record IsWorn (seen : Stamp) (worn : Worn) (new old : Standing C) : Type 0 where
+    pub larger : larger seen old ≡ 2 ^ 63
+    pub told : worn.0.0 ≡ 2 ^ 63
+    pub same : new ≡ old
+
+  -- ---- put
+
+  -- why the queue doesn't take an entry, by the first that bars it
+  abbrev pub put_refused : Stamp → Standing C → Option Refusal
+  put_refused seen queue =
+      if queue.down then Some refusals.Down
+      else (if queue.closed then Some refusals.Closed
+      else (if length queue.waiting == queue.capacity then Some (refusals.Full (length queue.waiting))
+      else (if larger seen queue == 2 ^ 63 then Some (refusals.Worn (record { 0 = 2 ^ 63 }))
+      else None)))
+
+  -- the entry waits behind the others
+  abbrev pub with_entry : Entry C → Standing C → Standing C
+  with_entry entry queue = record queue { waiting = queue.waiting ++ entry ∷ [] }
+
+  -- ---- take
+
+  -- a take of this entry, by that server
+  abbrev pub taken : Entry C → ServerId → Generation → Standing C → Event
+  taken entry server generation queue = Take (record { request = entry.request; server = server; generation = generation; k = queue.takes + 1 })
+
+  -- an entry is taken out, which is the next by the order of takes
+  pub record Takes (seen : Stamp) (server : ServerId) (generation : Generation) (entry : Entry C) (stamp : Stamp) (new old : Standing C) : Type 0 where
+    pub front : List (Entry C)
+    pub back : List (Entry C)
+    pub waited : old.waiting ≡ front ++ entry ∷ back
+    pub next : IsNext (old.takes + 1) front entry back
+    pub noted : Notes seen stamp (taken entry server generation old) (record old { waiting = front ++ back; takes = old.takes + 1 }) new old
+
+  -- nothing waits, so nothing changes; the queue is closed, or isn't
+  pub record IsIdle (closed : Bool) (new old : Standing C) : Type 0 where
+    pub none : old.waiting ≡ []
+    pub closed : old.closed ≡ closed
+    pub same : new ≡ old
+
+  -- what a take answers
+  abbrev pub TakesAs : Stamp → ServerId → Generation → Taken C → Standing C → Standing C → Type 0
+  TakesAs seen server generation (takes.Request entry stamp) new old = Takes seen server generation entry stamp new old
+  TakesAs seen server generation takes.Empty new old = IsIdle false new old
+  TakesAs seen server generation takes.Closed new old = IsIdle true new old
+
+  -- ---- sweep and drain
+
+  -- the oldest entry is swept
+  pub record Sweeps (seen : Stamp) (entry : Entry C) (stamp : Stamp) (new old : Standing C) : Type 0 where
+    pub rest : List (Entry C)
+    pub waited : old.waiting ≡ entry ∷ rest
+    pub noted : Notes seen stamp (Sweep (record { request = entry.request; queue = old.id })) (record old { waiting = rest }) new old
+
+  -- the oldest entry leaves without an event
+  pub record Drains (entry : Entry C) (new old : Standing C) : Type 0 where
+    pub rest : List (Entry C)
+    pub waited : old.waiting ≡ entry ∷ rest
+    pub new : new ≡ record old { waiting = rest; drained = true }
+
+  -- none waits, and nothing changes
+  pub record IsDrained (new old : Standing C) : Type 0 where
+    pub none : old.waiting ≡ []
+    pub same : new ≡ old
+
+  -- ---- servers, and the ends
+
+  abbrev pub with_gone : ServerId → Standing C → Standing C
+  with_gone server queue = record queue { gone = queue.gone ++ server ∷ [] }

@@ -1,0 +1,70 @@
+// Lanes: the entries of one priority, the oldest first.
+ghost use Rattle.std.specs.Prelude.{◌≡◌, ℕ, ◌+◌, ◌<◌, ◌≤◌, length, [], ◌∷◌, ◌++◌, drop, Some, slice_get, slice_index_or, slice_set, OnOk, OnErr, IfOk, IfErr, IfSome, IsSomeAnd, MatchOption};
+ghost use Rattle.xa_queue.specs.Lanes.{lanes_of, AreEmpty, IsHighest, IsOldest};
+
+use crate::entry::Aged;
+use std::alloc::{AllocFailed, Global};
+use std::collections::VecDeque;
+
+/// Puts an entry behind the others of the lane. Where memory runs out it comes back.
+pub fn push<C>(
+    lanes: &mut Vec<VecDeque<Aged<C>, Global>>,
+    lane: usize,
+    aged: Aged<C>,
+) -> Result<(), Aged<C>>
+    requires { lane < length lanes.old.items }
+    ensures pushed { OnOk result (lanes_of lanes.new.items ≡ slice_set (lanes_of lanes.old.items) lane (slice_index_or (lanes_of lanes.old.items) lane [] ++ aged ∷ [])) }
+    ensures back { IfErr result (λ back. back ≡ aged) }
+    ensures kept { OnErr result (lanes_of lanes.new.items ≡ lanes_of lanes.old.items) }
+{
+    let lane = &mut lanes[lane];
+    match lane.push_back(aged) {
+        Ok(()) => Ok(()),
+        Err(AllocFailed { value }) => Err(value),
+    }
+}
+
+/// Takes the first entry of a lane that has one.
+pub fn pop<C>(lanes: &mut Vec<VecDeque<Aged<C>, Global>>, lane: usize) -> Aged<C>
+    requires lane { lane < length lanes.old.items }
+    requires some { 0 < length (slice_index_or (lanes_of lanes.old.items) lane []) }
+    ensures first { slice_get (slice_index_or (lanes_of lanes.old.items) lane []) 0 ≡ Some result }
+    ensures rest { lanes_of lanes.new.items ≡ slice_set (lanes_of lanes.old.items) lane (drop 1 (slice_index_or (lanes_of lanes.old.items) lane [])) }
+{
+    let lane = &mut lanes[lane];
+    let Some(aged) = lane.pop_front() else {
+        unreachable!()
+    };
+    aged
+}
+
+/// The last lane that has an entry.
+pub fn highest<C>(lanes: &[VecDeque<Aged<C>, Global>]) -> Option<usize>
+    ensures { MatchOption result (AreEmpty (lanes_of lanes.now)) (IsHighest (lanes_of lanes.now)) }
+{
+    let mut left = lanes.len();
+    while left > 0 {
+        left -= 1;
+        if !lanes[left].is_empty() {
+            return Some(left);
+        }
+    }
+    None
+}
+
+/// The lane whose first entry is the oldest of all.
+pub fn oldest<C>(lanes: &[VecDeque<Aged<C>, Global>]) -> Option<usize>
+    ensures { MatchOption result (AreEmpty (lanes_of lanes.now)) (IsOldest (lanes_of lanes.now)) }
+{
+    let mut found = None;
+    let mut least = u64::MAX;
+    for lane in 0..lanes.len() {
+        if let Some(first) = lanes[lane].front() {
+            if first.age <= least {
+                found = Some(lane);
+                least = first.age;
+            }
+        }
+    }
+    found
+}

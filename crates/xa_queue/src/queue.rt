@@ -1,0 +1,331 @@
+// The queue: what waits, and its events as they are noted.
+ghost use Rattle.std.specs.Prelude.{◌≡◌, ◌+◌, ◌-◌, ◌^◌, ◌≤◌, ◌<◌, ◌⊎◌, [], ◌∷◌, ◌++◌, ◌==◌, max, length, None, Some, true, false, IfOk, IfErr, OnOk, OnErr, MatchOption, MatchResult, IfSome, IsTrue};
+ghost use Rattle.xa_events.specs.declared.event.Event.TheVariants.{Gone, Down, Close};
+ghost use Rattle.xa_stamp.specs.Home.{last_stamp};
+ghost use Rattle.xa_queue.specs.Queue.{IsSound, has_server, all_gone, none_left};
+ghost use Rattle.xa_queue.specs.Reading.{ReadsAsNoted};
+ghost use Rattle.xa_queue.specs.Changes.{opened, IsEntry, larger, Notes, IsWorn, put_refused, with_entry, noted, next_stamp, TakesAs, with_gone, Sweeps, Drains, IsDrained};
+ghost use Rattle.xa_queue.specs.declared.queue.Refusal.TheVariants as refusals;
+
+use crate::entry::Entry;
+use crate::line::Line;
+use std::alloc::Global;
+use std::marker::Model;
+use xa_events::{Event, Swept};
+use xa_stamp::Home;
+use xa_types::{Generation, NoMemory, QueueId, ServerId, Stamp, Worn};
+
+// How many events of a queue may come beside those of its entries and servers: an entry's own and its take, that it goes
+// down, and that it is closed.
+const OTHERS: u32 = 4;
+
+/// Why an entry isn't put.
+#[derive(Clone, Copy, Debug, PartialEq, Eq)]
+pub enum Refusal {
+    /// The queue has no server left.
+    Down,
+    /// It accepts no more.
+    Closed,
+    /// As many wait as may, which it has.
+    Full(u32),
+    /// Stamps would pass their end; this is the larger of what was seen and of the last one.
+    Worn(Stamp),
+    NoMemory,
+}
+
+/// An entry that isn't put, and why.
+pub struct PutRefused<C> {
+    pub entry: Entry<C>,
+    pub why: Refusal,
+}
+
+/// What a take answers.
+pub enum Taken<C> {
+    /// The next entry, and the stamp of the take.
+    Request(Entry<C>, Stamp),
+    /// Nothing waits.
+    Empty,
+    /// Nothing waits, and nothing will.
+    Closed,
+}
+
+/// A queue. Of the entries that wait the next is the first of the highest priority, and every tenth time the oldest.
+pub struct Queue<C> {
+    id: QueueId,
+    capacity: u32,
+    servers: Vec<ServerId>,
+    first: Stamp,
+    home: Home,
+    line: Line<C>,
+    takes: u64,
+    down: bool,
+    closed: bool,
+    gone: Vec<ServerId>,
+    drained: bool,
+}
+
+impl<C> Model for Queue<C> {
+    ghost use Rattle.xa_queue.specs.Queue.{Standing};
+
+    ghost Value = { Standing C };
+
+    ghost use Rattle.xa_queue.specs.Kept.{standing_of, IsKept};
+
+    ghost view = { standing_of };
+
+    ghost invariant = { IsKept };
+}
+
+fn has_server(servers: &[ServerId], server: ServerId) -> bool
+    ensures { result ≡ has_server server servers.now }
+{
+    servers.iter().any(|own| own.0 == server.0)
+}
+
+fn all_gone(gone: &[ServerId], servers: &[ServerId]) -> bool
+    ensures { result ≡ all_gone gone.now servers.now }
+{
+    servers.iter().all(|server| has_server(gone, *server))
+}
+
+impl<C> Queue<C> {
+    /// A queue of at most 64 servers where 1 to 10,000 may wait, whose events have stamps behind this one. It makes the room
+    /// that its own end and that of its servers take.
+    pub fn new(
+        alloc: Global,
+        id: QueueId,
+        capacity: u32,
+        servers: &[ServerId],
+        first: Stamp,
+    ) -> Result<Queue<C>, NoMemory>
+        requires id { 0 < id.0 }
+        requires capacity { (1 ≤ capacity) × (capacity ≤ 10000) }
+        requires servers { length servers.now ≤ 64 }
+        requires first { first.0 ≤ 2 ^ 63 }
+        ensures { IfOk result (λ queue. queue ≡ opened id capacity servers.now first) }
+    {
+        let mut home = Home::new(alloc, first);
+        home.reserve(servers.len() as u32 + 2)?;
+        let gone = Vec::with_capacity(alloc, servers.len())?;
+        let servers = Vec::from_slice(alloc, servers)?;
+        let line = Line::new(alloc)?;
+        Ok(Queue {
+            id,
+            capacity,
+            servers,
+            first,
+            home,
+            line,
+            takes: 0,
+            down: false,
+            closed: false,
+            gone,
+            drained: false,
+        })
+    }
+
+    /// How many wait.
+    pub fn len(&self) -> u32
+        ensures value { result ≡ length self.now.waiting }
+        ensures sound { IsSound self.now }
+        ensures reads { ReadsAsNoted self.now }
+    {
+        self.line.len()
+    }
+
+    // The stamp of the last event, or the first one where there is none.
+    fn stamp(&self) -> Stamp
+        ensures value { result.0 ≡ last_stamp self.now.first self.now.entries }
+        ensures bound { result.0 ≤ 2 ^ 63 }
+    {
+        match self.home.entries() {
+            [] => self.first,
+            [.., newest] => newest.stamp,
+        }
+    }
+
+    // Whether one more event can be noted.
+    fn check_stamp(&self, seen: Stamp) -> Result<(), Worn>
+        requires { seen.0 ≤ 2 ^ 63 }
+        ensures { MatchResult result (λ _. larger seen self.now < 2 ^ 63) (λ worn. IsWorn seen worn self.now self.now) }
+    {
+        Stamp::after(seen, self.stamp())?;
+        Ok(())
+    }
+
+    fn put_refused(&self, seen: Stamp) -> Option<Refusal>
+        requires { seen.0 ≤ 2 ^ 63 }
+        ensures { result ≡ put_refused seen self.now }
+    {
+        if self.down {
+            Some(Refusal::Down)
+        } else if self.closed {
+            Some(Refusal::Closed)
+        } else if self.line.len() == self.capacity {
+            Some(Refusal::Full(self.line.len()))
+        } else {
+            match self.check_stamp(seen) {
+                Ok(()) => None,
+                Err(worn) => Some(Refusal::Worn(worn.0)),
+            }
+        }
+    }
+
+    /// Puts an entry behind the others, and notes the event that brings it, an accept or a forward. `seen` is at most 2^63,
+    /// and the event has one more than the larger of it and of the last stamp. Where the entry is put there is room for its
+    /// take too. Where it isn't, it comes back.
+    pub fn put(
+        &mut self,
+        seen: Stamp,
+        event: Event,
+        entry: Entry<C>,
+    ) -> Result<Stamp, PutRefused<C>>
+        requires seen { seen.0 ≤ 2 ^ 63 }
+        requires event { IsEntry self.old.id entry event }
+        requires priority { (1 ≤ entry.priority) × (entry.priority ≤ 100) }
+        ensures noted { IfOk result (λ stamp. Notes seen stamp event (with_entry entry self.old) self.new self.old) }
+        ensures allowed { OnOk result (put_refused seen self.old ≡ None) }
+        ensures refused { IfErr result (λ back. (put_refused seen self.old ≡ Some back.why) ⊎ (back.why ≡ refusals.NoMemory)) }
+        ensures back { IfErr result (λ back. back.entry ≡ entry) }
+        ensures kept { OnErr result (self.new ≡ self.old) }
+    {
+        if let Some(why) = self.put_refused(seen) {
+            return Err(PutRefused { entry, why });
+        }
+        let age = self.home.entries().len() as u64;
+        let room = self.line.len() + self.servers.len() as u32 + OTHERS;
+        if self.home.reserve(room).is_err() {
+            let why = Refusal::NoMemory;
+            return Err(PutRefused { entry, why });
+        }
+        if let Err(entry) = self.line.push(age, entry) {
+            let why = Refusal::NoMemory;
+            return Err(PutRefused { entry, why });
+        }
+        let Ok(stamp) = self.home.note(seen, event) else {
+            unreachable!()
+        };
+        Ok(stamp)
+    }
+
+    /// Takes the next entry for a server. `seen` and the stamp are as for `put`. It takes no memory.
+    pub fn take(
+        &mut self,
+        seen: Stamp,
+        server: ServerId,
+        generation: Generation,
+    ) -> Result<Taken<C>, Worn>
+        requires seen { seen.0 ≤ 2 ^ 63 }
+        requires own { has_server server self.old.servers ≡ true }
+        requires left { has_server server self.old.gone ≡ false }
+        ensures taken { IfOk result (λ taken. TakesAs seen server generation taken self.new self.old) }
+        ensures worn { IfErr result (λ worn. IsWorn seen worn self.new self.old) }
+        ensures some { OnErr result (0 < length self.old.waiting) }
+    {
+        if self.line.len() == 0 {
+            let closed = self.closed;
+            return Ok(if closed { Taken::Closed } else { Taken::Empty });
+        }
+        self.check_stamp(seen)?;
+        let k = self.takes + 1;
+        let entry = self.line.take(k % 10 == 0);
+        let taken = xa_events::Taken {
+            request: entry.request,
+            server,
+            generation,
+            k,
+        };
+        let Ok(stamp) = self.home.note(seen, Event::Take(taken)) else {
+            unreachable!()
+        };
+        self.takes = k;
+        Ok(Taken::Request(entry, stamp))
+    }
+
+    /// Gives a server up, and answers whether none is left. `seen` and the stamp are as for `put`. It takes no memory.
+    pub fn gone(&mut self, seen: Stamp, server: ServerId) -> Result<(Stamp, bool), Worn>
+        requires seen { seen.0 ≤ 2 ^ 63 }
+        requires own { has_server server self.old.servers ≡ true }
+        requires left { has_server server self.old.gone ≡ false }
+        ensures noted { IfOk result (λ done. Notes seen done.0 (Gone server) (with_gone server self.old) self.new self.old) }
+        ensures last { IfOk result (λ done. done.1 ≡ none_left self.new) }
+        ensures worn { IfErr result (λ worn. IsWorn seen worn self.new self.old) }
+    {
+        let stamp = self.home.note(seen, Event::Gone(server))?;
+        self.gone.push_reserved(server);
+        let deserted = all_gone(&self.gone, &self.servers);
+        Ok((stamp, deserted))
+    }
+
+    /// Goes down, where no server is left. `seen` and the stamp are as for `put`. It takes no memory.
+    pub fn down(&mut self, seen: Stamp) -> Result<Stamp, Worn>
+        requires seen { seen.0 ≤ 2 ^ 63 }
+        requires deserted { none_left self.old ≡ true }
+        requires up { self.old.down ≡ false }
+        ensures noted { IfOk result (λ stamp. Notes seen stamp (Down self.old.id) (record self.old { down = true }) self.new self.old) }
+        ensures worn { IfErr result (λ worn. IsWorn seen worn self.new self.old) }
+    {
+        let stamp = self.home.note(seen, Event::Down(self.id))?;
+        self.down = true;
+        Ok(stamp)
+    }
+
+    /// Gives up the oldest entry of a queue that is down. `seen` and the stamp are as for `put`. It takes no memory.
+    pub fn sweep(&mut self, seen: Stamp) -> Result<Option<(Entry<C>, Stamp)>, Worn>
+        requires seen { seen.0 ≤ 2 ^ 63 }
+        requires down { self.old.down ≡ true }
+        ensures swept { IfOk result (λ swept. MatchOption swept (IsDrained self.new self.old) (λ s. Sweeps seen s.0 s.1 self.new self.old)) }
+        ensures worn { IfErr result (λ worn. IsWorn seen worn self.new self.old) }
+        ensures some { OnErr result (0 < length self.old.waiting) }
+    {
+        if self.line.len() == 0 {
+            return Ok(None);
+        }
+        self.check_stamp(seen)?;
+        let entry = self.line.take(true);
+        let swept = Swept {
+            request: entry.request,
+            queue: self.id,
+        };
+        let Ok(stamp) = self.home.note(seen, Event::Sweep(swept)) else {
+            unreachable!()
+        };
+        Ok(Some((entry, stamp)))
+    }
+
+    /// Accepts no more. `seen` and the stamp are as for `put`. It takes no memory.
+    pub fn close(&mut self, seen: Stamp) -> Result<Stamp, Worn>
+        requires seen { seen.0 ≤ 2 ^ 63 }
+        requires open { self.old.closed ≡ false }
+        ensures noted { IfOk result (λ stamp. Notes seen stamp (Close self.old.id) (record self.old { closed = true }) self.new self.old) }
+        ensures worn { IfErr result (λ worn. IsWorn seen worn self.new self.old) }
+    {
+        let stamp = self.home.note(seen, Event::Close(self.id))?;
+        self.closed = true;
+        Ok(stamp)
+    }
+
+    /// Lets the oldest entry go without an event, as behind a halt. It takes no memory.
+    pub fn drain(&mut self) -> Option<Entry<C>>
+        ensures { MatchOption result (IsDrained self.new self.old) (λ entry. Drains entry self.new self.old) }
+    {
+        if self.line.len() == 0 {
+            return None;
+        }
+        self.drained = true;
+        Some(self.line.take(true))
+    }
+
+    /// The events as they were noted, of a queue where nothing waits. It takes no memory.
+    pub fn home(self) -> Home
+        requires { self.waiting ≡ [] }
+        ensures first { result.first ≡ self.first }
+        ensures entries { result.entries ≡ self.entries }
+        ensures sound { IsSound self }
+        ensures reads { ReadsAsNoted self }
+    {
+        let Queue { home, line, .. } = self;
+        line.free();
+        home
+    }
+}
