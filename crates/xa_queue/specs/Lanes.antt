@@ -1,6 +1,6 @@
 -- How the entries of a line are kept: a lane for each priority, and in each the oldest first. No public contract rests on this file.
 use Rattle.std.specs.Prelude.{◌≡◌, ℕ, ◌+◌, ◌-◌, ◌<◌, ◌≤◌, ◌==◌, nat_lt, Bool, if◌then◌else◌, List, [], ◌∷◌, ◌++◌, length, map, slice_get, slice_index_or, Option, Some, IfSome, IsSomeAnd}
-use Rattle.std.specs.List.{All, filter, concat}
+use Rattle.std.specs.List.{All, filter, flat_map}
 use Rattle.std.specs.declared.collections.VecDeque.{VecDeque}
 use Rattle.xa_queue.specs.declared.entry.Entry.{Entry}
 use Rattle.xa_queue.specs.declared.entry.Aged.{Aged}
@@ -42,7 +42,7 @@ module _ {C : Type 0} where
   by_age (aged ∷ rest) = insert_aged aged (by_age rest)
 
   abbrev pub all_in : List (List (Aged C)) → List (Aged C)
-  all_in lanes = by_age (concat lanes)
+  all_in lanes = by_age (flat_map (λ lane. lane) lanes)
 
   abbrev pub has_priority : ℕ → Aged C → Bool
   has_priority priority aged = aged.entry.priority == priority

@@ -1,0 +1,3 @@
+pub mod ByAge
+pub mod Keeping
+pub mod Choosing
