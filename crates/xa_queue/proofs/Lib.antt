@@ -1,3 +1,9 @@
 pub mod ByAge
 pub mod Keeping
 pub mod Choosing
+pub mod InOrder
+pub mod Waiting
+pub mod Noted
+pub mod Entering
+pub mod Leaving
+pub mod Ending

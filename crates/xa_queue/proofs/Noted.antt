@@ -1,0 +1,75 @@
+-- A queue reads as its events do also once one more is noted.
+use Rattle.std.proofs.Common.{◌≡◌, ℕ, ◌+◌, ◌-◌, ◌<◌, ◌≤◌, ◌==◌, ◌||◌, ◌&&◌, not, Bool, true, false, cond, List, [], ◌∷◌, ◌++◌, length, map, reverse, Option, Some, None, inl, inr, refl, sym, ◌∙◌, ap, subst, arith, length-append, eq-eqb, eqb-true}
+use Rattle.std.specs.Prelude.{if◌then◌else◌, slice_get, IfSome}
+use Rattle.std.specs.List.{All, filter, filter_map, list_any, list_all, cons_option, IsDistinct}
+use Rattle.std.proofs.lemmas.Bool.{cases_Bool, or_left, true≢false}
+use Rattle.std.proofs.lemmas.List.{map-append, reverse-append, length-map}
+use Rattle.std.proofs.lemmas.List.Elements.{All-nil, All-push}
+use Rattle.xa_types.specs.declared.stamp.Stamp.{Stamp}
+use Rattle.xa_types.specs.declared.ids.RequestId.{RequestId}
+use Rattle.xa_types.specs.declared.ids.ServerId.{ServerId}
+use Rattle.xa_types.specs.declared.ids.QueueId.{QueueId}
+use Rattle.xa_types.specs.declared.setup.Setup.{Setup}
+use Rattle.xa_types.specs.Setup.{queue_of, capacity_of}
+use Rattle.xa_events.specs.declared.event.Event.{Event}
+use Rattle.xa_events.specs.Words.{AtEach, has, same_request, latest}
+use Rattle.xa_events.specs.Queue.{comes_in, waiting, takes, is_down, is_closed}
+use Rattle.xa_events.specs.Request.{is_entry_of, priority_in, priority_at}
+use Rattle.xa_events.specs.Order.{TakesNext}
+use Rattle.xa_events.specs.Homes.{home_of}
+use Rattle.xa_events.specs.Homes.Home.{QueueHome}
+use Rattle.xa_events.specs.Cases.{HomePart}
+use Rattle.xa_events.specs.Views.{QueueView, queue_view, queue_after}
+use Rattle.xa_events.proofs.Owns.{queue_more}
+use Rattle.xa_stamp.specs.declared.home.Stamped.{Stamped}
+use Rattle.xa_queue.specs.declared.entry.Entry.{Entry}
+use Rattle.xa_queue.specs.Queue.{Standing, past_of}
+use Rattle.xa_queue.specs.Changes.{noted}
+use Rattle.xa_queue.specs.Reading.{IsNew, AllNew, Fits, IsRead, ReadsAsNoted, view_of}
+
+module _ {C : Type 0} where
+  pub past-noted : (stamp : Stamp) (e : Event) (left : Standing C) → past_of (noted stamp e left) ≡ e ∷ past_of left
+  past-noted stamp e left =
+      let event : Stamped → Event = λ noted. noted.event in
+      ap reverse (map-append event left.entries (record { stamp = stamp; event = e } ∷ [])) ∙ reverse-append (map event left.entries) (e ∷ [])
+
+  -- what one event more asks for, which leaves the queue so
+  pub record Parts (setup : Setup) (e : Event) (q left : Standing C) : Type 0 where
+    pub view : view_of left ≡ queue_after setup q.id.0 e (view_of q)
+    pub stand : (clients : ℕ) → home_of setup clients e ≡ QueueHome q.id.0
+    pub met : HomePart setup e (past_of q)
+    pub ordered : TakesNext setup e (past_of q)
+    pub priorities : All (λ entry. priority_at (e ∷ past_of q) entry.request ≡ entry.priority) left.waiting
+    pub once : IsDistinct same_request (map (λ entry. entry.request) left.waiting)
+
+  -- the same queue, but for its tables
+  pub record SameQueue (q left : Standing C) : Type 0 where
+    pub id : left.id ≡ q.id
+    pub capacity : left.capacity ≡ q.capacity
+    pub servers : left.servers ≡ q.servers
+    pub entries : left.entries ≡ q.entries
+    pub drained : left.drained ≡ q.drained
+
+  read-noted : (setup : Setup) (stamp : Stamp) (e : Event) (q left : Standing C) → SameQueue q left → IsRead setup q → Parts setup e q left → IsRead setup (noted stamp e left)
+  read-noted setup stamp e q left same read parts =
+      let past : past_of (noted stamp e left) ≡ e ∷ past_of q = past-noted stamp e left ∙ ap (λ entries. e ∷ reverse (map (λ noted. noted.event) entries)) same.entries in
+      record {
+        view = parts.view ∙ ap (queue_after setup q.id.0 e) read.view ∙ sym (queue_more setup q.id.0 e (past_of q)) ∙ ap (λ id. queue_view setup id.0 (e ∷ past_of q)) (sym same.id) ∙ ap (queue_view setup left.id.0) (sym past);
+        stand = λ clients. subst (λ events. AtEach (λ e _. home_of setup clients e ≡ QueueHome left.id.0) events) (sym past)
+          (subst (λ id. AtEach (λ e _. home_of setup clients e ≡ QueueHome id.0) (e ∷ past_of q)) (sym same.id) (parts.stand clients, read.stand clients));
+        met = subst (AtEach (HomePart setup)) (sym past) (parts.met, read.met);
+        ordered = subst (AtEach (TakesNext setup)) (sym past) (parts.ordered, read.ordered);
+        priorities = subst (λ events. All (λ entry. priority_at events entry.request ≡ entry.priority) left.waiting) (sym past) parts.priorities;
+        once = parts.once;
+      }
+
+  pub reads-noted : (stamp : Stamp) (e : Event) (q left : Standing C) → SameQueue q left → ReadsAsNoted q → ((setup : Setup) → Fits setup q → IsNew setup q.id.0 e (past_of q) → IsRead setup q → Parts setup e q left) → ReadsAsNoted (noted stamp e left)
+  reads-noted stamp e q left same reads parts setup fits new stays =
+      let past : past_of (noted stamp e left) ≡ e ∷ past_of q = past-noted stamp e left ∙ ap (λ entries. e ∷ reverse (map (λ noted. noted.event) entries)) same.entries in
+      let fits' : Fits setup q = record {
+        capacity = ap (λ id. capacity_of setup id.0) (sym same.id) ∙ fits.capacity ∙ same.capacity;
+        servers = λ server. ap (λ id. queue_of setup server == id.0) (sym same.id) ∙ fits.servers server ∙ ap (list_any (λ own. server == own.0)) same.servers;
+      } in
+      let new' : AllNew setup q.id.0 (e ∷ past_of q) = subst (AllNew setup q.id.0) past (subst (λ id. AllNew setup id.0 (past_of (noted stamp e left))) same.id new) in
+      let read = reads setup fits' new'.1 (sym same.drained ∙ stays) in
+      read-noted setup stamp e q left same read (parts setup fits' new'.0 read)
