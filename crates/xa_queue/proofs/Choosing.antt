@@ -1,6 +1,6 @@
 -- Which entry stands first in the lane that is looked for.
-use Rattle.std.proofs.Common.{◌≡◌, ℕ, ◌+◌, ◌-◌, ◌<◌, ◌≤◌, ◌==◌, Bool, true, false, cond, List, [], ◌∷◌, ◌++◌, length, map, drop, set, suc, zero, Option, Some, None, inl, inr, refl, sym, ◌∙◌, ap, subst, arith, eq-eqb, eqb-true}
-use Rattle.std.specs.Prelude.{slice_get, IfSome, IsSomeAnd}
+use Rattle.std.proofs.Common.{◌≡◌, ℕ, ◌+◌, ◌-◌, ◌<◌, ◌≤◌, ◌==◌, Bool, true, false, cond, List, [], ◌∷◌, ◌++◌, length, map, drop, set, get_or, suc, zero, Option, Some, None, inl, inr, refl, sym, ◌∙◌, ap, subst, arith, eq-eqb, eqb-true}
+use Rattle.std.specs.Prelude.{slice_get, option_map, IfSome, IsSomeAnd}
 use Rattle.std.specs.List.{All, filter}
 use Rattle.std.proofs.lemmas.Bool.{cases_Bool, cases_lt}
 use Rattle.std.proofs.lemmas.Option.{same_Some}
@@ -9,7 +9,7 @@ use Rattle.std.proofs.lemmas.List.Elements.{All-nil, All-cons, All-head, All-tai
 use Rattle.xa_queue.specs.declared.entry.Entry.{Entry}
 use Rattle.xa_queue.specs.declared.entry.Aged.{Aged}
 use Rattle.xa_queue.specs.Line.{IsFirstOfHighest, IsChosen, TakesOut}
-use Rattle.xa_queue.specs.Lanes.{entry_of, lane_at, has_priority, AreEmpty, IsHighest, IsOldest, AgesRise, Keeps}
+use Rattle.xa_queue.specs.Lanes.{entry_of, lane_at, has_priority, AreEmpty, IsHighest, first_age, IsLeast, IsOldest, AgesRise, Keeps}
 use Rattle.xa_queue.proofs.Keeping.{Keeps-take}
 
 module _ {C : Type 0} where
@@ -25,13 +25,13 @@ module _ {C : Type 0} where
   first_of p [] a is = absurd (cc is)
   first_of p (x ∷ w) a is =
       elim (cases_Bool (p x)) [
-        | inl yes ↦
-          let first : Some x ≡ Some a = sym (ap (λ b. slice_get (cond b (x ∷ filter p w) (filter p w)) 0) yes) ∙ is in
+        | inl so ↦
+          let first : Some x ≡ Some a = sym (ap (λ b. slice_get (cond b (x ∷ filter p w) (filter p w)) 0) so) ∙ is in
           let same = same_Some x a first in
-          record { front = []; back = w; was = ap (λ y. y ∷ w) same; none = All-nil (λ (y : Aged C). p y ≡ false); passes = ap p (sym same) ∙ yes }
-        | inr no ↦
-          let later = first_of p w a (sym (ap (λ b. slice_get (cond b (x ∷ filter p w) (filter p w)) 0) no) ∙ is) in
-          record { front = x ∷ later.front; back = later.back; was = ap (λ l. x ∷ l) later.was; none = All-cons (λ (y : Aged C). p y ≡ false) x later.front no later.none; passes = later.passes }
+          record { front = []; back = w; was = ap (λ y. y ∷ w) same; none = All-nil (λ (y : Aged C). p y ≡ false); passes = ap p (sym same) ∙ so }
+        | inr not_so ↦
+          let later = first_of p w a (sym (ap (λ b. slice_get (cond b (x ∷ filter p w) (filter p w)) 0) not_so) ∙ is) in
+          record { front = x ∷ later.front; back = later.back; was = ap (λ l. x ∷ l) later.was; none = All-cons (λ (y : Aged C). p y ≡ false) x later.front not_so later.none; passes = later.passes }
       ]
 
   filter-nil_tail : (p : Aged C → Bool) (x : Aged C) (w : List (Aged C)) (b : Bool) → p x ≡ b → filter p (x ∷ w) ≡ [] → filter p w ≡ []
@@ -99,9 +99,9 @@ module _ {C : Type 0} where
   lower top front most none k d within =
       let m = most k d within in
       let n = none k d within in
-      elim (cases_lt _ top) [
+      elim (cases_lt (get_or front k d).entry.priority top) [
         | inl less ↦ less
-        | inr more ↦ let same = eq-eqb _ top (omega (arith, m, more)) in absurd (cc (same, n))
+        | inr more ↦ let same = eq-eqb (get_or front k d).entry.priority top (omega (arith, m, more)) in absurd (cc (same, n))
       ]
 
   -- the first of the highest lane
@@ -120,7 +120,7 @@ module _ {C : Type 0} where
       })
 
   nothing_older : (lanes : List (List (Aged C))) (next count : ℕ) (front : List (Aged C)) (a : Aged C) (back : List (Aged C)) → Keeps lanes next count (front ++ a ∷ back)
-      → ((k : ℕ) → k < length lanes → IfSome (slice_get (lane_at lanes k) 0) (λ other. a.age ≤ other.age)) → front ≡ []
+      → IsLeast lanes (length lanes) a.age → front ≡ []
   nothing_older lanes next count [] a back keeps oldest = refl
   nothing_older lanes next count (h ∷ front) a back keeps oldest =
       let w = front ++ a ∷ back in
@@ -128,7 +128,7 @@ module _ {C : Type 0} where
       let high = All-head (λ (x : Aged C). x.entry.priority ≤ 100) h w keeps.high in
       let lane = h.entry.priority - 1 in
       let own : lane_at lanes lane ≡ h ∷ filter (has_priority h.entry.priority) w = keeps.each lane (omega arith) ∙ ap (λ q. filter (has_priority q) (h ∷ w)) (omega arith) ∙ filter-own h w in
-      let first : a.age ≤ h.age = subst (λ l. IfSome (slice_get l 0) (λ other. a.age ≤ other.age)) own (oldest lane (omega (arith, keeps.all))) in
+      let first : a.age ≤ h.age = subst (λ l. IfSome (first_age l) (λ other. a.age ≤ other)) own (oldest lane (omega (arith, keeps.all))) in
       let behind : h.age < a.age = (All-back (λ (other : Aged C). h.age < other.age) front a back keeps.rise.0).0 in
       absurd (omega (arith, first, behind))
 
@@ -136,6 +136,6 @@ module _ {C : Type 0} where
   pub oldest_leaves : (lanes : List (List (Aged C))) (next count lane : ℕ) (w : List (Aged C)) (a : Aged C) → Keeps lanes next count w → IsOldest lanes lane → slice_get (lane_at lanes lane) 0 ≡ Some a → Leaves lanes next count lane true w a
   oldest_leaves lanes next count lane w a keeps old is =
       let s = stands_in lanes next count lane w a keeps old.within is in
-      let P : Aged C → Type 0 = λ aged. (k : ℕ) → k < length lanes → IfSome (slice_get (lane_at lanes k) 0) (λ other. aged.age ≤ other.age) in
-      let oldest : P a = subst (λ o. IsSomeAnd o P) is old.first in
+      let age : Aged C → ℕ = λ aged. aged.age in
+      let oldest : IsLeast lanes (length lanes) a.age = subst (λ o. IsSomeAnd (option_map age o) (IsLeast lanes (length lanes))) is old.first in
       leaves lanes next count lane true w a keeps old.within s (ap (map entry_of) (nothing_older lanes next count s.front a s.back (subst (Keeps lanes next count) s.was keeps) oldest))

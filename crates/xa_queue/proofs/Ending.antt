@@ -25,13 +25,13 @@ use Rattle.xa_queue.proofs.Noted.{Parts}
 gone_one : (setup : Setup) (queue server : ℕ) → queue_of setup server ≡ queue → (e : Event) (rest : List ℕ) → list_any (λ gone. server == gone) (cons_option (gone_from setup queue e) rest) ≡ (is_gone_of server e || list_any (λ gone. server == gone) rest)
 gone_one setup queue server at (Gone s) rest =
     elim (cases_Bool (queue_of setup s.0 == queue)) [
-      | inl yes ↦ ap (λ b. list_any (λ gone. server == gone) (cons_option (if b then Some s.0 else None) rest)) yes ∙ ap (λ b. b || list_any (λ gone. server == gone) rest) (eqb-flips server s.0)
-      | inr no ↦ ap (λ b. list_any (λ gone. server == gone) (cons_option (if b then Some s.0 else None) rest)) no ∙ sym (ap (λ b. b || list_any (λ gone. server == gone) rest) (other s.0 no))
+      | inl so ↦ ap (λ b. list_any (λ gone. server == gone) (cons_option (if b then Some s.0 else None) rest)) so ∙ ap (λ b. b || list_any (λ gone. server == gone) rest) (eqb-flips server s.0)
+      | inr not_so ↦ ap (λ b. list_any (λ gone. server == gone) (cons_option (if b then Some s.0 else None) rest)) not_so ∙ sym (ap (λ b. b || list_any (λ gone. server == gone) rest) (other s.0 not_so))
     ]
   where
     other : (s : ℕ) → (queue_of setup s == queue) ≡ false → (s == server) ≡ false
-    other s no = elim (cases_Bool (s == server)) [
-      | inl yes ↦ let on = eq-eqb (queue_of setup s) queue (ap (queue_of setup) (eqb-true s server yes) ∙ at) in absurd (false≢true (sym no ∙ on))
+    other s not_so = elim (cases_Bool (s == server)) [
+      | inl so ↦ let on = eq-eqb (queue_of setup s) queue (ap (queue_of setup) (eqb-true s server so) ∙ at) in absurd (false≢true (sym not_so ∙ on))
       | inr apart ↦ apart
     ]
 gone_one setup queue server at _ rest = refl
@@ -40,6 +40,16 @@ gone_read : (setup : Setup) (queue server : ℕ) → queue_of setup server ≡ q
 unfolding is_gone
 gone_read setup queue server at [] = refl
 gone_read setup queue server at (e ∷ past) = gone_one setup queue server at e (filter_map (gone_from setup queue) past) ∙ ap (λ b. is_gone_of server e || b) (gone_read setup queue server at past)
+
+-- each server of the queue is given up
+is_among : (server : ℕ) (gone servers : List ServerId) → all_gone gone servers ≡ true → list_any (λ own. server == own.0) servers ≡ true → list_any (λ g. server == g.0) gone ≡ true
+is_among server gone [] all own = absurd (false≢true own)
+is_among server gone (s ∷ servers) all own =
+    let parts = and_parts (has_server s gone) (all_gone gone servers) all in
+    elim (cases_Bool (server == s.0)) [
+      | inl so ↦ ap (λ n. list_any (λ g. n == g.0) gone) (eqb-true server s.0 so) ∙ parts.0
+      | inr not_so ↦ is_among server gone servers parts.1 (sym (ap (λ b. b || list_any (λ own. server == own.0) servers) not_so) ∙ own)
+    ]
 
 module _ {C : Type 0} where
   -- a server of the queue is given up by its events where it is so in its table
@@ -64,16 +74,6 @@ module _ {C : Type 0} where
         priorities = read.priorities;
         once = read.once;
       }
-
-  -- each server of the queue is given up
-  is_among : (server : ℕ) (gone servers : List ServerId) → all_gone gone servers ≡ true → list_any (λ own. server == own.0) servers ≡ true → list_any (λ g. server == g.0) gone ≡ true
-  is_among server gone [] all own = absurd (false≢true own)
-  is_among server gone (s ∷ servers) all own =
-      let parts = and_parts (has_server s gone) (all_gone gone servers) all in
-      elim (cases_Bool (server == s.0)) [
-        | inl yes ↦ ap (λ n. list_any (λ g. n == g.0) gone) (eqb-true server s.0 yes) ∙ parts.0
-        | inr no ↦ is_among server gone servers parts.1 (sym (ap (λ b. b || list_any (λ own. server == own.0) servers) no) ∙ own)
-      ]
 
   pub went_down : (setup : Setup) (q : Standing C) → 0 < q.capacity → none_left q ≡ true → q.down ≡ false → Fits setup q → IsRead setup q → Parts setup (Down q.id) q (record q { down = true })
   unfolding priority_at

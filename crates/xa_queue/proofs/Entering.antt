@@ -1,5 +1,5 @@
 -- An entry comes in: the queue reads as its events do with an accept or a forward more.
-use Rattle.std.proofs.Common.{◌≡◌, ℕ, ◌+◌, ◌<◌, ◌≤◌, ◌==◌, Bool, true, false, cond, List, [], ◌∷◌, ◌++◌, length, map, Option, Some, None, refl, sym, ◌∙◌, ap, subst, arith, eq-eqb, length-append}
+use Rattle.std.proofs.Common.{◌≡◌, ℕ, ◌+◌, ◌<◌, ◌≤◌, ◌==◌, Bool, true, false, cond, List, [], ◌∷◌, ◌++◌, length, get_or, map, Option, Some, None, refl, sym, ◌∙◌, ap, subst, arith, eq-eqb, length-append}
 use Rattle.std.specs.Prelude.{if◌then◌else◌, IfSome}
 use Rattle.std.specs.List.{All, list_any, IsDistinct}
 use Rattle.std.proofs.lemmas.List.{map-append, length-map}
@@ -47,7 +47,7 @@ module _ {C : Type 0} where
       })
 
   -- the others wait with the same priorities, and the new one with its own
-  enter_priorities : (past : List _) (e : _) (entry : Entry C) (waits : List (Entry C)) → ((r : RequestId) → is_entry_of r e ≡ same_request entry.request r) → priority_in (Some e) ≡ entry.priority
+  enter_priorities : (past : List Event) (e : Event) (entry : Entry C) (waits : List (Entry C)) → ((r : RequestId) → is_entry_of r e ≡ same_request entry.request r) → priority_in (Some e) ≡ entry.priority
       → All (λ x. same_request entry.request x.request ≡ false) waits → All (λ x. priority_at past x.request ≡ x.priority) waits → All (λ x. priority_at (e ∷ past) x.request ≡ x.priority) (waits ++ entry ∷ [])
   unfolding priority_at
   enter_priorities past e entry waits enters own apart priorities =
@@ -55,7 +55,7 @@ module _ {C : Type 0} where
       let old : All P waits = λ k d within.
           let other = apart k d within in
           let is = priorities k d within in
-          ap (λ b. priority_in (cond b (Some e) (latest (is_entry_of _) past))) (enters _ ∙ other) ∙ is in
+          ap (λ b. priority_in (cond b (Some e) (latest (is_entry_of (get_or waits k d).request) past))) (enters (get_or waits k d).request ∙ other) ∙ is in
       let new : P entry = ap (λ b. priority_in (cond b (Some e) (latest (is_entry_of entry.request) past))) (enters entry.request ∙ same_request_of entry.request entry.request refl) ∙ own in
       All-push P waits entry old new
 

@@ -19,9 +19,9 @@ one_fails p [] y ys fails = and_left (p y) (list_all p ys) fails
 one_fails p (x ∷ xs) y ys fails = and_right (p x) (list_all p (xs ++ y ∷ ys)) (one_fails p xs y ys fails)
 
 find-first : {X : Type 0} (p : X → Bool) (xs : List X) (y : X) (ys : List X) → All (λ x. p x ≡ false) xs → p y ≡ true → find p (xs ++ y ∷ ys) ≡ Some y
-find-first p [] y ys none yes = ap (λ b. cond b (Some y) (find p ys)) yes
-find-first p (x ∷ xs) y ys none yes =
-    ap (λ b. cond b (Some x) (find p (xs ++ y ∷ ys))) (All-head (λ z. p z ≡ false) x xs none) ∙ find-first p xs y ys (All-tail (λ z. p z ≡ false) x xs none) yes
+find-first p [] y ys none so = ap (λ b. cond b (Some y) (find p ys)) so
+find-first p (x ∷ xs) y ys none so =
+    ap (λ b. cond b (Some x) (find p (xs ++ y ∷ ys))) (All-head (λ z. p z ≡ false) x xs none) ∙ find-first p xs y ys (All-tail (λ z. p z ≡ false) x xs none) so
 
 module _ {C : Type 0} where
   abbrev request_of : Entry C → RequestId

@@ -9,7 +9,7 @@ use Rattle.xa_queue.specs.declared.entry.Aged.{Aged}
 use Rattle.xa_queue.specs.Lanes.{lane_at, has_priority, AgesRise, Keeps}
 
 -- a list without one of its members
-All-without : {X : Type 0} (P : X → Type 0) (front : List X) (x : X) (back : List X) → All P (front ++ x ∷ back) → All P (front ++ back)
+pub All-without : {X : Type 0} (P : X → Type 0) (front : List X) (x : X) (back : List X) → All P (front ++ x ∷ back) → All P (front ++ back)
 All-without P [] x back all = All-tail P x back all
 All-without P (y ∷ front) x back all = All-cons P y (front ++ back) (All-head P y (front ++ x ∷ back) all) (All-without P front x back (All-tail P y (front ++ x ∷ back) all))
 
@@ -52,7 +52,7 @@ module _ {C : Type 0} where
         young = All-push (λ (other : Aged C). other.age < a.age + 1) w a (All-weaker (λ (other : Aged C). other.age < a.age) (λ (other : Aged C). other.age < a.age + 1) (λ other less. omega (arith, less)) w older) (omega arith);
         low = All-push (λ (other : Aged C). 1 ≤ other.entry.priority) w a keeps.low low;
         high = All-push (λ (other : Aged C). other.entry.priority ≤ 100) w a keeps.high high;
-        count = let counted = keeps.count in omega (arith, counted, length-append w (a ∷ []));
+        counted = let counted = keeps.counted in omega (arith, counted, length-append w (a ∷ []));
       }
 
   filter-out : (p : ℕ) (front : List (Aged C)) (a : Aged C) (back : List (Aged C)) → (a.entry.priority ≡ p → ⊥) → filter (has_priority p) (front ++ a ∷ back) ≡ filter (has_priority p) (front ++ back)
@@ -82,5 +82,5 @@ module _ {C : Type 0} where
         young = All-without (λ (other : Aged C). other.age < next) front a back keeps.young;
         low = All-without (λ (other : Aged C). 1 ≤ other.entry.priority) front a back keeps.low;
         high = All-without (λ (other : Aged C). other.entry.priority ≤ 100) front a back keeps.high;
-        count = let counted = keeps.count in omega (arith, counted, length-append front (a ∷ back), length-append front back);
+        counted = let counted = keeps.counted in omega (arith, counted, length-append front (a ∷ back), length-append front back);
       }

@@ -38,8 +38,8 @@ not_all_gone server gone [] own left all = true≢false (sym own)
 not_all_gone server gone (s ∷ servers) own left all =
     let parts = and_parts (has_server s gone) (all_gone gone servers) all in
     elim (cases_Bool (server.0 == s.0)) [
-      | inl yes ↦ let is : has_server server gone ≡ true = ap (λ n. list_any (λ g. n == g.0) gone) (eqb-true server.0 s.0 yes) ∙ parts.0 in true≢false (sym is ∙ left)
-      | inr no ↦ not_all_gone server gone servers (sym (ap (λ b. b || list_any (λ own. server.0 == own.0) servers) no) ∙ own) left parts.1
+      | inl so ↦ let is : has_server server gone ≡ true = ap (λ n. list_any (λ g. n == g.0) gone) (eqb-true server.0 s.0 so) ∙ parts.0 in true≢false (sym is ∙ left)
+      | inr not_so ↦ not_all_gone server gone servers (sym (ap (λ b. b || list_any (λ own. server.0 == own.0) servers) not_so) ∙ own) left parts.1
     ]
 
 module _ {C : Type 0} where

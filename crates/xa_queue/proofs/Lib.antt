@@ -7,3 +7,5 @@ pub mod Noted
 pub mod Entering
 pub mod Leaving
 pub mod Ending
+pub mod Written
+pub mod Lined

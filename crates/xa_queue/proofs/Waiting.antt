@@ -16,10 +16,10 @@ use Rattle.xa_queue.proofs.Keeping.{All-without}
 pub eqb-flips : (a b : ℕ) → (a == b) ≡ (b == a)
 eqb-flips a b =
     elim (cases_Bool (a == b)) [
-      | inl yes ↦ yes ∙ sym (eq-eqb b a (sym (eqb-true a b yes)))
-      | inr no ↦ elim (cases_Bool (b == a)) [
-        | inl yes ↦ eq-eqb a b (sym (eqb-true b a yes)) ∙ sym yes
-        | inr other ↦ no ∙ sym other
+      | inl so ↦ so ∙ sym (eq-eqb b a (sym (eqb-true a b so)))
+      | inr not_so ↦ elim (cases_Bool (b == a)) [
+        | inl so ↦ eq-eqb a b (sym (eqb-true b a so)) ∙ sym so
+        | inr other ↦ not_so ∙ sym other
       ]
     ]
 
@@ -31,8 +31,8 @@ none_of p [] none = All-nil (λ x. p x ≡ false)
 none_of p (x ∷ xs) none = let parts = or_parts (p x) (list_any p xs) none in All-cons (λ y. p y ≡ false) x xs parts.0 (none_of p xs parts.1)
 
 pub any_at : {X : Type 0} (p : X → Bool) (xs : List X) (x : X) (ys : List X) → p x ≡ true → list_any p (xs ++ x ∷ ys) ≡ true
-any_at p [] x ys yes = or_left (p x) (list_any p ys) yes
-any_at p (y ∷ xs) x ys yes = or_right (p y) (list_any p (xs ++ x ∷ ys)) (any_at p xs x ys yes)
+any_at p [] x ys so = or_left (p x) (list_any p ys) so
+any_at p (y ∷ xs) x ys so = or_right (p y) (list_any p (xs ++ x ∷ ys)) (any_at p xs x ys so)
 
 pub list_any-reverse : {X : Type 0} (p : X → Bool) (xs : List X) → list_any p (reverse xs) ≡ list_any p xs
 list_any-reverse p [] = refl
@@ -53,7 +53,6 @@ list_any-map p f (x ∷ xs) = ap (λ b. p (f x) || b) (list_any-map p f xs)
 pub IsDistinct-one_more : {X : Type 0} (same : X → X → Bool) → ((a b : X) → same a b ≡ same b a) → (xs : List X) (x : X) → IsDistinct same xs → list_any (same x) xs ≡ false → IsDistinct same (xs ++ x ∷ [])
 IsDistinct-one_more same flips [] x distinct none = IsDistinct-cons same x [] tt distinct
 IsDistinct-one_more same flips (y ∷ xs) x distinct none =
-    let D = λ z. same y z ≡ false in
     let parts = or_parts (same x y) (list_any (same x) xs) none in
     IsDistinct-cons same y (xs ++ x ∷ [])
     (recursion_from_All (λ z. same y z ≡ false) (xs ++ x ∷ []) (push (λ z. same y z ≡ false) xs x (All-from_recursion (λ z. same y z ≡ false) xs (IsDistinct-head same y xs distinct)) (flips y x ∙ parts.0)))

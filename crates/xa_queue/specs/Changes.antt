@@ -42,8 +42,8 @@ module _ {C : Type 0} where
   -- the event is noted with the next stamp, which is at most 2^63, and the queue is else as `left`
   pub record Notes (seen stamp : Stamp) (event : Event) (left new old : Standing C) : Type 0 where
     pub fresh : larger seen old < 2 ^ 63
-    pub stamp : stamp ≡ next_stamp seen old
-    pub new : new ≡ noted stamp event left
+    pub next : stamp ≡ next_stamp seen old
+    pub made : new ≡ noted stamp event left
 
   -- nothing changes: stamps would pass their end, 2^63
   pub record IsWorn (seen : Stamp) (worn : Worn) (new old : Standing C) : Type 0 where
@@ -81,9 +81,9 @@ module _ {C : Type 0} where
     pub noted : Notes seen stamp (taken entry server generation old) (record old { waiting = front ++ back; takes = old.takes + 1 }) new old
 
   -- nothing waits, so nothing changes; the queue is closed, or isn't
-  pub record IsIdle (closed : Bool) (new old : Standing C) : Type 0 where
+  pub record IsIdle (shut : Bool) (new old : Standing C) : Type 0 where
     pub none : old.waiting ≡ []
-    pub closed : old.closed ≡ closed
+    pub closed : old.closed ≡ shut
     pub same : new ≡ old
 
   -- what a take answers
@@ -104,7 +104,7 @@ module _ {C : Type 0} where
   pub record Drains (entry : Entry C) (new old : Standing C) : Type 0 where
     pub rest : List (Entry C)
     pub waited : old.waiting ≡ entry ∷ rest
-    pub new : new ≡ record old { waiting = rest; drained = true }
+    pub made : new ≡ record old { waiting = rest; drained = true }
 
   -- none waits, and nothing changes
   pub record IsDrained (new old : Standing C) : Type 0 where

@@ -1,5 +1,5 @@
 -- How the entries of a line are kept: a lane for each priority, and in each the oldest first. No public contract rests on this file.
-use Rattle.std.specs.Prelude.{◌≡◌, ℕ, ◌+◌, ◌-◌, ◌<◌, ◌≤◌, ◌==◌, nat_lt, Bool, if◌then◌else◌, List, [], ◌∷◌, ◌++◌, length, map, slice_get, slice_index_or, Option, Some, IfSome, IsSomeAnd}
+use Rattle.std.specs.Prelude.{◌≡◌, ℕ, ◌+◌, ◌-◌, ◌<◌, ◌≤◌, ◌==◌, nat_lt, Bool, MatchBool, if◌then◌else◌, List, [], ◌∷◌, ◌++◌, length, map, slice_get, slice_index_or, Option, option_map, Some, None, IfSome, IsSomeAnd}
 use Rattle.std.specs.List.{All, filter, flat_map}
 use Rattle.std.specs.declared.collections.VecDeque.{VecDeque}
 use Rattle.xa_queue.specs.declared.entry.Entry.{Entry}
@@ -9,6 +9,12 @@ use Rattle.xa_queue.specs.Line.{InLine}
 
 abbrev pub lanes_of : {C A : Type 0} → List (VecDeque (Aged C) A) → List (List (Aged C))
 lanes_of lanes = map (λ lane. lane.items) lanes
+
+-- what was found, with the age there, or this lane where its first entry is as old
+abbrev pub older : Option (ℕ × ℕ) → ℕ → Option ℕ → Option (ℕ × ℕ)
+older found lane None = found
+older None lane (Some age) = Some (lane, age)
+older (Some found) lane (Some age) = if nat_lt found.1 age then Some found else Some (lane, age)
 
 module _ {C : Type 0} where
   abbrev pub entry_of : Aged C → Entry C
@@ -27,10 +33,22 @@ module _ {C : Type 0} where
     pub some : 0 < length (lane_at lanes lane)
     pub none_above : (k : ℕ) → lane < k → k < length lanes → lane_at lanes k ≡ []
 
+  -- the age of a lane's first entry
+  abbrev pub first_age : List (Aged C) → Option ℕ
+  first_age lane = option_map (λ aged. aged.age) (slice_get lane 0)
+
+  -- that age is no greater than that of the first of each of these lanes
+  abbrev pub IsLeast : List (List (Aged C)) → ℕ → ℕ → Type 0
+  IsLeast lanes count age = (k : ℕ) → k < count → IfSome (first_age (lane_at lanes k)) (λ other. age ≤ other)
+
   -- the lane has an entry, and its first is no younger than the first of another
   pub record IsOldest (lanes : List (List (Aged C))) (lane : ℕ) : Type 0 where
     pub within : lane < length lanes
-    pub first : IsSomeAnd (slice_get (lane_at lanes lane) 0) (λ aged. (k : ℕ) → k < length lanes → IfSome (slice_get (lane_at lanes k) 0) (λ other. aged.age ≤ other.age))
+    pub first : IsSomeAnd (first_age (lane_at lanes lane)) (IsLeast lanes (length lanes))
+
+  -- the lane that has the oldest entry, or the highest that has one
+  abbrev pub IsChosenLane : Bool → List (List (Aged C)) → ℕ → Type 0
+  IsChosenLane oldest lanes lane = MatchBool oldest (IsOldest lanes lane) (IsHighest lanes lane)
 
   -- the entries, by age
   abbrev pub insert_aged : Aged C → List (Aged C) → List (Aged C)
@@ -60,7 +78,7 @@ module _ {C : Type 0} where
     pub young : All (λ aged. aged.age < next) waiting
     pub low : All (λ aged. 1 ≤ aged.entry.priority) waiting
     pub high : All (λ aged. aged.entry.priority ≤ 100) waiting
-    pub count : length waiting ≡ count
+    pub counted : length waiting ≡ count
 
   abbrev pub in_line : Inside C → InLine C
   in_line line = record { waiting = map entry_of (all_in (lanes_of line.lanes.items)); next = line.next }

@@ -1,6 +1,6 @@
 // Lanes: the entries of one priority, the oldest first.
 ghost use Rattle.std.specs.Prelude.{◌≡◌, ℕ, ◌+◌, ◌<◌, ◌≤◌, length, [], ◌∷◌, ◌++◌, drop, Some, slice_get, slice_index_or, slice_set, OnOk, OnErr, IfOk, IfErr, IfSome, IsSomeAnd, MatchOption};
-ghost use Rattle.xa_queue.specs.Lanes.{lanes_of, AreEmpty, IsHighest, IsOldest};
+ghost use Rattle.xa_queue.specs.Lanes.{lanes_of, AreEmpty, IsHighest, IsOldest, IsChosenLane, first_age, older};
 
 use crate::entry::Aged;
 use std::alloc::{AllocFailed, Global};
@@ -38,8 +38,8 @@ pub fn pop<C>(lanes: &mut Vec<VecDeque<Aged<C>, Global>>, lane: usize) -> Aged<C
     aged
 }
 
-/// The last lane that has an entry.
-pub fn highest<C>(lanes: &[VecDeque<Aged<C>, Global>]) -> Option<usize>
+// The last lane that has an entry.
+fn highest<C>(lanes: &[VecDeque<Aged<C>, Global>]) -> Option<usize>
     ensures { MatchOption result (AreEmpty (lanes_of lanes.now)) (IsHighest (lanes_of lanes.now)) }
 {
     let mut left = lanes.len();
@@ -52,19 +52,50 @@ pub fn highest<C>(lanes: &[VecDeque<Aged<C>, Global>]) -> Option<usize>
     None
 }
 
-/// The lane whose first entry is the oldest of all.
-pub fn oldest<C>(lanes: &[VecDeque<Aged<C>, Global>]) -> Option<usize>
+fn first_age<C>(lane: &VecDeque<Aged<C>, Global>) -> Option<u64>
+    ensures { result ≡ first_age lane.now.items }
+{
+    match lane.front() {
+        Some(first) => Some(first.age),
+        None => None,
+    }
+}
+
+// What was found so far, and the age there: that lane too, where its first entry is older.
+fn older(found: Option<(usize, u64)>, lane: usize, age: Option<u64>) -> Option<(usize, u64)>
+    ensures { result ≡ older found lane age }
+{
+    let Some(age) = age else {
+        return found;
+    };
+    match found {
+        Some((before, least)) if least < age => Some((before, least)),
+        Some(_) => Some((lane, age)),
+        None => Some((lane, age)),
+    }
+}
+
+// The lane whose first entry is the oldest of all.
+fn oldest<C>(lanes: &[VecDeque<Aged<C>, Global>]) -> Option<usize>
     ensures { MatchOption result (AreEmpty (lanes_of lanes.now)) (IsOldest (lanes_of lanes.now)) }
 {
     let mut found = None;
-    let mut least = u64::MAX;
     for lane in 0..lanes.len() {
-        if let Some(first) = lanes[lane].front() {
-            if first.age <= least {
-                found = Some(lane);
-                least = first.age;
-            }
-        }
+        found = older(found, lane, first_age(&lanes[lane]));
     }
-    found
+    match found {
+        Some((lane, _)) => Some(lane),
+        None => None,
+    }
+}
+
+/// The lane whose first entry is the oldest, or the first of the highest priority.
+pub fn chosen<C>(lanes: &[VecDeque<Aged<C>, Global>], by_age: bool) -> Option<usize>
+    ensures { MatchOption result (AreEmpty (lanes_of lanes.now)) (IsChosenLane by_age (lanes_of lanes.now)) }
+{
+    if by_age {
+        oldest(lanes)
+    } else {
+        highest(lanes)
+    }
 }

@@ -82,12 +82,9 @@ impl<C> Line<C> {
         ensures taken { TakesOut oldest self.old.waiting result self.new.waiting }
         ensures next { self.new.next ≡ self.old.next }
     {
-        let found = if oldest {
-            lanes::oldest(&self.lanes)
-        } else {
-            lanes::highest(&self.lanes)
+        let Some(lane) = lanes::chosen(&self.lanes, oldest) else {
+            unreachable!()
         };
-        let Some(lane) = found else { unreachable!() };
         let Aged { age: _, entry } = lanes::pop(&mut self.lanes, lane);
         self.count -= 1;
         entry

@@ -324,7 +324,19 @@ impl<C> Queue<C> {
         ensures sound { IsSound self }
         ensures reads { ReadsAsNoted self }
     {
-        let Queue { home, line, .. } = self;
+        let Queue {
+            id: _,
+            capacity: _,
+            servers: _,
+            first: _,
+            home,
+            line,
+            takes: _,
+            down: _,
+            closed: _,
+            gone: _,
+            drained: _,
+        } = self;
         line.free();
         home
     }
