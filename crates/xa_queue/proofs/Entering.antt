@@ -1,9 +1,11 @@
 -- An entry comes in: the queue reads as its events do with an accept or a forward more.
-use Rattle.std.proofs.Common.{◌≡◌, ℕ, ◌+◌, ◌<◌, ◌≤◌, ◌==◌, Bool, true, false, cond, List, [], ◌∷◌, ◌++◌, length, get_or, map, Option, Some, None, refl, sym, ◌∙◌, ap, subst, arith, eq-eqb, length-append}
+use Rattle.std.proofs.Common.{◌≡◌, ℕ, ◌+◌, ◌<◌, ◌≤◌, ◌^◌, ◌==◌, inl, inr, Bool, true, false, cond, List, [], ◌∷◌, ◌++◌, length, get_or, map, Option, Some, None, refl, sym, ◌∙◌, ap, subst, arith, eq-eqb, length-append}
 use Rattle.std.specs.Prelude.{if◌then◌else◌, IfSome}
 use Rattle.std.specs.List.{All, list_any, IsDistinct}
+use Rattle.std.proofs.lemmas.Bool.{cases_Bool, eqb-false}
 use Rattle.std.proofs.lemmas.List.{map-append, length-map}
 use Rattle.std.proofs.lemmas.List.Elements.{All-nil, All-cons, All-head, All-tail, All-push}
+use Rattle.xa_types.specs.declared.stamp.Stamp.{Stamp}
 use Rattle.xa_types.specs.declared.ids.RequestId.{RequestId}
 use Rattle.xa_types.specs.declared.ids.QueueId.{QueueId}
 use Rattle.xa_types.specs.declared.setup.Setup.{Setup}
@@ -22,7 +24,8 @@ use Rattle.xa_events.proofs.WordsLemmas.{same_request_of}
 use Rattle.xa_stamp.specs.declared.home.Stamped.{Stamped}
 use Rattle.xa_queue.specs.declared.entry.Entry.{Entry}
 use Rattle.xa_queue.specs.Queue.{Standing, past_of}
-use Rattle.xa_queue.specs.Changes.{IsEntry, with_entry}
+use Rattle.xa_queue.specs.declared.queue.Refusal.TheVariants as refusals
+use Rattle.xa_queue.specs.Changes.{IsEntry, larger, put_refused, with_entry}
 use Rattle.xa_queue.specs.Reading.{IsNew, Fits, IsRead, view_of}
 use Rattle.xa_queue.proofs.Waiting.{same_request-flips, none_of, list_any-map, IsDistinct-one_more}
 use Rattle.xa_queue.proofs.Noted.{Parts}
@@ -102,3 +105,20 @@ module _ {C : Type 0} where
         once = subst (IsDistinct same_request) (sym (map-append request_of q.waiting (entry ∷ []))) (IsDistinct-one_more same_request same_request-flips (map request_of q.waiting) entry.request read.once none);
       }
   entered setup q _ entry its fits free new read = absurd its
+
+  -- where a put isn't refused
+  pub is_open : (seen : Stamp) (q : Standing C) → length q.waiting ≤ q.capacity → put_refused seen q ≡ None → IsOpen q
+  is_open seen q few allowed = by seen q few q.down refl q.closed refl allowed
+    where
+      by : (seen : Stamp) (q : Standing C) → length q.waiting ≤ q.capacity → (b : Bool) → q.down ≡ b → (d : Bool) → q.closed ≡ d
+          → (if b then Some refusals.Down else (if d then Some refusals.Closed else (if length q.waiting == q.capacity then Some (refusals.Full (length q.waiting)) else (if larger seen q == 2 ^ 63 then Some (refusals.Worn (record { 0 = 2 ^ 63 })) else None)))) ≡ None
+          → IsOpen q
+      by seen q few true is d is' allowed = absurd (cc allowed)
+      by seen q few false is true is' allowed = absurd (cc allowed)
+      by seen q few false is false is' allowed =
+          elim (cases_Bool (length q.waiting == q.capacity)) [
+            | inl full ↦
+              let some = sym (ap (λ b. if b then Some (refusals.Full (length q.waiting)) else (if larger seen q == 2 ^ 63 then Some (refusals.Worn (record { 0 = 2 ^ 63 })) else None)) full) ∙ allowed in
+              absurd (cc some)
+            | inr room ↦ record { up = is; open' = is'; room = let apart = eqb-false (length q.waiting) q.capacity room in grind (arith, apart, few) }
+          ]

@@ -24,7 +24,7 @@ use Rattle.xa_events.specs.Views.{QueueView, queue_view}
 use Rattle.xa_events.proofs.WordsLemmas.{same_request_of}
 use Rattle.xa_queue.specs.declared.entry.Entry.{Entry}
 use Rattle.xa_queue.specs.Line.{IsNext}
-use Rattle.xa_queue.specs.Queue.{Standing, past_of, has_server, all_gone, none_left}
+use Rattle.xa_queue.specs.Queue.{Standing, IsSound, past_of, has_server, all_gone, none_left}
 use Rattle.xa_queue.specs.Changes.{taken}
 use Rattle.xa_queue.specs.Reading.{Fits, IsRead, view_of}
 use Rattle.xa_queue.proofs.Keeping.{All-without}
@@ -43,6 +43,10 @@ not_all_gone server gone (s ∷ servers) own left all =
     ]
 
 module _ {C : Type 0} where
+  -- a queue with a server that is left is not down
+  pub is_up : (q : Standing C) (server : ServerId) → IsSound q → has_server server q.servers ≡ true → has_server server q.gone ≡ false → q.down ≡ false
+  is_up q server sound own left = elim (cases_Bool q.down) [ | inl down ↦ absurd (not_all_gone server q.gone q.servers own left (sound.deserted down)) | inr up ↦ up ]
+
   abbrev request_of : Entry C → RequestId
   request_of entry = entry.request
 

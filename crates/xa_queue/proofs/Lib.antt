@@ -9,3 +9,5 @@ pub mod Leaving
 pub mod Ending
 pub mod Written
 pub mod Lined
+pub mod Lasting
+pub mod Opened

@@ -137,6 +137,7 @@ impl<C> Queue<C> {
     fn stamp(&self) -> Stamp
         ensures value { result.0 ≡ last_stamp self.now.first self.now.entries }
         ensures bound { result.0 ≤ 2 ^ 63 }
+        ensures few { length self.now.entries < 2 ^ 63 }
     {
         match self.home.entries() {
             [] => self.first,
@@ -147,7 +148,8 @@ impl<C> Queue<C> {
     // Whether one more event can be noted.
     fn check_stamp(&self, seen: Stamp) -> Result<(), Worn>
         requires { seen.0 ≤ 2 ^ 63 }
-        ensures { MatchResult result (λ _. larger seen self.now < 2 ^ 63) (λ worn. IsWorn seen worn self.now self.now) }
+        ensures worn { MatchResult result (λ _. larger seen self.now < 2 ^ 63) (λ worn. IsWorn seen worn self.now self.now) }
+        ensures few { length self.now.entries < 2 ^ 63 }
     {
         Stamp::after(seen, self.stamp())?;
         Ok(())
@@ -296,7 +298,7 @@ impl<C> Queue<C> {
     /// Accepts no more. `seen` and the stamp are as for `put`. It takes no memory.
     pub fn close(&mut self, seen: Stamp) -> Result<Stamp, Worn>
         requires seen { seen.0 ≤ 2 ^ 63 }
-        requires open { self.old.closed ≡ false }
+        requires unshut { self.old.closed ≡ false }
         ensures noted { IfOk result (λ stamp. Notes seen stamp (Close self.old.id) (record self.old { closed = true }) self.new self.old) }
         ensures worn { IfErr result (λ worn. IsWorn seen worn self.new self.old) }
     {

@@ -1,0 +1,129 @@
+-- What holds of each queue, and the room that is left, once one more event is noted.
+use Rattle.std.proofs.Common.{◌≡◌, ℕ, ◌+◌, ◌-◌, ◌<◌, ◌≤◌, ◌^◌, ◌==◌, ◌||◌, ◌&&◌, not, Bool, true, false, cond, List, [], ◌∷◌, ◌++◌, length, inl, inr, refl, sym, ◌∙◌, ap, subst, arith, eqb-true, length-append}
+use Rattle.std.specs.Prelude.{max, Result, Ok, Err, OnOk, is_err}
+use Rattle.std.specs.List.{All, filter, list_any, IsDistinct}
+use Rattle.std.proofs.Math.Bool.{or-false}
+use Rattle.std.proofs.lemmas.Bool.{cases_Bool, cond_both, or_left, or_right, false≢true}
+use Rattle.std.proofs.lemmas.List.Folds.{list_any-append}
+use Rattle.std.proofs.lemmas.List.Elements.{All-push}
+use Rattle.xa_types.specs.declared.ids.ServerId.{ServerId}
+use Rattle.xa_types.specs.declared.stamp.Stamp.{Stamp}
+use Rattle.xa_events.specs.declared.event.Event.{Event}
+use Rattle.xa_stamp.specs.declared.home.Stamped.{Stamped}
+use Rattle.xa_stamp.specs.Home.{Notes, Rises, last_stamp}
+use Rattle.xa_stamp.proofs.Stamps.{Rises-push}
+use Rattle.xa_queue.specs.declared.entry.Entry.{Entry}
+use Rattle.xa_queue.specs.Queue.{Standing, IsSound, same_server, has_server, all_gone, none_left}
+use Rattle.xa_queue.specs.Changes.{larger, with_gone, noted}
+use Rattle.xa_queue.specs.Kept.{servers_left}
+use Rattle.xa_queue.proofs.Waiting.{eqb-flips, IsDistinct-one_more}
+
+-- ---- the servers that are left, once one more is given up
+
+has_one_more : (s server : ServerId) (gone : List ServerId) → has_server s (gone ++ server ∷ []) ≡ (has_server s gone || (s.0 == server.0))
+has_one_more s server gone = list_any-append (same_server s) gone (server ∷ []) ∙ ap (λ b. has_server s gone || b) (or-false (s.0 == server.0))
+
+-- a filter that passes less keeps no more
+fewer : {X : Type 0} (p q : X → Bool) → ((x : X) → q x ≡ true → p x ≡ true) → (xs : List X) → length (filter q xs) ≤ length (filter p xs)
+fewer p q less [] = omega arith
+fewer p q less (x ∷ xs) =
+    let rest = fewer p q less xs in
+    elim (cases_Bool (q x)) [
+      | inl on ↦
+        let more = ap (λ b. length (cond b (x ∷ filter q xs) (filter q xs))) on in
+        let other = ap (λ b. length (cond b (x ∷ filter p xs) (filter p xs))) (less x on) in
+        omega (arith, more, other, rest)
+      | inr off ↦
+        let same = ap (λ b. length (cond b (x ∷ filter q xs) (filter q xs))) off in
+        elim (cases_Bool (p x)) [
+          | inl on ↦ let other = ap (λ b. length (cond b (x ∷ filter p xs) (filter p xs))) on in omega (arith, same, other, rest)
+          | inr out ↦ let other = ap (λ b. length (cond b (x ∷ filter p xs) (filter p xs))) out in omega (arith, same, other, rest)
+        ]
+    ]
+
+is_left : (server s : ServerId) (gone : List ServerId) → not (has_server s (gone ++ server ∷ [])) ≡ true → not (has_server s gone) ≡ true
+is_left server s gone left =
+    elim (cases_Bool (has_server s gone)) [
+      | inl on ↦ let there : has_server s (gone ++ server ∷ []) ≡ true = has_one_more s server gone ∙ or_left (has_server s gone) (s.0 == server.0) on in absurd (false≢true (sym (ap not there) ∙ left))
+      | inr off ↦ ap not off
+    ]
+
+pub left-less : (server : ServerId) (gone servers : List ServerId) → has_server server servers ≡ true → has_server server gone ≡ false → length (servers_left (gone ++ server ∷ []) servers) + 1 ≤ length (servers_left gone servers)
+left-less server gone [] own left = absurd (false≢true own)
+left-less server gone (s ∷ servers) own left =
+    let p : ServerId → Bool = λ x. not (has_server x gone) in
+    let q : ServerId → Bool = λ x. not (has_server x (gone ++ server ∷ [])) in
+    elim (cases_Bool (server.0 == s.0)) [
+      | inl on ↦
+        let out : has_server s (gone ++ server ∷ []) ≡ true = has_one_more s server gone ∙ or_right (has_server s gone) (s.0 == server.0) (eqb-flips s.0 server.0 ∙ on) in
+        let there : has_server s gone ≡ false = ap (λ n. list_any (λ g. n == g.0) gone) (sym (eqb-true server.0 s.0 on)) ∙ left in
+        let less = ap (λ b. length (cond b (s ∷ filter q servers) (filter q servers))) (ap not out) in
+        let more = ap (λ b. length (cond b (s ∷ filter p servers) (filter p servers))) (ap not there) in
+        let rest = fewer p q (λ x. is_left server x gone) servers in
+        omega (arith, less, more, rest)
+      | inr off ↦
+        let rest = left-less server gone servers (sym (ap (λ b. b || list_any (λ own. server.0 == own.0) servers) off) ∙ own) left in
+        elim (cases_Bool (q s)) [
+          | inl on ↦
+            let less = ap (λ b. length (cond b (s ∷ filter q servers) (filter q servers))) on in
+            let more = ap (λ b. length (cond b (s ∷ filter p servers) (filter p servers))) (is_left server s gone on) in
+            omega (arith, less, more, rest)
+          | inr out ↦
+            let less = ap (λ b. length (cond b (s ∷ filter q servers) (filter q servers))) out in
+            elim (cases_Bool (p s)) [
+              | inl there ↦ let more = ap (λ b. length (cond b (s ∷ filter p servers) (filter p servers))) there in omega (arith, less, more, rest)
+              | inr gone' ↦ let more = ap (λ b. length (cond b (s ∷ filter p servers) (filter p servers))) gone' in omega (arith, less, more, rest)
+            ]
+        ]
+    ]
+
+-- no more are left than there are
+pub few_left : (gone servers : List ServerId) → length (servers_left gone servers) ≤ length servers
+few_left gone [] = omega arith
+few_left gone (s ∷ servers) =
+    let rest = few_left gone servers in
+    cond_both (not (has_server s gone)) (s ∷ servers_left gone servers) (servers_left gone servers) (λ l. length l ≤ length (s ∷ servers)) (λ _. omega (arith, rest)) (λ _. omega (arith, rest))
+
+pub one_most : (b : Bool) → cond b 0 1 ≤ 1
+one_most true = omega arith
+one_most false = omega arith
+
+pub on_ok : {X Y P : Type 0} (r : Result X Y) → is_err r ≡ false → OnOk r P → P
+on_ok (Ok x) fine holds = holds
+on_ok (Err y) fine holds = absurd (false≢true (sym fine))
+
+pub same_server-flips : (a b : ServerId) → same_server a b ≡ same_server b a
+same_server-flips a b = eqb-flips a.0 b.0
+
+-- all servers are left where none is given up
+pub left-all : (servers : List ServerId) → servers_left [] servers ≡ servers
+left-all [] = refl
+left-all (s ∷ servers) = ap (λ l. s ∷ l) (left-all servers)
+
+-- ---- the stamps
+
+-- as many events as there were are there with one more
+pub grown : (entries entries' : List Stamped) (e : Stamped) → entries' ≡ entries ++ e ∷ [] → (n : ℕ) → n ≤ length entries → n + 1 ≤ length entries'
+grown entries entries' e are n few = let more = ap length are in omega (arith, more, few, length-append entries (e ∷ []))
+
+pub rises-noted : (seen stamp : Stamp) (e : Event) (first : Stamp) (entries : List Stamped) → Rises first entries → stamp.0 ≡ max seen.0 (last_stamp first entries) + 1 → stamp.0 ≤ 2 ^ 63 → Rises first (entries ++ record { stamp = stamp; event = e } ∷ [])
+rises-noted seen stamp e first entries rises next bound = Rises-push first entries (record { stamp = stamp; event = e }) rises (omega (arith, next)) bound
+
+module _ {C : Type 0} where
+  -- a server is given up
+  pub own-noted : (q : Standing C) (server : ServerId) → IsSound q → has_server server q.servers ≡ true → All (λ s. has_server s q.servers ≡ true) (q.gone ++ server ∷ [])
+  own-noted q server sound own = All-push (λ s. has_server s q.servers ≡ true) q.gone server sound.own own
+
+  pub once-noted : (q : Standing C) (server : ServerId) → IsSound q → has_server server q.gone ≡ false → IsDistinct same_server (q.gone ++ server ∷ [])
+  once-noted q server sound left = IsDistinct-one_more same_server same_server-flips q.gone server sound.once left
+
+  -- what holds of a queue but for its stamps holds with one more event
+  pub sound-noted : (seen stamp : Stamp) (e : Event) (left : Standing C) (home home' : Notes) → left.first ≡ home.first → (stamp.0 ≡ max seen.0 (last_stamp home.first home.entries) + 1) × (stamp.0 ≤ 2 ^ 63)
+      → home'.entries ≡ home.entries ++ record { stamp = stamp; event = e } ∷ [] → IsSound (record left { entries = home.entries }) → IsSound (record left { entries = home'.entries })
+  sound-noted seen stamp e left home home' first next entries sound =
+      let rises = rises-noted seen stamp e left.first home.entries sound.rises (next.0 ∙ ap (λ f. max seen.0 (last_stamp f home.entries) + 1) (sym first)) next.1 in
+      record { few = sound.few; deserted = sound.deserted; own = sound.own; once = sound.once; rises = subst (Rises left.first) (sym entries) rises }
+
+  -- one entry less waits
+  pub one_less : (front : List (Entry C)) (entry : Entry C) (back all : List (Entry C)) → all ≡ front ++ entry ∷ back → length all ≡ length (front ++ back) + 1
+  one_less front entry back all are = let whole = ap length are in omega (arith, whole, length-append front (entry ∷ back), length-append front back)

@@ -1,0 +1,41 @@
+use Rattle.std.proofs.Common.{◌≡◌, ◌+◌, ◌∷◌, ◌++◌, [], List, length, true, refl, ap, sym, ◌∙◌, subst, arith}
+use Rattle.xa_events.specs.declared.event.Event.{Event}
+use Rattle.xa_events.specs.declared.event.Event.TheVariants.{Sweep}
+use Rattle.xa_queue.specs.declared.entry.Entry.{Entry}
+use Rattle.xa_queue.specs.Queue.{Standing, IsSound}
+use Rattle.xa_queue.specs.Reading.{ReadsAsNoted}
+use Rattle.xa_queue.specs.Kept.{standing_of}
+use Rattle.xa_queue.proofs.Noted.{reads-noted}
+use Rattle.xa_queue.proofs.Leaving.{swept}
+use Rattle.xa_queue.proofs.Lasting.{sound-noted, one_less, grown}
+use Rattle.xa_queue.proofs.queue.Queue.sweep.Goals as goal
+
+pub invariant_of-self : goal.invariant_of-self
+invariant_of-self g c =
+    let q : Standing g.row.C.Denot = standing_of c.self.inside in
+    let i = c.self.invariant in
+    let entry = c.take-entry.result in
+    let out = c.take-entry.ensures.taken in
+    let rest : List (Entry g.row.C.Denot) = c.take-entry.new.self.waiting in
+    let was : q.waiting ≡ entry ∷ rest = out.was ∙ ap (λ front. front ++ entry ∷ out.back) out.chosen ∙ ap (λ l. entry ∷ l) (sym (out.left ∙ ap (λ front. front ++ out.back) out.chosen)) in
+    let left : Standing g.row.C.Denot = record q { waiting = rest } in
+    let e : Event = Sweep (record { request = entry.request; queue = q.id }) in
+    let down : q.down ≡ true = ap (λ (s : Standing g.row.C.Denot). s.down) c.self.view_is ∙ c.requires.down in
+    let entries = c.in-Ok.ensures.entries in
+    let fewer : length q.waiting ≡ length rest + 1 = one_less [] entry rest q.waiting was in
+    record {
+      reads = subst (λ l. ReadsAsNoted (record left { entries = l })) (sym entries)
+        (reads-noted c.in-Ok.stamp e q left (record { id = refl; capacity = refl; servers = refl; entries = refl; drained = refl }) i.reads
+        (λ setup fits new read. swept setup q entry rest was down read));
+      sound = sound-noted c.args.seen c.in-Ok.stamp e left c.self.inside.home c.note.new.self i.first c.in-Ok.ensures.stamp entries
+        (record { few = omega (arith, fewer, i.sound.few); deserted = i.sound.deserted; own = i.sound.own; once = i.sound.once; rises = i.sound.rises });
+      first = i.first ∙ sym c.note.ensures.first;
+      known = i.known;
+      some = i.some;
+      most = i.most;
+      servers = i.servers;
+      ages = let more = grown c.self.inside.home.entries c.note.new.self.entries _ entries c.self.inside.line.next i.ages in omega (arith, more, c.take-entry.ensures.next);
+      takes = let more = grown c.self.inside.home.entries c.note.new.self.entries _ entries c.self.inside.takes i.takes in omega (arith, more);
+      room = omega (arith, fewer, i.room, c.note.ensures.room);
+      places = i.places;
+    }

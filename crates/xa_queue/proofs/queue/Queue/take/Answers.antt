@@ -1,0 +1,52 @@
+use Rattle.std.proofs.Common.{◌≡◌, ◌+◌, ◌∷◌, ◌++◌, [], List, length, Bool, true, false, inl, inr, refl, ap, sym, ◌∙◌, subst, arith}
+use Rattle.std.proofs.lemmas.Bool.{cases_Bool}
+use Rattle.xa_events.specs.declared.event.Event.{Event}
+use Rattle.xa_queue.specs.declared.entry.Entry.{Entry}
+use Rattle.xa_queue.specs.Queue.{Standing, IsSound, has_server}
+use Rattle.xa_queue.specs.Reading.{ReadsAsNoted}
+use Rattle.xa_queue.specs.Changes.{taken}
+use Rattle.xa_queue.specs.Kept.{standing_of}
+use Rattle.xa_queue.proofs.Noted.{reads-noted}
+use Rattle.xa_queue.proofs.Leaving.{took, is_up}
+use Rattle.xa_queue.proofs.Lasting.{sound-noted, one_less, grown}
+use Rattle.xa_queue.proofs.queue.Queue.take.Goals as goal
+
+pub overflow_add-k : goal.overflow_add-k
+overflow_add-k g c =
+    let few = c.check_stamp.ensures.few in
+    let same = ap (λ (s : Standing g.row.C.Denot). length s.entries) c.self.view_is in
+    omega (arith, few, same, c.self.invariant.takes)
+
+pub invariant_of-self : goal.invariant_of-self
+invariant_of-self g c =
+    let q : Standing g.row.C.Denot = standing_of c.self.inside in
+    let i = c.self.invariant in
+    let server = c.args.server in
+    let entry = c.take-entry.result in
+    let out = c.take-entry.ensures.taken in
+    let rest : List (Entry g.row.C.Denot) = out.front ++ out.back in
+    let left : Standing g.row.C.Denot = record q { waiting = rest; takes = q.takes + 1 } in
+    let e : Event = taken entry server c.args.generation q in
+    let own : has_server server q.servers ≡ true = ap (λ (s : Standing g.row.C.Denot). has_server server s.servers) c.self.view_is ∙ c.requires.own in
+    let stays : has_server server q.gone ≡ false = ap (λ (s : Standing g.row.C.Denot). has_server server s.gone) c.self.view_is ∙ c.requires.left in
+    let up : q.down ≡ false = is_up q server i.sound own stays in
+    let entries = c.in-Ok.ensures.entries in
+    let fewer : length q.waiting ≡ length rest + 1 = one_less out.front entry out.back q.waiting out.was in
+    let shorter : length c.take-entry.new.self.waiting ≡ length rest = ap length out.left in
+    record {
+      reads = subst (λ w. ReadsAsNoted (record left { entries = c.note.new.self.entries; waiting = w })) (sym out.left) (subst (λ l. ReadsAsNoted (record left { entries = l })) (sym entries)
+        (reads-noted c.in-Ok.stamp e q left (record { id = refl; capacity = refl; servers = refl; entries = refl; drained = refl }) i.reads
+        (λ setup fits new read. took setup q server c.args.generation out.front entry out.back out.was out.chosen up own fits read)));
+      sound = subst (λ w. IsSound (record left { entries = c.note.new.self.entries; waiting = w })) (sym out.left)
+        (sound-noted c.args.seen c.in-Ok.stamp e left c.self.inside.home c.note.new.self i.first c.in-Ok.ensures.stamp entries
+        (record { few = omega (arith, fewer, i.sound.few); deserted = i.sound.deserted; own = i.sound.own; once = i.sound.once; rises = i.sound.rises }));
+      first = i.first ∙ sym c.note.ensures.first;
+      known = i.known;
+      some = i.some;
+      most = i.most;
+      servers = i.servers;
+      ages = let more = grown c.self.inside.home.entries c.note.new.self.entries _ entries c.self.inside.line.next i.ages in omega (arith, more, c.take-entry.ensures.next);
+      takes = grown c.self.inside.home.entries c.note.new.self.entries _ entries c.self.inside.takes i.takes;
+      room = omega (arith, fewer, shorter, i.room, c.note.ensures.room);
+      places = i.places;
+    }
