@@ -1,5 +1,5 @@
 -- The entries of all lanes, by age, are those that the lanes keep.
-use Rattle.std.proofs.Common.{◌≡◌, ℕ, ◌+◌, ◌<◌, ◌≤◌, ◌==◌, Bool, true, false, cond, List, [], ◌∷◌, ◌++◌, length, suc, zero, inl, inr, refl, sym, ◌∙◌, ap, subst, arith, append_assoc, eq-eqb}
+use Rattle.std.proofs.Common.{◌≡◌, ℕ, ◌+◌, ◌<◌, ◌≤◌, cond, List, [], ◌∷◌, ◌++◌, length, suc, zero, inl, inr, refl, sym, ◌∙◌, ap, subst, arith, append_assoc, eq-eqb}
 use Rattle.std.specs.List.{All, filter, flat_map}
 use Rattle.std.proofs.lemmas.Bool.{cond_both, lt-ltb, le-ltb, ne_eqb, cases_order}
 use Rattle.std.proofs.lemmas.List.Elements.{All-nil, All-cons, All-head, All-tail, All-append, All-filter}
@@ -90,20 +90,20 @@ module _ {C : Type 0} where
       let here = filter (has_priority p) t in
       elim (cases_order h.entry.priority p) [
         | inl same ↦ record {
-            xs = [];
-            ys = here ++ flat (deal (p + 1) n t);
-            there = ap (λ l. l ++ flat (deal (p + 1) n (h ∷ t))) (filter-same p h t same) ∙ ap (λ ls. h ∷ (here ++ flat ls)) (deal-lower (p + 1) n h t (omega (arith, same)));
-            rest = refl;
-          }
+          xs = [];
+          ys = here ++ flat (deal (p + 1) n t);
+          there = ap (λ l. l ++ flat (deal (p + 1) n (h ∷ t))) (filter-same p h t same) ∙ ap (λ ls. h ∷ (here ++ flat ls)) (deal-lower (p + 1) n h t (omega (arith, same)));
+          rest = refl;
+        }
         | inr (inl less) ↦ absurd (omega (arith, less))
         | inr (inr more) ↦
-          let others = deal-more (p + 1) n h t (omega (arith, more)) (omega arith) in
-          record {
-            xs = here ++ others.xs;
-            ys = others.ys;
-            there = ap (λ l. l ++ flat (deal (p + 1) n (h ∷ t))) (filter-other p h t (λ same. omega (arith, same, more))) ∙ ap (λ l. here ++ l) others.there ∙ sym (append_assoc here others.xs (h ∷ others.ys));
-            rest = ap (λ l. here ++ l) others.rest ∙ sym (append_assoc here others.xs others.ys);
-          }
+            let others = deal-more (p + 1) n h t (omega (arith, more)) (omega arith) in
+            record {
+              xs = here ++ others.xs;
+              ys = others.ys;
+              there = ap (λ l. l ++ flat (deal (p + 1) n (h ∷ t))) (filter-other p h t (λ same. omega (arith, same, more))) ∙ ap (λ l. here ++ l) others.there ∙ sym (append_assoc here others.xs (h ∷ others.ys));
+              rest = ap (λ l. here ++ l) others.rest ∙ sym (append_assoc here others.xs others.ys);
+            }
       ]
 
   by_age-deal : (p n : ℕ) (w : List (Aged C)) → AgesRise w → All (λ a. p ≤ a.entry.priority) w → All (λ a. a.entry.priority < p + n) w → by_age (flat (deal p n w)) ≡ w

@@ -1,5 +1,5 @@
 -- Which entry stands first in the lane that is looked for.
-use Rattle.std.proofs.Common.{◌≡◌, ℕ, ◌+◌, ◌-◌, ◌<◌, ◌≤◌, ◌==◌, Bool, true, false, cond, List, [], ◌∷◌, ◌++◌, length, map, drop, set, get_or, suc, zero, Option, Some, None, inl, inr, refl, sym, ◌∙◌, ap, subst, arith, eq-eqb, eqb-true}
+use Rattle.std.proofs.Common.{◌≡◌, ℕ, ◌+◌, ◌-◌, ◌<◌, ◌≤◌, Bool, true, false, cond, List, [], ◌∷◌, ◌++◌, length, map, drop, set, get_or, Some, inl, inr, refl, sym, ◌∙◌, ap, subst, arith, eq-eqb, eqb-true}
 use Rattle.std.specs.Prelude.{slice_get, option_map, IfSome, IsSomeAnd}
 use Rattle.std.specs.List.{All, filter}
 use Rattle.std.proofs.lemmas.Bool.{cases_Bool, cases_lt}
@@ -8,8 +8,8 @@ use Rattle.std.proofs.lemmas.List.{map-append}
 use Rattle.std.proofs.lemmas.List.Elements.{All-nil, All-cons, All-head, All-tail, All-map, All-weaker}
 use Rattle.xa_queue.specs.declared.entry.Entry.{Entry}
 use Rattle.xa_queue.specs.declared.entry.Aged.{Aged}
-use Rattle.xa_queue.specs.Line.{IsFirstOfHighest, IsChosen, TakesOut}
-use Rattle.xa_queue.specs.Lanes.{entry_of, lane_at, has_priority, AreEmpty, IsHighest, first_age, IsLeast, IsOldest, AgesRise, Keeps}
+use Rattle.xa_queue.specs.Line.{IsChosen, TakesOut}
+use Rattle.xa_queue.specs.Lanes.{entry_of, lane_at, has_priority, AreEmpty, IsHighest, first_age, IsLeast, IsOldest, Keeps}
 use Rattle.xa_queue.proofs.Keeping.{Keeps-take}
 
 module _ {C : Type 0} where
@@ -26,12 +26,12 @@ module _ {C : Type 0} where
   first_of p (x ∷ w) a is =
       elim (cases_Bool (p x)) [
         | inl so ↦
-          let first : Some x ≡ Some a = sym (ap (λ b. slice_get (cond b (x ∷ filter p w) (filter p w)) 0) so) ∙ is in
-          let same = same_Some x a first in
-          record { front = []; back = w; was = ap (λ y. y ∷ w) same; none = All-nil (λ (y : Aged C). p y ≡ false); passes = ap p (sym same) ∙ so }
+            let first : Some x ≡ Some a = sym (ap (λ b. slice_get (cond b (x ∷ filter p w) (filter p w)) 0) so) ∙ is in
+            let same = same_Some x a first in
+            record { front = []; back = w; was = ap (λ y. y ∷ w) same; none = All-nil (λ (y : Aged C). p y ≡ false); passes = ap p (sym same) ∙ so }
         | inr not_so ↦
-          let later = first_of p w a (sym (ap (λ b. slice_get (cond b (x ∷ filter p w) (filter p w)) 0) not_so) ∙ is) in
-          record { front = x ∷ later.front; back = later.back; was = ap (λ l. x ∷ l) later.was; none = All-cons (λ (y : Aged C). p y ≡ false) x later.front not_so later.none; passes = later.passes }
+            let later = first_of p w a (sym (ap (λ b. slice_get (cond b (x ∷ filter p w) (filter p w)) 0) not_so) ∙ is) in
+            record { front = x ∷ later.front; back = later.back; was = ap (λ l. x ∷ l) later.was; none = All-cons (λ (y : Aged C). p y ≡ false) x later.front not_so later.none; passes = later.passes }
       ]
 
   filter-nil_tail : (p : Aged C → Bool) (x : Aged C) (w : List (Aged C)) (b : Bool) → p x ≡ b → filter p (x ∷ w) ≡ [] → filter p w ≡ []

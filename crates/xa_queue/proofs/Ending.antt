@@ -1,20 +1,18 @@
 -- A server is given up, the queue goes down, or it is closed: it reads as its events do with one of these more.
-use Rattle.std.proofs.Common.{◌≡◌, ℕ, ◌+◌, ◌<◌, ◌≤◌, ◌==◌, ◌||◌, Bool, true, false, cond, List, [], ◌∷◌, ◌++◌, length, map, reverse, Option, Some, None, inl, inr, refl, sym, ◌∙◌, ap, subst, arith, eq-eqb, eqb-true}
+use Rattle.std.proofs.Common.{◌≡◌, ℕ, ◌<◌, ◌==◌, ◌||◌, Bool, true, false, List, [], ◌∷◌, map, reverse, Some, None, inl, inr, refl, sym, ◌∙◌, ap, arith, eq-eqb, eqb-true}
 use Rattle.std.specs.Prelude.{if◌then◌else◌}
-use Rattle.std.specs.List.{filter_map, list_any, list_all, cons_option}
+use Rattle.std.specs.List.{filter_map, list_any, cons_option}
 use Rattle.std.proofs.lemmas.Bool.{cases_Bool, and_parts, or_left, false≢true}
 use Rattle.std.proofs.lemmas.List.{map-append, reverse-append}
 use Rattle.xa_types.specs.declared.ids.ServerId.{ServerId}
 use Rattle.xa_types.specs.declared.setup.Setup.{Setup}
-use Rattle.xa_types.specs.Setup.{queue_of, capacity_of}
+use Rattle.xa_types.specs.Setup.{queue_of}
 use Rattle.xa_events.specs.declared.event.Event.{Event}
 use Rattle.xa_events.specs.declared.event.Event.TheVariants.{Gone, Down, Close}
 use Rattle.xa_events.specs.Request.{priority_at}
-use Rattle.xa_events.specs.Server.{is_gone, is_gone_of, AllGone}
+use Rattle.xa_events.specs.Server.{is_gone, is_gone_of}
 use Rattle.xa_events.specs.Homes.Home.{QueueHome}
-use Rattle.xa_events.specs.Cases.{HomePart}
-use Rattle.xa_events.specs.Views.{QueueView, gone_from, queue_view}
-use Rattle.xa_queue.specs.declared.entry.Entry.{Entry}
+use Rattle.xa_events.specs.Views.{QueueView, gone_from}
 use Rattle.xa_queue.specs.Queue.{Standing, past_of, has_server, all_gone, none_left}
 use Rattle.xa_queue.specs.Changes.{with_gone}
 use Rattle.xa_queue.specs.Reading.{Fits, IsRead, view_of}

@@ -1,27 +1,23 @@
 -- An entry comes in: the queue reads as its events do with an accept or a forward more.
-use Rattle.std.proofs.Common.{◌≡◌, ℕ, ◌+◌, ◌<◌, ◌≤◌, ◌^◌, ◌==◌, inl, inr, Bool, true, false, cond, List, [], ◌∷◌, ◌++◌, length, get_or, map, Option, Some, None, refl, sym, ◌∙◌, ap, subst, arith, eq-eqb, length-append}
+use Rattle.std.proofs.Common.{◌≡◌, ◌<◌, ◌≤◌, ◌^◌, ◌==◌, inl, inr, Bool, true, false, cond, List, [], ◌∷◌, ◌++◌, length, get_or, map, Some, None, refl, sym, ◌∙◌, ap, subst, arith, eq-eqb}
 use Rattle.std.specs.Prelude.{if◌then◌else◌, IfSome}
 use Rattle.std.specs.List.{All, list_any, IsDistinct}
 use Rattle.std.proofs.lemmas.Bool.{cases_Bool, eqb-false}
 use Rattle.std.proofs.lemmas.List.{map-append, length-map}
-use Rattle.std.proofs.lemmas.List.Elements.{All-nil, All-cons, All-head, All-tail, All-push}
+use Rattle.std.proofs.lemmas.List.Elements.{All-push}
 use Rattle.xa_types.specs.declared.stamp.Stamp.{Stamp}
 use Rattle.xa_types.specs.declared.ids.RequestId.{RequestId}
 use Rattle.xa_types.specs.declared.ids.QueueId.{QueueId}
 use Rattle.xa_types.specs.declared.setup.Setup.{Setup}
-use Rattle.xa_types.specs.Setup.{capacity_of}
 use Rattle.xa_events.specs.declared.event.Event.{Event}
 use Rattle.xa_events.specs.declared.event.Event.TheVariants.{Accept, Forward}
-use Rattle.xa_events.specs.declared.event.Accepted.{Accepted}
-use Rattle.xa_events.specs.declared.event.Forwarded.{Forwarded}
 use Rattle.xa_events.specs.Words.{has, same_request, latest, added}
-use Rattle.xa_events.specs.Queue.{comes_in, waiting, is_down, is_closed}
+use Rattle.xa_events.specs.Queue.{waiting}
 use Rattle.xa_events.specs.Request.{is_entry_of, priority_in, priority_at}
 use Rattle.xa_events.specs.Homes.Home.{QueueHome}
 use Rattle.xa_events.specs.Cases.{EntryHome}
-use Rattle.xa_events.specs.Views.{QueueView, queue_view}
+use Rattle.xa_events.specs.Views.{QueueView}
 use Rattle.xa_events.proofs.WordsLemmas.{same_request_of}
-use Rattle.xa_stamp.specs.declared.home.Stamped.{Stamped}
 use Rattle.xa_queue.specs.declared.entry.Entry.{Entry}
 use Rattle.xa_queue.specs.Queue.{Standing, past_of}
 use Rattle.xa_queue.specs.declared.queue.Refusal.TheVariants as refusals
@@ -56,9 +52,9 @@ module _ {C : Type 0} where
   enter_priorities past e entry waits enters own apart priorities =
       let P : Entry C → Type 0 = λ x. priority_in (latest (is_entry_of x.request) (e ∷ past)) ≡ x.priority in
       let old : All P waits = λ k d within.
-          let other = apart k d within in
-          let is = priorities k d within in
-          ap (λ b. priority_in (cond b (Some e) (latest (is_entry_of (get_or waits k d).request) past))) (enters (get_or waits k d).request ∙ other) ∙ is in
+      let other = apart k d within in
+      let is = priorities k d within in
+      ap (λ b. priority_in (cond b (Some e) (latest (is_entry_of (get_or waits k d).request) past))) (enters (get_or waits k d).request ∙ other) ∙ is in
       let new : P entry = ap (λ b. priority_in (cond b (Some e) (latest (is_entry_of entry.request) past))) (enters entry.request ∙ same_request_of entry.request entry.request refl) ∙ own in
       All-push P waits entry old new
 
@@ -118,7 +114,7 @@ module _ {C : Type 0} where
       by seen q few false is false is' allowed =
           elim (cases_Bool (length q.waiting == q.capacity)) [
             | inl full ↦
-              let some = sym (ap (λ b. if b then Some (refusals.Full (length q.waiting)) else (if larger seen q == 2 ^ 63 then Some (refusals.Worn (record { 0 = 2 ^ 63 })) else None)) full) ∙ allowed in
-              absurd (cc some)
+                let some = sym (ap (λ b. if b then Some (refusals.Full (length q.waiting)) else (if larger seen q == 2 ^ 63 then Some (refusals.Worn (record { 0 = 2 ^ 63 })) else None)) full) ∙ allowed in
+                absurd (cc some)
             | inr room ↦ record { up = is; open' = is'; room = let apart = eqb-false (length q.waiting) q.capacity room in grind (arith, apart, few) }
           ]

@@ -1,10 +1,9 @@
 -- The lanes keep what waits, also once an entry is put or taken out.
-use Rattle.std.proofs.Common.{◌≡◌, ℕ, ◌+◌, ◌-◌, ◌<◌, ◌≤◌, ◌==◌, Bool, true, false, cond, List, [], ◌∷◌, ◌++◌, length, drop, set, get_or, suc, zero, inl, inr, refl, sym, ◌∙◌, ap, subst, arith, append_assoc, eq-eqb, length-append}
-use Rattle.std.specs.Prelude.{slice_set}
+use Rattle.std.proofs.Common.{◌≡◌, ℕ, ◌+◌, ◌-◌, ◌<◌, ◌≤◌, Bool, false, cond, List, [], ◌∷◌, ◌++◌, drop, set, inl, inr, refl, sym, ◌∙◌, ap, subst, arith, eq-eqb, length-append}
 use Rattle.std.specs.List.{All, filter}
 use Rattle.std.proofs.lemmas.Bool.{cases_eq, ne_eqb}
 use Rattle.std.proofs.lemmas.List.{get_or-set_same, get_or-set_other, length-set, append-nil}
-use Rattle.std.proofs.lemmas.List.Elements.{All-nil, All-cons, All-head, All-tail, All-append, All-push, All-weaker, filter-append}
+use Rattle.std.proofs.lemmas.List.Elements.{All-nil, All-cons, All-head, All-tail, All-push, All-weaker, filter-append}
 use Rattle.xa_queue.specs.declared.entry.Aged.{Aged}
 use Rattle.xa_queue.specs.Lanes.{lane_at, has_priority, AgesRise, Keeps}
 
@@ -45,7 +44,7 @@ module _ {C : Type 0} where
         all = length-set lanes lane (lane_at lanes lane ++ a ∷ []) ∙ all;
         each = λ k within. elim (cases_eq k lane) [
           | inl same ↦ subst (λ n. lane_at (set lanes lane (lane_at lanes lane ++ a ∷ [])) n ≡ filter (has_priority (n + 1)) (w ++ a ∷ [])) (sym same)
-            (get_or-set_same lanes lane (lane_at lanes lane ++ a ∷ []) [] (omega (arith, all, same, within)) ∙ ap (λ l. l ++ a ∷ []) (keeps.each lane (omega (arith, same, within))) ∙ sym (filter-put (lane + 1) w a (omega arith)))
+              (get_or-set_same lanes lane (lane_at lanes lane ++ a ∷ []) [] (omega (arith, all, same, within)) ∙ ap (λ l. l ++ a ∷ []) (keeps.each lane (omega (arith, same, within))) ∙ sym (filter-put (lane + 1) w a (omega arith)))
           | inr other ↦ get_or-set_other lanes lane k (lane_at lanes lane ++ a ∷ []) [] other ∙ keeps.each k within ∙ sym (filter-put_other (k + 1) w a (λ same. other (omega (arith, same))))
         ];
         rise = AgesRise-push w a keeps.rise older;
@@ -75,7 +74,7 @@ module _ {C : Type 0} where
         all = length-set lanes lane (drop 1 (lane_at lanes lane)) ∙ all;
         each = λ k within. elim (cases_eq k lane) [
           | inl here ↦ subst (λ n. lane_at (set lanes lane (drop 1 (lane_at lanes lane))) n ≡ filter (has_priority (n + 1)) (front ++ back)) (sym here)
-            (get_or-set_same lanes lane (drop 1 (lane_at lanes lane)) [] (omega (arith, all)) ∙ ap (drop 1) (keeps.each lane within' ∙ filter-first (lane + 1) front a back none same))
+              (get_or-set_same lanes lane (drop 1 (lane_at lanes lane)) [] (omega (arith, all)) ∙ ap (drop 1) (keeps.each lane within' ∙ filter-first (lane + 1) front a back none same))
           | inr other ↦ get_or-set_other lanes lane k (drop 1 (lane_at lanes lane)) [] other ∙ keeps.each k within ∙ filter-out (k + 1) front a back (λ is. other (omega (arith, is, same)))
         ];
         rise = AgesRise-without front a back keeps.rise;

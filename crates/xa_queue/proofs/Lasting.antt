@@ -1,5 +1,5 @@
 -- What holds of each queue, and the room that is left, once one more event is noted.
-use Rattle.std.proofs.Common.{◌≡◌, ℕ, ◌+◌, ◌-◌, ◌<◌, ◌≤◌, ◌^◌, ◌==◌, ◌||◌, ◌&&◌, not, Bool, true, false, cond, List, [], ◌∷◌, ◌++◌, length, inl, inr, refl, sym, ◌∙◌, ap, subst, arith, eqb-true, length-append}
+use Rattle.std.proofs.Common.{◌≡◌, ℕ, ◌+◌, ◌≤◌, ◌^◌, ◌==◌, ◌||◌, not, Bool, true, false, cond, List, [], ◌∷◌, ◌++◌, length, inl, inr, refl, sym, ◌∙◌, ap, subst, arith, eqb-true, length-append}
 use Rattle.std.specs.Prelude.{max, Result, Ok, Err, OnOk, is_err}
 use Rattle.std.specs.List.{All, filter, list_any, IsDistinct}
 use Rattle.std.proofs.Math.Bool.{or-false}
@@ -13,8 +13,7 @@ use Rattle.xa_stamp.specs.declared.home.Stamped.{Stamped}
 use Rattle.xa_stamp.specs.Home.{Notes, Rises, last_stamp}
 use Rattle.xa_stamp.proofs.Stamps.{Rises-push}
 use Rattle.xa_queue.specs.declared.entry.Entry.{Entry}
-use Rattle.xa_queue.specs.Queue.{Standing, IsSound, same_server, has_server, all_gone, none_left}
-use Rattle.xa_queue.specs.Changes.{larger, with_gone, noted}
+use Rattle.xa_queue.specs.Queue.{Standing, IsSound, same_server, has_server}
 use Rattle.xa_queue.specs.Kept.{servers_left}
 use Rattle.xa_queue.proofs.Waiting.{eqb-flips, IsDistinct-one_more}
 
@@ -30,15 +29,15 @@ fewer p q less (x ∷ xs) =
     let rest = fewer p q less xs in
     elim (cases_Bool (q x)) [
       | inl on ↦
-        let more = ap (λ b. length (cond b (x ∷ filter q xs) (filter q xs))) on in
-        let other = ap (λ b. length (cond b (x ∷ filter p xs) (filter p xs))) (less x on) in
-        omega (arith, more, other, rest)
+          let more = ap (λ b. length (cond b (x ∷ filter q xs) (filter q xs))) on in
+          let other = ap (λ b. length (cond b (x ∷ filter p xs) (filter p xs))) (less x on) in
+          omega (arith, more, other, rest)
       | inr off ↦
-        let same = ap (λ b. length (cond b (x ∷ filter q xs) (filter q xs))) off in
-        elim (cases_Bool (p x)) [
-          | inl on ↦ let other = ap (λ b. length (cond b (x ∷ filter p xs) (filter p xs))) on in omega (arith, same, other, rest)
-          | inr out ↦ let other = ap (λ b. length (cond b (x ∷ filter p xs) (filter p xs))) out in omega (arith, same, other, rest)
-        ]
+          let same = ap (λ b. length (cond b (x ∷ filter q xs) (filter q xs))) off in
+          elim (cases_Bool (p x)) [
+            | inl on ↦ let other = ap (λ b. length (cond b (x ∷ filter p xs) (filter p xs))) on in omega (arith, same, other, rest)
+            | inr out ↦ let other = ap (λ b. length (cond b (x ∷ filter p xs) (filter p xs))) out in omega (arith, same, other, rest)
+          ]
     ]
 
 is_left : (server s : ServerId) (gone : List ServerId) → not (has_server s (gone ++ server ∷ [])) ≡ true → not (has_server s gone) ≡ true
@@ -55,26 +54,26 @@ left-less server gone (s ∷ servers) own left =
     let q : ServerId → Bool = λ x. not (has_server x (gone ++ server ∷ [])) in
     elim (cases_Bool (server.0 == s.0)) [
       | inl on ↦
-        let out : has_server s (gone ++ server ∷ []) ≡ true = has_one_more s server gone ∙ or_right (has_server s gone) (s.0 == server.0) (eqb-flips s.0 server.0 ∙ on) in
-        let there : has_server s gone ≡ false = ap (λ n. list_any (λ g. n == g.0) gone) (sym (eqb-true server.0 s.0 on)) ∙ left in
-        let less = ap (λ b. length (cond b (s ∷ filter q servers) (filter q servers))) (ap not out) in
-        let more = ap (λ b. length (cond b (s ∷ filter p servers) (filter p servers))) (ap not there) in
-        let rest = fewer p q (λ x. is_left server x gone) servers in
-        omega (arith, less, more, rest)
+          let out : has_server s (gone ++ server ∷ []) ≡ true = has_one_more s server gone ∙ or_right (has_server s gone) (s.0 == server.0) (eqb-flips s.0 server.0 ∙ on) in
+          let there : has_server s gone ≡ false = ap (λ n. list_any (λ g. n == g.0) gone) (sym (eqb-true server.0 s.0 on)) ∙ left in
+          let less = ap (λ b. length (cond b (s ∷ filter q servers) (filter q servers))) (ap not out) in
+          let more = ap (λ b. length (cond b (s ∷ filter p servers) (filter p servers))) (ap not there) in
+          let rest = fewer p q (λ x. is_left server x gone) servers in
+          omega (arith, less, more, rest)
       | inr off ↦
-        let rest = left-less server gone servers (sym (ap (λ b. b || list_any (λ own. server.0 == own.0) servers) off) ∙ own) left in
-        elim (cases_Bool (q s)) [
-          | inl on ↦
-            let less = ap (λ b. length (cond b (s ∷ filter q servers) (filter q servers))) on in
-            let more = ap (λ b. length (cond b (s ∷ filter p servers) (filter p servers))) (is_left server s gone on) in
-            omega (arith, less, more, rest)
-          | inr out ↦
-            let less = ap (λ b. length (cond b (s ∷ filter q servers) (filter q servers))) out in
-            elim (cases_Bool (p s)) [
-              | inl there ↦ let more = ap (λ b. length (cond b (s ∷ filter p servers) (filter p servers))) there in omega (arith, less, more, rest)
-              | inr gone' ↦ let more = ap (λ b. length (cond b (s ∷ filter p servers) (filter p servers))) gone' in omega (arith, less, more, rest)
-            ]
-        ]
+          let rest = left-less server gone servers (sym (ap (λ b. b || list_any (λ own. server.0 == own.0) servers) off) ∙ own) left in
+          elim (cases_Bool (q s)) [
+            | inl on ↦
+                let less = ap (λ b. length (cond b (s ∷ filter q servers) (filter q servers))) on in
+                let more = ap (λ b. length (cond b (s ∷ filter p servers) (filter p servers))) (is_left server s gone on) in
+                omega (arith, less, more, rest)
+            | inr out ↦
+                let less = ap (λ b. length (cond b (s ∷ filter q servers) (filter q servers))) out in
+                elim (cases_Bool (p s)) [
+                  | inl there ↦ let more = ap (λ b. length (cond b (s ∷ filter p servers) (filter p servers))) there in omega (arith, less, more, rest)
+                  | inr gone' ↦ let more = ap (λ b. length (cond b (s ∷ filter p servers) (filter p servers))) gone' in omega (arith, less, more, rest)
+                ]
+          ]
     ]
 
 -- no more are left than there are

@@ -1,30 +1,26 @@
 -- An entry goes out: the queue reads as its events do with a take or a sweep more.
-use Rattle.std.proofs.Common.{◌≡◌, ℕ, ◌+◌, ◌==◌, ◌||◌, not, Bool, true, false, cond, List, [], ◌∷◌, ◌++◌, length, map, Option, Some, None, refl, sym, ◌∙◌, ap, subst, arith, eq-eqb, eqb-true, inl, inr}
+use Rattle.std.proofs.Common.{◌≡◌, ℕ, ◌+◌, ◌==◌, ◌||◌, true, false, cond, List, [], ◌∷◌, ◌++◌, map, Some, None, refl, sym, ◌∙◌, ap, subst, eq-eqb, eqb-true, inl, inr}
 use Rattle.std.specs.Prelude.{if◌then◌else◌, slice_get}
-use Rattle.std.specs.List.{All, list_any, list_all, IsDistinct}
+use Rattle.std.specs.List.{All, list_any, IsDistinct}
 use Rattle.std.proofs.lemmas.Bool.{cases_Bool, and_parts, true≢false}
 use Rattle.std.proofs.lemmas.List.{map-append}
-use Rattle.std.proofs.lemmas.List.Elements.{All-nil, All-cons, All-head, All-tail}
+use Rattle.std.proofs.lemmas.List.Elements.{All-tail}
 use Rattle.xa_types.specs.declared.ids.RequestId.{RequestId}
-use Rattle.xa_types.specs.declared.ids.QueueId.{QueueId}
 use Rattle.xa_types.specs.declared.ids.ServerId.{ServerId}
 use Rattle.xa_types.specs.declared.ids.Generation.{Generation}
 use Rattle.xa_types.specs.declared.setup.Setup.{Setup}
 use Rattle.xa_types.specs.Setup.{queue_of}
-use Rattle.xa_events.specs.declared.event.Event.{Event}
-use Rattle.xa_events.specs.declared.event.Event.TheVariants.{Take, Sweep}
-use Rattle.xa_events.specs.declared.event.Taken.{Taken}
+use Rattle.xa_events.specs.declared.event.Event.TheVariants.{Sweep}
 use Rattle.xa_events.specs.Words.{has, same_request, without}
-use Rattle.xa_events.specs.Queue.{waiting, takes, is_down, is_closed}
+use Rattle.xa_events.specs.Queue.{waiting, takes, is_down}
 use Rattle.xa_events.specs.Request.{priority_at}
 use Rattle.xa_events.specs.Order.{next_of}
 use Rattle.xa_events.specs.Homes.Home.{QueueHome}
-use Rattle.xa_events.specs.Cases.{TakeHome}
-use Rattle.xa_events.specs.Views.{QueueView, queue_view}
+use Rattle.xa_events.specs.Views.{QueueView}
 use Rattle.xa_events.proofs.WordsLemmas.{same_request_of}
 use Rattle.xa_queue.specs.declared.entry.Entry.{Entry}
 use Rattle.xa_queue.specs.Line.{IsNext}
-use Rattle.xa_queue.specs.Queue.{Standing, IsSound, past_of, has_server, all_gone, none_left}
+use Rattle.xa_queue.specs.Queue.{Standing, IsSound, past_of, has_server, all_gone}
 use Rattle.xa_queue.specs.Changes.{taken}
 use Rattle.xa_queue.specs.Reading.{Fits, IsRead, view_of}
 use Rattle.xa_queue.proofs.Keeping.{All-without}
@@ -45,7 +41,7 @@ not_all_gone server gone (s ∷ servers) own left all =
 module _ {C : Type 0} where
   -- a queue with a server that is left is not down
   pub is_up : (q : Standing C) (server : ServerId) → IsSound q → has_server server q.servers ≡ true → has_server server q.gone ≡ false → q.down ≡ false
-  is_up q server sound own left = elim (cases_Bool q.down) [ | inl down ↦ absurd (not_all_gone server q.gone q.servers own left (sound.deserted down)) | inr up ↦ up ]
+  is_up q server sound own left = elim (cases_Bool q.down) [ inl down ↦ absurd (not_all_gone server q.gone q.servers own left (sound.deserted down)) | inr up ↦ up ]
 
   abbrev request_of : Entry C → RequestId
   request_of entry = entry.request

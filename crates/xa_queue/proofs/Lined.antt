@@ -1,14 +1,13 @@
 -- A line is kept in its lanes.
-use Rattle.std.proofs.Common.{◌≡◌, ℕ, ◌+◌, ◌-◌, ◌<◌, ◌≤◌, ◌==◌, Bool, true, false, List, [], ◌∷◌, ◌++◌, length, map, set, get_or, drop, replicate, Option, Some, refl, sym, ◌∙◌, ap, subst, arith}
+use Rattle.std.proofs.Common.{◌≡◌, ℕ, ◌+◌, ◌-◌, ◌<◌, ◌≤◌, Bool, true, false, List, [], ◌∷◌, ◌++◌, length, map, set, get_or, drop, replicate, Some, refl, sym, ◌∙◌, ap, subst, arith}
 use Rattle.std.specs.Prelude.{slice_get, IsSomeAnd}
 use Rattle.std.specs.List.{All, filter}
-use Rattle.std.proofs.lemmas.List.{map-append, length-map, get_or-replicate, length-replicate, replicate_more, map_push, get_or-map}
+use Rattle.std.proofs.lemmas.List.{map-append, length-map, get_or-replicate, length-replicate, get_or-map}
 use Rattle.std.proofs.lemmas.List.Elements.{All-nil}
 use Rattle.std.specs.declared.collections.VecDeque.{VecDeque}
-use Rattle.xa_queue.specs.declared.entry.Entry.{Entry}
 use Rattle.xa_queue.specs.declared.entry.Aged.{Aged}
 use Rattle.xa_queue.specs.Line.{TakesOut}
-use Rattle.xa_queue.specs.Lanes.{lanes_of, entry_of, lane_at, first_age, all_in, has_priority, AreEmpty, IsOldest, IsHighest, IsChosenLane, Keeps}
+use Rattle.xa_queue.specs.Lanes.{lanes_of, entry_of, lane_at, first_age, all_in, has_priority, AreEmpty, IsChosenLane, Keeps}
 use Rattle.xa_queue.proofs.ByAge.{all_in-kept}
 use Rattle.xa_queue.proofs.Keeping.{Keeps-put}
 use Rattle.xa_queue.proofs.Choosing.{Leaves, oldest_leaves, highest_leaves, none_kept}

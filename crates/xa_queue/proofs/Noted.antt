@@ -1,28 +1,20 @@
 -- A queue reads as its events do also once one more is noted.
-use Rattle.std.proofs.Common.{◌≡◌, ℕ, ◌+◌, ◌-◌, ◌<◌, ◌≤◌, ◌==◌, ◌||◌, ◌&&◌, not, Bool, true, false, cond, List, [], ◌∷◌, ◌++◌, length, map, reverse, Option, Some, None, inl, inr, refl, sym, ◌∙◌, ap, subst, arith, length-append, eq-eqb, eqb-true}
-use Rattle.std.specs.Prelude.{if◌then◌else◌, slice_get, IfSome}
-use Rattle.std.specs.List.{All, filter, filter_map, list_any, list_all, cons_option, IsDistinct}
-use Rattle.std.proofs.lemmas.Bool.{cases_Bool, or_left, true≢false}
-use Rattle.std.proofs.lemmas.List.{map-append, reverse-append, length-map}
-use Rattle.std.proofs.lemmas.List.Elements.{All-nil, All-push}
+use Rattle.std.proofs.Common.{◌≡◌, ℕ, ◌==◌, [], ◌∷◌, map, reverse, sym, ◌∙◌, ap, subst}
+use Rattle.std.specs.List.{All, list_any, IsDistinct}
+use Rattle.std.proofs.lemmas.List.{map-append, reverse-append}
 use Rattle.xa_types.specs.declared.stamp.Stamp.{Stamp}
-use Rattle.xa_types.specs.declared.ids.RequestId.{RequestId}
-use Rattle.xa_types.specs.declared.ids.ServerId.{ServerId}
-use Rattle.xa_types.specs.declared.ids.QueueId.{QueueId}
 use Rattle.xa_types.specs.declared.setup.Setup.{Setup}
 use Rattle.xa_types.specs.Setup.{queue_of, capacity_of}
 use Rattle.xa_events.specs.declared.event.Event.{Event}
-use Rattle.xa_events.specs.Words.{AtEach, has, same_request, latest}
-use Rattle.xa_events.specs.Queue.{comes_in, waiting, takes, is_down, is_closed}
-use Rattle.xa_events.specs.Request.{is_entry_of, priority_in, priority_at}
+use Rattle.xa_events.specs.Words.{AtEach, same_request}
+use Rattle.xa_events.specs.Request.{priority_at}
 use Rattle.xa_events.specs.Order.{TakesNext}
 use Rattle.xa_events.specs.Homes.{home_of}
 use Rattle.xa_events.specs.Homes.Home.{QueueHome}
 use Rattle.xa_events.specs.Cases.{HomePart}
-use Rattle.xa_events.specs.Views.{QueueView, queue_view, queue_after}
+use Rattle.xa_events.specs.Views.{queue_view, queue_after}
 use Rattle.xa_events.proofs.Owns.{queue_more}
 use Rattle.xa_stamp.specs.declared.home.Stamped.{Stamped}
-use Rattle.xa_queue.specs.declared.entry.Entry.{Entry}
 use Rattle.xa_queue.specs.Queue.{Standing, past_of}
 use Rattle.xa_queue.specs.Changes.{noted}
 use Rattle.xa_queue.specs.Reading.{IsNew, AllNew, Fits, IsRead, ReadsAsNoted, view_of}
@@ -56,7 +48,7 @@ module _ {C : Type 0} where
       record {
         view = parts.view ∙ ap (queue_after setup q.id.0 e) read.view ∙ sym (queue_more setup q.id.0 e (past_of q)) ∙ ap (λ id. queue_view setup id.0 (e ∷ past_of q)) (sym same.id) ∙ ap (queue_view setup left.id.0) (sym past);
         stand = λ clients. subst (λ events. AtEach (λ e _. home_of setup clients e ≡ QueueHome left.id.0) events) (sym past)
-          (subst (λ id. AtEach (λ e _. home_of setup clients e ≡ QueueHome id.0) (e ∷ past_of q)) (sym same.id) (parts.stand clients, read.stand clients));
+            (subst (λ id. AtEach (λ e _. home_of setup clients e ≡ QueueHome id.0) (e ∷ past_of q)) (sym same.id) (parts.stand clients, read.stand clients));
         met = subst (AtEach (HomePart setup)) (sym past) (parts.met, read.met);
         ordered = subst (AtEach (TakesNext setup)) (sym past) (parts.ordered, read.ordered);
         priorities = subst (λ events. All (λ entry. priority_at events entry.request ≡ entry.priority) left.waiting) (sym past) parts.priorities;

@@ -1,7 +1,6 @@
 -- Requests that wait, each once: one more, and one less.
-use Rattle.std.proofs.Common.{◌≡◌, ℕ, ◌==◌, ◌&&◌, ◌||◌, not, Bool, true, false, cond, List, [], ◌∷◌, ◌++◌, map, reverse, inl, inr, refl, sym, ◌∙◌, ap, subst, arith, eq-eqb, eqb-true}
-use Rattle.std.specs.List.{All, filter, list_any, list_all, IsDistinct}
-use Rattle.std.specs.Cmp.{IsEquivalence}
+use Rattle.std.proofs.Common.{◌≡◌, ℕ, ◌==◌, ◌&&◌, ◌||◌, not, Bool, true, false, cond, List, [], ◌∷◌, ◌++◌, map, reverse, inl, inr, refl, sym, ◌∙◌, ap, eq-eqb, eqb-true}
+use Rattle.std.specs.List.{All, filter, list_any, IsDistinct}
 use Rattle.std.proofs.Math.Bool.{or-false}
 use Rattle.std.proofs.lemmas.Bool.{cases_Bool, or_parts, or_left, or_right, not_from_false}
 use Rattle.std.proofs.lemmas.List.{reverse-append}
@@ -9,8 +8,8 @@ use Rattle.std.proofs.lemmas.List.Folds.{list_any-append}
 use Rattle.std.proofs.lemmas.List.Elements.{All-nil, All-cons, All-head, All-tail, All-from_recursion, recursion_from_All}
 use Rattle.std.proofs.lemmas.Map.Keys.{IsDistinct-head, IsDistinct-tail, IsDistinct-cons}
 use Rattle.xa_types.specs.declared.ids.RequestId.{RequestId}
-use Rattle.xa_events.specs.Words.{same_request, without, has}
-use Rattle.xa_events.proofs.WordsLemmas.{same_request_is, same_request_of}
+use Rattle.xa_events.specs.Words.{same_request}
+use Rattle.xa_events.proofs.WordsLemmas.{same_request_of}
 use Rattle.xa_queue.proofs.Keeping.{All-without}
 
 pub eqb-flips : (a b : ℕ) → (a == b) ≡ (b == a)

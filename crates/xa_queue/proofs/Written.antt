@@ -1,5 +1,5 @@
 -- Lanes as the code reads and writes them.
-use Rattle.std.proofs.Common.{◌≡◌, ℕ, ◌+◌, ◌-◌, ◌<◌, ◌≤◌, ◌==◌, Bool, true, false, cond, List, [], ◌∷◌, length, map, set, get_or, Option, Some, None, inl, inr, refl, sym, ◌∙◌, ap, subst, arith, eqb-true}
+use Rattle.std.proofs.Common.{◌≡◌, ℕ, ◌+◌, ◌-◌, ◌<◌, ◌≤◌, ◌==◌, true, List, [], ◌∷◌, length, set, get_or, Option, Some, None, inl, inr, refl, sym, ◌∙◌, ap, subst, arith, eqb-true}
 use Rattle.std.specs.Prelude.{nat_lt, MatchOption, IfSome}
 use Rattle.std.proofs.lemmas.Bool.{cases_eq, cond_both, ltb-true, ltb-false}
 use Rattle.std.proofs.lemmas.List.{map-set, get_or-map, set-get_or, nil_from_length}

@@ -6,7 +6,7 @@ use Rattle.xa_types.specs.declared.ids.Generation.{Generation}
 use Rattle.xa_types.specs.declared.stamp.Stamp.{Stamp}
 use Rattle.xa_types.specs.declared.stamp.Worn.{Worn}
 use Rattle.xa_events.specs.declared.event.Event.{Event}
-use Rattle.xa_events.specs.declared.event.Event.TheVariants.{Accept, Take, Forward, Sweep, Gone, Down, Close}
+use Rattle.xa_events.specs.declared.event.Event.TheVariants.{Accept, Take, Forward, Sweep}
 use Rattle.xa_stamp.specs.Home.{last_stamp}
 use Rattle.xa_queue.specs.declared.entry.Entry.{Entry}
 use Rattle.xa_queue.specs.declared.queue.Refusal.{Refusal}
@@ -14,7 +14,7 @@ use Rattle.xa_queue.specs.declared.queue.Refusal.TheVariants as refusals
 use Rattle.xa_queue.specs.declared.queue.Taken.{Taken}
 use Rattle.xa_queue.specs.declared.queue.Taken.TheVariants as takes
 use Rattle.xa_queue.specs.Line.{IsNext}
-use Rattle.xa_queue.specs.Queue.{Standing, none_left}
+use Rattle.xa_queue.specs.Queue.{Standing}
 
 module _ {C : Type 0} where
   -- a queue as it is made

@@ -2,7 +2,6 @@
 use Rattle.std.specs.Prelude.{◌≡◌, ℕ, ◌+◌, ◌<◌, ◌≤◌, cond, not, List, length, vec_capacity}
 use Rattle.std.specs.List.{filter}
 use Rattle.xa_types.specs.declared.ids.ServerId.{ServerId}
-use Rattle.xa_stamp.specs.Home.{last_stamp}
 use Rattle.xa_queue.specs.declared.queue.Queue.TheInside.{Inside}
 use Rattle.xa_queue.specs.Queue.{Standing, IsSound, has_server}
 use Rattle.xa_queue.specs.Reading.{ReadsAsNoted}

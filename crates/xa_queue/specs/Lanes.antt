@@ -1,5 +1,5 @@
 -- How the entries of a line are kept: a lane for each priority, and in each the oldest first. No public contract rests on this file.
-use Rattle.std.specs.Prelude.{◌≡◌, ℕ, ◌+◌, ◌-◌, ◌<◌, ◌≤◌, ◌==◌, nat_lt, Bool, MatchBool, if◌then◌else◌, List, [], ◌∷◌, ◌++◌, length, map, slice_get, slice_index_or, Option, option_map, Some, None, IfSome, IsSomeAnd}
+use Rattle.std.specs.Prelude.{◌≡◌, ℕ, ◌+◌, ◌<◌, ◌≤◌, ◌==◌, nat_lt, Bool, MatchBool, if◌then◌else◌, List, [], ◌∷◌, length, map, slice_get, slice_index_or, Option, option_map, Some, None, IfSome, IsSomeAnd}
 use Rattle.std.specs.List.{All, filter, flat_map}
 use Rattle.std.specs.declared.collections.VecDeque.{VecDeque}
 use Rattle.xa_queue.specs.declared.entry.Entry.{Entry}

@@ -1,5 +1,5 @@
 -- How a queue reads: as its events do, by each setup that has it so (this project's own).
-use Rattle.std.specs.Prelude.{◌≡◌, ℕ, ◌==◌, Bool, true, false, List, map, reverse, IfSome}
+use Rattle.std.specs.Prelude.{◌≡◌, ℕ, ◌==◌, false, List, map, reverse, IfSome}
 use Rattle.std.specs.List.{All, list_any, IsDistinct}
 use Rattle.xa_types.specs.declared.setup.Setup.{Setup}
 use Rattle.xa_types.specs.Setup.{queue_of, capacity_of}
@@ -12,7 +12,6 @@ use Rattle.xa_events.specs.Homes.{home_of}
 use Rattle.xa_events.specs.Homes.Home.{QueueHome}
 use Rattle.xa_events.specs.Cases.{HomePart}
 use Rattle.xa_events.specs.Views.{QueueView, queue_view}
-use Rattle.xa_queue.specs.declared.entry.Entry.{Entry}
 use Rattle.xa_queue.specs.Queue.{Standing, past_of}
 
 -- the request of an event that sends one to the queue doesn't wait there yet

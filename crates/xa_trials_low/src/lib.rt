@@ -25,6 +25,8 @@ mod pipes;
 #[cfg(test)]
 mod programs;
 #[cfg(test)]
+mod queues;
+#[cfg(test)]
 mod routes;
 #[cfg(test)]
 mod scripts;

@@ -1,4 +1,4 @@
-use Rattle.std.proofs.Common.{◌≡◌, ◌∷◌, ◌++◌, [], List}
+use Rattle.std.proofs.Common.{◌∷◌, ◌++◌, [], List}
 use Rattle.xa_queue.specs.declared.entry.Aged.{Aged}
 use Rattle.xa_queue.proofs.Written.{lane-set, lane-same}
 use Rattle.xa_queue.proofs.lanes.push.Goals as goal

@@ -1,4 +1,4 @@
-use Rattle.std.proofs.Common.{◌≡◌, [], Some, Global, ap, sym, ◌∙◌}
+use Rattle.std.proofs.Common.{◌≡◌, Some, Global, ap, ◌∙◌}
 use Rattle.std.proofs.lemmas.List.Elements.{All-pop}
 use Rattle.std.specs.declared.collections.VecDeque.{VecDeque}
 use Rattle.xa_queue.specs.declared.entry.Aged.{Aged}

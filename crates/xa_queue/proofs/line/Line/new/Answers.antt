@@ -1,5 +1,4 @@
-use Rattle.std.proofs.Common.{◌≡◌, [], List, map, replicate, ap, sym, ◌∙◌, arith}
-use Rattle.xa_queue.specs.declared.entry.Entry.{Entry}
+use Rattle.std.proofs.Common.{◌≡◌, [], List, map, replicate, ap, ◌∙◌, arith}
 use Rattle.xa_queue.specs.declared.entry.Aged.{Aged}
 use Rattle.xa_queue.specs.Line.{InLine}
 use Rattle.xa_queue.specs.Lanes.{lanes_of, entry_of}

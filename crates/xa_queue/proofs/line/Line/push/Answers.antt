@@ -1,8 +1,8 @@
-use Rattle.std.proofs.Common.{◌≡◌, ◌+◌, ◌≤◌, ◌∷◌, ◌++◌, [], List, ap, sym, ◌∙◌, arith}
+use Rattle.std.proofs.Common.{◌+◌, ◌≤◌, ◌∷◌, ◌++◌, [], List, ap, ◌∙◌, arith}
 use Rattle.xa_queue.specs.declared.entry.Entry.{Entry}
 use Rattle.xa_queue.specs.declared.entry.Aged.{Aged}
 use Rattle.xa_queue.specs.Line.{InLine}
-use Rattle.xa_queue.specs.Lanes.{lanes_of, all_in, Keeps}
+use Rattle.xa_queue.specs.Lanes.{lanes_of, all_in}
 use Rattle.xa_queue.proofs.Lined.{put-keeps, put-waiting, Keeps-itself}
 use Rattle.xa_queue.proofs.line.Line.push.Goals as goal
 

@@ -1,5 +1,4 @@
-use Rattle.std.proofs.Common.{◌≡◌, ◌<◌, [], List, length, map, ap, sym, ◌∙◌, arith, subst}
-use Rattle.std.specs.Prelude.{MatchOption}
+use Rattle.std.proofs.Common.{List, length, map, ap, arith, subst}
 use Rattle.xa_queue.specs.declared.entry.Entry.{Entry}
 use Rattle.xa_queue.specs.Line.{InLine, TakesOut}
 use Rattle.xa_queue.specs.Lanes.{lanes_of, entry_of, all_in, AreEmpty, IsChosenLane}

@@ -1,5 +1,6 @@
-use Rattle.std.proofs.Common.{◌≡◌, ℕ, true, false, cond, refl, ap, sym, ◌∙◌, subst, arith}
+use Rattle.std.proofs.Common.{◌≡◌, ℕ, true, false, cond, refl, ap, sym, ◌∙◌, subst, arith, List}
 use Rattle.xa_events.specs.declared.event.Event.TheVariants.{Close}
+use Rattle.xa_stamp.specs.declared.home.Stamped.{Stamped}
 use Rattle.xa_queue.specs.Queue.{Standing}
 use Rattle.xa_queue.specs.Reading.{ReadsAsNoted}
 use Rattle.xa_queue.specs.Kept.{standing_of}
@@ -16,11 +17,11 @@ invariant_of-self-2 g c =
     let entries = c.in_ok-stamp.ensures.entries in
     let unshut : q.closed ≡ false = ap (λ (s : Standing g.row.C.Denot). s.closed) c.self.view_is ∙ c.requires.unshut in
     record {
-      reads = subst (λ l. ReadsAsNoted (record left { entries = l })) (sym entries)
-        (reads-noted c.in_ok-stamp.stamp (Close q.id) q left (record { id = refl; capacity = refl; servers = refl; entries = refl; drained = refl }) i.reads
-        (λ setup fits new read. was_closed setup q i.some unshut fits read));
+      reads = subst (λ l. ReadsAsNoted (record left { entries = l })) (sym {A = List Stamped} entries)
+          (reads-noted c.in_ok-stamp.stamp (Close q.id) q left (record { id = refl; capacity = refl; servers = refl; entries = refl; drained = refl }) i.reads
+          (λ setup fits new read. was_closed setup q i.some unshut fits read));
       sound = sound-noted c.args.seen c.in_ok-stamp.stamp (Close q.id) left c.self.inside.home c.note.new.self i.first c.in_ok-stamp.ensures.stamp entries
-        (record { few = i.sound.few; deserted = i.sound.deserted; own = i.sound.own; once = i.sound.once; rises = i.sound.rises });
+          (record { few = i.sound.few; deserted = i.sound.deserted; own = i.sound.own; once = i.sound.once; rises = i.sound.rises });
       first = i.first ∙ sym c.note.ensures.first;
       known = i.known;
       some = i.some;

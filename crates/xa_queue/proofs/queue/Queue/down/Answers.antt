@@ -1,5 +1,6 @@
-use Rattle.std.proofs.Common.{◌≡◌, ℕ, true, false, cond, refl, ap, sym, ◌∙◌, subst, arith}
+use Rattle.std.proofs.Common.{◌≡◌, ℕ, true, false, cond, refl, ap, sym, ◌∙◌, subst, arith, List}
 use Rattle.xa_events.specs.declared.event.Event.TheVariants.{Down}
+use Rattle.xa_stamp.specs.declared.home.Stamped.{Stamped}
 use Rattle.xa_queue.specs.Queue.{Standing, none_left}
 use Rattle.xa_queue.specs.Reading.{ReadsAsNoted}
 use Rattle.xa_queue.specs.Kept.{standing_of}
@@ -17,11 +18,11 @@ invariant_of-self-2 g c =
     let entries = c.in_ok-stamp.ensures.entries in
     let up : q.down ≡ false = ap (λ (s : Standing g.row.C.Denot). s.down) c.self.view_is ∙ c.requires.up in
     record {
-      reads = subst (λ l. ReadsAsNoted (record left { entries = l })) (sym entries)
-        (reads-noted c.in_ok-stamp.stamp (Down q.id) q left (record { id = refl; capacity = refl; servers = refl; entries = refl; drained = refl }) i.reads
-        (λ setup fits new read. went_down setup q i.some deserted up fits read));
+      reads = subst (λ l. ReadsAsNoted (record left { entries = l })) (sym {A = List Stamped} entries)
+          (reads-noted c.in_ok-stamp.stamp (Down q.id) q left (record { id = refl; capacity = refl; servers = refl; entries = refl; drained = refl }) i.reads
+          (λ setup fits new read. went_down setup q i.some deserted up fits read));
       sound = sound-noted c.args.seen c.in_ok-stamp.stamp (Down q.id) left c.self.inside.home c.note.new.self i.first c.in_ok-stamp.ensures.stamp entries
-        (record { few = i.sound.few; deserted = λ _. deserted; own = i.sound.own; once = i.sound.once; rises = i.sound.rises });
+          (record { few = i.sound.few; deserted = λ _. deserted; own = i.sound.own; once = i.sound.once; rises = i.sound.rises });
       first = i.first ∙ sym c.note.ensures.first;
       known = i.known;
       some = i.some;

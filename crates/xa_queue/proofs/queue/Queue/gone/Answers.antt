@@ -1,5 +1,7 @@
-use Rattle.std.proofs.Common.{◌≡◌, ◌+◌, ◌≤◌, ◌∷◌, ◌++◌, [], length, true, false, cond, refl, ap, sym, ◌∙◌, subst, arith, length-append}
+use Rattle.std.proofs.Common.{◌≡◌, ◌+◌, ◌≤◌, ◌∷◌, [], length, true, false, refl, ap, sym, ◌∙◌, subst, arith, length-append, List}
+use Rattle.xa_types.specs.declared.ids.ServerId.{ServerId}
 use Rattle.xa_events.specs.declared.event.Event.TheVariants.{Gone}
+use Rattle.xa_stamp.specs.declared.home.Stamped.{Stamped}
 use Rattle.xa_queue.specs.Queue.{Standing, IsSound, has_server}
 use Rattle.xa_queue.specs.Reading.{ReadsAsNoted}
 use Rattle.xa_queue.specs.Changes.{with_gone}
@@ -36,15 +38,15 @@ invariant_of-self-2 g c =
     let entries = c.in_ok-stamp.ensures.entries in
     let items = c.push_reserved.ensures.items in
     let less = left-less server q.gone q.servers own stays in
-    let fewer = subst (λ gone. length (servers_left gone q.servers) + 1 ≤ length (servers_left q.gone q.servers)) (sym items) less in
+    let fewer = subst (λ gone. length (servers_left gone q.servers) + 1 ≤ length (servers_left q.gone q.servers)) (sym {A = List ServerId} items) less in
     let longer : length c.push_reserved.new.self.items ≡ length q.gone + 1 = ap length items ∙ length-append q.gone (server ∷ []) in
     record {
-      reads = subst (λ gone. ReadsAsNoted (record left { entries = c.note.new.self.entries; gone = gone })) (sym items) (subst (λ l. ReadsAsNoted (record left { entries = l })) (sym entries)
-        (reads-noted c.in_ok-stamp.stamp (Gone server) q left (record { id = refl; capacity = refl; servers = refl; entries = refl; drained = refl }) i.reads
-        (λ setup fits new read. gave_up setup q server i.known own stays fits read)));
-      sound = subst (λ gone. IsSound (record left { entries = c.note.new.self.entries; gone = gone })) (sym items)
-        (sound-noted c.args.seen c.in_ok-stamp.stamp (Gone server) left c.self.inside.home c.note.new.self i.first c.in_ok-stamp.ensures.stamp entries
-        (record { few = i.sound.few; deserted = λ down. absurd (not_all_gone server q.gone q.servers own stays (i.sound.deserted down)); own = own-noted q server i.sound own; once = once-noted q server i.sound stays; rises = i.sound.rises }));
+      reads = subst (λ gone. ReadsAsNoted (record left { entries = c.note.new.self.entries; gone = gone })) (sym {A = List ServerId} items) (subst (λ l. ReadsAsNoted (record left { entries = l })) (sym {A = List Stamped} entries)
+          (reads-noted c.in_ok-stamp.stamp (Gone server) q left (record { id = refl; capacity = refl; servers = refl; entries = refl; drained = refl }) i.reads
+          (λ setup fits new read. gave_up setup q server i.known own stays fits read)));
+      sound = subst (λ gone. IsSound (record left { entries = c.note.new.self.entries; gone = gone })) (sym {A = List ServerId} items)
+          (sound-noted c.args.seen c.in_ok-stamp.stamp (Gone server) left c.self.inside.home c.note.new.self i.first c.in_ok-stamp.ensures.stamp entries
+          (record { few = i.sound.few; deserted = λ down. absurd (not_all_gone server q.gone q.servers own stays (i.sound.deserted down)); own = own-noted q server i.sound own; once = once-noted q server i.sound stays; rises = i.sound.rises }));
       first = i.first ∙ sym c.note.ensures.first;
       known = i.known;
       some = i.some;

@@ -1,5 +1,4 @@
-use Rattle.std.proofs.Common.{◌≡◌, ◌+◌, ◌≤◌, [], List, length, refl, ap, sym, ◌∙◌, subst, arith, false}
-use Rattle.xa_stamp.specs.declared.home.Stamped.{Stamped}
+use Rattle.std.proofs.Common.{◌≡◌, [], List, length, ap, sym, ◌∙◌, subst, arith}
 use Rattle.xa_types.specs.declared.ids.ServerId.{ServerId}
 use Rattle.xa_queue.specs.Line.{InLine}
 use Rattle.xa_queue.specs.Queue.{Standing, IsSound}
@@ -21,7 +20,7 @@ invariant_of-result g c =
     let left = all c.in_ok-gone.gone.items gone in
     let waits : length c.in_ok-line.line.waiting ≡ 0 = ap length waiting in
     let new : (P : Standing g.row.C.Denot → Type 0) → P empty → P (record empty { entries = c.reserve.new.self.entries; waiting = c.in_ok-line.line.waiting; gone = c.in_ok-gone.gone.items }) =
-        λ P holds. subst (λ l. P (record empty { entries = l; waiting = c.in_ok-line.line.waiting; gone = c.in_ok-gone.gone.items })) (sym none) (subst (λ l. P (record empty { waiting = l; gone = c.in_ok-gone.gone.items })) (sym waiting) (subst (λ l. P (record empty { gone = l })) (sym gone) holds)) in
+    λ P holds. subst (λ l. P (record empty { entries = l; waiting = c.in_ok-line.line.waiting; gone = c.in_ok-gone.gone.items })) (sym none) (subst (λ l. P (record empty { waiting = l; gone = c.in_ok-gone.gone.items })) (sym waiting) (subst (λ l. P (record empty { gone = l })) (sym gone) holds)) in
     record {
       reads = new ReadsAsNoted (reads-opened c.args.id c.args.capacity c.in_ok-servers.servers.items c.args.first);
       sound = new IsSound (sound-opened c.args.id c.args.capacity c.in_ok-servers.servers.items c.args.first c.requires.first);

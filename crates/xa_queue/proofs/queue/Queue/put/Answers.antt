@@ -1,9 +1,9 @@
-use Rattle.std.proofs.Common.{◌≡◌, ◌+◌, ◌<◌, ◌∷◌, ◌++◌, [], None, List, length, cond, refl, ap, sym, ◌∙◌, subst, arith, length-append}
+use Rattle.std.proofs.Common.{◌≡◌, ◌+◌, ◌∷◌, ◌++◌, [], None, List, length, refl, ap, sym, ◌∙◌, subst, arith, length-append}
 use Rattle.xa_stamp.specs.declared.home.Stamped.{Stamped}
 use Rattle.xa_stamp.specs.Home.{Rises}
 use Rattle.xa_queue.specs.declared.entry.Entry.{Entry}
 use Rattle.xa_queue.specs.Line.{InLine}
-use Rattle.xa_queue.specs.Queue.{Standing, IsSound}
+use Rattle.xa_queue.specs.Queue.{Standing}
 use Rattle.xa_queue.specs.Reading.{ReadsAsNoted}
 use Rattle.xa_queue.specs.Changes.{IsEntry, put_refused, with_entry}
 use Rattle.xa_queue.specs.Kept.{standing_of}
@@ -31,11 +31,11 @@ invariant_of-self-2 g c =
     let next = ap (λ (line : InLine g.row.C.Denot). line.next) pushed in
     let age = ap (λ (l : List Stamped). length l) c.entries.ensures.value in
     record {
-      reads = subst (λ w. ReadsAsNoted (record left { entries = c.note.new.self.entries; waiting = w })) (sym waiting) (subst (λ l. ReadsAsNoted (record left { entries = l })) (sym entries)
-        (reads-noted c.in-Ok.stamp c.args.event q left (record { id = refl; capacity = refl; servers = refl; entries = refl; drained = refl }) i.reads
-        (λ setup fits new read. entered setup q c.args.event entry its fits free new read)));
+      reads = subst (λ w. ReadsAsNoted (record left { entries = c.note.new.self.entries; waiting = w })) (sym {A = List (Entry g.row.C.Denot)} waiting) (subst (λ l. ReadsAsNoted (record left { entries = l })) (sym {A = List Stamped} entries)
+          (reads-noted c.in-Ok.stamp c.args.event q left (record { id = refl; capacity = refl; servers = refl; entries = refl; drained = refl }) i.reads
+          (λ setup fits new read. entered setup q c.args.event entry its fits free new read)));
       sound = sound-noted c.args.seen c.in-Ok.stamp c.args.event taken c.reserve.new.self c.note.new.self (i.first ∙ sym c.reserve.ensures.first) c.in-Ok.ensures.stamp added
-        (record { few = omega (arith, more, free.room); deserted = i.sound.deserted; own = i.sound.own; once = i.sound.once; rises = subst (Rises q.first) (sym c.reserve.ensures.entries) i.sound.rises });
+          (record { few = omega (arith, more, free.room); deserted = i.sound.deserted; own = i.sound.own; once = i.sound.once; rises = subst (Rises q.first) (sym c.reserve.ensures.entries) i.sound.rises });
       first = i.first ∙ sym (c.note.ensures.first ∙ c.reserve.ensures.first);
       known = i.known;
       some = i.some;
@@ -44,11 +44,11 @@ invariant_of-self-2 g c =
       ages = let grows = grown c.self.inside.home.entries c.note.new.self.entries _ entries (length c.self.inside.home.entries) (omega arith) in omega (arith, grows, next, age);
       takes = let grows = grown c.self.inside.home.entries c.note.new.self.entries _ entries c.self.inside.takes i.takes in omega (arith, grows);
       room =
-        let lines = c.len.ensures in
-        let some = few_left c.self.inside.gone.items c.self.inside.servers.items in
-        let servers = c.self.inside.servers.ok in
-        let down = one_most c.self.inside.down in
-        let shut = one_most c.self.inside.closed in
-        omega (arith, more, reserved, lines, some, servers, down, shut, c.note.ensures.room);
+          let lines = c.len.ensures in
+          let some = few_left c.self.inside.gone.items c.self.inside.servers.items in
+          let servers = c.self.inside.servers.ok in
+          let down = one_most c.self.inside.down in
+          let shut = one_most c.self.inside.closed in
+          omega (arith, more, reserved, lines, some, servers, down, shut, c.note.ensures.room);
       places = i.places;
     }

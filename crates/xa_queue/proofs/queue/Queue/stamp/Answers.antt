@@ -1,5 +1,4 @@
-use Rattle.std.proofs.Common.{◌≡◌, ap, sym, ◌∙◌, subst}
-use Rattle.xa_types.specs.declared.stamp.Stamp.{Stamp}
+use Rattle.std.proofs.Common.{◌≡◌, subst}
 use Rattle.xa_stamp.specs.Home.{last_stamp}
 use Rattle.xa_stamp.proofs.Stamps.{last_stamp-read, Rises-last}
 use Rattle.xa_queue.specs.Queue.{Standing}

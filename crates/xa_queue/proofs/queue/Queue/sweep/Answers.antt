@@ -1,8 +1,9 @@
 use Rattle.std.proofs.Common.{◌≡◌, ◌+◌, ◌∷◌, ◌++◌, [], List, length, true, refl, ap, sym, ◌∙◌, subst, arith}
 use Rattle.xa_events.specs.declared.event.Event.{Event}
 use Rattle.xa_events.specs.declared.event.Event.TheVariants.{Sweep}
+use Rattle.xa_stamp.specs.declared.home.Stamped.{Stamped}
 use Rattle.xa_queue.specs.declared.entry.Entry.{Entry}
-use Rattle.xa_queue.specs.Queue.{Standing, IsSound}
+use Rattle.xa_queue.specs.Queue.{Standing}
 use Rattle.xa_queue.specs.Reading.{ReadsAsNoted}
 use Rattle.xa_queue.specs.Kept.{standing_of}
 use Rattle.xa_queue.proofs.Noted.{reads-noted}
@@ -24,11 +25,11 @@ invariant_of-self g c =
     let entries = c.in-Ok.ensures.entries in
     let fewer : length q.waiting ≡ length rest + 1 = one_less [] entry rest q.waiting was in
     record {
-      reads = subst (λ l. ReadsAsNoted (record left { entries = l })) (sym entries)
-        (reads-noted c.in-Ok.stamp e q left (record { id = refl; capacity = refl; servers = refl; entries = refl; drained = refl }) i.reads
-        (λ setup fits new read. swept setup q entry rest was down read));
+      reads = subst (λ l. ReadsAsNoted (record left { entries = l })) (sym {A = List Stamped} entries)
+          (reads-noted c.in-Ok.stamp e q left (record { id = refl; capacity = refl; servers = refl; entries = refl; drained = refl }) i.reads
+          (λ setup fits new read. swept setup q entry rest was down read));
       sound = sound-noted c.args.seen c.in-Ok.stamp e left c.self.inside.home c.note.new.self i.first c.in-Ok.ensures.stamp entries
-        (record { few = omega (arith, fewer, i.sound.few); deserted = i.sound.deserted; own = i.sound.own; once = i.sound.once; rises = i.sound.rises });
+          (record { few = omega (arith, fewer, i.sound.few); deserted = i.sound.deserted; own = i.sound.own; once = i.sound.once; rises = i.sound.rises });
       first = i.first ∙ sym c.note.ensures.first;
       known = i.known;
       some = i.some;

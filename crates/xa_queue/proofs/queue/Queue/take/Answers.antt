@@ -1,6 +1,6 @@
-use Rattle.std.proofs.Common.{◌≡◌, ◌+◌, ◌∷◌, ◌++◌, [], List, length, Bool, true, false, inl, inr, refl, ap, sym, ◌∙◌, subst, arith}
-use Rattle.std.proofs.lemmas.Bool.{cases_Bool}
+use Rattle.std.proofs.Common.{◌≡◌, ◌+◌, ◌++◌, List, length, true, false, refl, ap, sym, ◌∙◌, subst, arith}
 use Rattle.xa_events.specs.declared.event.Event.{Event}
+use Rattle.xa_stamp.specs.declared.home.Stamped.{Stamped}
 use Rattle.xa_queue.specs.declared.entry.Entry.{Entry}
 use Rattle.xa_queue.specs.Queue.{Standing, IsSound, has_server}
 use Rattle.xa_queue.specs.Reading.{ReadsAsNoted}
@@ -34,12 +34,12 @@ invariant_of-self g c =
     let fewer : length q.waiting ≡ length rest + 1 = one_less out.front entry out.back q.waiting out.was in
     let shorter : length c.take-entry.new.self.waiting ≡ length rest = ap length out.left in
     record {
-      reads = subst (λ w. ReadsAsNoted (record left { entries = c.note.new.self.entries; waiting = w })) (sym out.left) (subst (λ l. ReadsAsNoted (record left { entries = l })) (sym entries)
-        (reads-noted c.in-Ok.stamp e q left (record { id = refl; capacity = refl; servers = refl; entries = refl; drained = refl }) i.reads
-        (λ setup fits new read. took setup q server c.args.generation out.front entry out.back out.was out.chosen up own fits read)));
-      sound = subst (λ w. IsSound (record left { entries = c.note.new.self.entries; waiting = w })) (sym out.left)
-        (sound-noted c.args.seen c.in-Ok.stamp e left c.self.inside.home c.note.new.self i.first c.in-Ok.ensures.stamp entries
-        (record { few = omega (arith, fewer, i.sound.few); deserted = i.sound.deserted; own = i.sound.own; once = i.sound.once; rises = i.sound.rises }));
+      reads = subst (λ w. ReadsAsNoted (record left { entries = c.note.new.self.entries; waiting = w })) (sym {A = List (Entry g.row.C.Denot)} out.left) (subst (λ l. ReadsAsNoted (record left { entries = l })) (sym {A = List Stamped} entries)
+          (reads-noted c.in-Ok.stamp e q left (record { id = refl; capacity = refl; servers = refl; entries = refl; drained = refl }) i.reads
+          (λ setup fits new read. took setup q server c.args.generation out.front entry out.back out.was out.chosen up own fits read)));
+      sound = subst (λ w. IsSound (record left { entries = c.note.new.self.entries; waiting = w })) (sym {A = List (Entry g.row.C.Denot)} out.left)
+          (sound-noted c.args.seen c.in-Ok.stamp e left c.self.inside.home c.note.new.self i.first c.in-Ok.ensures.stamp entries
+          (record { few = omega (arith, fewer, i.sound.few); deserted = i.sound.deserted; own = i.sound.own; once = i.sound.once; rises = i.sound.rises }));
       first = i.first ∙ sym c.note.ensures.first;
       known = i.known;
       some = i.some;
