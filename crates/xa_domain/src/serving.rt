@@ -1,5 +1,5 @@
 // A script is served.
-ghost use Rattle.std.specs.Prelude.{◌≡◌, ◌⊎◌, ◌<◌, ◌≤◌, ◌^◌, ℕ, true, false, Some, List, length, OnOk, IfErr, IsSomeAnd, slice_get};
+ghost use Rattle.std.specs.Prelude.{◌≡◌, ◌⊎◌, ◌+◌, ◌<◌, ◌≤◌, ◌^◌, ℕ, true, false, Some, List, [], length, OnOk, IfErr, IsSomeAnd, slice_get};
 ghost use Rattle.std.specs.List.{All};
 ghost use Rattle.xa_types.specs.Configured.{is_configured};
 ghost use Rattle.xa_types.specs.declared.setup.Setup.{Setup};
@@ -7,9 +7,12 @@ ghost use Rattle.xa_events.specs.declared.event.Event.{Event};
 ghost use Rattle.xa_script.specs.declared.script.Client.{Client as ScriptClient};
 ghost use Rattle.xa_link.specs.Starts.{AsksStarters};
 ghost use Rattle.xa_stamp.specs.Merge.{IsDense};
+ghost use Rattle.xa_tables.specs.Boot.{boot_past};
+ghost use Rattle.xa_tables.specs.Holding.{Holds};
 ghost use Rattle.xa_tables.specs.Resting.{IsNumbered, IsBooted, attempts};
 ghost use Rattle.xa_domain.specs.Standing.{IsReady, IsClosedDown, HasGone, HaveGone, Stands, GoesOn, IsHalted};
 ghost use Rattle.xa_domain.specs.Beginning.{HaveStamps};
+ghost use Rattle.xa_domain.specs.Handing.{HasRoomFor};
 ghost use Rattle.xa_domain.specs.Serving.{IsBuiltOp, IsBuilt, NoneRestarts, ServeEnds, StarterShows, StartersMatch};
 
 use crate::calling::call;
@@ -103,6 +106,83 @@ fn run<L: Link, S: Starter<L>>(
     close_all(domain)
 }
 
+// What there is to hand back where memory ran out before the domain was there.
+fn serve_none<Y: Yard>(alloc: Global, room: Room<Y::Line>) -> Served<Y>
+    requires { HasRoomFor 0 0 room }
+    ensures halt { result.halt ≡ Some Halt.NoMemory }
+    ensures homes { result.homes.homes ≡ [] }
+    ensures lives { result.lives.items ≡ [] }
+    ensures starters { result.starters.items ≡ [] }
+{
+    let Handed { homes, lives } = hand_none(room);
+    Served {
+        halt: Some(Halt::NoMemory),
+        homes,
+        lives,
+        starters: Vec::new(alloc),
+    }
+}
+
+// The domain, which is booted, serves the clients.
+fn serve_by<Y: Yard>(
+    alloc: Global,
+    setup: &Setup,
+    clients: &[Client],
+    yard: &mut Y,
+    mut domain: Domain<Y::Line>,
+    room: Room<Y::Line>,
+) -> Served<Y>
+    requires configured { is_configured setup.now ≡ true }
+    requires restarts { NoneRestarts setup.now }
+    requires built { IsBuilt clients.now }
+    requires holds { Holds setup.now (length clients.now) (boot_past setup.now) domain }
+    requires booted { IsBooted domain }
+    requires room { HasRoomFor (2 + length setup.now.queues + length clients.now + length setup.now.servers) (length setup.now.servers) room }
+    ensures ends { ServeEnds (record { took = Y.Line.took; gave = Y.Line.gave; left = Y.Line.left; reads = Y.Line.read_faults; writes = Y.Line.write_faults }) (λ s. record { faults = Y.Start.start_faults s; asked = Y.Start.asked s }) setup.now clients.now result.halt result.homes.homes result.lives.items result.starters.items }
+    ensures dense { IsDense (record { 0 = 0 }) result.homes.homes }
+    ensures asked { AsksStarters (Y.asked yard.old) (Y.asked yard.new) setup.now ⊎ ((result.halt ≡ Some Halt.NoMemory) × (Y.asked yard.new ≡ Y.asked yard.old)) }
+{
+    let Ok(mut starters) = yard.starters(setup) else {
+        let Handed { homes, lives } = hand_back(alloc, domain, room);
+        return Served {
+            halt: Some(Halt::NoMemory),
+            homes,
+            lives,
+            starters: Vec::new(alloc),
+        };
+    };
+    let halt = run(alloc, setup, &mut domain, clients, starters.as_mut_slice()).err();
+    let Handed { homes, lives } = hand_back(alloc, domain, room);
+    Served {
+        halt,
+        homes,
+        lives,
+        starters,
+    }
+}
+
+// The clients are served, where there is memory for it.
+fn serve_all<Y: Yard>(alloc: Global, setup: &Setup, clients: &[Client], yard: &mut Y) -> Served<Y>
+    requires configured { is_configured setup.now ≡ true }
+    requires restarts { NoneRestarts setup.now }
+    requires built { IsBuilt clients.now }
+    ensures ends { ServeEnds (record { took = Y.Line.took; gave = Y.Line.gave; left = Y.Line.left; reads = Y.Line.read_faults; writes = Y.Line.write_faults }) (λ s. record { faults = Y.Start.start_faults s; asked = Y.Start.asked s }) setup.now clients.now result.halt result.homes.homes result.lives.items result.starters.items }
+    ensures dense { IsDense (record { 0 = 0 }) result.homes.homes }
+    ensures asked { AsksStarters (Y.asked yard.old) (Y.asked yard.new) setup.now ⊎ ((result.halt ≡ Some Halt.NoMemory) × (Y.asked yard.new ≡ Y.asked yard.old)) }
+{
+    let Ok(room) = room_for(alloc, setup, clients.len()) else {
+        let room = Room {
+            homes: Vec::new(alloc),
+            lives: Vec::new(alloc),
+        };
+        return serve_none(alloc, room);
+    };
+    let Ok(domain) = found(alloc, setup, clients.len() as u16) else {
+        return serve_none(alloc, room);
+    };
+    serve_by(alloc, setup, clients, yard, domain, room)
+}
+
 /// Serves a script: the domain is booted, the servers are started, each client makes its calls and leaves, and the domain
 /// is closed.
 pub fn serve<R, Y: Yard, G: Gate>(
@@ -120,44 +200,5 @@ pub fn serve<R, Y: Yard, G: Gate>(
     ensures dense { IsDense (record { 0 = 0 }) result.homes.homes }
     ensures asked { AsksStarters (Y.asked yard.old) (Y.asked yard.new) setup ⊎ ((result.halt ≡ Some Halt.NoMemory) × (Y.asked yard.new ≡ Y.asked yard.old)) }
 {
-    let clients = script.clients.slice();
-    let Ok(room) = room_for(alloc, &setup, clients.len()) else {
-        let room = Room {
-            homes: Vec::new(alloc),
-            lives: Vec::new(alloc),
-        };
-        let Handed { homes, lives } = hand_none(room);
-        return Served {
-            halt: Some(Halt::NoMemory),
-            homes,
-            lives,
-            starters: Vec::new(alloc),
-        };
-    };
-    let Ok(mut domain) = found(alloc, &setup, clients.len() as u16) else {
-        let Handed { homes, lives } = hand_none(room);
-        return Served {
-            halt: Some(Halt::NoMemory),
-            homes,
-            lives,
-            starters: Vec::new(alloc),
-        };
-    };
-    let Ok(mut starters) = yard.starters(&setup) else {
-        let Handed { homes, lives } = hand_back(alloc, domain, room);
-        return Served {
-            halt: Some(Halt::NoMemory),
-            homes,
-            lives,
-            starters: Vec::new(alloc),
-        };
-    };
-    let halt = run(alloc, &setup, &mut domain, clients, starters.as_mut_slice()).err();
-    let Handed { homes, lives } = hand_back(alloc, domain, room);
-    Served {
-        halt,
-        homes,
-        lives,
-        starters,
-    }
+    serve_all(alloc, &setup, script.clients.slice(), yard)
 }
