@@ -75,6 +75,9 @@ module _ {L : Type 0} (setup : Setup) (client op version : ℕ) (ask : Ask) (row
   pub heard_busy : IsSomeAnd (slice_get heard.servers.items server) (IsBusy request)
   heard_busy = heard_between.does
 
+  pub heard_within : client < length heard.clients.items
+  heard_within = let there = some_there heard.clients.items client (IsWaiting op request) heard_between.waits in slice_get_within heard.clients.items client there.0 there.1
+
   abbrev heard_events : List Event → List Event
   heard_events past = Take (its_take client op version row ask.payload server request back old heard x ready turn up) ∷ Accept (its_accept client op version row ask.payload server request back old heard x ready turn up) ∷ past
 
@@ -94,9 +97,6 @@ module _ {L : Type 0} (setup : Setup) (client op version : ℕ) (ask : Ask) (row
     ended_called = changed_as client old.clients.items old.clients.items heard.clients.items ended.clients.items (λ (z z' : Client). (z'.op ≡ op) × (z'.left ≡ z.left)) refl
         (settles_clients client op server request outcome cause heard ended settles course_idle numbered served) (λ z z' how. how)
         (exchange_called client op version row ask.payload server request back old heard x ready turn up)
-
-    pub client_within : client < length ended.clients.items
-    client_within = let there = some_there ended.clients.items client (IsWaiting op request) ended_between.waits in slice_get_within ended.clients.items client there.0 there.1
 
     module _ (script : List ScriptClient) (past : List Event) (configured : is_configured setup ≡ true) (none : NoneRestarts setup) (stands : Stands setup script past old) (called : IsCallAt script client op ask) (serves : RowServes setup past old client version ask row) where
       abbrev first_holds : Holds setup (length script) (heard_events past) heard

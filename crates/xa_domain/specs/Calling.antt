@@ -25,6 +25,8 @@ use Rattle.xa_events.specs.declared.event.Outcome.{Outcome}
 use Rattle.xa_events.specs.declared.event.Doing.TheVariants.{Off, Idle, Busy, Dying}
 use Rattle.xa_events.specs.declared.event.StopCause.{StopCause}
 use Rattle.xa_events.specs.declared.event.StopCause.TheVariants.{Exit}
+use Rattle.xa_events.specs.Answers.{reply_of}
+use Rattle.xa_events.specs.Request.Settlement.{EndedBy}
 use Rattle.xa_events.specs.Cases.{is_failure, is_starved, may_end_so}
 use Rattle.xa_events.specs.Server.{after_end, is_shutdown}
 use Rattle.xa_pipe.specs.declared.hearing.Return.{Return}
@@ -41,6 +43,7 @@ use Rattle.xa_tables.specs.declared.domain.Domain.{Domain}
 use Rattle.xa_tables.specs.declared.life.Lived.{Lived}
 use Rattle.xa_tables.specs.May.{MayStop}
 use Rattle.xa_tables.specs.Holding.{Holds}
+use Rattle.xa_tables.specs.Resting.{IsNumbered, IsServed}
 use Rattle.xa_tables.specs.Piping.{NextRead, NoNext, Exchanged}
 use Rattle.xa_domain.specs.Standing.{NoneRestarts, Retires, RetiresTables, stop_of}
 use Rattle.xa_tables.specs.Steps.{Changed, Accepts, Takes, Ends, Answers}
@@ -188,6 +191,16 @@ pub record Tells {L : Type 0} (client op : ℕ) (request : RequestId) (answer : 
   pub by : Client
   pub stood : slice_get old.clients.items client ≡ Some by
   pub answers : Answers client (replied_of by op request answer) old new
+
+-- both, with the answer that befits the end
+pub record Concludes {L : Type 0} (client op server : ℕ) (request : RequestId) (outcome : Outcome) (cause : Option StopCause) (old new : Domain L) : Type 0 where
+  pub ended : Domain L
+  pub settles : Settles server request outcome cause old ended
+  pub numbered : IsNumbered ended
+  pub served : IsServed ended
+  pub answer : Answer
+  pub replies : answer ≡ reply_of (EndedBy outcome)
+  pub tells : Tells client op request answer ended new
 
 -- the program said NEXT, or the life ended by that cause as NEXT was to come
 abbrev pub NextOr : Option StopCause → Piped → Piped → Type 0

@@ -18,7 +18,7 @@ ghost use Rattle.xa_tables.specs.Holding.{Holds};
 ghost use Rattle.xa_tables.specs.Steps.{Refuses, KeepsPlaces};
 ghost use Rattle.xa_tables.specs.Resting.{IsNumbered, IsServed, IsUp, attempts};
 ghost use Rattle.xa_domain.specs.Standing.{IsReady, HasCalled, NoneRestarts, Stands, GoesOn, IsHalted, IsCallAt, RowServes};
-ghost use Rattle.xa_domain.specs.Calling.{ChoiceIs, outcome_heard, cause_heard, is_lost, refused_of, Sends, Receives, Delivers, Exchanges, IsBusy, MayEndWith, Settles, Tells, Frees};
+ghost use Rattle.xa_domain.specs.Calling.{ChoiceIs, outcome_heard, cause_heard, is_lost, refused_of, Sends, Receives, Delivers, Exchanges, IsBusy, MayEndWith, Settles, Tells, Concludes, Frees};
 
 use crate::retiring::{fall, place_of};
 use std::alloc::Global;
@@ -386,6 +386,33 @@ fn exchange<L: Link>(
     Ok(Heard { request, back })
 }
 
+// The request ends so at its server, and the client is told.
+fn conclude<L: Link>(
+    alloc: Global,
+    domain: &mut Domain<L>,
+    client: usize,
+    op: u32,
+    server: usize,
+    request: RequestId,
+    outcome: Outcome,
+    cause: Option<StopCause>,
+) -> Result<(), Halt>
+    requires client { client < length domain.old.clients.items }
+    requires numbered { IsNumbered domain.old }
+    requires served { IsServed domain.old }
+    requires busy { IsSomeAnd (slice_get domain.old.servers.items server) (IsBusy request) }
+    requires fits { MayEndWith outcome cause }
+    ensures numbered { IsNumbered domain.new }
+    ensures attempts { attempts domain.new ≡ attempts domain.old }
+    ensures done { OnOk result (Concludes client op server request outcome cause domain.old domain.new) }
+    ensures failed { IfErr result (λ halt. (setup : Setup) (count : ℕ) (past : List Event) → is_configured setup ≡ true → NoneRestarts setup → Holds setup count past domain.old
+        → may_end_so setup outcome ≡ true → IsHalted setup count halt domain.new) }
+{
+    let answer = reply_to(alloc, &outcome)?;
+    settle(domain, server, request, outcome, cause)?;
+    tell(domain, client, op, request, answer)
+}
+
 // Carries a request by that row, at the server at that place, to its answer.
 fn carry<L: Link>(
     alloc: Global,
@@ -416,9 +443,7 @@ fn carry<L: Link>(
     let Heard { request, back } = exchange(alloc, domain, client, op, ask, version, row, server)?;
     let cause = cause_heard(&back);
     let outcome = outcome_heard(setup, back);
-    let answer = reply_to(alloc, &outcome)?;
-    settle(domain, server, request, outcome, cause)?;
-    tell(domain, client, op, request, answer)?;
+    conclude(alloc, domain, client, op, server, request, outcome, cause)?;
     if cause.is_some() {
         return Ok(());
     }
