@@ -213,13 +213,30 @@ fn connected(mut command: Command, input: PipeReader, program: &str, server: &Na
 // Starts the process. What is required is what is known of the command as the system gets it.
 fn spawn_connected<R: Processes>(
     rt: &R,
-    command: &mut Command,
+    mut command: Command,
     program: &str,
     server: &Name,
 ) -> io::Result<Child<R::Started>>
-    requires { StartsServer program.now server.now command.old }
+    requires { StartsServer program.now server.now command }
 {
     command.spawn(rt)
+}
+
+// The link to a process that was just started, by its output and the input that it was given.
+fn link_to<P: OpenProcess + Drop>(mut child: Child<P>, to: PipeWriter) -> io::Result<ChildLink<P>>
+    ensures { IfOk result (λ l. (l.from.faults ≡ 0) × (l.to.faults ≡ 0)) }
+{
+    let Some(from) = child.stdout.take() else {
+        drop(to);
+        let _ = child.kill();
+        let _ = child.wait();
+        return Err(io::Error::from(io::ErrorKind::BrokenPipe));
+    };
+    Ok(ChildLink {
+        child,
+        from: ReadSource::new(from),
+        to: WriteSink::new(to),
+    })
 }
 
 // The child's input is a pipe of our own, since a write to it takes one call of the system.
@@ -233,20 +250,9 @@ fn spawn<R: Processes + Files>(
     ensures { IfOk result (λ l. (l.from.faults ≡ 0) × (l.to.faults ≡ 0)) }
 {
     let (theirs, to) = io::pipe(rt)?;
-    let mut command = connected(command, theirs, program, server);
-    let mut child = spawn_connected(rt, &mut command, program, server)?;
-    let Some(from) = child.stdout.take() else {
-        drop(to);
-        let _ = child.kill();
-        let _ = child.wait();
-        return Err(io::Error::from(io::ErrorKind::BrokenPipe));
-    };
-    drop(command);
-    Ok(ChildLink {
-        child,
-        from: ReadSource::new(from),
-        to: WriteSink::new(to),
-    })
+    let command = connected(command, theirs, program, server);
+    let child = spawn_connected(rt, command, program, server)?;
+    link_to(child, to)
 }
 
 impl<R: Processes + Files + AllocGlobal> Starter<ChildLink<R::Started>> for ChildStarter<R> {
