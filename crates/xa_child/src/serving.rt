@@ -80,11 +80,10 @@ impl Serving {
         if self.child.has_ended() {
             return Ok(Some(Halt::Ended));
         }
-        let found = self.reader.next();
-        match &found {
+        match self.reader.next() {
             Ok(None) => Ok(Some(Halt::Waits)),
-            Ok(Some(frame)) => self.answer(place, frame, due),
-            Err(NextRefused::BadFrame(place)) => Ok(Some(Halt::Bad(*place))),
+            Ok(Some(frame)) => self.answer(place, &frame, due),
+            Err(NextRefused::BadFrame(place)) => Ok(Some(Halt::Bad(place))),
             Err(NextRefused::NoMemory) => Err(NoMemory),
         }
     }

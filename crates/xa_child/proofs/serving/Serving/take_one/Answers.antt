@@ -5,8 +5,8 @@ use Rattle.xa_child.proofs.serving.Serving.take_one.Goals as goal
 
 pub returns-in-Ok-Some-clause-step : goal.returns-in-Ok-Some-clause-step
 returns-in-Ok-Some-clause-step c =
-    let some : c.in-Ok-Some.field-0 ≡ Some c.in-Ok-Some.frame = rw c.in-Ok-Some.is at c.in-Ok-Some.field-0-is in
-    let ok : c.next-found.result ≡ Ok c.in-Ok-Some.field-0 = c.in-Ok-Some.is in
-    let found : c.next-found.result ≡ Ok (Some c.in-Ok-Some.frame) = ok ∙ ap Ok some in
-    let took = subst (Answered c.args.self.now.reader c.next-found.new.self) found c.next-found.ensures.answered in
-    answers_step c.args.self.now (record c.args.self.now { reader = c.next-found.new.self }) c.answer.new.self c.in-Ok-Some.frame c.args.due.now.items c.answer.new.due.items c.answer.result (search rules) took refl c.answer.ensures.same (search rules)
+    let some : c.in-Ok-Some.field-0 ≡ Some c.in-Ok-Some.frame = c.in-Ok-Some.field-0-is in
+    let ok : c.next.result ≡ Ok c.in-Ok-Some.field-0 = c.in-Ok-Some.is in
+    let found : c.next.result ≡ Ok (Some c.in-Ok-Some.frame) = ok ∙ ap Ok some in
+    let took = subst (Answered c.args.self.now.reader c.next.new.self) found c.next.ensures.answered in
+    answers_step c.args.self.now (record c.args.self.now { reader = c.next.new.self }) c.answer.new.self c.in-Ok-Some.frame c.args.due.now.items c.answer.new.due.items c.answer.result (search rules) took refl c.answer.ensures.same (search rules)
