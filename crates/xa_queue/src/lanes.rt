@@ -24,6 +24,19 @@ pub fn push<C>(
     }
 }
 
+// Takes the first entry of a lane. Where it is the last one too it goes from the back: so the next one that comes stands
+// where it stood, whose memory is at hand.
+fn pop_first<C>(lane: &mut VecDeque<Aged<C>, Global>) -> Option<Aged<C>>
+    ensures first { result ≡ slice_get lane.old.items 0 }
+    ensures rest { lane.new.items ≡ drop 1 lane.old.items }
+{
+    if lane.len() == 1 {
+        lane.pop_back()
+    } else {
+        lane.pop_front()
+    }
+}
+
 /// Takes the first entry of a lane that has one.
 pub fn pop<C>(lanes: &mut Vec<VecDeque<Aged<C>, Global>>, lane: usize) -> Aged<C>
     requires lane { lane < length lanes.old.items }
@@ -31,8 +44,7 @@ pub fn pop<C>(lanes: &mut Vec<VecDeque<Aged<C>, Global>>, lane: usize) -> Aged<C
     ensures first { slice_get (slice_index_or (lanes_of lanes.old.items) lane []) 0 ≡ Some result }
     ensures rest { lanes_of lanes.new.items ≡ slice_set (lanes_of lanes.old.items) lane (drop 1 (slice_index_or (lanes_of lanes.old.items) lane [])) }
 {
-    let lane = &mut lanes[lane];
-    let Some(aged) = lane.pop_front() else {
+    let Some(aged) = pop_first(&mut lanes[lane]) else {
         unreachable!()
     };
     aged

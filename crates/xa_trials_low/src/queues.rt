@@ -101,9 +101,7 @@ fn take(queue: &mut Queue<u64>, seen: u64) -> Told
     ensures { SameServers queue.old queue.new }
 {
     match queue.take(Stamp(seen.min(END)), ServerId(1), Generation(1)) {
-        Ok(Taken::Request(entry, _)) => {
-            Told::Taken(cargo_of(entry))
-        }
+        Ok(Taken::Request(entry, _)) => { Told::Taken(cargo_of(entry)) }
         Ok(Taken::Empty) => Told::Empty,
         Ok(Taken::Closed) => Told::Closed,
         Err(_) => Told::Worn,
@@ -136,13 +134,19 @@ fn are_taken(queue: &mut Queue<u64>, numbers: &[u64]) -> bool
     true
 }
 
-fn keeps_order(alloc: Global, service: Name, priorities: &[u8], order: &[u64]) -> Result<bool, NoMemory> {
+fn keeps_order(
+    alloc: Global,
+    service: Name,
+    priorities: &[u8],
+    order: &[u64],
+) -> Result<bool, NoMemory> {
     let mut queue = Queue::new(alloc, QueueId(1), 100, &[ServerId(1)], Stamp(0))?;
     let mut right = true;
     let mut number = 0;
     for priority in priorities {
         number += 1;
-        right &= put(&mut queue, 0, service, number, (*priority).clamp(1, 100)) == Told::Put(number);
+        right &= put(&mut queue, 0, service, number, (*priority).clamp(1, 100))
+            == Told::Put(number);
     }
     right &= are_taken(&mut queue, order);
     Ok(right & (finish(queue) == (0, true, priorities.len() + order.len())))
@@ -152,7 +156,10 @@ fn keeps_order(alloc: Global, service: Name, priorities: &[u8], order: &[u64]) -
 fn entries_are_taken_by_priority_and_age(rt: HostRuntime) -> Result<(), Fail> {
     let service = Name::read(b"A")?;
     for (priorities, order) in ORDERS {
-        assert!(rt; keeps_order(rt.alloc(), service, priorities, order)?, "{order:?}");
+        assert!(rt;
+            keeps_order(rt.alloc(), service, priorities, order)?,
+            "{order:?}"
+        );
     }
     Ok(())
 }
@@ -177,6 +184,7 @@ const OPEN: [(Ask, Told); 10] = [
     (Ask::Take(0), Told::Taken(2)),
     (Ask::Put(END, 5), Told::Back(Refusal::Worn(Stamp(END)))),
 ];
+
 const CLOSED: [(Ask, Told); 3] = [
     (Ask::Put(0, 5), Told::Back(Refusal::Closed)),
     (Ask::Take(0), Told::Taken(4)),
@@ -253,6 +261,7 @@ fn queues_end(rt: HostRuntime) -> Result<(), Fail> {
 
 // How often a queue is called beside a list, and how many may wait there.
 const CALLS: u32 = 100_000;
+
 const MOST: u32 = 40;
 
 // A plain list of numbers and priorities: the place of the entry that the k-th take gives.
@@ -272,7 +281,13 @@ fn next_place(list: &[(u64, u8)], k: u64) -> usize
     place
 }
 
-fn put_both(queue: &mut Queue<u64>, list: &mut Vec<(u64, u8)>, service: Name, number: u64, priority: u8) -> bool
+fn put_both(
+    queue: &mut Queue<u64>,
+    list: &mut Vec<(u64, u8)>,
+    service: Name,
+    number: u64,
+    priority: u8,
+) -> bool
     requires id { queue.old.id ≡ record { 0 = 1 } }
     requires priority { (1 ≤ priority) × (priority ≤ 100) }
     ensures { SameServers queue.old queue.new }
