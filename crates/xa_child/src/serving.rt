@@ -1,11 +1,12 @@
 // A server's program with its input, from which it takes the frames that are whole.
 ghost use Rattle.std.specs.Prelude.{◌≡◌, ◌<◌, ◌^◌, ◌++◌, IfOk, OnOk};
 ghost use Rattle.std.specs.List.{All};
-ghost use Rattle.xa_frame.specs.Spelling.{all_spelled, HasSpelling};
+ghost use Rattle.xa_frame.specs.Spelling.{all_spelled, spelled, HasSpelling, IsData};
 ghost use Rattle.xa_child.specs.Child.{answer};
+ghost use Rattle.xa_child.specs.Returned.{data_of, frame_of};
 ghost use Rattle.xa_child.specs.Serving.{StepsTo, TakesUpTo, Answers};
 
-use crate::child::{Child, next, said_to};
+use crate::child::{Child, Returned, next, said_to};
 use std::alloc::Global;
 use xa_frame::{Frame, NextRefused, Reader, append, append_return};
 use xa_types::{Data, NoMemory};
@@ -43,18 +44,26 @@ pub fn spell(frames: &[Frame], due: &mut Vec<u8>) -> Result<(), NoMemory>
     Ok(())
 }
 
+// Adds a RETURN.
+fn spell_return(said: &Returned, due: &mut Vec<u8>) -> Result<(), NoMemory>
+    requires { IsData (data_of said.now.payload) }
+    ensures { OnOk result (due.new.items ≡ due.old.items ++ spelled (frame_of said.now)) }
+{
+    let absent = Data::Absent;
+    let payload = said.payload.unwrap_or(&absent);
+    append_return(due, said.tag, said.value, said.code, payload)
+}
+
 // Adds what is said to a frame that the program admits.
 fn spell_answer(frame: &Frame, due: &mut Vec<u8>) -> Result<(), NoMemory>
     requires { HasSpelling frame.now }
     ensures { OnOk result (due.new.items ≡ due.old.items ++ all_spelled (answer frame.now)) }
 {
-    if let Some(said) = said_to(frame) {
-        let absent = Data::Absent;
-        let payload = said.payload.unwrap_or(&absent);
-        append_return(due, said.tag, said.value, said.code, payload)?;
-        append(due, &next())?;
-    }
-    Ok(())
+    let Some(said) = said_to(frame) else {
+        return Ok(());
+    };
+    spell_return(&said, due)?;
+    append(due, &next())
 }
 
 impl Serving {
