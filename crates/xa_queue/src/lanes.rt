@@ -1,5 +1,5 @@
 // Lanes: the entries of one priority, the oldest first.
-ghost use Rattle.std.specs.Prelude.{◌≡◌, ℕ, ◌+◌, ◌<◌, ◌≤◌, length, [], ◌∷◌, ◌++◌, drop, Some, slice_get, slice_index_or, slice_set, OnOk, OnErr, IfOk, IfErr, IfSome, IsSomeAnd, MatchOption};
+ghost use Rattle.std.specs.Prelude.{◌≡◌, ◌<◌, length, [], ◌∷◌, ◌++◌, drop, Some, slice_get, slice_index_or, slice_set, OnOk, OnErr, IfErr, MatchOption};
 ghost use Rattle.xa_queue.specs.Lanes.{lanes_of, AreEmpty, IsHighest, IsOldest, IsChosenLane, first_age, older};
 
 use crate::entry::Aged;

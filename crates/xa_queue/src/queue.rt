@@ -1,10 +1,10 @@
 // The queue: what waits, and its events as they are noted.
-ghost use Rattle.std.specs.Prelude.{◌≡◌, ◌+◌, ◌-◌, ◌^◌, ◌≤◌, ◌<◌, ◌⊎◌, [], ◌∷◌, ◌++◌, ◌==◌, max, length, None, Some, true, false, IfOk, IfErr, OnOk, OnErr, MatchOption, MatchResult, IfSome, IsTrue};
+ghost use Rattle.std.specs.Prelude.{◌≡◌, ◌^◌, ◌≤◌, ◌<◌, ◌⊎◌, [], length, None, Some, true, false, IfOk, IfErr, OnOk, OnErr, MatchOption, MatchResult};
 ghost use Rattle.xa_events.specs.declared.event.Event.TheVariants.{Gone, Down, Close};
 ghost use Rattle.xa_stamp.specs.Home.{last_stamp};
 ghost use Rattle.xa_queue.specs.Queue.{IsSound, has_server, all_gone, none_left};
 ghost use Rattle.xa_queue.specs.Reading.{ReadsAsNoted};
-ghost use Rattle.xa_queue.specs.Changes.{opened, IsEntry, larger, Notes, IsWorn, put_refused, with_entry, noted, next_stamp, TakesAs, with_gone, Sweeps, Drains, IsDrained};
+ghost use Rattle.xa_queue.specs.Changes.{opened, IsEntry, larger, Notes, IsWorn, put_refused, with_entry, TakesAs, with_gone, Sweeps, Drains, IsDrained};
 ghost use Rattle.xa_queue.specs.declared.queue.Refusal.TheVariants as refusals;
 
 use crate::entry::Entry;
@@ -20,7 +20,7 @@ use xa_types::{Generation, NoMemory, QueueId, ServerId, Stamp, Worn};
 const OTHERS: u32 = 4;
 
 /// Why an entry isn't put.
-#[derive(Clone, Copy, Debug, PartialEq, Eq)]
+#[derive(Clone, Copy, PartialEq, Eq)]
 pub enum Refusal {
     /// The queue has no server left.
     Down,
