@@ -7,8 +7,6 @@ mod board;
 #[cfg(test)]
 mod cells;
 #[cfg(test)]
-mod configurations;
-#[cfg(test)]
 mod frames;
 #[cfg(test)]
 mod hostile;
