@@ -166,8 +166,8 @@ fn plays(alloc: Global, service: Name, rows: u16, steps: &[Step]) -> Result<bool
 #[test]
 fn boards_change_and_are_looked_up(rt: HostRuntime) -> Result<(), Fail> {
     let service = Name::read(b"A")?;
-    for (rows, steps) in BOARDS {
-        assert!(rt; plays(rt.alloc(), service, rows, steps)?, "{rows}");
+    for (rows, steps) in &BOARDS {
+        assert!(rt; plays(rt.alloc(), service, *rows, steps)?, "{rows}");
     }
     Ok(())
 }

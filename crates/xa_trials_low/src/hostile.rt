@@ -171,7 +171,7 @@ fn is_partial(alloc: Global, octets: &[u8]) -> bool {
 
 #[test]
 fn hostile_octets_are_told(rt: HostRuntime) {
-    for spelling in SPELLINGS {
+    for spelling in &SPELLINGS {
         assert!(rt; matches!(decode(spelling), Said::Whole(..)));
         for place in 0..spelling.len() {
             let cut = spelling.get(..place).unwrap_or_default();

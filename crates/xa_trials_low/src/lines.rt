@@ -96,9 +96,9 @@ fn reads(alloc: Global, told: Told, descriptor: u64, payload: Payload, want: &[u
 
 #[test]
 fn lines_read_as_they_should(rt: HostRuntime) {
-    for (told, descriptor, payload, want) in LINES {
+    for (told, descriptor, payload, want) in &LINES {
         assert!(rt;
-            reads(rt.alloc(), told, descriptor, payload, want),
+            reads(rt.alloc(), *told, *descriptor, *payload, want),
             "{want:?}"
         );
     }

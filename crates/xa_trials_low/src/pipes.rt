@@ -103,8 +103,8 @@ fn ends_so(alloc: Global, server: &Name, (said, fails, want): Said) -> bool {
 #[test]
 fn each_end_is_told_by_its_cause(rt: HostRuntime) -> Result<(), Fail> {
     let server = Name::read(b"S")?;
-    for row in SAID {
-        assert!(rt; ends_so(rt.alloc(), &server, row), "{:?}", row.2);
+    for row in &SAID {
+        assert!(rt; ends_so(rt.alloc(), &server, *row), "{:?}", row.2);
     }
     Ok(())
 }
@@ -147,8 +147,8 @@ fn takes(alloc: Global, service: &Name, fails: &[u64], idle: &[u64], want: usize
 #[test]
 fn what_is_written_is_taken_or_fails(rt: HostRuntime) -> Result<(), Fail> {
     let service = Name::read(b"ECHO")?;
-    for (fails, idle, want) in TAKEN {
-        assert!(rt; takes(rt.alloc(), &service, fails, idle, want), "{want}");
+    for (fails, idle, want) in &TAKEN {
+        assert!(rt; takes(rt.alloc(), &service, fails, idle, *want), "{want}");
     }
     Ok(())
 }

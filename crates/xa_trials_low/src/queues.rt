@@ -155,7 +155,7 @@ fn keeps_order(
 #[test]
 fn entries_are_taken_by_priority_and_age(rt: HostRuntime) -> Result<(), Fail> {
     let service = Name::read(b"A")?;
-    for (priorities, order) in ORDERS {
+    for (priorities, order) in &ORDERS {
         assert!(rt;
             keeps_order(rt.alloc(), service, priorities, order)?,
             "{order:?}"

@@ -17,8 +17,8 @@ const PRIORITIES: [(u8, Option<(bool, i32)>, u8); 5] = [
 
 #[test]
 fn priorities_stay_within_1_and_100(rt: HostRuntime) {
-    for (own, next, want) in PRIORITIES {
-        assert_eq!(rt; priority(own, next), want, "{own}");
+    for (own, next, want) in &PRIORITIES {
+        assert_eq!(rt; priority(*own, *next), *want, "{own}");
     }
 }
 
@@ -67,12 +67,21 @@ fn is_taken(setup: &Setup, sent: Sent) -> bool
         && admits(&row, &Some(kind), setup) == want
 }
 
+fn are_taken(setup: &Setup) -> bool
+    requires { is_configured setup.now ≡ true }
+{
+    for sent in &SENT {
+        if !is_taken(setup, *sent) {
+            return false;
+        }
+    }
+    true
+}
+
 #[test]
 fn rows_have_and_take_what_is_configured(rt: HostRuntime) -> Result<(), Fail> {
     let setup = xa_config::read(rt.alloc(), SETUP)?;
-    for row in SENT {
-        assert!(rt; is_taken(&setup, row), "{:?}", row.3);
-    }
+    assert!(rt; are_taken(&setup));
     Ok(())
 }
 
@@ -83,6 +92,15 @@ const TRIED: [(u32, Option<QueueId>); 4] = [
     (2, None),
     (4294967295, None),
 ];
+
+fn are_tried(found: &Found) -> bool {
+    for (attempt, want) in &TRIED {
+        if choose(found, *attempt) != *want {
+            return false;
+        }
+    }
+    true
+}
 
 #[test]
 fn each_listed_queue_is_tried_once(rt: HostRuntime) -> Result<(), Fail> {
@@ -97,8 +115,6 @@ fn each_listed_queue_is_tried_once(rt: HostRuntime) -> Result<(), Fail> {
         stamp: Stamp(7),
         rows: Vec::from_array(rt.alloc(), rows)?,
     };
-    for (attempt, want) in TRIED {
-        assert_eq!(rt; choose(&found, attempt), want, "{attempt}");
-    }
+    assert!(rt; are_tried(&found));
     Ok(())
 }

@@ -87,8 +87,8 @@ fn is_told(alloc: Global, octets: &[u8], most: u16, told: Told) -> bool {
 
 #[test]
 fn scripts_are_read_or_their_first_fault_is_told(rt: HostRuntime) {
-    for (octets, most, told) in SCRIPTS {
-        assert!(rt; is_told(rt.alloc(), octets, most, told), "{octets:?}");
+    for (octets, most, told) in &SCRIPTS {
+        assert!(rt; is_told(rt.alloc(), octets, *most, *told), "{octets:?}");
     }
 }
 

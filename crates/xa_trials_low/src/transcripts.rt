@@ -126,8 +126,8 @@ fn reads(
 fn transcripts_read_as_they_should(rt: HostRuntime) -> Result<(), Fail> {
     let first = Name::read(b"first")?;
     let names = [first, Name::read(b"second")?];
-    for (steps, want) in ROWS {
-        assert!(rt; reads(rt.alloc(), &names, first, steps, want)?, "{want:?}");
+    for (steps, want) in &ROWS {
+        assert!(rt; reads(rt.alloc(), &names, first, steps, *want)?, "{want:?}");
     }
     Ok(())
 }
