@@ -31,7 +31,7 @@ use Rattle.xa_tables.specs.Resting.{IsNumbered, attempts}
 use Rattle.xa_domain.specs.Standing.{IsClosedDown, IsHalted, HaveGone, Stands, GoesOn}
 use Rattle.xa_domain.specs.declared.handing.Room.{Room}
 use Rattle.xa_domain.specs.Handing.{HasRoomFor, AreHomesOf, AreHanded}
-use Rattle.xa_domain.specs.Serving.{StarterShows, LinkTells, StartersMatch, EachMadeCalls, EachStarter, AreLives, IsCarried, IsServedWhole, IsServedSoFar, IsWorn, ServeEnds}
+use Rattle.xa_domain.specs.Serving.{StarterShows, LinkTells, StartersMatch, EachMadeCalls, EachStarter, AreLives, IsCarried, IsServedWhole, IsServedSoFar, HasStarters, IsWorn, ServeEnds}
 use Rattle.xa_tables.proofs.Calls.{turn, last_op_now}
 use Rattle.xa_domain.proofs.Merging.{are_homes, dense, merged_is, newest_there}
 use Rattle.xa_domain.proofs.Carrying.{lives_are, each_starter, starters_long, lives_within, each_shown, pipes_handed}
@@ -84,6 +84,14 @@ module _ {L S : Type 0} (tells : LinkTells L) (shows : S → StarterShows) (setu
   pub hands_dense : (past : List Event) → Holds setup (length script) past d → IsDense (record { 0 = 0 }) homes
   hands_dense past holds = dense setup (length script) past homes holds.placed (homes_are past holds)
 
+  each_there : (past : List Event) → Holds setup (length script) past d → length starters ≡ length setup.servers
+  each_there past holds = starters_long shows (attempts d) starters shown_by ∙ (length-map d.servers.items (λ (x : Server). (x.name, x.attempt)) ∙ holds.all_servers)
+
+  -- a halt leaves all starters
+  has_starters : (past : List Event) (halt : Halt) → Holds setup (length script) past d → HasStarters halt setup starters
+  has_starters past NoMemory holds = inl (each_there past holds)
+  has_starters past (Worn stamp) holds = each_there past holds
+
   whole : (past : List Event) → Stands setup script past d → IsClosedDown d → HaveGone script d → IsServedWhole tells shows setup script (reverse past) lives starters
   whole past stands closed gone =
       let same = sym (reverse-reverse past) in
@@ -96,7 +104,7 @@ module _ {L S : Type 0} (tells : LinkTells L) (shows : S → StarterShows) (setu
           calls = subst (λ (events : List Event). EachMadeCalls setup 1 script events) same (each_made setup past 1 script (made_calls setup script past d stands closed.still.none_open gone));
         };
         carried = subst (λ (events : List Event). IsCarried tells shows setup events lives starters) same (record {
-          all = starters_long shows (attempts d) starters shown_by ∙ (length-map d.servers.items (λ (x : Server). (x.name, x.attempt)) ∙ stands.holds.all_servers);
+          all = each_there past stands.holds;
           lives_are = lives_are tells setup (length script) past d lives stands.holds numbered_ handed;
           pipes = pipes_handed tells setup past d.lives.items lives handed (each_shown setup (length script) past d stands.holds numbered_ stands.lives off);
           each = each_starter setup (length script) past d shows starters stands.holds shown_by;
@@ -109,11 +117,12 @@ module _ {L S : Type 0} (tells : LinkTells L) (shows : S → StarterShows) (setu
 
   -- ---- a domain that came to a halt
 
-  so_far : (past : List Event) → Holds setup (length script) past d → IsServedSoFar shows setup script (reverse past) lives starters
-  so_far past holds =
+  so_far : (past : List Event) (halt : Halt) → Holds setup (length script) past d → IsServedSoFar shows halt setup script (reverse past) lives starters
+  so_far past halt holds =
       let same = sym (reverse-reverse past) in
       record {
         run = run_so_far setup (length script) past d holds;
+        all = has_starters past halt holds;
         lives_are = subst (λ (events : List Event). AreLives setup events lives) same (lives_are tells setup (length script) past d lives holds numbered_ handed);
         each = subst (λ (events : List Event). EachStarter setup shows 1 starters events) same (each_starter setup (length script) past d shows starters holds shown_by);
       }
@@ -128,8 +137,8 @@ module _ {L S : Type 0} (tells : LinkTells L) (shows : S → StarterShows) (setu
   pub ends_halted : (halt : Halt) → IsHalted setup (length script) halt d → ServeEnds tells shows setup script (Some halt) homes lives starters
   ends_halted halt halted = (
     worn halted.past halt halted.holds halted.why,
-    λ events merged. subst (λ (es : List Event). IsServedSoFar shows setup script es lives starters) (sym (merged_is setup (length script) halted.past homes halted.holds.placed (homes_are halted.past halted.holds) events merged))
-        (so_far halted.past halted.holds),
+    λ events merged. subst (λ (es : List Event). IsServedSoFar shows halt setup script es lives starters) (sym (merged_is setup (length script) halted.past homes halted.holds.placed (homes_are halted.past halted.holds) events merged))
+        (so_far halted.past halt halted.holds),
   )
 
 -- ---- where nothing is handed back
@@ -144,8 +153,8 @@ none_merged = record { places = []; all = IsPermutation-refl []; ordered = λ k 
 pub ends_with_none : {L S : Type 0} (tells : LinkTells L) (shows : S → StarterShows) (setup : Setup) (script : List ScriptClient) → ServeEnds tells shows setup script (Some NoMemory) [] [] []
 ends_with_none {L = L} tells shows setup script = (
   tt,
-  λ events merged. subst (λ (es : List Event). IsServedSoFar {L = L} shows setup script es [] []) (sym (one_merge [] events [] merged none_merged))
-      (record { run = refl; lives_are = sym (no_lives 1 setup.servers); each = tt }),
+  λ events merged. subst (λ (es : List Event). IsServedSoFar {L = L} shows NoMemory setup script es [] []) (sym (one_merge [] events [] merged none_merged))
+      (record { run = refl; all = inr refl; lives_are = sym (no_lives 1 setup.servers); each = tt }),
 )
 
 pub ends_none : {L S : Type 0} (tells : LinkTells L) (shows : S → StarterShows) (setup : Setup) (script : List ScriptClient) (halt : Option Halt) (homes : List Notes) (lives : List (Life L)) (starters : List S)
@@ -190,9 +199,10 @@ ends_booted {L = L} tells shows setup script past d homes lives kept handed numb
     let same = sym (reverse-reverse past) in
     let are : AreHomes setup (length script) past homes = subst (λ (all : List Notes). AreHomes setup (length script) past all) (sym kept.all) (are_homes setup (length script) past d holds kept.board kept.clock kept.changes kept.none) in (
       tt,
-      λ events merged. subst (λ (es : List Event). IsServedSoFar {L = L} shows setup script es lives []) (sym (merged_is setup (length script) past homes holds.placed are events merged))
+      λ events merged. subst (λ (es : List Event). IsServedSoFar {L = L} shows NoMemory setup script es lives []) (sym (merged_is setup (length script) past homes holds.placed are events merged))
           (record {
             run = run_so_far setup (length script) past d holds;
+            all = inr refl;
             lives_are = subst (λ (es : List Event). AreLives setup es lives) same (lives_are tells setup (length script) past d lives holds number handed);
             each = tt;
           }),

@@ -1,5 +1,5 @@
 -- What serving a script comes to (this project's own).
-use Rattle.std.specs.Prelude.{◌≡◌, ◌≤◌, ◌<◌, ◌^◌, ◌+◌, ◌-◌, min, not, ℕ, zero, suc, true, List, [], ◌∷◌, ◌++◌, length, reverse, map, Option, Some, None, IfSome, ⊤}
+use Rattle.std.specs.Prelude.{◌≡◌, ◌≤◌, ◌<◌, ◌^◌, ◌+◌, ◌-◌, min, not, ℕ, zero, suc, true, List, [], ◌∷◌, ◌++◌, length, reverse, map, Option, Some, None, IfSome, ⊤, ◌⊎◌}
 use Rattle.std.specs.List.{All, Contains, list_all}
 use Rattle.xa_types.specs.declared.setup.Setup.{Setup}
 use Rattle.xa_types.specs.declared.setup.ServerSetup.{ServerSetup}
@@ -113,10 +113,16 @@ pub record IsServedWhole {L S : Type 0} (tells : LinkTells L) (shows : S → Sta
   pub machine : IsHistory setup clients events
   pub carried : IsCarried tells shows setup (reverse events) lives starters
 
+-- each server has its starter; where memory ran out before there was any, there is none
+abbrev pub HasStarters : {S : Type 0} → Halt → Setup → List S → Type 0
+HasStarters NoMemory setup starters = (length starters ≡ length setup.servers) ⊎ (starters ≡ [])
+HasStarters (Worn stamp) setup starters = length starters ≡ length setup.servers
+
 -- the merged events are the first of a run, and the lives and the starters' starts are those of these events; of the clients only their
 -- number counts, and of the links nothing is said
-pub record IsServedSoFar {L S : Type 0} (shows : S → StarterShows) (setup : Setup) (clients : List Client) (events : List Event) (lives : List (Life L)) (starters : List S) : Type 0 where
+pub record IsServedSoFar {L S : Type 0} (shows : S → StarterShows) (halt : Halt) (setup : Setup) (clients : List Client) (events : List Event) (lives : List (Life L)) (starters : List S) : Type 0 where
   pub run : Run (opening setup (length clients)) events (record { setup = setup; clients = length clients; past = reverse events })
+  pub all : HasStarters halt setup starters
   pub lives_are : AreLives setup (reverse events) lives
   pub each : EachStarter setup shows 1 starters (reverse events)
 
@@ -129,7 +135,7 @@ IsWorn (Worn stamp) homes = Contains (stamps_of homes) stamp.0 × (2 ^ 63 ≤ st
 abbrev pub ServeEnds : {L S : Type 0} → LinkTells L → (S → StarterShows) → Setup → List Client → Option Halt → List Notes → List (Life L) → List S → Type 0
 ServeEnds tells shows setup clients None homes lives starters = (events : List Event) → IsMerged homes events → IsServedWhole tells shows setup clients events lives starters
 ServeEnds tells shows setup clients (Some halt) homes lives starters =
-    IsWorn halt homes × ((events : List Event) → IsMerged homes events → IsServedSoFar shows setup clients events lives starters)
+    IsWorn halt homes × ((events : List Event) → IsMerged homes events → IsServedSoFar shows halt setup clients events lives starters)
 
 -- what a starter of the server of that name shows, by what came of its one start
 abbrev pub asked_by : List ℕ → Attempt → List (List ℕ × Generation)

@@ -1,5 +1,5 @@
 -- How a run ends, by how its parts do.
-use Rattle.std.proofs.Common.{◌≡◌, ℕ, List, length, reverse, Option, Some, None, inr, refl, sym, subst}
+use Rattle.std.proofs.Common.{◌≡◌, ℕ, List, length, reverse, Option, Some, None, inl, inr, refl, sym, subst}
 use Rattle.xa_types.specs.declared.setup.Setup.{Setup}
 use Rattle.xa_events.specs.declared.event.Event.{Event}
 use Rattle.xa_stamp.specs.Home.{Notes}
@@ -24,8 +24,8 @@ use Rattle.xa_program.specs.Progress.{IsUntold, TellingEnds}
 
 -- a whole run is one so far
 so_far : {L S : Type 0} (tells : LinkTells L) (shows : S → StarterShows) (setup : Setup) (clients : List Client) (events : List Event) (lives : List (Life L)) (starters : List S)
-    → IsServedWhole tells shows setup clients events lives starters → IsServedSoFar shows setup clients events lives starters
-so_far tells shows setup clients events lives starters whole = record { run = whole.machine.run; lives_are = whole.carried.lives_are; each = whole.carried.each }
+    → IsServedWhole tells shows setup clients events lives starters → IsServedSoFar shows halts.NoMemory setup clients events lives starters
+so_far tells shows setup clients events lives starters whole = record { run = whole.machine.run; all = inl whole.carried.all; lives_are = whole.carried.lives_are; each = whole.carried.each }
 
 -- the calls of a run that came to its end are in turn
 pub turns : {L S : Type 0} (tells : LinkTells L) (shows : S → StarterShows) (setup : Setup) (clients : List Client) (halt : Option Halt) (homes : List Notes) (lives : List (Life L)) (starters : List S)
@@ -36,10 +36,10 @@ turns tells shows setup clients (Some halt) homes lives starters ends over event
 module _ {L S : Type 0} (tells : LinkTells L) (shows : S → StarterShows) (streams : Streams) (setup : Setup) (most : ℕ) (clients : List Client)
     (homes : List Notes) (history : List Event) (lives : List (Life L)) (starters : List S)
     (script : IsTheScript most streams.input clients) (reads : ReadsWell streams) (dense : IsDense (record { 0 = 0 }) homes) where
-  halted : IsUntold homes streams.took_before streams.took_after streams.writes_before streams.writes_after history
-      → ((events : List Event) → IsMerged homes events → IsServedSoFar shows setup clients events lives starters)
-      → IsHaltedRun shows streams setup most clients homes history lives starters
-  halted untold sound = record {
+  halted : (halt : Halt) → IsUntold homes streams.took_before streams.took_after streams.writes_before streams.writes_after history
+      → ((events : List Event) → IsMerged homes events → IsServedSoFar shows halt setup clients events lives starters)
+      → IsHaltedRun shows streams halt setup most clients homes history lives starters
+  halted halt untold sound = record {
     script = script;
     reads = reads;
     silent = record { took = untold.took; writes = untold.wrote };
@@ -54,10 +54,11 @@ module _ {L S : Type 0} (tells : LinkTells L) (shows : S → StarterShows) (stre
       → ScriptEnds tells shows streams setup most status homes history lives starters
   served_ends None Done ends told = (clients, record { script = script; reads = reads; merged = told.0; dense = dense; whole = ends history told.0 }, told.1, told.2)
   served_ends None WriteFault ends told = (clients, record { script = script; reads = reads; merged = told.0; dense = dense; whole = ends history told.0 }, told.1, told.2)
-  served_ends None NoMemory ends told = inr (clients, halted told (λ events merged. so_far tells shows setup clients events lives starters (ends events merged)))
-  served_ends (Some halts.NoMemory) NoMemory ends told = inr (clients, halted told ends.1)
+  served_ends None NoMemory ends told = inr (clients, halted halts.NoMemory told (λ events merged. so_far tells shows setup clients events lives starters (ends events merged)))
+  served_ends (Some halts.NoMemory) NoMemory ends told = inr (clients, halted halts.NoMemory told ends.1)
   served_ends (Some (halts.Worn stamp)) (Worn last) ends told =
-      (clients, halted told.1 ends.1, subst (λ s. IsWorn (halts.Worn s) homes) (sym told.0) ends.0)
+      subst (λ s. (clients : List Client) × IsHaltedRun shows streams (halts.Worn s) setup most clients homes history lives starters × IsWorn (halts.Worn s) homes) (sym told.0)
+          (clients, halted (halts.Worn stamp) told.1 ends.1, ends.0)
   served_ends halt status ends told = absurd told
 
 -- how serving a script ends, at that status

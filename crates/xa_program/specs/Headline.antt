@@ -9,6 +9,7 @@ use Rattle.xa_script.specs.declared.script.Client.{Client}
 use Rattle.xa_script.specs.Script.{IsScript, IsFirstFault}
 use Rattle.xa_text.specs.Transcript.{transcript}
 use Rattle.xa_domain.specs.declared.serving.Life.{Life}
+use Rattle.xa_tables.specs.declared.halt.Halt.{Halt}
 use Rattle.xa_tables.specs.declared.halt.Halt.TheVariants as halts
 use Rattle.xa_domain.specs.Serving.{StarterShows, LinkTells, IsServedWhole, IsServedSoFar, IsWorn}
 use Rattle.xa_program.specs.declared.words.Command.{Command}
@@ -91,14 +92,14 @@ pub record IsServedRun {L S : Type 0} (tells : LinkTells L) (shows : S → Start
 -- what came from the input, to its end, is the script of these clients, and nothing was written; the merge of the homes, whose stamps are dense,
 -- is the beginning of a run of the setup with so many clients, and the lives and the starters' starts are those of these events; the history is that
 -- merge, or there is none
-pub record IsHaltedRun {L S : Type 0} (shows : S → StarterShows) (streams : Streams) (setup : Setup) (most : ℕ) (clients : List Client)
+pub record IsHaltedRun {L S : Type 0} (shows : S → StarterShows) (streams : Streams) (halt : Halt) (setup : Setup) (most : ℕ) (clients : List Client)
     (homes : List Notes) (history : List Event) (lives : List (Life L)) (starters : List S) : Type 0 where
   pub script : IsTheScript most streams.input clients
   pub reads : ReadsWell streams
   pub silent : IsSilent streams
   pub merged : (history ≡ []) ⊎ IsMerged homes history
   pub dense : IsDense (record { 0 = 0 }) homes
-  pub so_far : (events : List Event) → IsMerged homes events → IsServedSoFar shows setup clients events lives starters
+  pub so_far : (events : List Event) → IsMerged homes events → IsServedSoFar shows halt setup clients events lives starters
 
 -- ---- how a run ends
 
@@ -114,10 +115,10 @@ ScriptEnds tells shows streams setup most ScriptRead homes history lives starter
 ScriptEnds tells shows streams setup most (TooLong inputs.Script) homes history lives starters = CameOver streams.input longest_script × ReadsWell streams × IsSilent streams
 ScriptEnds tells shows streams setup most (BadLine line cause) homes history lives starters = HasFirstFault most streams.input line cause × ReadsWell streams × IsSilent streams
 ScriptEnds tells shows streams setup most (Worn stamp) homes history lives starters =
-    (clients : List Client) × IsHaltedRun shows streams setup most clients homes history lives starters × IsWorn (halts.Worn stamp) homes
+    (clients : List Client) × IsHaltedRun shows streams (halts.Worn stamp) setup most clients homes history lives starters × IsWorn (halts.Worn stamp) homes
 ScriptEnds tells shows streams setup most NoMemory homes history lives starters =
     (ReadsWell streams × IsSilent streams × HandsNothing homes history lives starters)
-    ⊎ ((clients : List Client) × IsHaltedRun shows streams setup most clients homes history lives starters)
+    ⊎ ((clients : List Client) × IsHaltedRun shows streams halts.NoMemory setup most clients homes history lives starters)
 ScriptEnds tells shows streams setup most status homes history lives starters = ⊥
 
 -- whether the command serves a script
