@@ -28,10 +28,8 @@ pub struct ShapeSetup {
     pub fields: Sequence<FieldSetup>,
 }
 
-impl ShapeSetup {
-    fn copy(&self, alloc: Global) -> Result<ShapeSetup, NoMemory>
-        ensures { IfOk result (λ copied. copied ≡ self.now) }
-    {
+impl Entry for ShapeSetup {
+    fn copy(&self, alloc: Global) -> Result<ShapeSetup, NoMemory> {
         Ok(ShapeSetup {
             name: self.name,
             fields: Sequence::from_vec(Vec::from_slice(alloc, self.fields.slice())?),
@@ -68,10 +66,8 @@ fn copy_program(program: &Option<Octets>, alloc: Global) -> Result<Option<Octets
     }
 }
 
-impl ServerSetup {
-    fn copy(&self, alloc: Global) -> Result<ServerSetup, NoMemory>
-        ensures { IfOk result (λ copied. copied ≡ self.now) }
-    {
+impl Entry for ServerSetup {
+    fn copy(&self, alloc: Global) -> Result<ServerSetup, NoMemory> {
         Ok(ServerSetup {
             name: self.name,
             queue: self.queue,
@@ -95,10 +91,8 @@ pub struct ServiceSetup {
     pub conversational: bool,
 }
 
-impl ServiceSetup {
-    fn copy(&self, alloc: Global) -> Result<ServiceSetup, NoMemory>
-        ensures { IfOk result (λ copied. copied ≡ self.now) }
-    {
+impl Entry for ServiceSetup {
+    fn copy(&self, alloc: Global) -> Result<ServiceSetup, NoMemory> {
         Ok(ServiceSetup {
             name: self.name,
             routine: self.routine,
@@ -121,34 +115,21 @@ pub struct Setup {
     pub services: Sequence<ServiceSetup>,
 }
 
-fn copy_shapes(shapes: &[ShapeSetup], alloc: Global) -> Result<Vec<ShapeSetup>, NoMemory>
-    ensures { IfOk result (λ all. all.items ≡ shapes.now) }
-{
-    let mut all = Vec::new(alloc);
-    for shape in shapes {
-        all.push(shape.copy(alloc)?)?;
-    }
-    Ok(all)
+// What a setup has several of.
+trait Entry: Drop {
+    fn copy(&self, alloc: Global) -> Result<Self, NoMemory>
+        ensures { IfOk result (λ copied. copied ≡ self.now) };
 }
 
-fn copy_servers(servers: &[ServerSetup], alloc: Global) -> Result<Vec<ServerSetup>, NoMemory>
-    ensures { IfOk result (λ all. all.items ≡ servers.now) }
+fn copy_entries<E: Entry>(entries: &Sequence<E>, alloc: Global) -> Result<Sequence<E>, NoMemory>
+    ensures { IfOk result (λ copied. copied ≡ entries.now) }
 {
-    let mut all = Vec::new(alloc);
-    for server in servers {
-        all.push(server.copy(alloc)?)?;
+    let entries = entries.slice();
+    let mut copies = Vec::with_capacity(alloc, entries.len())?;
+    for entry in entries {
+        copies.push_reserved(entry.copy(alloc)?);
     }
-    Ok(all)
-}
-
-fn copy_services(services: &[ServiceSetup], alloc: Global) -> Result<Vec<ServiceSetup>, NoMemory>
-    ensures { IfOk result (λ all. all.items ≡ services.now) }
-{
-    let mut all = Vec::new(alloc);
-    for service in services {
-        all.push(service.copy(alloc)?)?;
-    }
-    Ok(all)
+    Ok(Sequence::from_vec(copies))
 }
 
 impl Setup {
@@ -159,10 +140,10 @@ impl Setup {
         Ok(Setup {
             block_time: self.block_time,
             blocks: self.blocks,
-            shapes: Sequence::from_vec(copy_shapes(self.shapes.slice(), alloc)?),
+            shapes: copy_entries(&self.shapes, alloc)?,
             queues: Sequence::from_vec(Vec::from_slice(alloc, self.queues.slice())?),
-            servers: Sequence::from_vec(copy_servers(self.servers.slice(), alloc)?),
-            services: Sequence::from_vec(copy_services(self.services.slice(), alloc)?),
+            servers: copy_entries(&self.servers, alloc)?,
+            services: copy_entries(&self.services, alloc)?,
         })
     }
 }
