@@ -6,7 +6,7 @@ ghost use Rattle.xa_text.specs.Line.{hex_pair, hex, data_text, coded, answer_tex
 ghost use Rattle.std.specs.Io.{StartsWith};
 
 use itoa::Buffer;
-use xa_types::{Answer, ConvEvent, Data, Name, NoMemory, Reply};
+use xa_types::{Answer, ConvEvent, Data, Fault, Name, NoMemory, Reply};
 
 pub(crate) fn push_text(out: &mut Vec<u8>, text: &[u8]) -> Result<(), NoMemory>
     ensures ok { OnOk result (out.new.items ≡ out.old.items ++ text.now) }
@@ -163,24 +163,48 @@ pub(crate) fn push_event(
     push_event_rest(out, event, code, payload)
 }
 
-pub(crate) fn push_reply(out: &mut Vec<u8>, reply: &Reply) -> Result<(), NoMemory>
+pub(crate) fn push_done(out: &mut Vec<u8>) -> Result<(), NoMemory>
+    ensures ok { OnOk result (out.new.items ≡ out.old.items ++ reply_text Reply.Done) }
+    ensures err { OnErr result (StartsWith out.new.items out.old.items) }
+{
+    push_text(out, b"DONE")
+}
+
+pub(crate) fn push_given(out: &mut Vec<u8>, descriptor: u64) -> Result<(), NoMemory>
+    ensures ok { OnOk result (out.new.items ≡ out.old.items ++ reply_text (Reply.Descriptor descriptor)) }
+    ensures err { OnErr result (StartsWith out.new.items out.old.items) }
+{
+    push_text(out, b"CD ")?;
+    push_number(out, descriptor)
+}
+
+pub(crate) fn push_now(out: &mut Vec<u8>, tick: u64) -> Result<(), NoMemory>
+    ensures ok { OnOk result (out.new.items ≡ out.old.items ++ reply_text (Reply.Now tick)) }
+    ensures err { OnErr result (StartsWith out.new.items out.old.items) }
+{
+    push_text(out, b"NOW ")?;
+    push_number(out, tick)
+}
+
+pub(crate) fn push_fault(out: &mut Vec<u8>, fault: Fault) -> Result<(), NoMemory>
+    ensures ok { OnOk result (out.new.items ≡ out.old.items ++ reply_text (Reply.Fault fault)) }
+    ensures err { OnErr result (StartsWith out.new.items out.old.items) }
+{
+    push_text(out, fault.text().as_bytes())
+}
+
+fn push_reply(out: &mut Vec<u8>, reply: &Reply) -> Result<(), NoMemory>
     ensures ok { OnOk result (out.new.items ≡ out.old.items ++ reply_text reply.now) }
     ensures err { OnErr result (StartsWith out.new.items out.old.items) }
 {
     match reply {
-        Reply::Done => push_text(out, b"DONE"),
-        Reply::Descriptor(descriptor) => {
-            push_text(out, b"CD ")?;
-            push_number(out, *descriptor)
-        }
-        Reply::Now(tick) => {
-            push_text(out, b"NOW ")?;
-            push_number(out, *tick)
-        }
+        Reply::Done => push_done(out),
+        Reply::Descriptor(descriptor) => push_given(out, *descriptor),
+        Reply::Now(tick) => push_now(out, *tick),
         Reply::Answered(descriptor, answer) => push_answered(out, *descriptor, answer),
         Reply::Message(payload) => push_message(out, payload),
         Reply::Event(event, code, payload) => push_event(out, *event, *code, payload),
-        Reply::Fault(fault) => push_text(out, fault.text().as_bytes()),
+        Reply::Fault(fault) => push_fault(out, *fault),
     }
 }
 

@@ -8,10 +8,13 @@ ghost use Rattle.xa_text.specs.Telling.{IsTold};
 ghost use Rattle.xa_text.specs.InTurn.{IsInTurn, CallsInTurn, AllInTurn};
 ghost use Rattle.xa_text.specs.Transcript.{lines_up_to, transcript};
 
-use crate::line::{push_answered, push_call, push_event, push_message, push_reply, push_text};
+use crate::line::{
+    push_answered, push_call, push_done, push_event, push_fault, push_given, push_message,
+    push_now, push_text,
+};
 use std::alloc::Global;
 use xa_events::{Accepted, Event, Evidence, Item, Refused, Replied};
-use xa_types::{Answer, ConvEvent, Data, Fault, Mode, Name, NoMemory, Octets, Reply};
+use xa_types::{Answer, ConvEvent, Data, Fault, Mode, Name, NoMemory, Octets};
 
 // The caller of the event and the number of its call, where it belongs to one.
 fn call_in(event: &Event) -> Option<(u16, u32)>
@@ -79,7 +82,7 @@ fn push_refusal(out: &mut Vec<u8>, refused: &Refused) -> Result<(), NoMemory>
 {
     match refused.evidence {
         Evidence::Ended(_, event, _) => push_event(out, event, 0, &Data::Absent),
-        _ => push_reply(out, &Reply::Fault(refused.fault)),
+        _ => push_fault(out, refused.fault),
     }
 }
 
@@ -99,14 +102,14 @@ fn push_shown(out: &mut Vec<u8>, event: &Event, before: u32) -> Result<(), NoMem
         → out.new.items ≡ out.old.items ++ reply_text (reply_shown_by event.now past)) }
 {
     match event {
-        Event::Accept(accepted) => push_reply(out, &Reply::Descriptor(descriptor_given(accepted))),
-        Event::Tick(ticked) => push_reply(out, &Reply::Now(ticked.now)),
+        Event::Accept(accepted) => push_given(out, descriptor_given(accepted)),
+        Event::Tick(ticked) => push_now(out, ticked.now),
         Event::Answer(answered) => {
             push_answered(out, descriptor_of(answered, before), &answered.answer)
         }
-        Event::Lapse(_) => push_reply(out, &Reply::Fault(Fault::Time)),
+        Event::Lapse(_) => push_fault(out, Fault::Time),
         Event::Refuse(refused) => push_refusal(out, refused),
-        Event::NotYet(_) => push_reply(out, &Reply::Fault(Fault::Block)),
+        Event::NotYet(_) => push_fault(out, Fault::Block),
         Event::Receive(received) => push_item(out, &received.item),
         Event::Advertise(_)
         | Event::Withdraw(_)
@@ -124,7 +127,7 @@ fn push_shown(out: &mut Vec<u8>, event: &Event, before: u32) -> Result<(), NoMem
         | Event::Leave(_)
         | Event::Send(_)
         | Event::Break(_)
-        | Event::Priority(_) => push_reply(out, &Reply::Done),
+        | Event::Priority(_) => push_done(out),
     }
 }
 
