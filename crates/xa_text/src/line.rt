@@ -15,18 +15,15 @@ pub(crate) fn push_text(out: &mut Vec<u8>, text: &[u8]) -> Result<(), NoMemory>
     Ok(out.extend_from_slice(text)?)
 }
 
-fn push_number(out: &mut Vec<u8>, number: u64) -> Result<(), NoMemory>
-    ensures ok { OnOk result (out.new.items ≡ out.old.items ++ decimal number) }
+// Puts these texts at the end, one after another.
+fn push_texts(out: &mut Vec<u8>, texts: &[&[u8]]) -> Result<(), NoMemory>
+    ensures ok { OnOk result (out.new.items ≡ out.old.items ++ flat_map (λ text. text.now) texts.now) }
     ensures err { OnErr result (StartsWith out.new.items out.old.items) }
 {
-    push_text(out, Buffer::new().format(number).as_bytes())
-}
-
-fn push_code(out: &mut Vec<u8>, code: i32) -> Result<(), NoMemory>
-    ensures ok { OnOk result (out.new.items ≡ out.old.items ++ signed_decimal code) }
-    ensures err { OnErr result (StartsWith out.new.items out.old.items) }
-{
-    push_text(out, Buffer::new().format(code).as_bytes())
+    for text in texts {
+        push_text(out, text)?;
+    }
+    Ok(())
 }
 
 fn push_pairs(out: &mut Vec<u8>, octets: &[u8]) -> Result<(), NoMemory>
@@ -62,9 +59,7 @@ fn push_data(out: &mut Vec<u8>, payload: &Data) -> Result<(), NoMemory>
             push_hex(out, octets.slice())
         }
         Data::Struct(subtype, octets) => {
-            push_text(out, b"c:")?;
-            push_text(out, subtype.octets())?;
-            push_text(out, b" ")?;
+            push_texts(out, &[b"c:", subtype.octets(), b" "])?;
             push_hex(out, octets.slice())
         }
     }
@@ -74,9 +69,8 @@ fn push_coded(out: &mut Vec<u8>, code: i32, payload: &Data) -> Result<(), NoMemo
     ensures ok { OnOk result (out.new.items ≡ out.old.items ++ coded code payload.now) }
     ensures err { OnErr result (StartsWith out.new.items out.old.items) }
 {
-    push_text(out, b" ")?;
-    push_code(out, code)?;
-    push_text(out, b" ")?;
+    let mut digits = Buffer::new();
+    push_texts(out, &[b" ", digits.format(code).as_bytes(), b" "])?;
     push_data(out, payload)
 }
 
@@ -105,9 +99,8 @@ fn push_descriptor(out: &mut Vec<u8>, descriptor: u64) -> Result<(), NoMemory>
     if descriptor == 0 {
         return Ok(());
     }
-    push_text(out, b"CD ")?;
-    push_number(out, descriptor)?;
-    push_text(out, b" ")
+    let mut digits = Buffer::new();
+    push_texts(out, &[b"CD ", digits.format(descriptor).as_bytes(), b" "])
 }
 
 pub(crate) fn push_answered(
@@ -158,8 +151,7 @@ pub(crate) fn push_event(
     ensures ok { OnOk result (out.new.items ≡ out.old.items ++ reply_text (Event event code payload.now)) }
     ensures err { OnErr result (StartsWith out.new.items out.old.items) }
 {
-    push_text(out, b"TPEEVENT ")?;
-    push_text(out, event.text().as_bytes())?;
+    push_texts(out, &[b"TPEEVENT ", event.text().as_bytes()])?;
     push_event_rest(out, event, code, payload)
 }
 
@@ -174,16 +166,16 @@ pub(crate) fn push_given(out: &mut Vec<u8>, descriptor: u64) -> Result<(), NoMem
     ensures ok { OnOk result (out.new.items ≡ out.old.items ++ reply_text (Reply.Descriptor descriptor)) }
     ensures err { OnErr result (StartsWith out.new.items out.old.items) }
 {
-    push_text(out, b"CD ")?;
-    push_number(out, descriptor)
+    let mut digits = Buffer::new();
+    push_texts(out, &[b"CD ", digits.format(descriptor).as_bytes()])
 }
 
 pub(crate) fn push_now(out: &mut Vec<u8>, tick: u64) -> Result<(), NoMemory>
     ensures ok { OnOk result (out.new.items ≡ out.old.items ++ reply_text (Reply.Now tick)) }
     ensures err { OnErr result (StartsWith out.new.items out.old.items) }
 {
-    push_text(out, b"NOW ")?;
-    push_number(out, tick)
+    let mut digits = Buffer::new();
+    push_texts(out, &[b"NOW ", digits.format(tick).as_bytes()])
 }
 
 pub(crate) fn push_fault(out: &mut Vec<u8>, fault: Fault) -> Result<(), NoMemory>
@@ -212,10 +204,11 @@ pub(crate) fn push_call(out: &mut Vec<u8>, name: &Name, op: u32) -> Result<(), N
     ensures ok { OnOk result (out.new.items ≡ out.old.items ++ call_text name.now op) }
     ensures err { OnErr result (StartsWith out.new.items out.old.items) }
 {
-    push_text(out, name.octets())?;
-    push_text(out, b" ")?;
-    push_number(out, u64::from(op))?;
-    push_text(out, b" ")
+    let mut digits = Buffer::new();
+    push_texts(
+        out,
+        &[name.octets(), b" ", digits.format(op).as_bytes(), b" "],
+    )
 }
 
 /// Puts one line of the transcript at the end: what the client of that name was told of its call with that number.
