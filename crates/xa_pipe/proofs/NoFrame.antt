@@ -1,5 +1,6 @@
--- What a reader that gives no frame comes to.
-use Rattle.std.proofs.Common.{◌≡◌, ℕ, ◌+◌, ◌<◌, ◌≤◌, true, List, length, Option, ap, subst, ◌∙◌, inl, inr, arith}
+-- What a reader that gives a frame comes to, and one that gives none.
+use Rattle.std.proofs.Common.{◌≡◌, ℕ, ◌+◌, ◌-◌, ◌^◌, ◌<◌, ◌≤◌, true, List, [], ◌∷◌, ◌++◌, length, Option, refl, ap, subst, ◌∙◌, inl, inr, arith}
+use Rattle.std.specs.Prelude.{min}
 use Rattle.std.proofs.Transfers.{starts_with_of_append}
 use Rattle.std.proofs.lemmas.Grind.{common_steps}
 use Rattle.std.proofs.lemmas.List.{length-append}
@@ -7,11 +8,11 @@ use Rattle.xa_frame.specs.declared.frame.Frame.{Frame}
 use Rattle.xa_frame.specs.declared.reader.NextRefused.{NextRefused}
 use Rattle.xa_frame.specs.declared.reader.NextRefused.TheVariants.{BadFrame, NoMemory}
 use Rattle.xa_frame.specs.Reader.{Incoming, Refused}
-use Rattle.xa_frame.specs.Spelling.{header, all_spelled}
+use Rattle.xa_frame.specs.Spelling.{header, spelled, all_spelled}
 use Rattle.xa_frame.specs.Stream.{allows, IsPartial}
 use Rattle.xa_pipe.specs.Pipe.{Piped, HasRead, Keeps, ReadsNone, ended_by}
 use Rattle.xa_pipe.proofs.Ceasing.{stands_more}
-use Rattle.xa_pipe.proofs.Frames.{told_more}
+use Rattle.xa_pipe.proofs.Frames.{told_more, read_more}
 
 few_octets : (kind size : ℕ) → allows kind size ≡ true → size ≤ 66_000
 few_octets kind size allowed = grind (arith, common_steps)
@@ -27,6 +28,11 @@ partial_few octets (inr (kind, size, tag, body, lacks)) =
 -- the pipe with what its reader holds
 abbrev pub piped : Option (List ℕ) → Option (List ℕ) → Option (List ℕ) → ℕ → ℕ → Incoming → Piped
 piped took gave left reads writes reader = record { took = took; gave = gave; left = left; reads = reads; writes = writes; rest = reader.rest; place = reader.place }
+
+-- where it gives a frame, that was read behind the others
+pub reads_next : (took gave left : Option (List ℕ)) (reads writes : ℕ) (old new : Incoming) (frames : List Frame) (f : Frame) → old.rest ≡ spelled f ++ new.rest → new.place ≡ min (old.place + length (spelled f)) (2 ^ 64 - 1)
+    → HasRead (piped took gave left reads writes old) frames → HasRead (piped took gave left reads writes new) (frames ++ f ∷ [])
+reads_next took gave left reads writes old new frames f stood moved read = read_more (piped took gave left reads writes old) (piped took gave left reads writes new) frames f refl stood moved read
 
 refused_same : (took gave left : Option (List ℕ)) (reads writes : ℕ) (reader : Incoming) (frames : List Frame) (why : NextRefused) → Refused reader reader why → HasRead (piped took gave left reads writes reader) frames
     → Keeps (piped took gave left reads writes reader) frames (ended_by why) × ReadsNone (piped took gave left reads writes reader) frames (ended_by why)

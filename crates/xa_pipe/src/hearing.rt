@@ -48,6 +48,30 @@ fn is_next(frame: &Frame) -> bool
     }
 }
 
+// Whether the frame is READY with that name; else it is out of turn.
+fn ready_in(frame: &Frame, server: &Name) -> Result<(), StopCause>
+    ensures yes { OnOk result (frame.now ≡ ready_frame server.now) }
+    ensures no { IfErr result (λ cause. (cause ≡ OutOfTurn (kind_octet frame.now.body) frame.now.tag) × (frame.now ≡ ready_frame server.now → ⊥)) }
+{
+    if is_ready(frame, server) {
+        Ok(())
+    } else {
+        Err(out_of_turn(frame))
+    }
+}
+
+// Whether the frame is NEXT; else it is out of turn.
+fn next_in(frame: &Frame) -> Result<(), StopCause>
+    ensures yes { OnOk result (frame.now ≡ next_frame) }
+    ensures no { IfErr result (λ cause. (cause ≡ OutOfTurn (kind_octet frame.now.body) frame.now.tag) × (frame.now ≡ next_frame → ⊥)) }
+{
+    if is_next(frame) {
+        Ok(())
+    } else {
+        Err(out_of_turn(frame))
+    }
+}
+
 // What the frame returns, where it is a RETURN to that invocation.
 fn return_in(frame: Frame, number: u32) -> Result<Return, StopCause>
     ensures yes { IfOk result (λ back. frame ≡ return_frame number back.value back.code back.payload) }
@@ -77,11 +101,7 @@ impl<L: Link> Pipe<L> {
         ensures counts { IfErr result (λ cause. CountsReads cause self.old.reads self.new.reads) }
     {
         let frame = self.read()?;
-        if is_ready(&frame, server) {
-            Ok(())
-        } else {
-            Err(out_of_turn(&frame))
-        }
+        ready_in(&frame, server)
     }
 
     /// Reads READY with that server's name, and NEXT. Else it answers why the life ended: EndOfInput, ReadFault,
@@ -110,11 +130,7 @@ impl<L: Link> Pipe<L> {
         ensures counts { IfErr result (λ cause. CountsReads cause self.old.reads self.new.reads) }
     {
         let frame = self.read()?;
-        if is_next(&frame) {
-            Ok(())
-        } else {
-            Err(out_of_turn(&frame))
-        }
+        next_in(&frame)
     }
 
     /// Reads the RETURN to that invocation. Else it answers why the life ended, as `greet` does.

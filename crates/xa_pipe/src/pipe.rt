@@ -12,7 +12,7 @@ use std::marker::Model;
 use xa_events::StopCause;
 use xa_frame::{Body, Frame, NextRefused, Reader, append, append_invoke};
 use xa_link::{Link, put};
-use xa_types::{Data, Mode, Name};
+use xa_types::{Data, Mode, Name, NoMemory};
 
 // How many octets one read takes at most.
 const PIECE: usize = 8192;
@@ -41,6 +41,17 @@ impl<L: Link> Model for Pipe<L> {
     } };
 }
 
+// Puts the octets of SHUTDOWN at the end.
+fn append_shutdown(out: &mut Vec<u8>) -> Result<(), NoMemory>
+    ensures { OnOk result (out.new.items ≡ out.old.items ++ spelled shutdown_frame) }
+{
+    let frame = Frame {
+        tag: 0,
+        body: Body::Shutdown,
+    };
+    append(out, &frame)
+}
+
 // Writes the octets: WriteFault where the link fails.
 fn write<L: Link>(link: &mut L, octets: &[u8]) -> Result<(), StopCause>
     ensures took { OnOk result (Grew (L.took link.old) (L.took link.new) octets.now) }
@@ -50,7 +61,10 @@ fn write<L: Link>(link: &mut L, octets: &[u8]) -> Result<(), StopCause>
     ensures well { OnOk result (L.write_faults link.new ≡ L.write_faults link.old) }
     ensures why { IfErr result (λ cause. (cause ≡ StopCause.WriteFault) × Rose (L.write_faults link.old) (L.write_faults link.new)) }
 {
-    put(link, octets).map_err(|_| StopCause::WriteFault)
+    match put(link, octets) {
+        Ok(()) => Ok(()),
+        Err(_) => Err(StopCause::WriteFault),
+    }
 }
 
 // Why the life ends where the reader gives no frame.
@@ -146,12 +160,8 @@ impl<L: Link> Pipe<L> {
         ensures well { OnOk result (self.new.writes ≡ self.old.writes) }
         ensures why { IfErr result (λ cause. CountsWrites cause self.old.writes self.new.writes) }
     {
-        let frame = Frame {
-            tag: 0,
-            body: Body::Shutdown,
-        };
         self.due.clear();
-        let Ok(()) = append(&mut self.due, &frame) else {
+        let Ok(()) = append_shutdown(&mut self.due) else {
             return Err(StopCause::Starved);
         };
         write(&mut self.link, &self.due)
@@ -199,15 +209,13 @@ impl<L: Link> Pipe<L> {
         ensures why { IfErr result (λ cause. (frames : List Frame) → HasRead self.old frames → ReadsNone self.new frames cause) }
         ensures counts { IfErr result (λ cause. CountsReads cause self.old.reads self.new.reads) }
     {
-        let count = self
-            .link
-            .read(&mut self.piece)
-            .map_err(|_| StopCause::ReadFault)?;
-        if count == 0 {
-            return Err(StopCause::EndOfInput);
+        match self.link.read(&mut self.piece) {
+            Err(_) => Err(StopCause::ReadFault),
+            Ok(0) => Err(StopCause::EndOfInput),
+            Ok(count) => match self.reader.feed(&self.piece[..count]) {
+                Ok(()) => Ok(()),
+                Err(_) => Err(StopCause::Starved),
+            },
         }
-        self.reader
-            .feed(&self.piece[..count])
-            .map_err(|_| StopCause::Starved)
     }
 }

@@ -1,13 +1,13 @@
-use Rattle.std.proofs.Common.{rules, refl, subst, ◌<◌, length, arith}
-use Rattle.xa_pipe.proofs.Frames.{read_more}
-use Rattle.xa_pipe.proofs.NoFrame.{partial_few, refused_reads}
+use Rattle.std.proofs.Common.{rules, subst, ◌<◌, length, arith}
+use Rattle.xa_pipe.proofs.NoFrame.{partial_few, reads_next, refused_reads}
 use Rattle.xa_pipe.proofs.pipe.Pipe.read.Goals as goal
 
 pub returns-in-Ok-Some-clause-frame : goal.returns-in-Ok-Some-clause-frame
 returns-in-Ok-Some-clause-frame g c frames read =
     let took = rw c.in-Ok-Some.field-0-is at c.in-Ok-Some.ensures.answered in
     let seen = rw (← c.self.view_is) at (c.loop.invariant.read frames read) in
-    read_more _ _ frames c.in-Ok-Some.frame refl took.begins.whole took.place seen
+    reads_next (g.L.Sink.took c.self.inside.link) (g.L.Source.gave c.self.inside.link) (g.L.Source.left c.self.inside.link) (g.L.Source.read_faults c.self.inside.link) (g.L.Sink.write_faults c.self.inside.link) c.self.inside.reader c.next.new.self frames c.in-Ok-Some.frame
+    took.begins.whole took.place seen
 
 pub pull-requires-clause-few : goal.pull-requires-clause-few
 pull-requires-clause-few g c =
@@ -17,12 +17,12 @@ pull-requires-clause-few g c =
 pub returns-in-Err-clause-kept : goal.returns-in-Err-clause-kept
 returns-in-Err-clause-kept g c frames read =
     let seen = rw (← c.self.view_is) at (c.loop.invariant.read frames read) in
-    rw c.ended_by.ensures (refused_reads _ _ _ _ _ c.self.inside.reader c.next.new.self frames c.in-Err.refused c.in-Err.ensures.answered seen).0
+    rw c.ended_by.ensures (refused_reads (g.L.Sink.took c.self.inside.link) (g.L.Source.gave c.self.inside.link) (g.L.Source.left c.self.inside.link) (g.L.Source.read_faults c.self.inside.link) (g.L.Sink.write_faults c.self.inside.link) c.self.inside.reader c.next.new.self frames c.in-Err.refused c.in-Err.ensures.answered seen).0
 
 pub returns-in-Err-clause-why : goal.returns-in-Err-clause-why
 returns-in-Err-clause-why g c frames read =
     let seen = rw (← c.self.view_is) at (c.loop.invariant.read frames read) in
-    rw c.ended_by.ensures (refused_reads _ _ _ _ _ c.self.inside.reader c.next.new.self frames c.in-Err.refused c.in-Err.ensures.answered seen).1
+    rw c.ended_by.ensures (refused_reads (g.L.Sink.took c.self.inside.link) (g.L.Source.gave c.self.inside.link) (g.L.Source.left c.self.inside.link) (g.L.Source.read_faults c.self.inside.link) (g.L.Sink.write_faults c.self.inside.link) c.self.inside.reader c.next.new.self frames c.in-Err.refused c.in-Err.ensures.answered seen).1
 
 pub loop-preserved : goal.loop-preserved
 loop-preserved g c =

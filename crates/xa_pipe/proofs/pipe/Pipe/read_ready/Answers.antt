@@ -1,6 +1,6 @@
 use Rattle.std.proofs.Common.{refl}
 use Rattle.xa_pipe.specs.Life.Turn.{AwaitsReady}
-use Rattle.xa_pipe.proofs.Ceasing.{err_is, ceases_none, ceases_other}
+use Rattle.xa_pipe.proofs.Ceasing.{err_is, err_more, ceases_none, ceases_other}
 use Rattle.xa_pipe.proofs.pipe.Pipe.read_ready.Goals as goal
 
 pub returns-in_err-frame-clause-why : goal.returns-in_err-frame-clause-why
@@ -9,6 +9,8 @@ returns-in_err-frame-clause-why g c =
     (λ tag frames read. ceases_none c.args.server.now tag AwaitsReady frames c.read.new.self c.in_err-frame.field-0.0 refl (c.in_err-frame.ensures.kept frames read) (c.in_err-frame.ensures.why frames read))
 
 pub returns-clause-why : goal.returns-clause-why
-returns-clause-why g c tag frames read =
-    ceases_other c.args.server.now tag AwaitsReady frames c.read.new.self c.out_of_turn.result c.in_ok-frame.frame c.out_of_turn.ensures refl c.in_ok-frame.ensures.spelling
-    (c.if-is_ready.ensures.no refl) (c.in_ok-frame.ensures.frame frames read)
+returns-clause-why g c =
+    err_more c.ready_in.result _ _
+    (λ cause refused tag frames read.
+    ceases_other c.args.server.now tag AwaitsReady frames c.read.new.self cause c.in_ok-frame.frame refused.0 refl c.in_ok-frame.ensures.spelling refused.1 (c.in_ok-frame.ensures.frame frames read))
+    c.ready_in.ensures.no
