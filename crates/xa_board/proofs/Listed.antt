@@ -1,14 +1,14 @@
 -- The rows that stand, where each has what is configured, are those that the changes leave.
-use Rattle.std.proofs.Common.{◌≡◌, ℕ, ◌-◌, Bool, List, [], ◌∷◌, ◌++◌, map, Option, Some, None, refl, sym, ◌∙◌, ap}
-use Rattle.std.specs.List.{All, filter}
+use Rattle.std.proofs.Common.{◌≡◌, ℕ, Bool, List, [], ◌∷◌, map, Option, Some, None, refl, sym, ◌∙◌, ap}
+use Rattle.std.specs.List.{All}
 use Rattle.std.proofs.lemmas.List.Elements.{All-nil, All-cons, All-head, All-tail, All-append, All-filter}
 use Rattle.xa_types.specs.declared.row.Row.{Row}
 use Rattle.xa_types.specs.declared.setup.Setup.{Setup}
 use Rattle.xa_types.specs.declared.setup.ServiceSetup.{ServiceSetup}
 use Rattle.xa_types.specs.Setup.{service_named}
-use Rattle.xa_types.specs.Rows.{Change, is_row_of, rows, row_with, row_for}
+use Rattle.xa_types.specs.Rows.{Change, rows, row_with, row_for}
 use Rattle.xa_types.specs.Rows.Change.{Put, Remove}
-use Rattle.xa_events.specs.Board.{changes, published, rows_of_version, listed_in}
+use Rattle.xa_events.specs.Board.{changes, rows_of_version, listed_in}
 use Rattle.xa_board.specs.Board.{Standing, ReadsAsNoted, IsAsConfigured, past_of, version_of, put_of, rows_seen}
 use Rattle.xa_board.proofs.Noted.{rows_of_version-last}
 

@@ -1,5 +1,5 @@
 -- The rows of a queue, one turn of a loop after another.
-use Rattle.std.proofs.Common.{◌≡◌, ◌≢◌, ℕ, ◌+◌, ◌<◌, Bool, true, false, ◌==◌, cond, List, [], ◌∷◌, ◌++◌, length, drop, get_or, sym, ◌∙◌, ap, subst, suc, arith, append_assoc, length-append, eq-eqb, drop-cons}
+use Rattle.std.proofs.Common.{◌≡◌, ◌≢◌, ℕ, ◌+◌, ◌<◌, false, ◌==◌, cond, List, [], ◌∷◌, ◌++◌, length, drop, get_or, sym, ◌∙◌, ap, subst, suc, arith, append_assoc, length-append, eq-eqb, drop-cons}
 use Rattle.xa_types.specs.declared.stamp.Stamp.{Stamp}
 use Rattle.xa_types.specs.declared.row.Row.{Row}
 use Rattle.xa_events.specs.declared.event.Event.TheVariants.{Withdraw}

@@ -9,7 +9,7 @@ ghost use Rattle.xa_board.specs.Reader.{Finds};
 ghost use Rattle.xa_board.specs.declared.board.BoardRefused.TheVariants as refusals;
 
 use crate::Reader;
-use crate::rows::{count_on, is_same, row_of, take_out, take_out_all};
+use crate::rows::{count_on, is_same, put, row_of, take_out, take_out_all};
 use std::alloc::Global;
 use std::marker::Model;
 use xa_events::{Advertised, Event, Withdrawn};
@@ -186,10 +186,7 @@ impl Board {
         };
         self.home.reserve(1)?;
         let stamp = self.home.note(seen, Event::Advertise(advertised))?;
-        take_out(&mut self.rows, &row.service, row.queue);
-        let Ok(()) = self.rows.push(row) else {
-            unreachable!()
-        };
+        put(&mut self.rows, row);
         Ok((version, stamp))
     }
 

@@ -1,5 +1,5 @@
 // The rows that stand on the board.
-ghost use Rattle.std.specs.Prelude.{◌≡◌, ◌≤◌, ◌&&◌, vec_len, vec_capacity, length, filter, not};
+ghost use Rattle.std.specs.Prelude.{◌≡◌, ◌≤◌, ◌<◌, ◌&&◌, [], ◌∷◌, ◌++◌, vec_len, vec_capacity, length, filter, not};
 ghost use Rattle.std.specs.Option.{option_copied};
 ghost use Rattle.std.specs.Str.{bytes_eq};
 ghost use Rattle.xa_types.specs.Rows.{is_row_of, row_of, same_truth};
@@ -25,8 +25,12 @@ fn is_row_of(row: &Row, service: &Name, queue: QueueId) -> bool
 pub fn row_of<'a>(rows: &'a [Row], service: &Name, queue: QueueId) -> Option<&'a Row>
     ensures { option_copied result ≡ row_of service.now queue.0 rows.now }
 {
-    let mut rows = rows.iter();
-    rows.find(|row| is_row_of(row, service, queue))
+    for row in rows {
+        if is_row_of(row, service, queue) {
+            return Some(row);
+        }
+    }
+    None
 }
 
 /// Takes out the row of a service on a queue.
@@ -35,6 +39,16 @@ pub fn take_out(rows: &mut Vec<Row>, service: &Name, queue: QueueId)
     ensures capacity { vec_capacity rows.new ≡ vec_capacity rows.old }
 {
     rows.retain(|row| !is_row_of(row, service, queue));
+}
+
+/// Puts a row last, in place of that of its service and queue, where there is room for it.
+pub fn put(rows: &mut Vec<Row>, row: Row)
+    requires { length (without row.service row.queue.0 rows.old.items) < vec_capacity rows.old }
+    ensures rows { rows.new.items ≡ without row.service row.queue.0 rows.old.items ++ row ∷ [] }
+    ensures capacity { vec_capacity rows.new ≡ vec_capacity rows.old }
+{
+    take_out(rows, &row.service, row.queue);
+    rows.push_reserved(row);
 }
 
 /// Takes out all rows of a queue.

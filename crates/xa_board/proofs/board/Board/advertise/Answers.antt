@@ -1,4 +1,4 @@
-use Rattle.std.proofs.Common.{◌≡◌, ◌+◌, ◌<◌, ◌≤◌, [], ◌∷◌, ◌++◌, length, length-append, arith, ◌∙◌, sym, refl, None}
+use Rattle.std.proofs.Common.{◌≡◌, ◌+◌, ◌≤◌, [], ◌∷◌, ◌++◌, length, length-append, arith, ◌∙◌, sym, refl, None}
 use Rattle.xa_types.specs.Rows.{row_of}
 use Rattle.xa_events.specs.declared.event.Advertised.{Advertised}
 use Rattle.xa_board.specs.Changes.{without, bars_put}
@@ -7,12 +7,11 @@ use Rattle.xa_board.proofs.Noted.{advertised-noted}
 use Rattle.xa_board.proofs.Room.{room-to_put}
 use Rattle.xa_board.proofs.board.Board.advertise.Goals as goal
 
-pub unreachable-requires : goal.unreachable-requires
-unreachable-requires c =
-    let free : bars_put c.args.row c.self.inside.rows.items (row_of c.args.row.service c.args.row.queue.0 c.self.inside.rows.items) ≡ None = rw (← c.deref.ensures.value) (sym c.put_refused.ensures ∙ c.in_default.is) in
-    let less = room-to_put c.args.row c.self.inside.rows.items c.self.invariant.board.few free in
-    let kept = c.take_out.ensures.rows in
-    grind (arith, less, kept, c.take_out.ensures.capacity, c.in_default-push.ensures.full, c.self.invariant.room)
+pub put-requires : goal.put-requires
+put-requires c =
+    let rows = c.self.inside.rows.items in
+    let free : bars_put c.args.row rows (row_of c.args.row.service c.args.row.queue.0 rows) ≡ None = rw (← c.deref.ensures.value) (sym c.put_refused.ensures ∙ c.in_default.is) in
+    omega (arith, room-to_put c.args.row rows c.self.invariant.board.few free, c.self.invariant.room)
 
 pub invariant_of-self-2 : goal.invariant_of-self-2
 invariant_of-self-2 c =
@@ -22,9 +21,9 @@ invariant_of-self-2 c =
     let free : bars_put c.args.row c.self.inside.rows.items (row_of c.args.row.service c.args.row.queue.0 c.self.inside.rows.items) ≡ None = rw (← c.deref.ensures.value) (sym c.put_refused.ensures ∙ c.in_default.is) in
     let few : length (without row.service row.queue.0 old.rows ++ row ∷ []) ≤ 256 = omega (arith, length-append (without row.service row.queue.0 old.rows) (row ∷ []), room-to_put row old.rows c.self.invariant.board.few free) in
     record {
-      board = rw (c.note.ensures.first, c.reserve.ensures.first, c.in_ok-stamp.ensures.entries, c.reserve.ensures.entries, c.in-Ok.ensures.items, c.take_out.ensures.rows) (advertised-noted old c.in_ok-stamp.stamp a row refl refl refl c.self.invariant.board few);
+      board = rw (c.note.ensures.first, c.reserve.ensures.first, c.in_ok-stamp.ensures.entries, c.reserve.ensures.entries, c.put.ensures.rows) (advertised-noted old c.in_ok-stamp.stamp a row refl refl refl c.self.invariant.board few);
       first = c.self.invariant.first ∙ sym (c.note.ensures.first ∙ c.reserve.ensures.first);
-      room = omega (arith, c.push.ensures.capacity, c.take_out.ensures.capacity, c.self.invariant.room);
+      room = omega (arith, c.put.ensures.capacity, c.self.invariant.room);
     }
 
 pub returns-clause-board : goal.returns-clause-board
@@ -34,4 +33,4 @@ returns-clause-board c =
     let a : Advertised = record { by = c.args.by; op = c.args.op; service = row.service; queue = row.queue; routine = row.routine; version = c.version-version.result + 1 } in
     let free : bars_put c.args.row c.self.inside.rows.items (row_of c.args.row.service c.args.row.queue.0 c.self.inside.rows.items) ≡ None = rw (← c.deref.ensures.value) (sym c.put_refused.ensures ∙ c.in_default.is) in
     let few : length (without row.service row.queue.0 old.rows ++ row ∷ []) ≤ 256 = omega (arith, length-append (without row.service row.queue.0 old.rows) (row ∷ []), room-to_put row old.rows c.self.invariant.board.few free) in
-    rw (c.note.ensures.first, c.reserve.ensures.first, c.in_ok-stamp.ensures.entries, c.reserve.ensures.entries, c.in-Ok.ensures.items, c.take_out.ensures.rows) (advertised-noted old c.in_ok-stamp.stamp a row refl refl refl c.self.invariant.board few)
+    rw (c.note.ensures.first, c.reserve.ensures.first, c.in_ok-stamp.ensures.entries, c.reserve.ensures.entries, c.put.ensures.rows) (advertised-noted old c.in_ok-stamp.stamp a row refl refl refl c.self.invariant.board few)

@@ -1,6 +1,4 @@
-use Rattle.std.proofs.Common.{◌≡◌, List, [], arith, sym, subst}
-use Rattle.xa_types.specs.declared.row.Row.{Row}
-use Rattle.xa_board.specs.Board.{ReadsAsNoted}
+use Rattle.std.proofs.Common.{arith, sym}
 use Rattle.xa_board.proofs.Noted.{new-noted}
 use Rattle.xa_board.proofs.board.Board.new.Goals as goal
 

@@ -1,4 +1,4 @@
-use Rattle.std.proofs.Common.{◌≡◌, ◌+◌, ◌≤◌, length, not, arith, ◌∙◌, sym}
+use Rattle.std.proofs.Common.{◌+◌, ◌≤◌, length, not, arith, ◌∙◌, sym}
 use Rattle.xa_types.specs.Rows.{is_row_of}
 use Rattle.xa_events.specs.declared.event.Withdrawn.{Withdrawn}
 use Rattle.xa_board.specs.Changes.{without}

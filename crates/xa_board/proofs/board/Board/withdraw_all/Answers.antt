@@ -1,4 +1,4 @@
-use Rattle.std.proofs.Common.{◌≡◌, ◌+◌, ◌≤◌, length, not, arith, ◌∙◌, sym}
+use Rattle.std.proofs.Common.{arith, ◌∙◌, sym}
 use Rattle.xa_board.specs.Kept.{standing_of}
 use Rattle.xa_board.proofs.Withdrawn.{cleared-noted}
 use Rattle.xa_board.proofs.board.Board.withdraw_all.Goals as goal
