@@ -101,7 +101,9 @@ impl<L: Link> Pipe<L> {
         ensures counts { IfErr result (λ cause. CountsReads cause self.old.reads self.new.reads) }
     {
         let frame = self.read()?;
-        ready_in(&frame, server)
+        let ready = ready_in(&frame, server);
+        drop(frame);
+        ready
     }
 
     /// Reads READY with that server's name, and NEXT. Else it answers why the life ended: EndOfInput, ReadFault,
@@ -130,7 +132,9 @@ impl<L: Link> Pipe<L> {
         ensures counts { IfErr result (λ cause. CountsReads cause self.old.reads self.new.reads) }
     {
         let frame = self.read()?;
-        next_in(&frame)
+        let next = next_in(&frame);
+        drop(frame);
+        next
     }
 
     /// Reads the RETURN to that invocation. Else it answers why the life ended, as `greet` does.

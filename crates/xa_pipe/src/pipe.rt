@@ -49,7 +49,9 @@ fn append_shutdown(out: &mut Vec<u8>) -> Result<(), NoMemory>
         tag: 0,
         body: Body::Shutdown,
     };
-    append(out, &frame)
+    let appended = append(out, &frame);
+    drop(frame);
+    appended
 }
 
 // Writes the octets: WriteFault where the link fails.

@@ -10,7 +10,7 @@ returns-in_err-frame-clause-why g c =
 
 pub returns-clause-why : goal.returns-clause-why
 returns-clause-why g c =
-    err_more c.next_in.result _ _
+    err_more c.next_in-next.result _ _
     (λ cause refused name tag frames read.
     ceases_other name tag AwaitsNext frames c.read.new.self cause c.in_ok-frame.frame refused.0 refl c.in_ok-frame.ensures.spelling refused.1 (c.in_ok-frame.ensures.frame frames read))
-    c.next_in.ensures.no
+    c.next_in-next.ensures.no

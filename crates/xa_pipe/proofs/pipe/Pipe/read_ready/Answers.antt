@@ -10,7 +10,7 @@ returns-in_err-frame-clause-why g c =
 
 pub returns-clause-why : goal.returns-clause-why
 returns-clause-why g c =
-    err_more c.ready_in.result _ _
+    err_more c.ready_in-ready.result _ _
     (λ cause refused tag frames read.
     ceases_other c.args.server.now tag AwaitsReady frames c.read.new.self cause c.in_ok-frame.frame refused.0 refl c.in_ok-frame.ensures.spelling refused.1 (c.in_ok-frame.ensures.frame frames read))
-    c.ready_in.ensures.no
+    c.ready_in-ready.ensures.no
