@@ -18,13 +18,6 @@ pub skips : (n : ℕ) (xs : List ℕ) → skip_spaces (spaces n ++ xs) ≡ skip_
 skips zero xs = refl
 skips (suc n) xs = skips n xs
 
-pub spaces_dropped : (xs : List ℕ) → drop (position_or_len is_plain xs) xs ≡ skip_spaces xs
-spaces_dropped [] = refl
-spaces_dropped (x ∷ xs) = elim (x == 32) as (λ b. drop (cond (not (not b)) (1 + position_or_len is_plain xs) 0) (x ∷ xs) ≡ cond b (skip_spaces xs) (x ∷ xs)) [
-  | true ↦ let one : suc (position_or_len is_plain xs) ≡ 1 + position_or_len is_plain xs = omega arith in ap (λ n. drop n (x ∷ xs)) (sym one) ∙ spaces_dropped xs
-  | false ↦ refl
-]
-
 -- what is skipped are spaces
 pub skipped : (xs : List ℕ) → (n : ℕ) × (xs ≡ spaces n ++ skip_spaces xs)
 skipped [] = (0, refl)

@@ -95,7 +95,8 @@ impl Draft {
     fn has(&self, word: &[u8]) -> bool
         ensures { result ≡ is_among (client_names self.now) word.now }
     {
-        is_among(self.done.as_slice(), word) || self.name.is_some_and(|name| word == name.octets())
+        is_among(self.done.as_slice(), word)
+            || matches!(&self.name, Some(name) if word == name.octets())
     }
 
     fn len(&self) -> usize
@@ -110,7 +111,9 @@ impl Draft {
             (λ name. formed (begun most self.now) (client_in octets.now) ≡ Ok (self.now ++ client_with name [] ∷ []))
             (λ cause. formed (begun most self.now) (client_in octets.now) ≡ Err cause) }
     {
-        let word = client_in(octets).ok_or(Cause::NotBuilt)?;
+        let Some(word) = client_in(octets) else {
+            return Err(Cause::NotBuilt);
+        };
         let Ok(name) = Name::read(word) else {
             return Err(Cause::NoName);
         };

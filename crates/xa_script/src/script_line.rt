@@ -3,7 +3,7 @@ ghost use Rattle.std.specs.List.{list_all, position, position_or_len};
 ghost use Rattle.xa_script.specs.Script.{is_printed, is_space, is_plain, IsEnd, call_with};
 ghost use Rattle.xa_script.specs.ScriptLine.{skip_spaces, is_blank, next_word, strip_word, is_skipped, next_octet, is_marked, put, text_in_front, quoted_in, payload_in, call_in, client_in};
 
-use memchr::memchr2;
+use memchr::{memchr, memchr2};
 use std::alloc::Global;
 use xa_types::{Ask, CallFlags, Data, Direction, NoMemory, Octets, Op};
 
@@ -24,18 +24,15 @@ pub fn all_printed(octets: &[u8]) -> bool
     all
 }
 
-// Where the spaces in front end.
-fn place_of_word(octets: &[u8]) -> Option<usize>
-    ensures { result ≡ position is_plain octets.now }
-{
-    octets.iter().position(|octet| *octet != b' ')
-}
-
 /// What stands behind the spaces in front.
 pub fn skip_spaces(octets: &[u8]) -> &[u8]
     ensures { result.now ≡ skip_spaces octets.now }
 {
-    &octets[place_of_word(octets).unwrap_or(octets.len())..]
+    let mut rest = octets;
+    while let [b' ', behind @ ..] = rest {
+        rest = behind;
+    }
+    rest
 }
 
 fn is_blank(octets: &[u8]) -> bool
@@ -57,7 +54,7 @@ pub fn is_skipped(line: &[u8]) -> bool
 fn place_of_space(octets: &[u8]) -> Option<usize>
     ensures { result ≡ position is_space octets.now }
 {
-    octets.iter().position(|octet| *octet == b' ')
+    memchr(b' ', octets)
 }
 
 fn word_len(octets: &[u8]) -> usize
