@@ -49,8 +49,13 @@ pub fn admits(row: &Row, kind: &Option<Kind>, setup: &Setup) -> bool
 fn service_named<'a>(setup: &'a Setup, name: &Name) -> Option<&'a ServiceSetup>
     ensures { option_copied result ≡ service_named setup.now name.now }
 {
-    let mut services = setup.services.slice().iter();
-    services.find(|service| is_same(&service.name, name))
+    let services = setup.services.slice();
+    for service in services {
+        if is_same(&service.name, name) {
+            return Some(service);
+        }
+    }
+    None
 }
 
 /// The row with which a service is advertised on a queue, with that routine.
