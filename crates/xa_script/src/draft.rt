@@ -77,7 +77,12 @@ fn is_named(client: &Client, word: &[u8]) -> bool
 fn is_among(clients: &[Client], word: &[u8]) -> bool
     ensures { result ≡ is_among (client_names clients.now) word.now }
 {
-    clients.iter().any(|client| is_named(client, word))
+    for client in clients {
+        if is_named(client, word) {
+            return true;
+        }
+    }
+    false
 }
 
 impl Draft {
