@@ -88,9 +88,7 @@ pub fn find(rows: &[Row], service: &Name, conversational: bool, found: &mut Vec<
     found.clear();
     for row in rows {
         if is_seen(row, service, conversational) {
-            let Ok(()) = found.push(*row) else {
-                unreachable!()
-            };
+            found.push_reserved(*row);
         }
     }
 }
