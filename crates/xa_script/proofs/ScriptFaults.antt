@@ -1,9 +1,9 @@
 -- What comes of a line that follows on clients, and what is wrong with one that is refused.
-use Rattle.std.proofs.Common.{◌≡◌, ℕ, ◌≤◌, ◌<◌, ◌||◌, nat_le, not, Bool, true, false, cond, codes, length, List, [], ◌∷◌, ◌++◌, Option, Some, None, option_map, ◌⊎◌, inl, inr, Ok, Err, refl, ap, sym, ◌∙◌, subst, arith}
+use Rattle.std.proofs.Common.{◌≡◌, ℕ, ◌≤◌, ◌<◌, nat_le, not, Bool, true, false, cond, codes, length, List, [], ◌∷◌, ◌++◌, Option, Some, None, option_map, ◌⊎◌, inl, inr, Ok, Err, refl, ap, sym, ◌∙◌, subst, arith}
 use Rattle.std.specs.Prelude.{IsTrue, ⊤}
 use Rattle.std.proofs.lemmas.Bool.{leb-true, leb-false}
 use Rattle.std.proofs.lemmas.Slice.Eq.{bytes_eq-Decides}
-use Rattle.std.specs.List.{list_all, list_any}
+use Rattle.std.specs.List.{list_all}
 use Rattle.std.specs.Str.{bytes_eq}
 use Rattle.xa_types.specs.Name.{IsName, is_name}
 use Rattle.xa_types.specs.Configured.{is_among}
@@ -271,8 +271,3 @@ line_sound most clients more line cause h fault =
       | false ↦ λ e k. not_both more Unprinted (sym k)
       | true ↦ λ e k. said_sound most clients more (line_of line) cause k (has_said most clients line cause e fault)
     ] refl (sym (line_said most clients line) ∙ h)
-
--- the names of clients, one after another
-pub among_is : (clients : List Client) (word : List ℕ) → list_any (λ (client : Client). bytes_eq word client.name) clients ≡ is_among (client_names clients) word
-among_is [] word = refl
-among_is (client ∷ clients) word = ap (λ b. bytes_eq word client.name || b) (among_is clients word)
