@@ -1,5 +1,6 @@
 //! Copies of events, which take memory for their data and their lists.
 ghost use Rattle.std.specs.Prelude.{◌≡◌, IfOk};
+ghost use Rattle.xa_events.specs.declared.event.Event.TheVariants as events;
 
 use crate::{
     Accepted, Ended, Event, Forwarded, Item, Lapsed, Outcome, Received, Replied, Sent, Unready,
@@ -28,11 +29,12 @@ fn copy_answer(answer: &Answer, alloc: Global) -> Result<Answer, NoMemory>
 }
 
 impl Accepted {
-    fn copy(&self, alloc: Global) -> Result<Accepted, NoMemory>
-        ensures { IfOk result (λ copied. copied ≡ self.now) }
+    // The event of a copy.
+    fn copy_event(&self, alloc: Global) -> Result<Event, NoMemory>
+        ensures { IfOk result (λ copied. copied ≡ events.Accept self.now) }
     {
         let payload = self.payload.copy(alloc)?;
-        Ok(Accepted {
+        Ok(Event::Accept(Accepted {
             by: self.by,
             op: self.op,
             request: self.request,
@@ -43,16 +45,16 @@ impl Accepted {
             priority: self.priority,
             mode: self.mode,
             payload,
-        })
+        }))
     }
 }
 
 impl Forwarded {
-    fn copy(&self, alloc: Global) -> Result<Forwarded, NoMemory>
-        ensures { IfOk result (λ copied. copied ≡ self.now) }
+    fn copy_event(&self, alloc: Global) -> Result<Event, NoMemory>
+        ensures { IfOk result (λ copied. copied ≡ events.Forward self.now) }
     {
         let payload = self.payload.copy(alloc)?;
-        Ok(Forwarded {
+        Ok(Event::Forward(Forwarded {
             request: self.request,
             server: self.server,
             generation: self.generation,
@@ -63,7 +65,7 @@ impl Forwarded {
             routine: self.routine,
             priority: self.priority,
             payload,
-        })
+        }))
     }
 }
 
@@ -83,74 +85,74 @@ impl Outcome {
 }
 
 impl Ended {
-    fn copy(&self, alloc: Global) -> Result<Ended, NoMemory>
-        ensures { IfOk result (λ copied. copied ≡ self.now) }
+    fn copy_event(&self, alloc: Global) -> Result<Event, NoMemory>
+        ensures { IfOk result (λ copied. copied ≡ events.End self.now) }
     {
         let outcome = self.outcome.copy(alloc)?;
-        Ok(Ended {
+        Ok(Event::End(Ended {
             request: self.request,
             server: self.server,
             generation: self.generation,
             outcome,
-        })
+        }))
     }
 }
 
 impl Replied {
-    fn copy(&self, alloc: Global) -> Result<Replied, NoMemory>
-        ensures { IfOk result (λ copied. copied ≡ self.now) }
+    fn copy_event(&self, alloc: Global) -> Result<Event, NoMemory>
+        ensures { IfOk result (λ copied. copied ≡ events.Answer self.now) }
     {
         let answer = copy_answer(&self.answer, alloc)?;
-        Ok(Replied {
+        Ok(Event::Answer(Replied {
             by: self.by,
             op: self.op,
             request: self.request,
             answer,
-        })
+        }))
     }
 }
 
 impl Lapsed {
-    fn copy(&self, alloc: Global) -> Result<Lapsed, NoMemory>
-        ensures { IfOk result (λ copied. copied ≡ self.entry.now) }
+    fn copy_event(&self, alloc: Global) -> Result<Event, NoMemory>
+        ensures { IfOk result (λ copied. copied ≡ events.Lapse self.entry.now) }
     {
         let requests = copy_requests(&self.requests, alloc)?;
-        Ok(Lapsed {
+        Ok(Event::Lapse(Lapsed {
             by: self.by,
             op: self.op,
             requests,
             of_call: self.of_call,
             now: self.now,
             deadline: self.deadline,
-        })
+        }))
     }
 }
 
 impl Unready {
-    fn copy(&self, alloc: Global) -> Result<Unready, NoMemory>
-        ensures { IfOk result (λ copied. copied ≡ self.now) }
+    fn copy_event(&self, alloc: Global) -> Result<Event, NoMemory>
+        ensures { IfOk result (λ copied. copied ≡ events.NotYet self.now) }
     {
         let requests = copy_requests(&self.requests, alloc)?;
-        Ok(Unready {
+        Ok(Event::NotYet(Unready {
             by: self.by,
             op: self.op,
             requests,
-        })
+        }))
     }
 }
 
 impl Sent {
-    fn copy(&self, alloc: Global) -> Result<Sent, NoMemory>
-        ensures { IfOk result (λ copied. copied ≡ self.now) }
+    fn copy_event(&self, alloc: Global) -> Result<Event, NoMemory>
+        ensures { IfOk result (λ copied. copied ≡ events.Send self.now) }
     {
         let payload = self.payload.copy(alloc)?;
-        Ok(Sent {
+        Ok(Event::Send(Sent {
             by: self.by,
             op: self.op,
             request: self.request,
             payload,
             passes: self.passes,
-        })
+        }))
     }
 }
 
@@ -166,16 +168,16 @@ impl Item {
 }
 
 impl Received {
-    fn copy(&self, alloc: Global) -> Result<Received, NoMemory>
-        ensures { IfOk result (λ copied. copied ≡ self.now) }
+    fn copy_event(&self, alloc: Global) -> Result<Event, NoMemory>
+        ensures { IfOk result (λ copied. copied ≡ events.Receive self.now) }
     {
         let item = self.item.copy(alloc)?;
-        Ok(Received {
+        Ok(Event::Receive(Received {
             by: self.by,
             op: self.op,
             request: self.request,
             item,
-        })
+        }))
     }
 }
 
@@ -187,9 +189,9 @@ impl Event {
         match self {
             Event::Advertise(advertised) => Ok(Event::Advertise(*advertised)),
             Event::Withdraw(withdrawn) => Ok(Event::Withdraw(*withdrawn)),
-            Event::Accept(accepted) => Ok(Event::Accept(accepted.copy(alloc)?)),
+            Event::Accept(accepted) => accepted.copy_event(alloc),
             Event::Take(taken) => Ok(Event::Take(*taken)),
-            Event::Forward(forwarded) => Ok(Event::Forward(forwarded.copy(alloc)?)),
+            Event::Forward(forwarded) => forwarded.copy_event(alloc),
             Event::Sweep(swept) => Ok(Event::Sweep(*swept)),
             Event::Gone(server) => Ok(Event::Gone(*server)),
             Event::Down(queue) => Ok(Event::Down(*queue)),
@@ -197,16 +199,16 @@ impl Event {
             Event::Tick(ticked) => Ok(Event::Tick(*ticked)),
             Event::Start(started) => Ok(Event::Start(*started)),
             Event::StartFailed(started) => Ok(Event::StartFailed(*started)),
-            Event::End(ended) => Ok(Event::End(ended.copy(alloc)?)),
+            Event::End(ended) => ended.copy_event(alloc),
             Event::Stop(stopped) => Ok(Event::Stop(*stopped)),
-            Event::Answer(replied) => Ok(Event::Answer(replied.copy(alloc)?)),
+            Event::Answer(replied) => replied.copy_event(alloc),
             Event::Cancel(cancelled) => Ok(Event::Cancel(*cancelled)),
-            Event::Lapse(lapsed) => Ok(Event::Lapse(lapsed.copy(alloc)?)),
+            Event::Lapse(lapsed) => lapsed.copy_event(alloc),
             Event::Refuse(refused) => Ok(Event::Refuse(*refused)),
-            Event::NotYet(unready) => Ok(Event::NotYet(unready.copy(alloc)?)),
+            Event::NotYet(unready) => unready.copy_event(alloc),
             Event::Leave(client) => Ok(Event::Leave(*client)),
-            Event::Send(sent) => Ok(Event::Send(sent.copy(alloc)?)),
-            Event::Receive(received) => Ok(Event::Receive(received.copy(alloc)?)),
+            Event::Send(sent) => sent.copy_event(alloc),
+            Event::Receive(received) => received.copy_event(alloc),
             Event::Break(broken) => Ok(Event::Break(*broken)),
             Event::Priority(prioritized) => Ok(Event::Priority(*prioritized)),
         }
