@@ -119,18 +119,20 @@ fn put_data(out: &mut Vec<u8>, payload: &Data) -> Result<(), NoMemory>
     ensures { OnOk result (out.new.items ≡ out.old.items ++ data_octets payload.now) }
 {
     match payload {
-        Data::Absent => out.push(0x00)?,
+        Data::Absent => {
+            out.push(0x00)?;
+            Ok(())
+        }
         Data::Octet(octets) => {
             out.push(0x01)?;
-            put_sized(out, octets)?;
+            put_sized(out, octets)
         }
         Data::Struct(subtype, octets) => {
             out.push(0x02)?;
             put_word(out, subtype)?;
-            put_sized(out, octets)?;
+            put_sized(out, octets)
         }
     }
-    Ok(())
 }
 
 fn put_return(out: &mut Vec<u8>, value: Rval, code: i32, payload: &Data) -> Result<(), NoMemory>
@@ -163,14 +165,13 @@ fn put_body(out: &mut Vec<u8>, body: &Body) -> Result<(), NoMemory>
     ensures { OnOk result (out.new.items ≡ out.old.items ++ body_octets body.now) }
 {
     match body {
-        Body::Ready(name) => put_word(out, name)?,
-        Body::Next | Body::Shutdown => (),
-        Body::Return(value, code, payload) => put_return(out, *value, *code, payload)?,
+        Body::Ready(name) => put_word(out, name),
+        Body::Next | Body::Shutdown => Ok(()),
+        Body::Return(value, code, payload) => put_return(out, *value, *code, payload),
         Body::Invoke(service, routine, mode, payload) => {
-            put_invoke(out, service, routine, *mode, payload)?;
+            put_invoke(out, service, routine, *mode, payload)
         }
     }
-    Ok(())
 }
 
 fn put_header(out: &mut Vec<u8>, kind: u8, size: u32, tag: u32) -> Result<(), NoMemory>
@@ -192,8 +193,7 @@ pub fn append(out: &mut Vec<u8>, frame: &Frame) -> Result<(), NoMemory>
     let size = body_len(&frame.body);
     out.reserve(HEADER + size)?;
     put_header(out, kind_octet(&frame.body), size as u32, frame.tag)?;
-    put_body(out, &frame.body)?;
-    Ok(())
+    put_body(out, &frame.body)
 }
 
 /// The same of a RETURN, whose data stays with the caller.
