@@ -1,7 +1,7 @@
 // Servers as processes.
-ghost use Rattle.std.specs.Prelude.{◌≡◌, ◌≤◌, ◌<◌, ◌⊎◌, [], length, None, IfOk, OnOk, IsErr, IsSome, MatchResult, unwrap_or};
+ghost use Rattle.std.specs.Prelude.{◌≡◌, ◌≤◌, ◌<◌, ◌⊎◌, [], ◌∷◌, ◌++◌, codes, length, None, IfOk, OnOk, IsErr, IsSome, MatchResult, unwrap_or};
 ghost use Rattle.std.specs.Str.{IsUtf8};
-ghost use Rattle.std.specs.Process.{child_status};
+ghost use Rattle.std.specs.Process.{child_status, command_args, command_program, SameEnv, SameDir};
 ghost use Rattle.std.specs.Io.KnownBytes.{ReadConsumes, WriteAppends};
 ghost use Rattle.xa_link.specs.Told.{Rose};
 ghost use Rattle.xa_link.specs.declared.starter.StartRefused.TheVariants.{Failed as NotStarted};
@@ -116,23 +116,32 @@ impl<P: OpenProcess + Drop> Link for ChildLink<P> {
     }
 }
 
+// A server's configured program, and the word by which the monitor was started.
+#[derive(Drop)]
+struct Programs {
+    configured: Option<Octets>,
+    monitor: Octets,
+}
+
+impl Programs {
+    // The program that serves: the configured one, and where there is none the monitor's.
+    fn chosen(&self) -> Result<&str, StartRefused>
+        ensures { MatchResult result (λ program. program.now ≡ unwrap_or self.now.configured self.now.monitor)
+            (λ why. (why ≡ NotStarted) × (IsUtf8 (unwrap_or self.now.configured self.now.monitor) → ⊥)) }
+    {
+        match &self.configured {
+            Some(program) => text(program.slice()),
+            None => text(self.monitor.slice()),
+        }
+    }
+}
+
 /// Starts a server as a process, with the words `server` and the server's name.
 #[derive(Drop)]
 pub struct ChildStarter<R: Processes + Files + AllocGlobal> {
     rt: R,
-    program: Option<Octets>,
-    monitor: Octets,
+    programs: Programs,
     faults: u64,
-}
-
-// The program that serves: the configured one, and where there is none the word by which the monitor was started.
-fn chosen<'a>(configured: &'a Option<Octets>, monitor: &'a Octets) -> &'a [u8]
-    ensures { result.now ≡ unwrap_or configured.now monitor.now }
-{
-    match configured {
-        Some(program) => program.slice(),
-        None => monitor.slice(),
-    }
 }
 
 impl<R: Processes + Files + AllocGlobal> ChildStarter<R> {
@@ -140,27 +149,19 @@ impl<R: Processes + Files + AllocGlobal> ChildStarter<R> {
     fn launch(&self, server: &Name) -> Result<ChildLink<R::Started>, StartRefused>
         ensures { IfOk result (λ l. (l.from.faults ≡ 0) × (l.to.faults ≡ 0)) }
     {
-        let started = self.run_chosen(chosen(&self.program, &self.monitor), server);
-        match (&self.program, started) {
+        let started = match self.programs.chosen() {
+            Ok(program) => self.run(program, server),
+            Err(refused) => Err(refused),
+        };
+        match (&self.programs.configured, started) {
             (None, Err(StartRefused::Failed)) => self.run_found(server),
             (_, started) => started,
         }
     }
 
-    fn run_chosen(
-        &self,
-        program: &[u8],
-        server: &Name,
-    ) -> Result<ChildLink<R::Started>, StartRefused>
-        requires { program.now ≡ unwrap_or self.now.program self.now.monitor }
-        ensures { IfOk result (λ l. (l.from.faults ≡ 0) × (l.to.faults ≡ 0)) }
-    {
-        self.run(text(program)?, server)
-    }
-
     // By the path that the system gives of the monitor's program.
     fn run_found(&self, server: &Name) -> Result<ChildLink<R::Started>, StartRefused>
-        requires { self.now.program ≡ None }
+        requires { self.now.programs.configured ≡ None }
         ensures { IfOk result (λ l. (l.from.faults ≡ 0) × (l.to.faults ≡ 0)) }
     {
         let Ok(monitor) = env::current_exe(&self.rt) else {
@@ -170,17 +171,26 @@ impl<R: Processes + Files + AllocGlobal> ChildStarter<R> {
     }
 
     fn run(&self, program: &str, server: &Name) -> Result<ChildLink<R::Started>, StartRefused>
-        requires { IsChosen self.now.program program.now }
+        requires { IsChosen self.now.programs.configured program.now }
         ensures { IfOk result (λ l. (l.from.faults ≡ 0) × (l.to.faults ≡ 0)) }
     {
-        let name = text(server.octets())?;
-        let Ok(command) = command(self.rt.alloc(), program, name) else {
+        let Ok(name) = text(server.octets()) else {
+            return Err(StartRefused::Failed);
+        };
+        let Ok(mut command) = command(self.rt.alloc(), program, name) else {
             return Err(StartRefused::NoMemory);
         };
-        spawn(&self.rt, command, program, server).map_err(|error| match error.kind() {
-            io::ErrorKind::OutOfMemory => StartRefused::NoMemory,
-            _ => StartRefused::Failed,
-        })
+        let started = spawn(&self.rt, &mut command, program, server);
+        // The command has our copy of the end that the process reads.
+        drop(command);
+        started.map_err(why_refused)
+    }
+}
+
+fn why_refused(error: io::Error) -> StartRefused {
+    match error.kind() {
+        io::ErrorKind::OutOfMemory => StartRefused::NoMemory,
+        _ => StartRefused::Failed,
     }
 }
 
@@ -197,27 +207,36 @@ fn command(alloc: Global, program: &str, name: &str) -> Result<Command, AllocErr
     ensures { IfOk result (StartsServer program.now name.now) }
 {
     let mut command = Command::new(alloc, program)?;
-    command.arg("server")?.arg(name)?;
+    add_words(&mut command, name)?;
     Ok(command)
 }
 
-// The command with its input from that pipe and its output to a new one. Its standard error stays the monitor's.
-fn connected(mut command: Command, input: PipeReader, program: &str, server: &Name) -> Command
-    requires { StartsServer program.now server.now command }
-    ensures { StartsServer program.now server.now result }
+fn add_words(command: &mut Command, name: &str) -> Result<(), AllocError>
+    ensures words { OnOk result (command_args command.new ≡ command_args command.old ++ codes "server" ∷ name.now ∷ []) }
+    ensures program { OnOk result (command_program command.new ≡ command_program command.old) }
+    ensures environment { OnOk result (SameEnv command.old command.new) }
+    ensures folder { OnOk result (SameDir command.old command.new) }
+{
+    command.arg("server")?.arg(name)?;
+    Ok(())
+}
+
+// Gives the command its input from that pipe and its output to a new one. Its standard error stays the monitor's.
+fn connect(command: &mut Command, input: PipeReader, program: &str, server: &Name)
+    requires { StartsServer program.now server.now command.old }
+    ensures { StartsServer program.now server.now command.new }
 {
     command.stdin(Stdio::from(input)).stdout(Stdio::piped());
-    command
 }
 
 // Starts the process. What is required is what is known of the command as the system gets it.
 fn spawn_connected<R: Processes>(
     rt: &R,
-    mut command: Command,
+    command: &mut Command,
     program: &str,
     server: &Name,
 ) -> io::Result<Child<R::Started>>
-    requires { StartsServer program.now server.now command }
+    requires { StartsServer program.now server.now command.old }
 {
     command.spawn(rt)
 }
@@ -242,15 +261,15 @@ fn link_to<P: OpenProcess + Drop>(mut child: Child<P>, to: PipeWriter) -> io::Re
 // The child's input is a pipe of our own, since a write to it takes one call of the system.
 fn spawn<R: Processes + Files>(
     rt: &R,
-    command: Command,
+    command: &mut Command,
     program: &str,
     server: &Name,
 ) -> io::Result<ChildLink<R::Started>>
-    requires { StartsServer program.now server.now command }
+    requires { StartsServer program.now server.now command.old }
     ensures { IfOk result (λ l. (l.from.faults ≡ 0) × (l.to.faults ≡ 0)) }
 {
     let (theirs, to) = io::pipe(rt)?;
-    let command = connected(command, theirs, program, server);
+    connect(command, theirs, program, server);
     let child = spawn_connected(rt, command, program, server)?;
     link_to(child, to)
 }
@@ -301,17 +320,38 @@ impl<R: Processes + Files + AllocGlobal> ChildYard<R> {
 
 impl<R: Processes + Files + AllocGlobal + Clone + Drop> ChildYard<R> {
     fn starter(&self, server: &ServerSetup) -> Result<ChildStarter<R>, NoMemory>
-        ensures program { IfOk result (λ s. s.program ≡ server.now.program) }
-        ensures monitor { IfOk result (λ s. s.monitor ≡ self.now) }
+        ensures program { IfOk result (λ s. s.programs.configured ≡ server.now.program) }
+        ensures monitor { IfOk result (λ s. s.programs.monitor ≡ self.now) }
         ensures count { IfOk result (λ s. s.faults ≡ 0) }
     {
+        let Ok(rt) = self.rt.clone() else {
+            return Err(NoMemory);
+        };
+        let Ok(programs) = copy_programs(self.rt.alloc(), &server.program, &self.monitor) else {
+            return Err(NoMemory);
+        };
         Ok(ChildStarter {
-            rt: self.rt.clone()?,
-            program: copy_program(self.rt.alloc(), &server.program)?,
-            monitor: self.monitor.copy(self.rt.alloc())?,
+            rt,
+            programs,
             faults: 0,
         })
     }
+}
+
+fn copy_programs(
+    alloc: Global,
+    configured: &Option<Octets>,
+    monitor: &Octets,
+) -> Result<Programs, NoMemory>
+    ensures configured { IfOk result (λ programs. programs.configured ≡ configured.now) }
+    ensures monitor { IfOk result (λ programs. programs.monitor ≡ monitor.now) }
+{
+    let configured = copy_program(alloc, configured)?;
+    let monitor = monitor.copy(alloc)?;
+    Ok(Programs {
+        configured,
+        monitor,
+    })
 }
 
 fn copy_program(alloc: Global, program: &Option<Octets>) -> Result<Option<Octets>, NoMemory>
@@ -337,9 +377,15 @@ where
     ghost asked = { λ _. None };
 
     fn starters(&mut self, setup: &Setup) -> Result<Vec<ChildStarter<R>>, NoMemory> {
-        let mut all = Vec::new(self.rt.alloc());
-        for server in setup.servers.slice() {
-            all.push(self.starter(server)?)?;
+        let servers = setup.servers.slice();
+        let Ok(mut all) = Vec::with_capacity(self.rt.alloc(), servers.len()) else {
+            return Err(NoMemory);
+        };
+        for server in servers {
+            let Ok(starter) = self.starter(server) else {
+                return Err(NoMemory);
+            };
+            all.push_reserved(starter);
         }
         Ok(all)
     }

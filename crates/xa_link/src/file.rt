@@ -34,16 +34,19 @@ impl<R: Files> FileShelf<R> {
     }
 
     fn open(&self, name: &[u8]) -> io::Result<R::File> {
-        let path = str::from_utf8(name).map_err(|_| io::Error::from(io::ErrorKind::InvalidInput))?;
+        let Ok(path) = str::from_utf8(name) else {
+            return Err(io::Error::from(io::ErrorKind::InvalidInput));
+        };
         fs::open(&self.rt, path)
     }
 
     fn read_file(&self, name: &[u8], limit: u32) -> Result<Octets, ShelfRefused>
         ensures { IfOk result (λ octets. length octets ≤ limit) }
     {
-        let file = self.open(name).map_err(|_| ShelfRefused::Failed)?;
-        let octets = read_all(self.alloc, &mut ReadSource::new(file), limit as usize)?;
-        Ok(Octets::from_vec(octets))
+        let Ok(file) = self.open(name) else {
+            return Err(ShelfRefused::Failed);
+        };
+        read_all(self.alloc, &mut ReadSource::new(file), limit as usize).map(Octets::from_vec)
     }
 }
 
@@ -67,15 +70,18 @@ pub fn read_all<S: Source>(
     let mut all = Vec::new(alloc);
     let mut piece = [0u8; PIECE];
     loop {
-        let n = source.read(&mut piece).map_err(|_| ShelfRefused::Failed)?;
+        let Ok(n) = source.read(&mut piece) else {
+            return Err(ShelfRefused::Failed);
+        };
         if n == 0 {
             return Ok(all);
         }
         if n > limit - all.len() {
             return Err(ShelfRefused::TooLong);
         }
-        all.extend_from_slice(&piece[..n])
-            .map_err(|_| ShelfRefused::NoMemory)?;
+        if all.extend_from_slice(&piece[..n]).is_err() {
+            return Err(ShelfRefused::NoMemory);
+        }
     }
 }
 

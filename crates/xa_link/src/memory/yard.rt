@@ -1,5 +1,5 @@
 // A yard in memory.
-ghost use Rattle.std.specs.Prelude.{◌≡◌, [], All, length, map, IfOk, Some};
+ghost use Rattle.std.specs.Prelude.{◌≡◌, ◌≤◌, [], ◌∷◌, ◌++◌, All, length, vec_capacity, map, OnOk, OnErr, Some};
 ghost use Rattle.xa_link.specs.Lives.{life_of};
 
 use super::MemoryLink;
@@ -25,8 +25,7 @@ impl MemoryStarter {
         ensures asked { self.new.asked.items ≡ self.old.asked.items }
     {
         let place = generation.0.checked_sub(1)?;
-        let life = self.lives.get_mut(usize::try_from(place).ok()?)?;
-        life.take()
+        self.lives.get_mut(place as usize)?.take()
     }
 }
 
@@ -72,26 +71,44 @@ impl MemoryYard {
         }
     }
 
-    // The starters of so many servers, each with its lives.
-    fn take_starters(&mut self, servers: usize) -> Result<Vec<MemoryStarter>, NoMemory>
-        ensures each { IfOk result (λ all. length all.items ≡ servers) }
-        ensures counts { IfOk result (λ all. All (λ s. s.faults ≡ 0) all.items) }
-        ensures none { IfOk result (λ all. All (λ s. s.asked.items ≡ []) all.items) }
+    // Keeps the setup as the last one that starters were asked for.
+    fn keep_asked(&mut self, setup: &Setup) -> Result<(), NoMemory>
+        ensures asked { OnOk result (self.new.asked.items ≡ self.old.asked.items ++ setup.now ∷ []) }
+        ensures starved { OnErr result (self.new.asked.items ≡ self.old.asked.items) }
+    {
+        self.asked.reserve(1)?;
+        self.asked.push_reserved(setup.copy(self.alloc)?);
+        Ok(())
+    }
+
+    // Takes the lives of one server. Beyond the last one there are none.
+    fn take_lives(&mut self, server: usize) -> Vec<Option<MemoryLink>>
         ensures asked { self.new.asked ≡ self.old.asked }
     {
-        let mut all = Vec::new(self.alloc);
+        let mut lives = Vec::new(self.alloc);
+        if server < self.lives.len() {
+            mem::swap(&mut self.lives[server], &mut lives);
+        }
+        lives
+    }
+
+    // Adds the starters of so many servers, each with its lives.
+    fn add_starters(&mut self, servers: usize, all: &mut Vec<MemoryStarter>)
+        requires none { all.old.items ≡ [] }
+        requires room { servers ≤ vec_capacity all.old }
+        ensures each { length all.new.items ≡ servers }
+        ensures counts { All (λ s. s.faults ≡ 0) all.new.items }
+        ensures none { All (λ s. s.asked.items ≡ []) all.new.items }
+        ensures asked { self.new.asked ≡ self.old.asked }
+    {
         for i in 0..servers {
-            let mut lives = Vec::new(self.alloc);
-            if i < self.lives.len() {
-                mem::swap(&mut self.lives[i], &mut lives);
-            }
-            all.push(MemoryStarter {
+            let lives = self.take_lives(i);
+            all.push_reserved(MemoryStarter {
                 lives,
                 asked: Vec::new(self.alloc),
                 faults: 0,
-            })?;
+            });
         }
-        Ok(all)
     }
 }
 
@@ -103,9 +120,10 @@ impl Yard for MemoryYard {
     ghost asked = { λ y. Some y.asked.items };
 
     fn starters(&mut self, setup: &Setup) -> Result<Vec<MemoryStarter>, NoMemory> {
-        let asked = setup.copy(self.alloc)?;
-        let all = self.take_starters(setup.servers.slice().len())?;
-        self.asked.push(asked)?;
+        let servers = setup.servers.slice().len();
+        let mut all = Vec::with_capacity(self.alloc, servers)?;
+        self.keep_asked(setup)?;
+        self.add_starters(servers, &mut all);
         Ok(all)
     }
 }

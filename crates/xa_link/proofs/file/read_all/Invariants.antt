@@ -3,8 +3,8 @@ use Rattle.std.proofs.Common.{◌≤◌, ◌-◌, ◌≡◌, length}
 use Rattle.xa_link.specs.Told.{Shrank, Grew}
 use Rattle.xa_link.proofs.file.read_all.Given as goal
 
-abbrev pub invariant-loop-all : goal.invariant-loop-all
-invariant-loop-all g l = record {
+abbrev pub invariant-loop-n : goal.invariant-loop-n
+invariant-loop-n g l = record {
   short : length l.all.items ≤ l.limit;
   shrank : Shrank (g.S.Source.left l.initial.source) (g.S.Source.left l.source) l.all.items;
   grew : Grew (g.S.Source.gave l.initial.source) (g.S.Source.gave l.source) l.all.items;
@@ -12,5 +12,5 @@ invariant-loop-all g l = record {
   quiet : g.S.Source.read_faults l.source ≡ g.S.Source.read_faults l.initial.source;
 }
 
-abbrev pub decreases-loop-all : goal.decreases-loop-all
-decreases-loop-all g l = l.limit - length l.all.items
+abbrev pub decreases-loop-n : goal.decreases-loop-n
+decreases-loop-n g l = l.limit - length l.all.items
