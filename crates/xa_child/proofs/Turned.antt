@@ -12,11 +12,12 @@ use Rattle.xa_link.specs.Told.{Grew, GrewByPart, Shrank, Empty}
 use Rattle.xa_child.specs.declared.working.WorkRefused.{WorkRefused}
 use Rattle.xa_child.specs.declared.working.WorkRefused.TheVariants.{ReadFault, WriteFault, BadFrame, NoMemory}
 use Rattle.xa_child.specs.declared.serving.Serving.{Serving}
-use Rattle.xa_child.specs.declared.serving.Halt.TheVariants.{Bad}
+use Rattle.xa_child.specs.declared.serving.Halt.{Halt}
+use Rattle.xa_child.specs.declared.serving.Halt.TheVariants.{Waits, Ended, Bad}
 use Rattle.xa_child.specs.Child.{ChildState, begun, admits_all, after_all, said, greeting, child_run}
 use Rattle.xa_child.specs.Work.{IsBad, place_after, IsBegun, IsPart, CameTo, Worked}
-use Rattle.xa_child.specs.Turns.{TurnsTo, Hears, Turns, AtEnd, Unanswered, SoFar}
-use Rattle.xa_child.specs.Serving.{TakesUpTo}
+use Rattle.xa_child.specs.Turns.{behind, TurnsTo, Hears, Turns, AtEnd, Unanswered, SoFar}
+use Rattle.xa_child.specs.Serving.{TakesUpTo, HaltsAt}
 use Rattle.xa_frame.proofs.FrameLemmas.{all_spelled-append}
 use Rattle.xa_child.proofs.Frames.{admits_all-append, after_all-append, said-append}
 
@@ -114,24 +115,33 @@ pub hears_no_memory : (old new : Serving) (octets : List ℕ) (took took_now : O
 hears_no_memory old new octets took took_now end r same is =
     quiet_hears old new octets took took_now end r same (subst (TurnsTo old.child (place_after old.reader.place []) (old.reader.rest ++ octets) end [] [] new) (sym is) (0, omega arith, refl))
 
--- what stands next is bad
-pub hears_bad : (old mid new : Serving) (octets due : List ℕ) (took took_now : Option (List ℕ)) (at : ℕ) → mid.child ≡ old.child → mid.reader.place ≡ old.reader.place → mid.reader.rest ≡ old.reader.rest ++ octets → TakesUpTo mid new due (Bad at) → Grew took took_now due → Hears old new octets took took_now ⊥ (Err (BadFrame at))
-hears_bad old mid new octets due took took_now at child place fed t grew = record {
-  frames = t.frames;
-  rest = t.rest;
-  written = due;
-  spelling = t.takes.spelling;
-  admitted = subst (λ s. admits_all s t.frames ≡ true) child t.takes.admitted;
-  whole = sym fed ∙ t.takes.whole;
-  grew = grew;
-  turns =
-      let state : new.child ≡ after_all old.child t.frames = t.takes.child ∙ ap (λ s. after_all s t.frames) child in (
-        t.takes.says ∙ ap (λ s. all_spelled (said s t.frames)) child,
-        ap (λ (s : ChildState). s.ended) (sym state) ∙ t.halts.0,
-        t.halts.1 ∙ ap (λ p. place_after p (all_spelled t.frames)) place,
-        inl (subst (λ s. IsBad s t.rest) state t.halts.2),
-      );
+-- no further frame is taken
+halted : (s : ChildState) (place : ℕ) (rest due want : List ℕ) (new : Serving) (halt : Halt) → due ≡ want → new.child ≡ s → HaltsAt new.child place rest new.reader halt → TurnsTo s place rest ⊥ due want new (behind halt)
+halted s place rest due want new Waits complete child h = record {
+  complete = complete;
+  going = ap (λ (z : ChildState). z.ended) (sym child) ∙ h.0;
+  partial = h.1;
+  child = child;
+  reader = h.2;
 }
+halted s place rest due want new Ended complete child h = (complete, inl (ap (λ (z : ChildState). z.ended) (sym child) ∙ h))
+halted s place rest due want new (Bad at) complete child h = (complete, ap (λ (z : ChildState). z.ended) (sym child) ∙ h.0, h.1, inl (subst (λ z. IsBad z rest) child h.2))
+
+pub hears_halted : (old mid new : Serving) (octets due : List ℕ) (took took_now : Option (List ℕ)) (halt : Halt) → mid.child ≡ old.child → mid.reader.place ≡ old.reader.place → mid.reader.rest ≡ old.reader.rest ++ octets → TakesUpTo mid new due halt → Grew took took_now due → Hears old new octets took took_now ⊥ (behind halt)
+hears_halted old mid new octets due took took_now halt child place fed t grew =
+    let state : new.child ≡ after_all old.child t.frames = t.takes.child ∙ ap (λ s. after_all s t.frames) child in
+    let says : due ≡ all_spelled (said old.child t.frames) = t.takes.says ∙ ap (λ s. all_spelled (said s t.frames)) child in
+    let halts = subst (λ p. HaltsAt new.child (place_after p (all_spelled t.frames)) t.rest new.reader halt) place t.halts in
+    record {
+      frames = t.frames;
+      rest = t.rest;
+      written = due;
+      spelling = t.takes.spelling;
+      admitted = subst (λ s. admits_all s t.frames ≡ true) child t.takes.admitted;
+      whole = sym fed ∙ t.takes.whole;
+      grew = grew;
+      turns = halted _ _ t.rest due _ new halt says state halts;
+    }
 
 -- the input failed
 pub turns_failed : (old : Serving) (left left_now gave gave_now took : Option (List ℕ)) (r : Result Bool WorkRefused) → old.child.ended ≡ false → IsPartial old.reader.rest → left_now ≡ left → gave_now ≡ gave → r ≡ Err ReadFault → Turns old old left left_now gave gave_now took took r

@@ -8,8 +8,16 @@ use Rattle.xa_link.specs.Told.{Grew, Shrank, Empty}
 use Rattle.xa_child.specs.declared.working.WorkRefused.{WorkRefused}
 use Rattle.xa_child.specs.declared.working.WorkRefused.TheVariants.{BadFrame, WriteFault, NoMemory}
 use Rattle.xa_child.specs.declared.serving.Serving.{Serving}
+use Rattle.xa_child.specs.declared.serving.Halt.{Halt}
+use Rattle.xa_child.specs.declared.serving.Halt.TheVariants.{Waits, Ended, Bad}
 use Rattle.xa_child.specs.Child.{ChildState, begun, admits_all, after_all, said, child_run}
 use Rattle.xa_child.specs.Work.{CameTo, place_after}
+
+-- what the program comes to where no further frame is taken: true where it goes on
+abbrev pub behind : Halt → Result Bool WorkRefused
+behind Waits = Ok true
+behind Ended = Ok false
+behind (Bad at) = Err (BadFrame at)
 
 -- it goes on: all that is due is written, and more octets are to come
 pub record GoesOn (s : ChildState) (place : ℕ) (rest written due : List ℕ) (now : Serving) : Type 0 where

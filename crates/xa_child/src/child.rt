@@ -122,19 +122,27 @@ pub fn said_to(frame: &Frame) -> Option<Returned<'_>>
 fn answer(alloc: Global, frame: &Frame) -> Result<Vec<Frame>, NoMemory>
     ensures { IfOk result (λ frames. frames.items ≡ answer frame.now) }
 {
-    let mut frames = Vec::new(alloc);
-    if let Some(said) = said_to(frame) {
-        let payload = match said.payload {
-            Some(payload) => payload.copy(alloc)?,
-            None => Data::Absent,
-        };
-        frames.push(Frame {
-            tag: said.tag,
-            body: Body::Return(said.value, said.code, payload),
-        })?;
-        frames.push(next())?;
-    }
+    let Some(said) = said_to(frame) else {
+        return Ok(Vec::new(alloc));
+    };
+    let mut frames = Vec::with_capacity(alloc, 2)?;
+    frames.push_reserved(copied(alloc, &said)?);
+    frames.push_reserved(next());
     Ok(frames)
+}
+
+// The RETURN as a frame, with a copy of its data.
+fn copied(alloc: Global, said: &Returned) -> Result<Frame, NoMemory>
+    ensures { IfOk result (λ frame. frame ≡ frame_of said.now) }
+{
+    let payload = match said.payload {
+        Some(payload) => payload.copy(alloc)?,
+        None => Data::Absent,
+    };
+    Ok(Frame {
+        tag: said.tag,
+        body: Body::Return(said.value, said.code, payload),
+    })
 }
 
 impl Child {
@@ -143,12 +151,12 @@ impl Child {
         ensures state { IfOk result (λ started. started.0 ≡ begun) }
         ensures greets { IfOk result (λ started. started.1.items ≡ greeting name.now) }
     {
-        let mut frames = Vec::new(alloc);
-        frames.push(Frame {
+        let mut frames = Vec::with_capacity(alloc, 2)?;
+        frames.push_reserved(Frame {
             tag: 0,
             body: Body::Ready(*name),
-        })?;
-        frames.push(next())?;
+        });
+        frames.push_reserved(next());
         let child = Child {
             invocations: 0,
             ended: false,

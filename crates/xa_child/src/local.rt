@@ -1,5 +1,5 @@
 // Servers' programs in memory.
-ghost use Rattle.std.specs.Prelude.{◌≡◌, ◌≤◌, ◌<◌, ◌-◌, ◌+◌, ◌++◌, [], ℕ, List, take, drop, length, true, false, Some, All, OnOk, OnErr, IfOk};
+ghost use Rattle.std.specs.Prelude.{◌≡◌, ◌≤◌, ◌<◌, ◌-◌, ◌+◌, ◌++◌, [], ◌∷◌, ℕ, List, take, drop, length, true, false, Some, All, OnOk, OnErr, IfOk};
 ghost use Rattle.xa_child.specs.Child.{greeting};
 ghost use Rattle.xa_frame.specs.Spelling.{all_spelled};
 ghost use Rattle.xa_frame.specs.Stream.{IsPartial};
@@ -7,7 +7,8 @@ ghost use Rattle.xa_link.specs.Told.{Rose};
 ghost use Rattle.xa_child.specs.LocalHolds.{Holds, Says};
 
 use crate::child::Child;
-use crate::serving::{Halt, Serving, spell};
+use crate::serving::{Serving, spell};
+use crate::working::behind;
 use std::alloc::Global;
 use std::marker::Model;
 use xa_frame::{Frame, Reader};
@@ -84,20 +85,35 @@ fn answer(
     ensures longer { (due : List ℕ) × (given.new.items ≡ given.old.items ++ due) }
     ensures same { OnErr result (given.new.items ≡ given.old.items) }
 {
-    serving.reader.feed(octets).map_err(|_| Failed)?;
-    let (halt, due) = serving.take_all().map_err(|_| Failed)?;
-    let more = match halt {
-        Halt::Waits => true,
-        Halt::Ended => false,
-        Halt::Bad(_) => return Err(Failed),
+    if serving.reader.feed(octets).is_err() {
+        return Err(Failed);
+    }
+    let Ok((halt, due)) = serving.take_all() else {
+        return Err(Failed);
     };
+    let Ok(more) = behind(halt) else {
+        return Err(Failed);
+    };
+    keep(taken, given, octets, due.as_slice())?;
+    Ok(more)
+}
+
+// Keeps what was taken and what is given for it, or neither.
+fn keep(taken: &mut Vec<u8>, given: &mut Vec<u8>, octets: &[u8], due: &[u8]) -> Result<(), Failed>
+    ensures took { OnOk result (taken.new.items ≡ taken.old.items ++ octets.now) }
+    ensures gave { OnOk result (given.new.items ≡ given.old.items ++ due.now) }
+    ensures left { OnErr result (taken.new.items ≡ taken.old.items) }
+    ensures same { OnErr result (given.new.items ≡ given.old.items) }
+{
     let before = given.len();
-    given.extend_from_slice(due.as_slice()).map_err(|_| Failed)?;
+    if given.extend_from_slice(due).is_err() {
+        return Err(Failed);
+    }
     if taken.extend_from_slice(octets).is_err() {
         given.truncate(before);
         return Err(Failed);
     }
-    Ok(more)
+    Ok(())
 }
 
 fn raise(count: &mut u64)
@@ -235,12 +251,13 @@ impl Starter<LocalLink> for LocalStarter {
     ghost asked = { λ s. Some s.asked.items };
 
     fn start(&mut self, server: &Name, generation: Generation) -> Result<LocalLink, StartRefused> {
+        if self.asked.reserve(1).is_err() {
+            return Err(StartRefused::NoMemory);
+        }
         let Ok(link) = LocalLink::start(self.alloc, server) else {
             return Err(StartRefused::NoMemory);
         };
-        if self.asked.push((*server, generation)).is_err() {
-            return Err(StartRefused::NoMemory);
-        }
+        self.asked.push_reserved((*server, generation));
         Ok(link)
     }
 }
@@ -270,14 +287,24 @@ impl LocalYard {
         ensures each { IfOk result (λ all. length all.items ≡ servers) }
         ensures none { IfOk result (λ all. All (λ s. s.asked.items ≡ []) all.items) }
     {
-        let mut all = Vec::new(self.alloc);
+        let mut all = Vec::with_capacity(self.alloc, servers)?;
         for _ in 0..servers {
-            all.push(LocalStarter {
+            all.push_reserved(LocalStarter {
                 alloc: self.alloc,
                 asked: Vec::new(self.alloc),
-            })?;
+            });
         }
         Ok(all)
+    }
+
+    // Keeps the setup as the last one that starters were asked for.
+    fn keep_asked(&mut self, setup: &Setup) -> Result<(), NoMemory>
+        ensures asked { OnOk result (self.new.asked.items ≡ self.old.asked.items ++ setup.now ∷ []) }
+        ensures starved { OnErr result (self.new.asked.items ≡ self.old.asked.items) }
+    {
+        self.asked.reserve(1)?;
+        self.asked.push_reserved(setup.copy(self.alloc)?);
+        Ok(())
     }
 }
 
@@ -291,9 +318,8 @@ impl Yard for LocalYard {
     ghost asked = { λ y. Some y.asked.items };
 
     fn starters(&mut self, setup: &Setup) -> Result<Vec<LocalStarter>, NoMemory> {
-        let asked = setup.copy(self.alloc)?;
         let all = self.starters_of(setup.servers.slice().len())?;
-        self.asked.push(asked)?;
+        self.keep_asked(setup)?;
         Ok(all)
     }
 }

@@ -6,7 +6,7 @@ ghost use Rattle.xa_frame.specs.Stream.{IsPartial};
 ghost use Rattle.xa_link.specs.Told.{Grew, GrewByPart};
 ghost use Rattle.xa_child.specs.Child.{begun, greeting};
 ghost use Rattle.xa_child.specs.Work.{Worked, Counts};
-ghost use Rattle.xa_child.specs.Turns.{Hears, Turns, AtEnd, Unanswered};
+ghost use Rattle.xa_child.specs.Turns.{Hears, Turns, AtEnd, Unanswered, behind};
 ghost use Rattle.xa_child.specs.declared.working.WorkRefused.TheVariants as refusals;
 
 use crate::child::Child;
@@ -76,7 +76,9 @@ fn greet<O: Sink>(alloc: Global, name: &Name, out: &mut O) -> Result<Serving, Wo
     // By its clause `named`, READY has a spelling.
     let _ = name.octets();
     let (child, frames) = Child::start(alloc, name)?;
-    say(alloc, frames.as_slice(), out)?;
+    let said = say(alloc, frames.as_slice(), out);
+    drop(frames);
+    said?;
     Ok(Serving {
         alloc,
         child,
@@ -111,7 +113,9 @@ fn turn<I: Source, O: Sink>(
     ensures turns { Turns serving.old serving.new (I.left input.old) (I.left input.new) (I.gave input.old) (I.gave input.new) (O.took out.old) (O.took out.new) result }
     ensures counts { Counts result (I.read_faults input.old) (I.read_faults input.new) (O.write_faults out.old) (O.write_faults out.new) }
 {
-    let n = input.read(piece).map_err(|_| WorkRefused::ReadFault)?;
+    let Ok(n) = input.read(piece) else {
+        return Err(WorkRefused::ReadFault);
+    };
     if n == 0 {
         return end(serving);
     }
@@ -142,7 +146,16 @@ fn hear<O: Sink>(serving: &mut Serving, octets: &[u8], out: &mut O) -> Result<bo
 {
     serving.reader.feed(octets)?;
     let (halt, due) = serving.take_all()?;
-    put(out, due.as_slice()).map_err(|_| WorkRefused::WriteFault)?;
+    if put(out, due.as_slice()).is_err() {
+        return Err(WorkRefused::WriteFault);
+    }
+    behind(halt)
+}
+
+// What the program comes to where no further frame is taken: whether it goes on, or how it ends.
+pub(crate) fn behind(halt: Halt) -> Result<bool, WorkRefused>
+    ensures { result ≡ behind halt }
+{
     match halt {
         Halt::Waits => Ok(true),
         Halt::Ended => Ok(false),

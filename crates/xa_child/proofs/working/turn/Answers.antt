@@ -3,12 +3,12 @@ use Rattle.xa_link.specs.Told.{Grew, Shrank, Empty}
 use Rattle.xa_child.proofs.Turned.{turns_of, turns_failed, turns_ended}
 use Rattle.xa_child.proofs.working.turn.Goals as goal
 
-pub returns-in_err-n-clause-turns : goal.returns-in_err-n-clause-turns
-returns-in_err-n-clause-turns g c = turns_failed c.args.serving.now _ _ _ _ _ _ c.requires.going c.requires.partial (search rules) (search rules) (search rules)
+pub returns-in_default-clause-turns : goal.returns-in_default-clause-turns
+returns-in_default-clause-turns g c = turns_failed c.args.serving.now _ _ _ _ _ _ c.requires.going c.requires.partial (search rules) (search rules) (search rules)
 
 pub returns-then-n-eq0-clause-turns : goal.returns-then-n-eq0-clause-turns
 returns-then-n-eq0-clause-turns g c =
-    let ok : c.read.result ≡ Ok c.in_ok-n.n = search rules in
+    let ok : c.read.result ≡ Ok c.in-Ok.n = search rules in
     let zero : c.read.result ≡ Ok 0 = ok ∙ ap Ok c.if-n-eq0.true in
     let off : Shrank (g.I.Source.left c.args.input.now) (g.I.Source.left c.read.new.self) [] =
     subst (λ r. IfOk r (λ n. Shrank (g.I.Source.left c.args.input.now) (g.I.Source.left c.read.new.self) (take n c.read.new.into))) zero c.read.ensures.told in
@@ -18,4 +18,4 @@ returns-then-n-eq0-clause-turns g c =
     turns_ended c.args.serving.now _ _ _ _ _ _ c.requires.going c.requires.partial c.end.ensures.place off given none c.end.ensures.comes
 
 pub returns-clause-turns : goal.returns-clause-turns
-returns-clause-turns g c = turns_of c.args.serving.now c.hear.new.serving _ _ _ _ _ _ (take c.in_ok-n.n c.read.new.into) _ (search rules) (search rules) c.hear.ensures.hears
+returns-clause-turns g c = turns_of c.args.serving.now c.hear.new.serving _ _ _ _ _ _ (take c.in-Ok.n c.read.new.into) _ (search rules) (search rules) c.hear.ensures.hears

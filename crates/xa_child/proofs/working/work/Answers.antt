@@ -15,7 +15,7 @@ pub returns-in_err-turn-clause-worked : goal.returns-in_err-turn-clause-worked
 returns-in_err-turn-clause-worked g c =
     let same : c.from_residual-in_err-turn.result ≡ Err c.in_err-turn.field-0.0 = search rules in
     subst (λ r. Worked c.args.name.now (g.I.Source.left c.args.input.now) (g.I.Source.left c.turn.new.input) (g.I.Source.gave c.args.input.now) (g.I.Source.gave c.turn.new.input) (g.O.Sink.took c.args.out.now) (g.O.Sink.took c.turn.new.out) r) (sym same)
-    (worked_refused _ _ _ _ _ _ _ c.turn.new.serving c.in_err-turn.field-0.0 (joined _ _ _ _ _ _ _ _ _ _ c.loop.serving c.turn.new.serving _ c.loop.invariant.so_far c.in_err-turn.ensures.turns))
+    (worked_refused _ _ _ _ _ _ _ c.turn.new.serving c.in_err-turn.field-0.0 (joined _ _ _ _ _ _ _ _ _ _ c.loop.serving c.turn.new.serving (Err c.in_err-turn.field-0.0) c.loop.invariant.so_far c.in_err-turn.ensures.turns))
 
 pub returns-then-not-branch-clause-worked : goal.returns-then-not-branch-clause-worked
 returns-then-not-branch-clause-worked g c =
