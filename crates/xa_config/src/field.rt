@@ -107,14 +107,19 @@ fn sized(digits: &[u8]) -> Option<FieldKind>
 fn kind_of(kind: &[u8]) -> Option<FieldKind>
     ensures { result ≡ kind_of kind.now }
 {
-    match kind {
-        b"short" => Some(FieldKind::Short),
-        b"int" => Some(FieldKind::Int),
-        b"long" => Some(FieldKind::Long),
-        b"char" => Some(FieldKind::Char),
-        [b's', b't', b'r', b'i', b'n', b'g', b' ', digits @ ..] => sized(digits),
-        _ => None,
+    if kind == b"short".as_slice() {
+        return Some(FieldKind::Short);
     }
+    if kind == b"int".as_slice() {
+        return Some(FieldKind::Int);
+    }
+    if kind == b"long".as_slice() {
+        return Some(FieldKind::Long);
+    }
+    if kind == b"char".as_slice() {
+        return Some(FieldKind::Char);
+    }
+    sized(kind.strip_prefix(b"string ".as_slice())?)
 }
 
 /// The field that a text says.

@@ -1,8 +1,9 @@
 // The arrays of tables of a configuration, and what they come to together.
-ghost use Rattle.std.specs.Prelude.{◌≡◌, ◌≤◌, [], ℕ, List, map, IfOk, IfErr, MatchResult, MatchOption, length, true, false, codes};
+ghost use Rattle.std.specs.Prelude.{◌≡◌, ◌≤◌, [], ℕ, List, map, IfOk, IfErr, MatchResult, MatchOption, length, vec_capacity, true, false, codes};
 ghost use Rattle.std.specs.List.{list_all};
 ghost use Rattle.toml.specs.Data.{Data, get};
 ghost use Rattle.toml.specs.View.{view};
+ghost use Rattle.xa_config.specs.declared.refusal.ConfigRefused.TheVariants.{NoMemory};
 ghost use Rattle.xa_config.specs.Document.{TellsFirst, Reads};
 ghost use Rattle.xa_config.specs.Faults.{Fault, in_order, indexed};
 ghost use Rattle.xa_config.specs.Kinds.{is_table};
@@ -64,6 +65,21 @@ fn entries_at<'a>(document: &'a Value, key: &str) -> Option<&'a [Value]>
     Some(values)
 }
 
+// Room for so many entries, and for their names.
+fn with_room<T: Drop>(alloc: Global, count: usize) -> Result<(Vec<T>, Vec<Name>), ConfigRefused>
+    ensures none { IfOk result (λ lists. (lists.0.items ≡ []) × (lists.1.items ≡ [])) }
+    ensures room { IfOk result (λ lists. (count ≤ vec_capacity lists.0) × (count ≤ vec_capacity lists.1)) }
+    ensures refused { IfErr result (λ refusal. refusal ≡ NoMemory) }
+{
+    let Ok(entries) = Vec::with_capacity(alloc, count) else {
+        return Err(ConfigRefused::NoMemory);
+    };
+    let Ok(names) = Vec::with_capacity(alloc, count) else {
+        return Err(ConfigRefused::NoMemory);
+    };
+    Ok((entries, names))
+}
+
 fn shape_at(alloc: Global, value: &Value, earlier: &[Name]) -> Result<ShapeSetup, ConfigRefused>
     ensures { Reads (shape_faults (indexed (codes "shape") (length earlier.now)) earlier.now (view value.now)) (shape_of (view value.now)) result }
 {
@@ -83,12 +99,11 @@ fn all_shapes(
     ensures { Reads (in_order (at_entry (codes "shape") shape_faults) [] (map view values.now))
         (map shape_of (map view values.now), names_of (map view values.now)) result }
 {
-    let mut shapes = Vec::new(alloc);
-    let mut names = Vec::new(alloc);
+    let (mut shapes, mut names) = with_room(alloc, values.len())?;
     for value in values {
         let shape = shape_at(alloc, value, names.as_slice())?;
-        names.push(shape.name)?;
-        shapes.push(shape)?;
+        names.push_reserved(shape.name);
+        shapes.push_reserved(shape);
     }
     Ok((Sequence::from_vec(shapes), Sequence::from_vec(names)))
 }
@@ -125,12 +140,11 @@ fn all_queues(
     ensures { Reads (in_order (at_entry (codes "queue") queue_faults) [] (map view values.now))
         (map queue_of (map view values.now), names_of (map view values.now)) result }
 {
-    let mut queues = Vec::new(alloc);
-    let mut names = Vec::new(alloc);
+    let (mut queues, mut names) = with_room(alloc, values.len())?;
     for value in values {
         let queue = queue_at(alloc, value, names.as_slice())?;
-        names.push(queue.name)?;
-        queues.push(queue)?;
+        names.push_reserved(queue.name);
+        queues.push_reserved(queue);
     }
     Ok((Sequence::from_vec(queues), Sequence::from_vec(names)))
 }
@@ -173,12 +187,11 @@ fn all_servers(
     ensures { Reads (in_order (at_entry (codes "server") (server_faults queues.now)) [] (map view values.now))
         (map server_of (map view values.now), names_of (map view values.now)) result }
 {
-    let mut servers = Vec::new(alloc);
-    let mut names = Vec::new(alloc);
+    let (mut servers, mut names) = with_room(alloc, values.len())?;
     for value in values {
         let server = server_at(alloc, value, names.as_slice(), queues)?;
-        names.push(server.name)?;
-        servers.push(server)?;
+        names.push_reserved(server.name);
+        servers.push_reserved(server);
     }
     Ok((Sequence::from_vec(servers), Sequence::from_vec(names)))
 }
@@ -226,12 +239,11 @@ fn all_services(
     ensures { Reads (in_order (at_entry (codes "service") (service_faults queues.now shapes.now)) [] (map view values.now))
         (map (service_of shapes.now) (map view values.now), names_of (map view values.now)) result }
 {
-    let mut services = Vec::new(alloc);
-    let mut names = Vec::new(alloc);
+    let (mut services, mut names) = with_room(alloc, values.len())?;
     for value in values {
         let service = service_at(alloc, value, names.as_slice(), queues, shapes)?;
-        names.push(service.name)?;
-        services.push(service)?;
+        names.push_reserved(service.name);
+        services.push_reserved(service);
     }
     Ok((Sequence::from_vec(services), Sequence::from_vec(names)))
 }

@@ -1,4 +1,4 @@
-use Rattle.std.proofs.Common.{codes, map, sym, ap, ◌∙◌}
+use Rattle.std.proofs.Common.{rules, codes, map, sym, ap, ◌∙◌}
 use Rattle.std.proofs.lemmas.Result.{err_from_is_err_and}
 use Rattle.toml.specs.View.{view}
 use Rattle.xa_types.specs.declared.setup.ShapeSetup.{ShapeSetup}
@@ -16,9 +16,11 @@ loop-value-preserved c =
     let entry = shape_faults in
     let found = c.in_ok-shape.ensures in
     record {
-      kept = c.in_ok-push-2.ensures.items ∙ kept_more shape_of vs i v _ _ c.loop-value-test.true c.value-item.is c.loop-value.invariant.kept found.1;
-      named = c.in_ok-push.ensures.items
+      kept = c.push_reserved-in-loop-value.ensures.items ∙ kept_more shape_of vs i v _ _ c.loop-value-test.true c.value-item.is c.loop-value.invariant.kept found.1;
+      named = c.push_reserved.ensures.items
           ∙ kept_more name_of vs i v _ _ c.loop-value-test.true c.value-item.is c.loop-value.invariant.named (ap (λ (x : ShapeSetup). x.name) found.1 ∙ shape_name (view v));
+      room = search rules;
+      named_room = search rules;
       left = next_good (at_entry (codes "shape") entry) vs i v _ c.loop-value-test.true c.value-item.is c.loop-value.invariant.left
           (sym (at_names (codes "shape") entry (seen i vs) (view v) _ (c.as_slice.ensures.value ∙ c.loop-value.invariant.named)) ∙ found.0);
     }
@@ -29,7 +31,7 @@ returns-in_err-shape c =
     let vs = c.args.values.now in
     let v = c.value-item.result in
     let entry = shape_faults in
-    let p = err_from_is_err_and c.from_residual.result c.from_residual.ensures.1 in
+    let p = err_from_is_err_and c.from_residual-in_err-shape.result c.from_residual-in_err-shape.ensures.1 in
     rw (p.1, p.2)
     (next_bad (at_entry (codes "shape") entry) vs i v _ _ c.loop-value-test.true c.value-item.is c.loop-value.invariant.left
     (tells_names (codes "shape") entry (seen i vs) (view v) _ _ (c.as_slice.ensures.value ∙ c.loop-value.invariant.named) c.in_err-shape.ensures))
