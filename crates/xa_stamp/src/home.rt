@@ -1,5 +1,5 @@
 //! A home: where the events of one object or of one caller are noted, each with its stamp.
-ghost use Rattle.std.specs.Prelude.{◌≡◌, ◌+◌, ◌-◌, ◌^◌, ◌≤◌, ◌<◌, ◌∷◌, ◌++◌, [], max, OnOk, OnErr, IfOk, IfErr, IsOk};
+ghost use Rattle.std.specs.Prelude.{◌≡◌, ◌+◌, ◌-◌, ◌^◌, ◌≤◌, ◌<◌, ◌∷◌, ◌++◌, [], max, OnOk, OnErr, IfOk, IfErr, IsOk, MatchResult};
 ghost use Rattle.xa_stamp.specs.Home.{Rises, last_stamp};
 
 use std::alloc::Global;
@@ -81,6 +81,29 @@ impl Home {
         Ok(())
     }
 
+    /// The stamp of the next event: one more than the larger of `seen` and the last stamp. `Worn` comes exactly where the
+    /// larger is 2^63.
+    pub fn next_stamp(&self, seen: Stamp) -> Result<Stamp, Worn>
+        requires { seen.0 ≤ 2 ^ 63 }
+        ensures { MatchResult result
+            (λ stamp. (stamp.0 ≡ max seen.0 (last_stamp self.now.first self.now.entries) + 1) × (stamp.0 ≤ 2 ^ 63))
+            (λ worn. (worn.0.0 ≡ 2 ^ 63) × (max seen.0 (last_stamp self.now.first self.now.entries) ≡ 2 ^ 63)) }
+    {
+        Stamp::after(seen, self.last())
+    }
+
+    /// Adds an event with a stamp that is behind the last one. It takes no memory.
+    pub fn add(&mut self, stamp: Stamp, event: Event)
+        requires later { last_stamp self.old.first self.old.entries < stamp.0 }
+        requires bound { stamp.0 ≤ 2 ^ 63 }
+        requires room { 0 < self.old.room }
+        ensures entries { self.new.entries ≡ self.old.entries ++ (record { stamp = stamp; event = event }) ∷ [] }
+        ensures first { self.new.first ≡ self.old.first }
+        ensures room { self.old.room ≤ self.new.room + 1 }
+    {
+        self.entries.push_reserved(Stamped { stamp, event });
+    }
+
     /// Notes an event with one more than the larger of `seen` and the last stamp, and answers that stamp. `Worn` comes
     /// exactly where the larger is 2^63, and then nothing changes. It takes no memory.
     pub fn note(&mut self, seen: Stamp, event: Event) -> Result<Stamp, Worn>
@@ -93,8 +116,15 @@ impl Home {
         ensures worn { IfErr result (λ worn. (worn.0.0 ≡ 2 ^ 63) × (max seen.0 (last_stamp self.old.first self.old.entries) ≡ 2 ^ 63)) }
         ensures kept { OnErr result (self.new ≡ self.old) }
     {
-        let stamp = Stamp::after(seen, self.last())?;
-        self.entries.push_reserved(Stamped { stamp, event });
-        Ok(stamp)
+        match self.next_stamp(seen) {
+            Ok(stamp) => {
+                self.add(stamp, event);
+                Ok(stamp)
+            }
+            Err(worn) => {
+                drop(event);
+                Err(worn)
+            }
+        }
     }
 }

@@ -59,7 +59,7 @@ fn events_at(alloc: Global, homes: &[Home], places: &[Place]) -> Result<Vec<Even
 {
     let mut events = Vec::with_capacity(alloc, places.len())?;
     for place in places {
-        events.push(event_at(homes, *place).copy(alloc)?)?;
+        events.push_reserved(event_at(homes, *place).copy(alloc)?);
     }
     Ok(events)
 }
