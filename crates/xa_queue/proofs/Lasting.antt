@@ -1,5 +1,5 @@
 -- What holds of each queue, and the room that is left, once one more event is noted.
-use Rattle.std.proofs.Common.{◌≡◌, ℕ, ◌+◌, ◌≤◌, ◌^◌, ◌==◌, ◌||◌, not, Bool, true, false, cond, List, [], ◌∷◌, ◌++◌, length, inl, inr, refl, sym, ◌∙◌, ap, subst, arith, eqb-true, length-append}
+use Rattle.std.proofs.Common.{◌≡◌, ℕ, ◌+◌, ◌<◌, ◌≤◌, ◌^◌, ◌==◌, ◌||◌, not, Bool, true, false, cond, List, [], ◌∷◌, ◌++◌, length, inl, inr, refl, sym, ◌∙◌, ap, subst, arith, eqb-true, length-append}
 use Rattle.std.specs.Prelude.{max, Result, Ok, Err, OnOk, is_err}
 use Rattle.std.specs.List.{All, filter, list_any, IsDistinct}
 use Rattle.std.proofs.Math.Bool.{or-false}
@@ -14,6 +14,7 @@ use Rattle.xa_stamp.specs.Home.{Notes, Rises, last_stamp}
 use Rattle.xa_stamp.proofs.Stamps.{Rises-push}
 use Rattle.xa_queue.specs.declared.entry.Entry.{Entry}
 use Rattle.xa_queue.specs.Queue.{Standing, IsSound, same_server, has_server}
+use Rattle.xa_queue.specs.Changes.{larger, next_stamp}
 use Rattle.xa_queue.specs.Kept.{servers_left}
 use Rattle.xa_queue.proofs.Waiting.{eqb-flips, IsDistinct-one_more}
 
@@ -108,7 +109,19 @@ grown entries entries' e are n few = let more = ap length are in omega (arith, m
 pub rises-noted : (seen stamp : Stamp) (e : Event) (first : Stamp) (entries : List Stamped) → Rises first entries → stamp.0 ≡ max seen.0 (last_stamp first entries) + 1 → stamp.0 ≤ 2 ^ 63 → Rises first (entries ++ record { stamp = stamp; event = e } ∷ [])
 rises-noted seen stamp e first entries rises next bound = Rises-push first entries (record { stamp = stamp; event = e }) rises (omega (arith, next)) bound
 
+-- stamps rise to 2^63 at most, so there are no more
+pub few_rise : (first : Stamp) (entries : List Stamped) → Rises first entries → first.0 + length entries ≤ 2 ^ 63
+few_rise first [] rises = omega (arith, rises)
+few_rise first (e ∷ entries) rises = let rest = few_rise e.stamp entries rises.1 in omega (arith, rest, rises.0)
+
 module _ {C : Type 0} where
+  -- the next stamp of a queue is the next one of its home
+  pub next-noted : (seen stamp : Stamp) (q : Standing C) (home : Notes) → q.first ≡ home.first → home.entries ≡ q.entries → (larger seen q < 2 ^ 63) × (stamp ≡ next_stamp seen q) → (stamp.0 ≡ max seen.0 (last_stamp home.first home.entries) + 1) × (stamp.0 ≤ 2 ^ 63)
+  next-noted seen stamp q home first entries fresh =
+      let same : larger seen q ≡ max seen.0 (last_stamp home.first home.entries) = ap (λ f. max seen.0 (last_stamp f q.entries)) first ∙ ap (λ l. max seen.0 (last_stamp home.first l)) (sym entries) in
+      let is : stamp.0 ≡ larger seen q + 1 = ap (λ (s : Stamp). s.0) fresh.1 in
+      (is ∙ ap (λ n. n + 1) same, omega (arith, is, fresh.0))
+
   -- a server is given up
   pub own-noted : (q : Standing C) (server : ServerId) → IsSound q → has_server server q.servers ≡ true → All (λ s. has_server s q.servers ≡ true) (q.gone ++ server ∷ [])
   own-noted q server sound own = All-push (λ s. has_server s q.servers ≡ true) q.gone server sound.own own

@@ -1,10 +1,9 @@
 // The queue: what waits, and its events as they are noted.
-ghost use Rattle.std.specs.Prelude.{◌≡◌, ◌^◌, ◌≤◌, ◌<◌, ◌⊎◌, [], length, None, Some, true, false, IfOk, IfErr, OnOk, OnErr, MatchOption, MatchResult};
+ghost use Rattle.std.specs.Prelude.{◌≡◌, ◌^◌, ◌≤◌, ◌<◌, ◌⊎◌, [], length, None, Some, true, false, IfOk, IfErr, OnOk, OnErr, MatchOption};
 ghost use Rattle.xa_events.specs.declared.event.Event.TheVariants.{Gone, Down, Close};
-ghost use Rattle.xa_stamp.specs.Home.{last_stamp};
 ghost use Rattle.xa_queue.specs.Queue.{IsSound, has_server, all_gone, none_left};
 ghost use Rattle.xa_queue.specs.Reading.{ReadsAsNoted};
-ghost use Rattle.xa_queue.specs.Changes.{opened, IsEntry, larger, Notes, IsWorn, put_refused, with_entry, TakesAs, with_gone, Sweeps, Drains, IsDrained};
+ghost use Rattle.xa_queue.specs.Changes.{opened, IsEntry, larger, next_stamp, Notes, IsWorn, put_refused, with_entry, TakesAs, with_gone, Sweeps, Drains, IsDrained};
 ghost use Rattle.xa_queue.specs.declared.queue.Refusal.TheVariants as refusals;
 
 use crate::entry::Entry;
@@ -133,42 +132,23 @@ impl<C> Queue<C> {
         self.line.len()
     }
 
-    // The stamp of the last event, or the first one where there is none.
-    fn stamp(&self) -> Stamp
-        ensures value { result.0 ≡ last_stamp self.now.first self.now.entries }
-        ensures bound { result.0 ≤ 2 ^ 63 }
-        ensures few { length self.now.entries < 2 ^ 63 }
-    {
-        match self.home.entries() {
-            [] => self.first,
-            [.., newest] => newest.stamp,
-        }
-    }
-
-    // Whether one more event can be noted.
-    fn check_stamp(&self, seen: Stamp) -> Result<(), Worn>
+    // Whether an entry may be put, and the stamp of its event.
+    fn check_put(&self, seen: Stamp) -> Result<Stamp, Refusal>
         requires { seen.0 ≤ 2 ^ 63 }
-        ensures worn { MatchResult result (λ _. larger seen self.now < 2 ^ 63) (λ worn. IsWorn seen worn self.now self.now) }
-        ensures few { length self.now.entries < 2 ^ 63 }
-    {
-        Stamp::after(seen, self.stamp())?;
-        Ok(())
-    }
-
-    fn put_refused(&self, seen: Stamp) -> Option<Refusal>
-        requires { seen.0 ≤ 2 ^ 63 }
-        ensures { result ≡ put_refused seen self.now }
+        ensures allowed { IfOk result (λ stamp. put_refused seen self.now ≡ None) }
+        ensures stamp { IfOk result (λ stamp. (larger seen self.now < 2 ^ 63) × (stamp ≡ next_stamp seen self.now)) }
+        ensures refused { IfErr result (λ why. put_refused seen self.now ≡ Some why) }
     {
         if self.down {
-            Some(Refusal::Down)
+            Err(Refusal::Down)
         } else if self.closed {
-            Some(Refusal::Closed)
+            Err(Refusal::Closed)
         } else if self.line.len() == self.capacity {
-            Some(Refusal::Full(self.line.len()))
+            Err(Refusal::Full(self.line.len()))
         } else {
-            match self.check_stamp(seen) {
-                Ok(()) => None,
-                Err(worn) => Some(Refusal::Worn(worn.0)),
+            match self.home.next_stamp(seen) {
+                Ok(stamp) => Ok(stamp),
+                Err(worn) => Err(Refusal::Worn(worn.0)),
             }
         }
     }
@@ -191,22 +171,26 @@ impl<C> Queue<C> {
         ensures back { IfErr result (λ back. back.entry ≡ entry) }
         ensures kept { OnErr result (self.new ≡ self.old) }
     {
-        if let Some(why) = self.put_refused(seen) {
-            return Err(PutRefused { entry, why });
-        }
+        let stamp = match self.check_put(seen) {
+            Ok(stamp) => stamp,
+            Err(why) => {
+                drop(event);
+                return Err(PutRefused { entry, why });
+            }
+        };
         let age = self.home.entries().len() as u64;
         let room = self.line.len() + self.servers.len() as u32 + OTHERS;
         if self.home.reserve(room).is_err() {
+            drop(event);
             let why = Refusal::NoMemory;
             return Err(PutRefused { entry, why });
         }
         if let Err(entry) = self.line.push(age, entry) {
+            drop(event);
             let why = Refusal::NoMemory;
             return Err(PutRefused { entry, why });
         }
-        let Ok(stamp) = self.home.note(seen, event) else {
-            unreachable!()
-        };
+        self.home.add(stamp, event);
         Ok(stamp)
     }
 
@@ -228,7 +212,7 @@ impl<C> Queue<C> {
             let closed = self.closed;
             return Ok(if closed { Taken::Closed } else { Taken::Empty });
         }
-        self.check_stamp(seen)?;
+        let stamp = self.home.next_stamp(seen)?;
         let k = self.takes + 1;
         let entry = self.line.take(k % 10 == 0);
         let taken = xa_events::Taken {
@@ -237,9 +221,7 @@ impl<C> Queue<C> {
             generation,
             k,
         };
-        let Ok(stamp) = self.home.note(seen, Event::Take(taken)) else {
-            unreachable!()
-        };
+        self.home.add(stamp, Event::Take(taken));
         self.takes = k;
         Ok(Taken::Request(entry, stamp))
     }
@@ -253,7 +235,8 @@ impl<C> Queue<C> {
         ensures last { IfOk result (λ done. done.1 ≡ none_left self.new) }
         ensures worn { IfErr result (λ worn. IsWorn seen worn self.new self.old) }
     {
-        let stamp = self.home.note(seen, Event::Gone(server))?;
+        let stamp = self.home.next_stamp(seen)?;
+        self.home.add(stamp, Event::Gone(server));
         self.gone.push_reserved(server);
         let deserted = all_gone(&self.gone, &self.servers);
         Ok((stamp, deserted))
@@ -267,7 +250,8 @@ impl<C> Queue<C> {
         ensures noted { IfOk result (λ stamp. Notes seen stamp (Down self.old.id) (record self.old { down = true }) self.new self.old) }
         ensures worn { IfErr result (λ worn. IsWorn seen worn self.new self.old) }
     {
-        let stamp = self.home.note(seen, Event::Down(self.id))?;
+        let stamp = self.home.next_stamp(seen)?;
+        self.home.add(stamp, Event::Down(self.id));
         self.down = true;
         Ok(stamp)
     }
@@ -283,15 +267,13 @@ impl<C> Queue<C> {
         if self.line.len() == 0 {
             return Ok(None);
         }
-        self.check_stamp(seen)?;
+        let stamp = self.home.next_stamp(seen)?;
         let entry = self.line.take(true);
         let swept = Swept {
             request: entry.request,
             queue: self.id,
         };
-        let Ok(stamp) = self.home.note(seen, Event::Sweep(swept)) else {
-            unreachable!()
-        };
+        self.home.add(stamp, Event::Sweep(swept));
         Ok(Some((entry, stamp)))
     }
 
@@ -302,7 +284,8 @@ impl<C> Queue<C> {
         ensures noted { IfOk result (λ stamp. Notes seen stamp (Close self.old.id) (record self.old { closed = true }) self.new self.old) }
         ensures worn { IfErr result (λ worn. IsWorn seen worn self.new self.old) }
     {
-        let stamp = self.home.note(seen, Event::Close(self.id))?;
+        let stamp = self.home.next_stamp(seen)?;
+        self.home.add(stamp, Event::Close(self.id));
         self.closed = true;
         Ok(stamp)
     }

@@ -9,26 +9,26 @@ use Rattle.xa_queue.proofs.Ending.{was_closed}
 use Rattle.xa_queue.proofs.Lasting.{sound-noted, grown}
 use Rattle.xa_queue.proofs.queue.Queue.close.Goals as goal
 
-pub invariant_of-self-2 : goal.invariant_of-self-2
-invariant_of-self-2 g c =
+pub invariant_of-self : goal.invariant_of-self
+invariant_of-self g c =
     let q : Standing g.row.C.Denot = standing_of c.self.inside in
     let i = c.self.invariant in
     let left : Standing g.row.C.Denot = record q { closed = true } in
-    let entries = c.in_ok-stamp.ensures.entries in
+    let entries = c.add.ensures.entries in
     let unshut : q.closed ≡ false = ap (λ (s : Standing g.row.C.Denot). s.closed) c.self.view_is ∙ c.requires.unshut in
     record {
       reads = subst (λ l. ReadsAsNoted (record left { entries = l })) (sym {A = List Stamped} entries)
           (reads-noted c.in_ok-stamp.stamp (Close q.id) q left (record { id = refl; capacity = refl; servers = refl; entries = refl; drained = refl }) i.reads
           (λ setup fits new read. was_closed setup q i.some unshut fits read));
-      sound = sound-noted c.args.seen c.in_ok-stamp.stamp (Close q.id) left c.self.inside.home c.note.new.self i.first c.in_ok-stamp.ensures.stamp entries
+      sound = sound-noted c.args.seen c.in_ok-stamp.stamp (Close q.id) left c.self.inside.home c.add.new.self i.first c.in_ok-stamp.ensures entries
           (record { few = i.sound.few; deserted = i.sound.deserted; own = i.sound.own; once = i.sound.once; rises = i.sound.rises });
-      first = i.first ∙ sym c.note.ensures.first;
+      first = i.first ∙ sym c.add.ensures.first;
       known = i.known;
       some = i.some;
       most = i.most;
       servers = i.servers;
-      ages = let more = grown c.self.inside.home.entries c.note.new.self.entries _ entries c.self.inside.line.next i.ages in omega (arith, more);
-      takes = let more = grown c.self.inside.home.entries c.note.new.self.entries _ entries c.self.inside.takes i.takes in omega (arith, more);
-      room = let one = ap {B = ℕ} (λ b. cond b 0 1) unshut in omega (arith, one, i.room, c.note.ensures.room);
+      ages = let more = grown c.self.inside.home.entries c.add.new.self.entries _ entries c.self.inside.line.next i.ages in omega (arith, more);
+      takes = let more = grown c.self.inside.home.entries c.add.new.self.entries _ entries c.self.inside.takes i.takes in omega (arith, more);
+      room = let one = ap {B = ℕ} (λ b. cond b 0 1) unshut in omega (arith, one, i.room, c.add.ensures.room);
       places = i.places;
     }

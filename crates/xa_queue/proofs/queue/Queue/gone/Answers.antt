@@ -12,8 +12,8 @@ use Rattle.xa_queue.proofs.Ending.{gave_up}
 use Rattle.xa_queue.proofs.Lasting.{sound-noted, own-noted, once-noted, left-less, grown}
 use Rattle.xa_queue.proofs.queue.Queue.gone.Goals as goal
 
-pub note-requires-clause-room : goal.note-requires-clause-room
-note-requires-clause-room g c =
+pub add-requires-clause-room : goal.add-requires-clause-room
+add-requires-clause-room g c =
     let own : has_server c.args.server c.self.inside.servers.items ≡ true = ap (λ (s : Standing g.row.C.Denot). has_server c.args.server s.servers) c.self.view_is ∙ c.requires.own in
     let stays : has_server c.args.server c.self.inside.gone.items ≡ false = ap (λ (s : Standing g.row.C.Denot). has_server c.args.server s.gone) c.self.view_is ∙ c.requires.left in
     let less = left-less c.args.server c.self.inside.gone.items c.self.inside.servers.items own stays in
@@ -27,33 +27,33 @@ push_reserved-requires g c =
     let len = c.self.inside.gone.ok in
     omega (arith, less, len, c.self.invariant.places)
 
-pub invariant_of-self-2 : goal.invariant_of-self-2
-invariant_of-self-2 g c =
+pub invariant_of-self : goal.invariant_of-self
+invariant_of-self g c =
     let q : Standing g.row.C.Denot = standing_of c.self.inside in
     let i = c.self.invariant in
     let server = c.args.server in
     let left : Standing g.row.C.Denot = with_gone server q in
     let own : has_server server q.servers ≡ true = ap (λ (s : Standing g.row.C.Denot). has_server server s.servers) c.self.view_is ∙ c.requires.own in
     let stays : has_server server q.gone ≡ false = ap (λ (s : Standing g.row.C.Denot). has_server server s.gone) c.self.view_is ∙ c.requires.left in
-    let entries = c.in_ok-stamp.ensures.entries in
+    let entries = c.add.ensures.entries in
     let items = c.push_reserved.ensures.items in
     let less = left-less server q.gone q.servers own stays in
     let fewer = subst (λ gone. length (servers_left gone q.servers) + 1 ≤ length (servers_left q.gone q.servers)) (sym {A = List ServerId} items) less in
     let longer : length c.push_reserved.new.self.items ≡ length q.gone + 1 = ap length items ∙ length-append q.gone (server ∷ []) in
     record {
-      reads = subst (λ gone. ReadsAsNoted (record left { entries = c.note.new.self.entries; gone = gone })) (sym {A = List ServerId} items) (subst (λ l. ReadsAsNoted (record left { entries = l })) (sym {A = List Stamped} entries)
+      reads = subst (λ gone. ReadsAsNoted (record left { entries = c.add.new.self.entries; gone = gone })) (sym {A = List ServerId} items) (subst (λ l. ReadsAsNoted (record left { entries = l })) (sym {A = List Stamped} entries)
           (reads-noted c.in_ok-stamp.stamp (Gone server) q left (record { id = refl; capacity = refl; servers = refl; entries = refl; drained = refl }) i.reads
           (λ setup fits new read. gave_up setup q server i.known own stays fits read)));
-      sound = subst (λ gone. IsSound (record left { entries = c.note.new.self.entries; gone = gone })) (sym {A = List ServerId} items)
-          (sound-noted c.args.seen c.in_ok-stamp.stamp (Gone server) left c.self.inside.home c.note.new.self i.first c.in_ok-stamp.ensures.stamp entries
+      sound = subst (λ gone. IsSound (record left { entries = c.add.new.self.entries; gone = gone })) (sym {A = List ServerId} items)
+          (sound-noted c.args.seen c.in_ok-stamp.stamp (Gone server) left c.self.inside.home c.add.new.self i.first c.in_ok-stamp.ensures entries
           (record { few = i.sound.few; deserted = λ down. absurd (not_all_gone server q.gone q.servers own stays (i.sound.deserted down)); own = own-noted q server i.sound own; once = once-noted q server i.sound stays; rises = i.sound.rises }));
-      first = i.first ∙ sym c.note.ensures.first;
+      first = i.first ∙ sym c.add.ensures.first;
       known = i.known;
       some = i.some;
       most = i.most;
       servers = i.servers;
-      ages = let more = grown c.self.inside.home.entries c.note.new.self.entries _ entries c.self.inside.line.next i.ages in omega (arith, more);
-      takes = let more = grown c.self.inside.home.entries c.note.new.self.entries _ entries c.self.inside.takes i.takes in omega (arith, more);
-      room = omega (arith, fewer, i.room, c.note.ensures.room);
+      ages = let more = grown c.self.inside.home.entries c.add.new.self.entries _ entries c.self.inside.line.next i.ages in omega (arith, more);
+      takes = let more = grown c.self.inside.home.entries c.add.new.self.entries _ entries c.self.inside.takes i.takes in omega (arith, more);
+      room = omega (arith, fewer, i.room, c.add.ensures.room);
       places = omega (arith, fewer, longer, i.places, c.push_reserved.ensures.capacity);
     }

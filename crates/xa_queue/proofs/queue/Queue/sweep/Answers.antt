@@ -22,21 +22,21 @@ invariant_of-self g c =
     let left : Standing g.row.C.Denot = record q { waiting = rest } in
     let e : Event = Sweep (record { request = entry.request; queue = q.id }) in
     let down : q.down ≡ true = ap (λ (s : Standing g.row.C.Denot). s.down) c.self.view_is ∙ c.requires.down in
-    let entries = c.in-Ok.ensures.entries in
+    let entries = c.add.ensures.entries in
     let fewer : length q.waiting ≡ length rest + 1 = one_less [] entry rest q.waiting was in
     record {
       reads = subst (λ l. ReadsAsNoted (record left { entries = l })) (sym {A = List Stamped} entries)
-          (reads-noted c.in-Ok.stamp e q left (record { id = refl; capacity = refl; servers = refl; entries = refl; drained = refl }) i.reads
+          (reads-noted c.in_ok-stamp.stamp e q left (record { id = refl; capacity = refl; servers = refl; entries = refl; drained = refl }) i.reads
           (λ setup fits new read. swept setup q entry rest was down read));
-      sound = sound-noted c.args.seen c.in-Ok.stamp e left c.self.inside.home c.note.new.self i.first c.in-Ok.ensures.stamp entries
+      sound = sound-noted c.args.seen c.in_ok-stamp.stamp e left c.self.inside.home c.add.new.self i.first c.in_ok-stamp.ensures entries
           (record { few = omega (arith, fewer, i.sound.few); deserted = i.sound.deserted; own = i.sound.own; once = i.sound.once; rises = i.sound.rises });
-      first = i.first ∙ sym c.note.ensures.first;
+      first = i.first ∙ sym c.add.ensures.first;
       known = i.known;
       some = i.some;
       most = i.most;
       servers = i.servers;
-      ages = let more = grown c.self.inside.home.entries c.note.new.self.entries _ entries c.self.inside.line.next i.ages in omega (arith, more, c.take-entry.ensures.next);
-      takes = let more = grown c.self.inside.home.entries c.note.new.self.entries _ entries c.self.inside.takes i.takes in omega (arith, more);
-      room = omega (arith, fewer, i.room, c.note.ensures.room);
+      ages = let more = grown c.self.inside.home.entries c.add.new.self.entries _ entries c.self.inside.line.next i.ages in omega (arith, more, c.take-entry.ensures.next);
+      takes = let more = grown c.self.inside.home.entries c.add.new.self.entries _ entries c.self.inside.takes i.takes in omega (arith, more);
+      room = omega (arith, fewer, i.room, c.add.ensures.room);
       places = i.places;
     }

@@ -8,14 +8,14 @@ use Rattle.xa_queue.specs.Changes.{taken}
 use Rattle.xa_queue.specs.Kept.{standing_of}
 use Rattle.xa_queue.proofs.Noted.{reads-noted}
 use Rattle.xa_queue.proofs.Leaving.{took, is_up}
-use Rattle.xa_queue.proofs.Lasting.{sound-noted, one_less, grown}
+use Rattle.xa_queue.proofs.Lasting.{sound-noted, one_less, few_rise, grown}
 use Rattle.xa_queue.proofs.queue.Queue.take.Goals as goal
 
 pub overflow_add-k : goal.overflow_add-k
 overflow_add-k g c =
-    let few = c.check_stamp.ensures.few in
-    let same = ap (λ (s : Standing g.row.C.Denot). length s.entries) c.self.view_is in
-    omega (arith, few, same, c.self.invariant.takes)
+    let i = c.self.invariant in
+    let few = few_rise c.self.inside.first c.self.inside.home.entries i.sound.rises in
+    omega (arith, few, i.takes)
 
 pub invariant_of-self : goal.invariant_of-self
 invariant_of-self g c =
@@ -30,23 +30,23 @@ invariant_of-self g c =
     let own : has_server server q.servers ≡ true = ap (λ (s : Standing g.row.C.Denot). has_server server s.servers) c.self.view_is ∙ c.requires.own in
     let stays : has_server server q.gone ≡ false = ap (λ (s : Standing g.row.C.Denot). has_server server s.gone) c.self.view_is ∙ c.requires.left in
     let up : q.down ≡ false = is_up q server i.sound own stays in
-    let entries = c.in-Ok.ensures.entries in
+    let entries = c.add.ensures.entries in
     let fewer : length q.waiting ≡ length rest + 1 = one_less out.front entry out.back q.waiting out.was in
     let shorter : length c.take-entry.new.self.waiting ≡ length rest = ap length out.left in
     record {
-      reads = subst (λ w. ReadsAsNoted (record left { entries = c.note.new.self.entries; waiting = w })) (sym {A = List (Entry g.row.C.Denot)} out.left) (subst (λ l. ReadsAsNoted (record left { entries = l })) (sym {A = List Stamped} entries)
-          (reads-noted c.in-Ok.stamp e q left (record { id = refl; capacity = refl; servers = refl; entries = refl; drained = refl }) i.reads
+      reads = subst (λ w. ReadsAsNoted (record left { entries = c.add.new.self.entries; waiting = w })) (sym {A = List (Entry g.row.C.Denot)} out.left) (subst (λ l. ReadsAsNoted (record left { entries = l })) (sym {A = List Stamped} entries)
+          (reads-noted c.in_ok-stamp.stamp e q left (record { id = refl; capacity = refl; servers = refl; entries = refl; drained = refl }) i.reads
           (λ setup fits new read. took setup q server c.args.generation out.front entry out.back out.was out.chosen up own fits read)));
-      sound = subst (λ w. IsSound (record left { entries = c.note.new.self.entries; waiting = w })) (sym {A = List (Entry g.row.C.Denot)} out.left)
-          (sound-noted c.args.seen c.in-Ok.stamp e left c.self.inside.home c.note.new.self i.first c.in-Ok.ensures.stamp entries
+      sound = subst (λ w. IsSound (record left { entries = c.add.new.self.entries; waiting = w })) (sym {A = List (Entry g.row.C.Denot)} out.left)
+          (sound-noted c.args.seen c.in_ok-stamp.stamp e left c.self.inside.home c.add.new.self i.first c.in_ok-stamp.ensures entries
           (record { few = omega (arith, fewer, i.sound.few); deserted = i.sound.deserted; own = i.sound.own; once = i.sound.once; rises = i.sound.rises }));
-      first = i.first ∙ sym c.note.ensures.first;
+      first = i.first ∙ sym c.add.ensures.first;
       known = i.known;
       some = i.some;
       most = i.most;
       servers = i.servers;
-      ages = let more = grown c.self.inside.home.entries c.note.new.self.entries _ entries c.self.inside.line.next i.ages in omega (arith, more, c.take-entry.ensures.next);
-      takes = grown c.self.inside.home.entries c.note.new.self.entries _ entries c.self.inside.takes i.takes;
-      room = omega (arith, fewer, shorter, i.room, c.note.ensures.room);
+      ages = let more = grown c.self.inside.home.entries c.add.new.self.entries _ entries c.self.inside.line.next i.ages in omega (arith, more, c.take-entry.ensures.next);
+      takes = grown c.self.inside.home.entries c.add.new.self.entries _ entries c.self.inside.takes i.takes;
+      room = omega (arith, fewer, shorter, i.room, c.add.ensures.room);
       places = i.places;
     }
