@@ -90,9 +90,17 @@ impl Kept {
         ensures room { self.old.room ≤ self.new.room + 1 }
         ensures kept { OnErr result (self.new ≡ self.old) }
     {
-        let stamp = self.home.note(seen, event)?;
-        self.makers.add(maker, 1);
-        Ok(stamp)
+        match self.home.next_stamp(seen) {
+            Ok(stamp) => {
+                self.home.add(stamp, event);
+                self.makers.add(maker, 1);
+                Ok(stamp)
+            }
+            Err(worn) => {
+                drop(event);
+                Err(worn)
+            }
+        }
     }
 
     /// The home, without its makers. It takes no memory.
