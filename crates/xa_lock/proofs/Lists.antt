@@ -1,7 +1,7 @@
 -- Lists of views, of pages and of entries.
-use Rattle.std.proofs.Common.{◌≡◌, ◌≢◌, ℕ, zero, suc, ◌+◌, ◌<◌, ◌≤◌, ◌==◌, true, false, cond, List, [], ◌∷◌, ◌++◌, map, length, drop, set, sym, refl, ap, ◌∙◌, arith, append-nil, append_assoc, ◌⊎◌, inl, inr, ⊎_elim, eq-eqb, ne_eqb}
+use Rattle.std.proofs.Common.{◌≡◌, ◌≢◌, ℕ, zero, suc, ◌+◌, ◌<◌, ◌≤◌, ◌==◌, true, false, cond, List, [], ◌∷◌, ◌++◌, map, length, drop, set, sym, refl, ap, subst, ◌∙◌, arith, append-nil, append_assoc, ◌⊎◌, inl, inr, ⊎_elim, eq-eqb, ne_eqb}
 use Rattle.std.proofs.Math.Seq.{drop-append_seam}
-use Rattle.std.proofs.lemmas.List.Elements.{filter-append, All-nil, All-cons, All-head, All-tail}
+use Rattle.std.proofs.lemmas.List.Elements.{filter-append, All-nil, All-cons, All-head, All-tail, All-push}
 use Rattle.std.specs.List.{All}
 use mathlib.Core.Option.{some, some-injective, some-ne-none}
 use native.Mathlib.Decide.{ℕ_discrete}
@@ -148,9 +148,19 @@ module _ {E : Type 0} where
   pub dealt : (ks ps all : List (Page E)) → 0 < length ps → ks ++ ps ≡ all → (ks ++ first_of ps ∷ []) ++ rest_of ps ≡ all
   dealt ks ps all h e = append_assoc ks (first_of ps ∷ []) (rest_of ps) ∙ (ap (λ (l : List (Page E)). ks ++ l) (pages_split ps h) ∙ e)
 
+  -- the same, behind the step
+  pub dealt_out : (ks ks' ps ps' all : List (Page E)) (k : Page E) → ks' ≡ ks ++ k ∷ [] → k ≡ first_of ps → ps' ≡ rest_of ps → 0 < length ps → ks ++ ps ≡ all → ks' ++ ps' ≡ all
+  dealt_out ks ks' ps ps' all k more first rest h e = (λ i. (more ∙ ap (λ p. ks ++ p ∷ []) first) i ++ rest i) ∙ dealt ks ps all h e
+
+  pub last_dealt : (ks ks' ps all : List (Page E)) (k : Page E) → ks' ≡ ks ++ k ∷ [] → k ≡ first_of ps → length ps ≡ 1 → ks ++ ps ≡ all → ks' ≡ all
+  last_dealt ks ks' ps all k more first one e = more ∙ (ap (λ p. ks ++ p ∷ []) first ∙ (ap (λ l. ks ++ l) (sym (only_page ps one)) ∙ e))
+
   -- a page is taken back in
   pub gathered : (ks mm ps qs all : List (Page E)) (k : Page E) → mm ≡ ks ++ k ∷ [] → mm ++ ps ≡ all → qs ≡ k ∷ ps → ks ++ qs ≡ all
   gathered ks mm ps qs all k e f g = ap (λ (l : List (Page E)). ks ++ l) g ∙ (sym (append_assoc ks (k ∷ []) ps) ∙ (ap (λ (l : List (Page E)). l ++ ps) (sym e) ∙ f))
+
+pub All_push : {X : Type 0} (P : X → Type 0) (xs ys : List X) (x : X) → ys ≡ xs ++ x ∷ [] → All P xs → P x → All P ys
+All_push P xs ys x is all one = subst (All P) (sym is) (All-push P xs x all one)
 
 pub unmap : {X Y : Type 0} (P : Y → Type 0) (f : X → Y) (xs : List X) → All P (map f xs) → All (λ x. P (f x)) xs
 unmap {X} P f [] h = All-nil (λ (x : X). P (f x))

@@ -1,4 +1,4 @@
-use Rattle.std.proofs.Common.{rules, ◌∙◌, ◌++◌, Some, ap, map, ◌≡◌}
+use Rattle.std.proofs.Common.{rules, ◌∙◌, ◌++◌, ◌∷◌, Some, ap, sym, map, ◌≡◌}
 use Rattle.std.proofs.lemmas.List.{map_push}
 use Rattle.xa_lock.specs.declared.pass.LockPass.{LockPass}
 use Rattle.std.proofs.lemmas.List.Elements.{All-pop}
@@ -7,6 +7,15 @@ use Rattle.xa_lock.specs.Views.{before}
 use Rattle.xa_lock.proofs.Lists.{gathered}
 use Rattle.xa_lock.proofs.Steps.{joins_keep, idle_is}
 use Rattle.xa_lock.proofs.guarded.Guarded.gather.Goals as goal
+
+pub loop-pass-init : goal.loop-pass-init
+loop-pass-init g c = let q = c.into_seat-seat.ensures in let items = c.in-Some.ensures.items in
+    let tables = All-pop (λ (p : LockPass g.row.T-Entry.Denot). p.badge.table_id ≡ c.args.self.now.table.shared.table_id) _ _ (Some c.in-Some.last) items c.requires.lock in (
+      q.table ∙ tables.1,
+      idle_is _ _ q.me,
+      ap (λ l. map known c.pop.new.self.items ++ l) (ap (λ m. m.0.pages) q.me) ∙ sym (ap (map known) items ∙ map_push known _ _),
+      tables.0,
+    )
 
 pub join_seat-requires : goal.join_seat-requires
 join_seat-requires g c = let q = c.into_seat.ensures in let inv = c.loop-pass.invariant in
