@@ -1,4 +1,4 @@
-use Rattle.std.proofs.Common.{arith, ◌∙◌, ◌≡◌, ◌≢◌, ℕ, zero, suc, ◌<◌, ◌≤◌, Bool, true, false, List, [], ◌∷◌, get_or, set, refl, ap, ⊎_elim}
+use Rattle.std.proofs.Common.{arith, ◌∙◌, ◌≡◌, ◌≢◌, ℕ, zero, suc, ◌<◌, ◌≤◌, Bool, false, List, [], ◌∷◌, get_or, set, refl, ap, ⊎_elim}
 use Rattle.std.proofs.lemmas.List.{get_or-set_other}
 use lib.ListN.{get_elem?}
 use Rattle.xa_cell.specs.Dealing.{cells_in}
