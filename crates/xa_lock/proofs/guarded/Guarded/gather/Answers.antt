@@ -1,4 +1,4 @@
-use Rattle.std.proofs.Common.{rules, ◌∙◌, ◌++◌, ◌∷◌, Some, ap, sym, map, ◌≡◌}
+use Rattle.std.proofs.Common.{rules, ◌∙◌, ◌++◌, Some, ap, sym, map, ◌≡◌}
 use Rattle.std.proofs.lemmas.List.{map_push}
 use Rattle.xa_lock.specs.declared.pass.LockPass.{LockPass}
 use Rattle.std.proofs.lemmas.List.Elements.{All-pop}
