@@ -6,6 +6,8 @@ use xa_types::NoMemory;
 #[derive(Debug, Drop)]
 pub enum Refused {
     Usage,
+    /// So many entries stand where others should.
+    Entries(usize),
     NoMemory,
     Io(io::Error),
 }

@@ -54,24 +54,42 @@ fn work<R: Wait>(
 fn all_work<R: Threads + Wait + Sync>(
     rt: &R,
     lock: &Guarded<Log>,
+    threads: u8,
     enters: u32,
     steps: u32,
     places: &mut [Option<LockPass<Entry>>],
 )
-    requires some { (0 < length places.old) × (length places.old < 2 ^ 32) }
+    requires some { (0 < threads) × (length places.old < 2 ^ 32) }
     requires passes { HaveEach lock.now places.old }
     ensures { HaveEach lock.now places.new }
 {
-    let threads = places.len();
     thread::for_each_mut(
         rt,
         places,
-        threads,
+        usize::from(threads),
         &|number, place| -> ()
             requires { (number < 2 ^ 32) × HasPass lock.now number place.now }
             ensures { HasPass lock.entry.now number place.exit.now }
         { work(rt, lock, enters, steps, number as u32, place) },
     );
+}
+
+// Does all work, and answers how many nanoseconds it took.
+fn timed<R: Threads + Wait + Sync + Clock>(
+    rt: &R,
+    lock: &Guarded<Log>,
+    threads: u8,
+    enters: u32,
+    steps: u32,
+    places: &mut [Option<LockPass<Entry>>],
+) -> Result<u128, Refused>
+    requires some { (0 < threads) × (length places.old < 2 ^ 32) }
+    requires passes { HaveEach lock.now places.old }
+    ensures { HaveEach lock.now places.new }
+{
+    let start = Instant::now(rt)?;
+    all_work(rt, lock, threads, enters, steps, places);
+    Ok(start.elapsed(rt)?.as_nanos())
 }
 
 fn places_of(
@@ -108,23 +126,23 @@ fn passes_in(
     Ok(passes)
 }
 
-/// Each of so many threads enters so often. Answers how many entries there are then, and how many nanoseconds it took.
+/// So many threads enter so often with each of so many passes. Answers how many entries there are then, and how many
+/// nanoseconds it took.
 pub fn enter_all<R: Threads + Wait + Sync + Clock>(
     rt: &R,
     alloc: Global,
     threads: u8,
+    passes: u8,
     enters: u32,
     steps: u32,
 ) -> Result<(usize, u128), Refused>
-    requires { 0 < threads }
+    requires { (0 < threads) × (0 < passes) }
 {
-    let room = usize::from(threads).saturating_mul(enters as usize);
+    let room = usize::from(passes).saturating_mul(enters as usize);
     let log = Log::with_room(alloc, room)?;
-    let (lock, passes) = Guarded::new(alloc, log, u32::from(threads))?;
-    let mut places = places_of(alloc, &lock, passes)?;
-    let start = Instant::now(rt)?;
-    all_work(rt, &lock, enters, steps, places.as_mut_slice());
-    let took = start.elapsed(rt)?.as_nanos();
+    let (lock, dealt) = Guarded::new(alloc, log, u32::from(passes))?;
+    let mut places = places_of(alloc, &lock, dealt)?;
+    let took = timed(rt, &lock, threads, enters, steps, places.as_mut_slice())?;
     let back = passes_in(alloc, &lock, places)?;
     Ok((lock.close(back).entries.len(), took))
 }

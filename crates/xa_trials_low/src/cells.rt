@@ -1,9 +1,9 @@
 //! Reply cells: one caller with one cell, and a caller beside the thread that fills its cell.
-ghost use Rattle.std.specs.Prelude.{◌≡◌, [], ◌∷◌, IsSomeAnd, None};
+ghost use Rattle.std.specs.Prelude.{◌≡◌, ◌++◌, [], ◌∷◌, IsSomeAnd, None, vec_capacity};
 ghost use Rattle.xa_cell.specs.Known.{known, IsSeatOf, IsTicketOf};
 ghost use Rattle.xa_cell.specs.Places.{OpenAre, IsShut, Stand};
 
-use std::test::Fail;
+use std::process::Abort;
 use std::thread::{Threads, join_mut};
 use xa_cell::{Cancelled, Cells, Filled, Look, Place, Seat, Ticket};
 use xa_types::{CallerId, RequestId};
@@ -17,40 +17,94 @@ fn request(number: u32) -> RequestId {
     }
 }
 
-#[test]
-fn a_cell_is_filled_or_given_up(rt: HostRuntime) -> Result<(), Fail> {
-    let Ok((cells, mut seats)) = Cells::<u32>::new(rt.alloc(), &[1]) else {
-        panic!(rt; "no memory")
-    };
-    let Some(mut seat) = seats.pop() else {
-        panic!(rt; "no seat")
-    };
-    let Ok((place, ticket)) = cells.begin(&mut seat, request(1)) else {
-        panic!(rt; "full")
-    };
-    match cells.begin(&mut seat, request(2)) {
-        Err(full) => assert!(rt; full.0 == 1),
+// Whether no cell is left to open.
+fn is_full<R: Abort>(rt: &R, cells: &Cells<u32>, seat: &mut Seat<u32>) -> bool
+    requires { IsSeatOf cells.now seat.old }
+    ensures table { IsSeatOf cells.now seat.new }
+    ensures stand { Stand (known seat.old) (known seat.new) }
+{
+    match cells.begin(seat, request(2)) {
+        Err(full) => full.0 == 1,
         Ok(_) => panic!(rt; "not full"),
     }
-    assert!(rt; matches!(cells.look(&mut seat, &place), Look::Pending));
-    assert!(rt; matches!(cells.fill(&mut seat, ticket, 7), Filled::Delivered));
-    match cells.look(&mut seat, &place) {
+}
+
+// Opens the only cell and fills it between two looks, and takes the answer.
+fn is_filled<R: Abort>(rt: &R, cells: &Cells<u32>, seat: &mut Seat<u32>) -> bool
+    requires table { IsSeatOf cells.now seat.old }
+    requires shut { IsShut seat.old }
+    ensures table { IsSeatOf cells.now seat.new }
+    ensures shut { IsShut seat.new }
+{
+    let Ok((place, ticket)) = cells.begin(seat, request(1)) else {
+        return false;
+    };
+    let is_full = is_full(rt, cells, seat);
+    let is_pending = matches!(cells.look(seat, &place), Look::Pending);
+    let is_delivered = matches!(cells.fill(seat, ticket, 7), Filled::Delivered);
+    match cells.look(seat, &place) {
         Look::Come => {}
         Look::Pending => panic!(rt; "pending"),
     }
-    assert!(rt; cells.take(&mut seat, place) == 7);
-    let Ok((place, ticket)) = cells.begin(&mut seat, request(3)) else {
-        panic!(rt; "full")
+    (cells.take(seat, place) == 7) & is_full & is_pending & is_delivered
+}
+
+// Gives the place up before the answer comes.
+fn is_given_up(cells: &Cells<u32>, seat: &mut Seat<u32>) -> bool
+    requires table { IsSeatOf cells.now seat.old }
+    requires shut { IsShut seat.old }
+    ensures table { IsSeatOf cells.now seat.new }
+    ensures shut { IsShut seat.new }
+{
+    let Ok((place, ticket)) = cells.begin(seat, request(3)) else {
+        return false;
     };
-    assert!(rt; matches!(cells.cancel(&mut seat, place), Cancelled::Under));
-    assert!(rt; matches!(cells.fill(&mut seat, ticket, 8), Filled::Dropped(8)));
-    let Ok((place, ticket)) = cells.begin(&mut seat, request(4)) else {
-        panic!(rt; "full")
+    let is_under = matches!(cells.cancel(seat, place), Cancelled::Under);
+    matches!(cells.fill(seat, ticket, 8), Filled::Dropped(8)) & is_under
+}
+
+fn is_withdrawn(cells: &Cells<u32>, seat: &mut Seat<u32>) -> bool
+    requires table { IsSeatOf cells.now seat.old }
+    requires shut { IsShut seat.old }
+    ensures table { IsSeatOf cells.now seat.new }
+    ensures shut { IsShut seat.new }
+{
+    let Ok((place, ticket)) = cells.begin(seat, request(4)) else {
+        return false;
     };
-    cells.withdraw(&mut seat, place, ticket);
+    cells.withdraw(seat, place, ticket);
+    true
+}
+
+fn is_filled_or_given_up<R: Abort>(rt: &R, cells: &Cells<u32>, seat: &mut Seat<u32>) -> bool
+    requires table { IsSeatOf cells.now seat.old }
+    requires shut { IsShut seat.old }
+    ensures table { IsSeatOf cells.now seat.new }
+    ensures shut { IsShut seat.new }
+{
+    is_filled(rt, cells, seat) && is_given_up(cells, seat) && is_withdrawn(cells, seat)
+}
+
+fn next_seat<R: Abort>(rt: &R, seats: &mut Vec<Seat<u32>>) -> Seat<u32>
+    ensures items { seats.old.items ≡ seats.new.items ++ result ∷ [] }
+    ensures room { vec_capacity seats.new ≡ vec_capacity seats.old }
+{
+    match seats.pop() {
+        Some(seat) => seat,
+        None => panic!(rt; "no seat"),
+    }
+}
+
+#[test]
+fn a_cell_is_filled_or_given_up(rt: HostRuntime) {
+    let Ok((cells, mut seats)) = Cells::<u32>::new(rt.alloc(), &[1]) else {
+        panic!(rt; "no memory")
+    };
+    let mut seat = next_seat(&rt, &mut seats);
+    let right = is_filled_or_given_up(&rt, &cells, &mut seat);
     seats.push_reserved(seat);
     cells.close(seats);
-    Ok(())
+    assert!(rt; right);
 }
 
 // What came back of the answer, if it did.
@@ -159,19 +213,15 @@ fn are_taken_or_dropped<R: Threads + Sync>(
 }
 
 #[test]
-fn each_answer_is_taken_once_or_dropped_once(rt: HostRuntime) -> Result<(), Fail> {
+fn each_answer_is_taken_once_or_dropped_once(rt: HostRuntime) {
     let Ok((cells, mut seats)) = Cells::<u32>::new(rt.alloc(), &[1, 1]) else {
         panic!(rt; "no memory")
     };
-    let Some(mut filler) = seats.pop() else {
-        panic!(rt; "no seat")
-    };
-    let Some(mut owner) = seats.pop() else {
-        panic!(rt; "no seat")
-    };
-    assert!(rt; are_taken_or_dropped(&rt, &cells, &mut owner, &mut filler));
+    let mut filler = next_seat(&rt, &mut seats);
+    let mut owner = next_seat(&rt, &mut seats);
+    let right = are_taken_or_dropped(&rt, &cells, &mut owner, &mut filler);
     seats.push_reserved(owner);
     seats.push_reserved(filler);
     cells.close(seats);
-    Ok(())
+    assert!(rt; right);
 }

@@ -9,13 +9,9 @@ mod cells;
 #[cfg(test)]
 mod frames;
 #[cfg(test)]
-mod hostile;
-#[cfg(test)]
 mod lines;
 #[cfg(test)]
 mod links;
-#[cfg(test)]
-mod locks;
 #[cfg(test)]
 mod memory;
 #[cfg(test)]
@@ -26,6 +22,8 @@ mod programs;
 mod queues;
 #[cfg(test)]
 mod routes;
+#[cfg(test)]
+mod rows;
 #[cfg(test)]
 mod scripts;
 #[cfg(test)]

@@ -1,12 +1,12 @@
 //! How links in memory cut and fail, and what readers and writers do whom a signal interrupts.
 use crate::memory::{gives, link_of, sink_of};
+use crate::rows::none_fails;
 use std::alloc::Global;
 use std::io;
 use std::io::{ErrorKind, Read, Write};
-use std::test::Fail;
 use xa_link::{ReadSource, WriteSink, put};
 
-const GIVEN: [Option<&str>; 6] = [
+static GIVEN: [Option<&str>; 6] = [
     Some("abc"),
     None,
     Some("def"),
@@ -16,33 +16,40 @@ const GIVEN: [Option<&str>; 6] = [
 ];
 
 // The write that fails, the one that takes nothing, and what is taken of `hello`.
-const TAKEN: [(u64, u64, &str); 3] = [(9, 9, "hello"), (3, 9, "hell"), (9, 2, "he")];
+static TAKEN: [(u64, u64, &str); 3] = [(9, 9, "hello"), (3, 9, "hell"), (9, 2, "he")];
 
 // Whether a sink that takes two octets at a time takes this of five.
-fn takes(alloc: Global, fails: u64, idle: u64, want: &str) -> bool {
-    match sink_of(alloc, &[fails], &[idle], 2) {
-        Ok(mut sink) => {
+fn takes(alloc: Global, (fails, idle, want): &(u64, u64, &str)) -> bool {
+    match sink_of(alloc, &[*fails], &[*idle], 2) {
+        Some(mut sink) => {
             let whole = put(&mut sink, b"hello").is_ok();
-            sink.taken() == want.as_bytes() && whole == (want == "hello")
+            sink.taken() == want.as_bytes() && whole == (*want == "hello")
         }
-        Err(_) => false,
+        None => false,
     }
+}
+
+fn first_not_taken(alloc: Global) -> Option<usize> {
+    for (place, row) in TAKEN.iter().enumerate() {
+        if !takes(alloc, row) {
+            return Some(place);
+        }
+    }
+    None
 }
 
 // Whether a link that gives three octets at a time cuts, and fails at its second read.
 fn cuts(alloc: Global) -> bool {
     match link_of(alloc, b"abcdefg", [&[2], &[], &[]], 3) {
-        Ok(mut link) => gives(&mut link, &GIVEN),
-        Err(_) => false,
+        Some(mut link) => gives(&mut link, &GIVEN),
+        None => false,
     }
 }
 
 #[test]
 fn links_in_memory_cut_and_fail(rt: HostRuntime) {
     assert!(rt; cuts(rt.alloc()));
-    for (fails, idle, want) in &TAKEN {
-        assert!(rt; takes(rt.alloc(), *fails, *idle, want), "{want}");
-    }
+    none_fails(&rt, first_not_taken(rt.alloc()));
 }
 
 // Fails once, by that error, and is then at its end, or takes all.
@@ -86,18 +93,28 @@ fn is_written(first: ErrorKind) -> bool {
     put(&mut WriteSink::new(Unsteady { first: Some(first) }), b"a").is_ok()
 }
 
+fn is_tried_again() -> bool {
+    reads_so(ErrorKind::Other, &[None, Some("")])
+        && reads_so(ErrorKind::Interrupted, &[Some("")])
+        && !is_written(ErrorKind::Other)
+        && is_written(ErrorKind::Interrupted)
+}
+
 #[test]
 fn an_interrupted_stream_is_tried_again(rt: HostRuntime) {
-    assert!(rt; reads_so(ErrorKind::Other, &[None, Some("")]));
-    assert!(rt; reads_so(ErrorKind::Interrupted, &[Some("")]));
-    assert!(rt; !is_written(ErrorKind::Other));
-    assert!(rt; is_written(ErrorKind::Interrupted));
+    assert!(rt; is_tried_again());
+}
+
+fn ends<R: Read + Drop>(reader: R) -> bool {
+    gives(&mut ReadSource::new(reader), &[Some(""), Some("")])
+}
+
+fn takes_line<W: Write + Drop>(writer: W) -> bool {
+    put(&mut WriteSink::new(writer), b"a line of a test\n").is_ok()
 }
 
 // A test's standard input is empty.
 #[test]
 fn standard_streams_end_and_take(rt: HostRuntime) {
-    assert!(rt; gives(&mut ReadSource::new(rt.stdin()), &[Some(""), Some("")]));
-    assert!(rt; put(&mut WriteSink::new(rt.stdout()), b"to standard output\n").is_ok());
-    assert!(rt; put(&mut WriteSink::new(rt.stderr()), b"to standard error\n").is_ok());
+    assert!(rt; ends(rt.stdin()) && takes_line(rt.stdout()) && takes_line(rt.stderr()));
 }

@@ -1,11 +1,11 @@
 //! Talks over a link in memory, and why they end.
 use crate::memory::link_of;
+use crate::rows::none_fails;
 use std::alloc::Global;
-use std::test::Fail;
 use xa_events::StopCause;
 use xa_link::{Link, MemoryLink};
 use xa_pipe::Pipe;
-use xa_types::{Data, Name, NoMemory};
+use xa_types::{Data, Name};
 
 const READY: &[u8] = b"XA\x01\x01\0\0\0\x02\0\0\0\0\x01S";
 
@@ -23,7 +23,7 @@ type Said = (
     Result<i32, StopCause>,
 );
 
-const SAID: [Said; 14] = [
+static SAID: [Said; 14] = [
     (&[READY, NEXT, RETURN, NEXT], &[], Ok(7)),
     (&[], &[], Err(StopCause::EndOfInput)),
     (&[READY, NEXT, SHORT], &[], Err(StopCause::EndOfInput)),
@@ -79,34 +79,50 @@ fn talk<L: Link>(pipe: &mut Pipe<L>, server: &Name) -> Result<i32, StopCause> {
     Ok(code)
 }
 
-// The link of a program that says these.
-fn saying(alloc: Global, said: &[&[u8]], fails: &[u64]) -> Result<Pipe<MemoryLink>, NoMemory> {
+fn octets_of(alloc: Global, said: &[&[u8]]) -> Option<Vec<u8>> {
     let mut octets = Vec::new(alloc);
     for frame in said {
-        octets.extend_from_slice(frame)?;
+        octets.extend_from_slice(frame).ok()?;
     }
-    let link = link_of(alloc, &octets, [fails, &[], &[]], 5)?;
-    Ok(Pipe::new(alloc, link))
+    Some(octets)
 }
 
-fn ends_so(alloc: Global, server: &Name, (said, fails, want): Said) -> bool {
-    match saying(alloc, said, fails) {
-        Ok(mut pipe) => {
-            let heard = talk(&mut pipe, server);
-            drop(pipe.into_link());
-            heard == want
-        }
+// The link of a program that says these.
+fn saying(alloc: Global, said: &[&[u8]], fails: &[u64]) -> Option<Pipe<MemoryLink>> {
+    let octets = octets_of(alloc, said)?;
+    Some(Pipe::new(alloc, link_of(alloc, &octets, [fails, &[], &[]], 5)?))
+}
+
+fn hears(pipe: &mut Pipe<MemoryLink>, want: Result<i32, StopCause>) -> bool {
+    match Name::read(b"S") {
+        Ok(server) => talk(pipe, &server) == want,
         Err(_) => false,
     }
 }
 
-#[test]
-fn each_end_is_told_by_its_cause(rt: HostRuntime) -> Result<(), Fail> {
-    let server = Name::read(b"S")?;
-    for row in &SAID {
-        assert!(rt; ends_so(rt.alloc(), &server, *row), "{:?}", row.2);
+fn ends_so(alloc: Global, (said, fails, want): &Said) -> bool {
+    match saying(alloc, said, fails) {
+        Some(mut pipe) => {
+            let heard = hears(&mut pipe, *want);
+            drop(pipe.into_link());
+            heard
+        }
+        None => false,
     }
-    Ok(())
+}
+
+fn first_not_told(alloc: Global) -> Option<usize> {
+    for (place, row) in SAID.iter().enumerate() {
+        if !ends_so(alloc, row) {
+            return Some(place);
+        }
+    }
+    None
+}
+
+#[test]
+fn each_end_is_told_by_its_cause(rt: HostRuntime) {
+    none_fails(&rt, first_not_told(rt.alloc()));
 }
 
 // What the monitor writes: an INVOKE of ECHO without data, and SHUTDOWN.
@@ -114,7 +130,9 @@ const BOTH: &[u8] = b"XA\x01\x11\0\0\0\x0c\0\0\0\x01\x04ECHO\x04ECHO\0\0\
     XA\x01\x13\0\0\0\0\0\0\0\0";
 
 // The writes of five octets that fail and that take nothing, and how many octets are taken.
-const TAKEN: [(&[u64], &[u64], usize); 4] = [
+type Taken = (&'static [u64], &'static [u64], usize);
+
+static TAKEN: [Taken; 4] = [
     (&[], &[], 36),
     (&[1], &[], 0),
     (&[], &[2], 5),
@@ -126,29 +144,38 @@ fn write<L: Link>(pipe: &mut Pipe<L>, service: &Name) -> Result<(), StopCause> {
     pipe.shut_down()
 }
 
-// Whether so many octets are taken, and the rest fails.
-fn takes(alloc: Global, service: &Name, fails: &[u64], idle: &[u64], want: usize) -> bool {
-    match link_of(alloc, b"", [&[], fails, idle], 5) {
-        Ok(link) => {
-            let mut pipe = Pipe::new(alloc, link);
-            let done = write(&mut pipe, service);
-            let link = pipe.into_link();
-            let whole = if want == BOTH.len() {
-                Ok(())
-            } else {
-                Err(StopCause::WriteFault)
-            };
-            done == whole && link.taken().len() == want && BOTH.starts_with(link.taken())
-        }
+// Whether all is written, or where it isn't whole, a write fails.
+fn writes(pipe: &mut Pipe<MemoryLink>, whole: bool) -> bool {
+    match Name::read(b"ECHO") {
+        Ok(service) if whole => write(pipe, &service).is_ok(),
+        Ok(service) => write(pipe, &service) == Err(StopCause::WriteFault),
         Err(_) => false,
     }
 }
 
-#[test]
-fn what_is_written_is_taken_or_fails(rt: HostRuntime) -> Result<(), Fail> {
-    let service = Name::read(b"ECHO")?;
-    for (fails, idle, want) in &TAKEN {
-        assert!(rt; takes(rt.alloc(), &service, fails, idle, *want), "{want}");
+// Whether so many octets are taken, and the rest fails.
+fn takes(alloc: Global, (fails, idle, want): &Taken) -> bool {
+    match link_of(alloc, b"", [&[], fails, idle], 5) {
+        Some(link) => {
+            let mut pipe = Pipe::new(alloc, link);
+            let is_done = writes(&mut pipe, *want == BOTH.len());
+            let link = pipe.into_link();
+            is_done && link.taken().len() == *want && BOTH.starts_with(link.taken())
+        }
+        None => false,
     }
-    Ok(())
+}
+
+fn first_not_taken(alloc: Global) -> Option<usize> {
+    for (place, row) in TAKEN.iter().enumerate() {
+        if !takes(alloc, row) {
+            return Some(place);
+        }
+    }
+    None
+}
+
+#[test]
+fn what_is_written_is_taken_or_fails(rt: HostRuntime) {
+    none_fails(&rt, first_not_taken(rt.alloc()));
 }

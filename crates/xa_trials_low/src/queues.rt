@@ -3,18 +3,16 @@ ghost use Rattle.std.specs.Prelude.{◌≡◌, ◌<◌, ◌≤◌, [], ◌∷◌
 ghost use Rattle.xa_queue.specs.Queue.{none_left};
 ghost use Rattle.xa_trials_low.specs.Queues.{SameServers};
 
+use crate::rows::none_fails;
 use std::alloc::Global;
-use std::test::Fail;
 use xa_events::{Accepted, Event};
 use xa_queue::{Entry, PutRefused, Queue, Refusal, Taken};
-use xa_types::{
-    CallerId, Data, Generation, Mode, Name, NoMemory, QueueId, RequestId, ServerId, Stamp,
-};
+use xa_types::{CallerId, Data, Generation, Mode, Name, QueueId, RequestId, ServerId, Stamp};
 
 const END: u64 = 1 << 63;
 
 // The priorities of requests that are put, and the places from which they are taken, counted from 1.
-const ORDERS: [(&[u8], &[u64]); 2] = [
+static ORDERS: [(&[u8], &[u64]); 2] = [
     (
         &[10, 50, 50, 50, 50, 50, 50, 50, 50, 50, 50, 50],
         &[2, 3, 4, 5, 6, 7, 8, 9, 10, 1, 11, 12],
@@ -134,13 +132,10 @@ fn are_taken(queue: &mut Queue<u64>, numbers: &[u64]) -> bool
     true
 }
 
-fn keeps_order(
-    alloc: Global,
-    service: Name,
-    priorities: &[u8],
-    order: &[u64],
-) -> Result<bool, NoMemory> {
-    let mut queue = Queue::new(alloc, QueueId(1), 100, &[ServerId(1)], Stamp(0))?;
+fn keeps_order(alloc: Global, service: Name, priorities: &[u8], order: &[u64]) -> bool {
+    let Ok(mut queue) = Queue::new(alloc, QueueId(1), 100, &[ServerId(1)], Stamp(0)) else {
+        return false;
+    };
     let mut right = true;
     let mut number = 0;
     for priority in priorities {
@@ -149,19 +144,24 @@ fn keeps_order(
             == Told::Put(number);
     }
     right &= are_taken(&mut queue, order);
-    Ok(right & (finish(queue) == (0, true, priorities.len() + order.len())))
+    right & (finish(queue) == (0, true, priorities.len() + order.len()))
+}
+
+fn first_not_kept(alloc: Global) -> Option<usize> {
+    let Ok(service) = Name::read(b"A") else {
+        return Some(0);
+    };
+    for (place, (priorities, order)) in ORDERS.iter().enumerate() {
+        if !keeps_order(alloc, service, priorities, order) {
+            return Some(place);
+        }
+    }
+    None
 }
 
 #[test]
-fn entries_are_taken_by_priority_and_age(rt: HostRuntime) -> Result<(), Fail> {
-    let service = Name::read(b"A")?;
-    for (priorities, order) in &ORDERS {
-        assert!(rt;
-            keeps_order(rt.alloc(), service, priorities, order)?,
-            "{order:?}"
-        );
-    }
-    Ok(())
+fn entries_are_taken_by_priority_and_age(rt: HostRuntime) {
+    none_fails(&rt, first_not_kept(rt.alloc()));
 }
 
 // A call of the queue: what was seen before it, and the number of the request that it puts.
@@ -172,7 +172,7 @@ enum Ask {
 }
 
 // At a queue where two may wait, before it is closed and behind that.
-const OPEN: [(Ask, Told); 10] = [
+static OPEN: [(Ask, Told); 10] = [
     (Ask::Take(0), Told::Empty),
     (Ask::Put(0, 1), Told::Put(1)),
     (Ask::Put(7, 2), Told::Put(8)),
@@ -185,14 +185,14 @@ const OPEN: [(Ask, Told); 10] = [
     (Ask::Put(END, 5), Told::Back(Refusal::Worn(Stamp(END)))),
 ];
 
-const CLOSED: [(Ask, Told); 3] = [
+static CLOSED: [(Ask, Told); 3] = [
     (Ask::Put(0, 5), Told::Back(Refusal::Closed)),
     (Ask::Take(0), Told::Taken(4)),
     (Ask::Take(END), Told::Closed),
 ];
 
 // At one where three may wait, before its server is given up and behind that.
-const UP: [(Ask, Told); 3] = [
+static UP: [(Ask, Told); 3] = [
     (Ask::Put(0, 1), Told::Put(1)),
     (Ask::Put(0, 2), Told::Put(2)),
     (Ask::Put(0, 3), Told::Put(3)),
@@ -216,12 +216,14 @@ fn are_told(queue: &mut Queue<u64>, service: Name, steps: &[(Ask, Told)]) -> boo
     true
 }
 
-fn fills_and_closes(alloc: Global, service: Name) -> Result<bool, NoMemory> {
-    let mut queue = Queue::new(alloc, QueueId(1), 2, &[ServerId(1)], Stamp(0))?;
+fn fills_and_closes(alloc: Global, service: Name) -> bool {
+    let Ok(mut queue) = Queue::new(alloc, QueueId(1), 2, &[ServerId(1)], Stamp(0)) else {
+        return false;
+    };
     let mut right = are_told(&mut queue, service, &OPEN);
     right &= matches!(queue.close(Stamp(0)), Ok(stamp) if stamp.0 == 12);
     right &= are_told(&mut queue, service, &CLOSED);
-    Ok(right & (finish(queue) == (0, true, 7)))
+    right & (finish(queue) == (0, true, 7))
 }
 
 // Brings a queue without a server down, and sweeps the first of three entries.
@@ -241,22 +243,28 @@ fn goes_down(queue: &mut Queue<u64>, service: Name) -> bool
     (told == Told::Back(Refusal::Down)) & (swept == (1, 6))
 }
 
-fn empties(alloc: Global, service: Name) -> Result<bool, NoMemory> {
-    let mut queue = Queue::new(alloc, QueueId(1), 3, &[ServerId(1)], Stamp(0))?;
+fn empties(alloc: Global, service: Name) -> bool {
+    let Ok(mut queue) = Queue::new(alloc, QueueId(1), 3, &[ServerId(1)], Stamp(0)) else {
+        return false;
+    };
     let mut right = are_told(&mut queue, service, &UP);
     right &= match queue.gone(Stamp(0), ServerId(1)) {
         Ok((stamp, true)) => (stamp.0 == 4) & goes_down(&mut queue, service),
         _ => false,
     };
-    Ok(right & (finish(queue) == (2, true, 6)))
+    right & (finish(queue) == (2, true, 6))
+}
+
+fn end_as_they_should(alloc: Global) -> bool {
+    match Name::read(b"A") {
+        Ok(service) => fills_and_closes(alloc, service) && empties(alloc, service),
+        Err(_) => false,
+    }
 }
 
 #[test]
-fn queues_end(rt: HostRuntime) -> Result<(), Fail> {
-    let service = Name::read(b"A")?;
-    assert!(rt; fills_and_closes(rt.alloc(), service)?);
-    assert!(rt; empties(rt.alloc(), service)?);
-    Ok(())
+fn queues_end(rt: HostRuntime) {
+    assert!(rt; end_as_they_should(rt.alloc()));
 }
 
 // How often a queue is called beside a list, and how many may wait there.
@@ -314,9 +322,11 @@ fn take_both(queue: &mut Queue<u64>, list: &mut Vec<(u64, u8)>, takes: &mut u64)
     told == Told::Taken(number)
 }
 
-fn agrees_with_list(alloc: Global, service: Name) -> Result<bool, NoMemory> {
-    let mut list = Vec::with_capacity(alloc, MOST as usize)?;
-    let mut queue = Queue::new(alloc, QueueId(1), MOST, &[ServerId(1)], Stamp(0))?;
+fn agrees_with_list(alloc: Global, service: Name) -> bool {
+    let mut list = Vec::new(alloc);
+    let Ok(mut queue) = Queue::new(alloc, QueueId(1), MOST, &[ServerId(1)], Stamp(0)) else {
+        return false;
+    };
     let mut right = true;
     let mut takes = 0;
     let mut state = 1u64;
@@ -332,12 +342,17 @@ fn agrees_with_list(alloc: Global, service: Name) -> Result<bool, NoMemory> {
         };
     }
     let (waits, _, _) = finish(queue);
-    Ok(right && waits as usize == list.len())
+    right && waits as usize == list.len()
+}
+
+fn is_as_a_list(alloc: Global) -> bool {
+    match Name::read(b"A") {
+        Ok(service) => agrees_with_list(alloc, service),
+        Err(_) => false,
+    }
 }
 
 #[test]
-fn queues_are_as_lists(rt: HostRuntime) -> Result<(), Fail> {
-    let service = Name::read(b"A")?;
-    assert!(rt; agrees_with_list(rt.alloc(), service)?);
-    Ok(())
+fn queues_are_as_lists(rt: HostRuntime) {
+    assert!(rt; is_as_a_list(rt.alloc()));
 }

@@ -1,8 +1,8 @@
 //! Scripts that are read, and lines at fault.
+use crate::rows::none_fails;
 use std::alloc::Global;
-use std::test::Fail;
 use xa_script::{Script, ScriptRefused, read, read_upto};
-use xa_types::{Ask, Data, NoMemory, Op};
+use xa_types::{Ask, Data, Op};
 
 const SETUP: &[u8] = b"queue = [{ name = 'Q' }]\nserver = [{ name = 'S', queue = 'Q' }]";
 
@@ -10,7 +10,7 @@ const SETUP: &[u8] = b"queue = [{ name = 'Q' }]\nserver = [{ name = 'S', queue =
 type Told<'a> = Result<(usize, Option<&'a [u8]>), (u32, u8)>;
 
 // A script, of how many clients at most, and what is told.
-const SCRIPTS: [(&[u8], u16, Told<'static>); 23] = [
+static SCRIPTS: [(&[u8], u16, Told<'static>); 23] = [
     (b"", 64, Ok((0, None))),
     (b"client a", 1, Ok((1, None))),
     (b"client a\r\ncall TEST1 none\r\n", 1, Ok((1, None))),
@@ -53,13 +53,11 @@ fn tried(alloc: Global, octets: &[u8], most: u16) -> Result<Script, ScriptRefuse
     if octets.len() > 100_000 || most == 0 || most > 64 {
         return Err(ScriptRefused::NoMemory);
     }
-    let Ok(setup) = xa_config::read(alloc, SETUP) else {
-        return Err(ScriptRefused::NoMemory);
-    };
-    if most == 64 {
-        return read(alloc, octets, &setup);
+    match xa_config::read(alloc, SETUP) {
+        Ok(setup) if most == 64 => read(alloc, octets, &setup),
+        Ok(setup) => read_upto(alloc, octets, &setup, most),
+        Err(_) => Err(ScriptRefused::NoMemory),
     }
-    read_upto(alloc, octets, &setup, most)
 }
 
 // The text of the last call of the last client.
@@ -75,21 +73,39 @@ fn text(script: &Script) -> Option<&[u8]> {
     }
 }
 
-fn is_told(alloc: Global, octets: &[u8], most: u16, told: Told) -> bool {
-    match (tried(alloc, octets, most), told) {
-        (Ok(script), Ok((clients, words))) => {
-            script.clients.slice().len() == clients && text(&script) == words
-        }
-        (Err(ScriptRefused::BadLine { line, cause }), Err(fault)) => (line, cause) == fault,
-        (_, _) => false,
+fn has(script: &Script, told: Told) -> bool {
+    match told {
+        Ok((clients, words)) => { script.clients.slice().len() == clients && text(script) == words }
+        Err(_) => false,
     }
+}
+
+fn is_fault(refused: ScriptRefused, told: Told) -> bool {
+    match told {
+        Ok(_) => false,
+        Err((line, cause)) => refused == ScriptRefused::BadLine { line, cause },
+    }
+}
+
+fn is_told(alloc: Global, octets: &[u8], most: u16, told: Told) -> bool {
+    match tried(alloc, octets, most) {
+        Ok(script) => has(&script, told),
+        Err(refused) => is_fault(refused, told),
+    }
+}
+
+fn first_not_told(alloc: Global) -> Option<usize> {
+    for (place, (octets, most, told)) in SCRIPTS.iter().enumerate() {
+        if !is_told(alloc, octets, *most, *told) {
+            return Some(place);
+        }
+    }
+    None
 }
 
 #[test]
 fn scripts_are_read_or_their_first_fault_is_told(rt: HostRuntime) {
-    for (octets, most, told) in &SCRIPTS {
-        assert!(rt; is_told(rt.alloc(), octets, *most, *told), "{octets:?}");
-    }
+    none_fails(&rt, first_not_told(rt.alloc()));
 }
 
 // The lines of 65 clients, of nine octets each.
@@ -102,23 +118,42 @@ const CLIENTS: &[u8] =
     client y\nclient z\nclient 0\nclient 1\nclient 2\nclient 3\nclient 4\nclient 5\nclient 6\nclient 7\n\
     client 8\nclient 9\nclient +\nclient -\nclient _\n";
 
+fn push_many(octets: &mut Vec<u8>, octet: u8, count: usize) -> Option<()> {
+    octets
+        .resize(octets.len().saturating_add(count), octet)
+        .ok()
+}
+
 // A script of one call, whose service and text have so many octets.
-fn call_of(alloc: Global, service: usize, text: usize) -> Result<Vec<u8>, NoMemory> {
-    let mut octets = Vec::from_slice(alloc, b"client a\ncall ")?;
-    octets.resize(octets.len().saturating_add(service), b'S')?;
-    octets.extend_from_slice(b" text \"")?;
-    octets.resize(octets.len().saturating_add(text), b'x')?;
-    octets.push(b'"')?;
-    Ok(octets)
+fn call_of(alloc: Global, service: usize, text: usize) -> Option<Vec<u8>> {
+    let mut octets = Vec::from_slice(alloc, b"client a\ncall ").ok()?;
+    push_many(&mut octets, b'S', service)?;
+    octets.extend_from_slice(b" text \"").ok()?;
+    push_many(&mut octets, b'x', text)?;
+    octets.push(b'"').ok()?;
+    Some(octets)
+}
+
+fn is_longest(alloc: Global) -> bool {
+    match call_of(alloc, 255, 65_537) {
+        Some(script) => is_told(alloc, &script, 1, Ok((1, script.get(276..65_813)))),
+        None => false,
+    }
+}
+
+fn is_too_long(alloc: Global) -> bool {
+    match call_of(alloc, 256, 0) {
+        Some(script) => is_told(alloc, &script, 1, Err((2, 9))),
+        None => false,
+    }
+}
+
+fn clients_have_an_end(alloc: Global) -> bool {
+    is_told(alloc, &CLIENTS[..576], 64, Ok((64, None))) && is_told(alloc, CLIENTS, 64, Err((65, 7)))
 }
 
 #[test]
-fn scripts_have_64_clients_and_services_255_octets_at_most(rt: HostRuntime) -> Result<(), Fail> {
-    assert!(rt; is_told(rt.alloc(), &CLIENTS[..576], 64, Ok((64, None))));
-    assert!(rt; is_told(rt.alloc(), CLIENTS, 64, Err((65, 7))));
-    let longest = call_of(rt.alloc(), 255, 65_537)?;
-    assert!(rt; is_told(rt.alloc(), &longest, 1, Ok((1, longest.get(276..65_813)))));
-    let longer = call_of(rt.alloc(), 256, 0)?;
-    assert!(rt; is_told(rt.alloc(), &longer, 1, Err((2, 9))));
-    Ok(())
+fn scripts_have_64_clients_and_services_255_octets_at_most(rt: HostRuntime) {
+    assert!(rt; clients_have_an_end(rt.alloc()));
+    assert!(rt; is_longest(rt.alloc()) && is_too_long(rt.alloc()));
 }

@@ -1,15 +1,15 @@
-//! Homes that are merged, stamps at their end, and many events against a plain order.
+//! Homes that are merged, and many events against a plain order.
+use crate::rows::none_fails;
 use std::alloc::Global;
-use std::test::Fail;
 use xa_events::{Event, Ticked};
 use xa_stamp::{Home, Record, merge};
-use xa_types::{CallerId, NoMemory, QueueId, Sequence, Stamp, Worn};
+use xa_types::{CallerId, Sequence, Stamp};
 
 // What was seen before an event is noted, and the event, by its number.
 type Note = (u32, u32);
 
 // The notes of each home, and the merged events. The first row is homes with stamps 1, 4 (1, 2) and 2, 4 (3, 4).
-const ROWS: [(&[&[Note]], &[u32]); 5] = [
+static ROWS: [(&[&[Note]], &[u32]); 5] = [
     (&[&[(0, 1), (3, 2)], &[(1, 3), (3, 4)]], &[1, 3, 2, 4]),
     (&[], &[]),
     (&[&[], &[(0, 1)], &[]], &[1]),
@@ -17,31 +17,33 @@ const ROWS: [(&[&[Note]], &[u32]); 5] = [
     (&[&[(9, 1), (0, 2)], &[(0, 3), (0, 4)]], &[3, 4, 1, 2]),
 ];
 
-fn add(home: &mut Home, seen: u32, number: u32) -> Result<(), NoMemory> {
-    home.reserve(1)?;
+fn add(home: &mut Home, seen: u32, number: u32) -> Option<()> {
+    home.reserve(1).ok()?;
     let numbered = Ticked {
         by: CallerId(1),
         op: number,
         now: 0,
     };
-    match home.note(Stamp(u64::from(seen)), Event::Tick(numbered)) {
-        Ok(_) => Ok(()),
-        Err(Worn(_)) => Err(NoMemory),
-    }
+    home.note(Stamp(u64::from(seen)), Event::Tick(numbered))
+        .ok()?;
+    Some(())
 }
 
-fn record_of(alloc: Global, notes: &[&[Note]]) -> Result<Record, NoMemory> {
+fn home_of(alloc: Global, notes: &[Note]) -> Option<Home> {
+    let mut home = Home::new(alloc, Stamp(0));
+    for (seen, number) in notes {
+        add(&mut home, *seen, *number)?;
+    }
+    Some(home)
+}
+
+fn record_of(alloc: Global, notes: &[&[Note]]) -> Option<Record> {
     let mut homes = Vec::new(alloc);
     for noted in notes {
-        let mut home = Home::new(alloc, Stamp(0));
-        for (seen, number) in *noted {
-            add(&mut home, *seen, *number)?;
-        }
-        homes.push(home)?;
+        homes.push(home_of(alloc, noted)?).ok()?;
     }
-    Ok(Record {
-        homes: Sequence::from_vec(homes),
-    })
+    let homes = Sequence::from_vec(homes);
+    Some(Record { homes })
 }
 
 fn number(event: &Event) -> Option<u32> {
@@ -51,57 +53,66 @@ fn number(event: &Event) -> Option<u32> {
     }
 }
 
-fn merges(alloc: Global, notes: &[&[Note]], want: &[u32]) -> Result<bool, NoMemory> {
-    let record = record_of(alloc, notes)?;
-    let merged = merge(alloc, &record)?;
-    let same = merged
-        .iter()
-        .zip(want)
-        .all(|(event, want)| number(event) == Some(*want));
-    Ok(same && merged.len() == want.len())
+fn are_numbered(events: &[Event], want: &[u32]) -> bool {
+    for (event, want) in events.iter().zip(want) {
+        if number(event) != Some(*want) {
+            return false;
+        }
+    }
+    events.len() == want.len()
+}
+
+fn are_merged(alloc: Global, record: &Record, want: &[u32]) -> bool {
+    match merge(alloc, record) {
+        Ok(merged) => are_numbered(&merged, want),
+        Err(_) => false,
+    }
+}
+
+fn merges(alloc: Global, notes: &[&[Note]], want: &[u32]) -> bool {
+    match record_of(alloc, notes) {
+        Some(record) => are_merged(alloc, &record, want),
+        None => false,
+    }
+}
+
+fn first_not_merged(alloc: Global) -> Option<usize> {
+    for (place, (notes, want)) in ROWS.iter().enumerate() {
+        if !merges(alloc, notes, want) {
+            return Some(place);
+        }
+    }
+    None
 }
 
 #[test]
-fn events_merge_by_stamp_then_home_then_place(rt: HostRuntime) -> Result<(), Fail> {
-    for (notes, want) in ROWS {
-        assert!(rt; merges(rt.alloc(), notes, want)?);
-    }
-    Ok(())
+fn events_merge_by_stamp_then_home_then_place(rt: HostRuntime) {
+    none_fails(&rt, first_not_merged(rt.alloc()));
 }
 
-fn is_worn(alloc: Global) -> Result<bool, NoMemory> {
-    let mut home = Home::new(alloc, Stamp((1 << 63) - 1));
-    home.reserve(2)?;
-    let last = home.note(Stamp(7), Event::Close(QueueId(1)));
-    if last != Ok(Stamp::LAST) {
-        return Ok(false);
-    }
-    home.reserve(1)?;
-    let worn = home.note(Stamp(7), Event::Close(QueueId(2)));
-    Ok(worn == Err(Worn(Stamp::LAST)) && home.entries().len() == 1)
-}
-
-#[test]
-fn stamps_end(rt: HostRuntime) -> Result<(), Fail> {
-    assert!(rt; is_worn(rt.alloc())?);
-    Ok(())
-}
-
-fn many(alloc: Global) -> Result<Record, NoMemory> {
+fn empty_homes(alloc: Global) -> Option<Vec<Home>> {
     let mut homes = Vec::new(alloc);
     for _ in 0..5 {
-        homes.push(Home::new(alloc, Stamp(0)))?;
+        homes.push(Home::new(alloc, Stamp(0))).ok()?;
     }
+    Some(homes)
+}
+
+fn add_many(homes: &mut [Home]) -> Option<()> {
     let mut draw = 1u32;
     for number in 0..100_000u32 {
         draw = draw.wrapping_mul(75).wrapping_add(74) % 65_537;
-        if let Some(home) = homes.get_mut(draw as usize % 5) {
-            add(home, number / 5 + draw % 50, number)?;
-        }
+        let home = homes.get_mut(draw as usize % 5)?;
+        add(home, number / 5 + draw % 50, number)?;
     }
-    Ok(Record {
-        homes: Sequence::from_vec(homes),
-    })
+    Some(())
+}
+
+fn many(alloc: Global) -> Option<Record> {
+    let mut homes = empty_homes(alloc)?;
+    add_many(&mut homes)?;
+    let homes = Sequence::from_vec(homes);
+    Some(Record { homes })
 }
 
 // The stamp and the number of a home's event, which is below the largest number.
@@ -142,10 +153,21 @@ fn is_plain_order(record: &Record, merged: &[Event]) -> bool {
     least(record, &next).is_none()
 }
 
+fn merges_many(alloc: Global, record: &Record) -> bool {
+    match merge(alloc, record) {
+        Ok(merged) => merged.len() == 100_000 && is_plain_order(record, &merged),
+        Err(_) => false,
+    }
+}
+
+fn are_many_merged(alloc: Global) -> bool {
+    match many(alloc) {
+        Some(record) => merges_many(alloc, &record),
+        None => false,
+    }
+}
+
 #[test]
-fn many_events_merge_in_the_plain_order(rt: HostRuntime) -> Result<(), Fail> {
-    let record = many(rt.alloc())?;
-    let merged = merge(rt.alloc(), &record)?;
-    assert!(rt; merged.len() == 100_000 && is_plain_order(&record, &merged));
-    Ok(())
+fn many_events_merge_in_the_plain_order(rt: HostRuntime) {
+    assert!(rt; are_many_merged(rt.alloc()));
 }

@@ -1,13 +1,12 @@
 //! Which lives a yard starts, in memory and of the program's own server.
 use crate::memory::{gives, link_of};
 use std::alloc::Global;
-use std::test::Fail;
 use xa_child::LocalYard;
 use xa_link::{Link, MemoryLink, MemoryStarter, MemoryYard, StartRefused, Starter, Yard, put};
-use xa_types::{Generation, Name, NoMemory};
+use xa_types::{Generation, Name};
 
 // A starter's place, the generation, and what the life gives; where it can't be started, nothing.
-const STARTS: [(usize, u64, Option<&str>); 7] = [
+static STARTS: [(usize, u64, Option<&str>); 7] = [
     (0, 0, None),
     (0, 3, Some("z")),
     (0, 2, None),
@@ -20,15 +19,20 @@ const STARTS: [(usize, u64, Option<&str>); 7] = [
 const TWO_SERVERS: &[u8] = b"queue = [{ name = 'Q' }]
 server = [{ name = 'S', queue = 'Q' }, { name = 'T', queue = 'Q' }]";
 
-fn life(alloc: Global, text: &[u8]) -> Result<MemoryLink, NoMemory> {
+fn life(alloc: Global, text: &[u8]) -> Option<MemoryLink> {
     link_of(alloc, text, [&[], &[], &[]], 3)
 }
 
 // The first server has three lives, of which the second is missing.
-fn yard_of(alloc: Global) -> Result<MemoryYard, NoMemory> {
-    let lives = [Some(life(alloc, b"x")?), None, Some(life(alloc, b"z")?)];
-    let lives = Vec::from_array(alloc, lives)?;
-    Ok(MemoryYard::new(alloc, Vec::from_array(alloc, [lives])?))
+fn lives_of(alloc: Global) -> Option<Vec<Option<MemoryLink>>> {
+    let first = life(alloc, b"x")?;
+    let lives = [Some(first), None, Some(life(alloc, b"z")?)];
+    Vec::from_array(alloc, lives).ok()
+}
+
+fn yard_of(alloc: Global) -> Option<MemoryYard> {
+    let servers = Vec::from_array(alloc, [lives_of(alloc)?]).ok()?;
+    Some(MemoryYard::new(alloc, servers))
 }
 
 // Whether the starter at that place starts what gives these octets; without octets, whether it fails.
@@ -57,12 +61,28 @@ fn start_each(starters: &mut [MemoryStarter]) -> bool {
     starters.len() == 2
 }
 
+fn starters_of<Y: Yard>(alloc: Global, yard: &mut Y) -> Option<Vec<Y::Start>> {
+    let setup = xa_config::read(alloc, TWO_SERVERS).ok()?;
+    yard.starters(&setup).ok()
+}
+
+fn is_right(alloc: Global, yard: &mut MemoryYard) -> bool {
+    match starters_of(alloc, yard) {
+        Some(mut starters) => start_each(&mut starters),
+        None => false,
+    }
+}
+
+fn starts_each_life_once(alloc: Global) -> bool {
+    match yard_of(alloc) {
+        Some(mut yard) => is_right(alloc, &mut yard),
+        None => false,
+    }
+}
+
 #[test]
-fn yards_in_memory_start_each_life_once(rt: HostRuntime) -> Result<(), Fail> {
-    let setup = xa_config::read(rt.alloc(), TWO_SERVERS)?;
-    let mut starters = yard_of(rt.alloc())?.starters(&setup)?;
-    assert!(rt; start_each(&mut starters));
-    Ok(())
+fn yards_in_memory_start_each_life_once(rt: HostRuntime) {
+    assert!(rt; starts_each_life_once(rt.alloc()));
 }
 
 // INVOKE of the service and the routine ECHO with hello, and SHUTDOWN.
@@ -85,13 +105,24 @@ fn echoes<L: Link>(link: &mut L) -> bool {
         && put(link, b"x").is_err()
 }
 
+fn first_echoes<L: Link + Drop, S: Starter<L>>(starters: &mut [S]) -> bool {
+    let (Ok(name), [starter, _]) = (Name::read(b"S"), starters) else {
+        return false;
+    };
+    match starter.start(&name, Generation(1)) {
+        Ok(mut link) => echoes(&mut link),
+        Err(_) => false,
+    }
+}
+
+fn one_of_two_echoes(alloc: Global) -> bool {
+    match starters_of(alloc, &mut LocalYard::new(alloc)) {
+        Some(mut starters) => first_echoes(&mut starters),
+        None => false,
+    }
+}
+
 #[test]
-fn an_echo_comes_from_memory(rt: HostRuntime) -> Result<(), Fail> {
-    let name = Name::read(b"S")?;
-    let setup = xa_config::read(rt.alloc(), TWO_SERVERS)?;
-    let mut starters = LocalYard::new(rt.alloc()).starters(&setup)?;
-    assert_eq!(rt; starters.len(), 2);
-    let mut link = starters[0].start(&name, Generation(1))?;
-    assert!(rt; echoes(&mut link));
-    Ok(())
+fn an_echo_comes_from_memory(rt: HostRuntime) {
+    assert!(rt; one_of_two_echoes(rt.alloc()));
 }
