@@ -10,7 +10,7 @@ const PIECE: usize = 65_536;
 const MOST_PENDING: u32 = 100_000;
 
 /// What is done with the frames.
-#[derive(Clone, Copy, Debug, PartialEq, Eq)]
+#[derive(Clone, Copy)]
 pub enum Work {
     Copy,
     Read,

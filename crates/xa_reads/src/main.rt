@@ -26,7 +26,7 @@ use std::io::{Read, Write};
 use std::process::ExitCode;
 use std::rt::Env;
 
-#[derive(Clone, Copy, Debug, PartialEq, Eq)]
+#[derive(Clone, Copy)]
 enum Command {
     Tell,
     Frames(Work),
@@ -75,7 +75,7 @@ fn run(rt: HostRuntime) -> Result<(), Refused> {
         }
         Command::Frames(work) => {
             let frames = read_frames(alloc, work, &mut input, &mut output)?;
-            if work != Work::Copy {
+            if !matches!(work, Work::Copy) {
                 println!(rt; "{frames}")?;
             }
         }

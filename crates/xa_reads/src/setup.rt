@@ -5,15 +5,23 @@ use xa_types::{
     FieldKind, FieldSetup, Name, Octets, QueueSetup, ServerSetup, ServiceSetup, Setup, ShapeSetup,
 };
 
+fn word_of(kind: FieldKind) -> &'static str {
+    match kind {
+        FieldKind::Short => "short",
+        FieldKind::Int => "int",
+        FieldKind::Long => "long",
+        FieldKind::Char => "char",
+        FieldKind::Text(_) => "string",
+    }
+}
+
 // `account int`, `memo string 16`
 fn write_field(out: &mut Vec<u8>, field: &FieldSetup) -> io::Result<()> {
-    write!(out, "{} ", field.name.octets().as_bstr())?;
+    let name = field.name.octets().as_bstr();
+    let word = word_of(field.kind);
     match field.kind {
-        FieldKind::Short => write!(out, "short"),
-        FieldKind::Int => write!(out, "int"),
-        FieldKind::Long => write!(out, "long"),
-        FieldKind::Char => write!(out, "char"),
-        FieldKind::Text(size) => write!(out, "string {size}"),
+        FieldKind::Text(size) => write!(out, "{name} {word} {size}"),
+        _ => write!(out, "{name} {word}"),
     }
 }
 
