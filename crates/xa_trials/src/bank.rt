@@ -89,21 +89,19 @@ const WROTE: &[u8] = b"\
     audit 2 TPENOENT\n\
     audit 3 OK 0 none\n";
 
+fn serves_the_bank(rt: &HostRuntime) -> bool {
+    let files: [(&[u8], &[u8]); 1] = [(b"bank.toml", CONFIG)];
+    runs(
+        rt,
+        &["run", "bank.toml"],
+        (&files, &[]),
+        (SCRIPT, &[], &[]),
+        &mut LocalYard::new(rt.alloc()),
+        (End::Done, WROTE),
+    )
+}
+
 #[test]
 fn the_bank_is_served_as_the_guide_shows(rt: HostRuntime) {
-    let mut yard = LocalYard::new(rt.alloc());
-    let files: [(&[u8], &[u8]); 1] = [(b"bank.toml", CONFIG)];
-    let none: &[u64] = &[];
-    let script = (SCRIPT, none, none);
-    let want = (End::Done, WROTE);
-    assert!(rt;
-        runs(
-            &rt,
-            &["run", "bank.toml"],
-            (&files, none),
-            script,
-            &mut yard,
-            want
-        )
-    );
+    assert!(rt; serves_the_bank(&rt));
 }

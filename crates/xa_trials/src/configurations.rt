@@ -1,7 +1,7 @@
 //! Runs by a configuration, with its servers in memory.
 use crate::lives::{NEXT, READY, SOUND, SUCCESS, yard_of};
+use crate::rows::none_fails;
 use crate::running::{End, Script, runs};
-use std::test::Fail;
 use xa_link::Yard;
 use xa_program::LocalYard;
 
@@ -27,7 +27,7 @@ const ONCE: &[u8] = b"client a\ncall ECHO none\n";
 // The configuration, the script with its faults, how it ends, and what is written.
 type Row = (&'static [u8], Script<'static>, End, &'static [u8]);
 
-const ROWS: [Row; 19] = [
+static ROWS: [Row; 19] = [
     (ONE, (b"client a\n", &[], &[]), End::Done, b""),
     // Clients without calls before and behind one with a call.
     (
@@ -162,20 +162,29 @@ where
     )
 }
 
+fn is_run_in_memory(rt: &HostRuntime, row: Row, fails: &[u64]) -> bool {
+    is_run(rt, &mut LocalYard::new(rt.alloc()), row, fails)
+}
+
+fn first_not_run(rt: &HostRuntime) -> Option<usize> {
+    for (place, row) in ROWS.iter().enumerate() {
+        if !is_run_in_memory(rt, *row, &[]) {
+            return Some(place);
+        }
+    }
+    None
+}
+
 #[test]
 fn each_configuration_is_run(rt: HostRuntime) {
-    for (place, row) in ROWS.iter().enumerate() {
-        let mut yard = LocalYard::new(rt.alloc());
-        assert!(rt; is_run(&rt, &mut yard, *row, &[]), "row {place}");
-    }
+    none_fails(&rt, first_not_run(&rt));
 }
 
 // The script isn't read then.
 #[test]
 fn a_configuration_that_is_not_read_is_told(rt: HostRuntime) {
-    let mut yard = LocalYard::new(rt.alloc());
     let row: Row = (ONE, (b"bogus\n", &[1], &[]), End::ConfigRead, b"");
-    assert!(rt; is_run(&rt, &mut yard, row, &[1]));
+    assert!(rt; is_run_in_memory(&rt, row, &[1]));
 }
 
 // Two queues with a server each, and a service on both, that of the second server first.
@@ -184,11 +193,16 @@ const BOTH: &[u8] = b"[[queue]]\nname = \"Q\"\n[[queue]]\nname = \"P\"\n\
     [[server]]\nname = \"T\"\nqueue = \"P\"\n\
     [[service]]\nname = \"ECHO\"\nqueues = [\"P\", \"Q\"]\n";
 
+fn goes_to_the_other(rt: &HostRuntime) -> bool {
+    let row: Row = (BOTH, (ONCE, &[], &[]), End::Done, b"a 1 OK 0 none\n");
+    match yard_of(rt.alloc(), Some(&[READY, NEXT, SUCCESS, NEXT]), SOUND) {
+        Some(mut yard) => is_run(rt, &mut yard, row, &[]),
+        None => false,
+    }
+}
+
 // The second server can't be started.
 #[test]
-fn a_service_on_two_queues_outlives_one(rt: HostRuntime) -> Result<(), Fail> {
-    let row: Row = (BOTH, (ONCE, &[], &[]), End::Done, b"a 1 OK 0 none\n");
-    let mut yard = yard_of(rt.alloc(), Some(&[READY, NEXT, SUCCESS, NEXT]), SOUND)?;
-    assert!(rt; is_run(&rt, &mut yard, row, &[]));
-    Ok(())
+fn a_service_on_two_queues_outlives_one(rt: HostRuntime) {
+    assert!(rt; goes_to_the_other(&rt));
 }

@@ -1,5 +1,5 @@
-//! Trials of whole runs by the top call, with streams, servers and files in memory: what its clauses don't say, or leave
-//! to memory and to whoever reads a transcript. No crate stands on this one.
+//! Trials of whole runs by the top call, with streams, servers and files in memory or with real processes: what its
+//! clauses don't say, or leave to memory, to the system and to whoever reads a transcript. No crate stands on this one.
 #![tactic(auto)]
 
 #[cfg(test)]
@@ -11,8 +11,16 @@ mod configurations;
 #[cfg(test)]
 mod lives;
 #[cfg(test)]
+mod processes;
+#[cfg(test)]
+mod rows;
+#[cfg(test)]
 mod running;
 #[cfg(test)]
+mod served;
+#[cfg(test)]
 mod sizes;
+#[cfg(test)]
+mod statuses;
 #[cfg(test)]
 mod worked;

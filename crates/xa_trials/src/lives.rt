@@ -1,8 +1,8 @@
 //! Lives of a server in memory, and what each call is told of them.
+use crate::rows::none_fails;
 use crate::running::{End, runs, sink_of, source_of};
 use std::alloc::Global;
 use xa_link::{MemoryLink, MemoryYard};
-use xa_types::NoMemory;
 
 /// What a server's program says: READY, NEXT, and RETURNs to the first invocation, of which the last is cut short.
 pub const READY: &[u8] = b"XA\x01\x01\0\0\0\x02\0\0\0\0\x01S";
@@ -41,7 +41,7 @@ type Row = (
 
 pub const SOUND: [&[u64]; 3] = [&[], &[], &[]];
 
-const ROWS: [Row; 20] = [
+static ROWS: [Row; 20] = [
     (b"client a\n", Some(&[READY, NEXT]), SOUND, b""),
     (
         TWO,
@@ -128,52 +128,62 @@ const ROWS: [Row; 20] = [
     ),
 ];
 
-// The link of a life, whose reads give 13 octets at most, and writes take 5.
-fn link_of(alloc: Global, said: &[&[u8]], faults: [&[u64]; 3]) -> Result<MemoryLink, NoMemory> {
+fn octets_of(alloc: Global, said: &[&[u8]]) -> Option<Vec<u8>> {
     let mut octets = Vec::new(alloc);
     for frame in said {
-        octets.extend_from_slice(frame)?;
+        octets.extend_from_slice(frame).ok()?;
     }
+    Some(octets)
+}
+
+// The link of a life, whose reads give 13 octets at most, and writes take 5.
+fn link_of(alloc: Global, said: &[&[u8]], faults: [&[u64]; 3]) -> Option<MemoryLink> {
     let [reads, writes, idle] = faults;
-    let source = source_of(alloc, &octets, reads, 13)?;
-    Ok(MemoryLink::new(source, sink_of(alloc, writes, idle, 5)?))
+    let source = source_of(alloc, &octets_of(alloc, said)?, reads, 13)?;
+    Some(MemoryLink::new(source, sink_of(alloc, writes, idle, 5)?))
+}
+
+fn one_server(alloc: Global, life: Option<MemoryLink>) -> Option<MemoryYard> {
+    let lives = Vec::from_array(alloc, [life]).ok()?;
+    Some(MemoryYard::new(alloc, Vec::from_array(alloc, [lives]).ok()?))
 }
 
 /// A yard whose first server alone can be started, where there is such a life.
-pub fn yard_of(
-    alloc: Global,
-    life: Option<&[&[u8]]>,
-    faults: [&[u64]; 3],
-) -> Result<MemoryYard, NoMemory> {
-    let link = match life {
-        Some(said) => Some(link_of(alloc, said, faults)?),
-        None => None,
-    };
-    let lives = Vec::from_array(alloc, [link])?;
-    Ok(MemoryYard::new(alloc, Vec::from_array(alloc, [lives])?))
+pub fn yard_of(alloc: Global, life: Option<&[&[u8]]>, faults: [&[u64]; 3]) -> Option<MemoryYard> {
+    match life {
+        Some(said) => one_server(alloc, Some(link_of(alloc, said, faults)?)),
+        None => one_server(alloc, None),
+    }
+}
+
+fn is_served(rt: &HostRuntime, yard: &mut MemoryYard, script: &[u8], wrote: &[u8]) -> bool {
+    runs(
+        rt,
+        &["play", "ECHO"],
+        (&[], &[]),
+        (script, &[], &[]),
+        yard,
+        (End::Done, wrote),
+    )
 }
 
 fn serves(rt: &HostRuntime, (script, life, faults, wrote): Row) -> bool {
     match yard_of(rt.alloc(), life, faults) {
-        Ok(mut yard) => {
-            let none: &[u64] = &[];
-            let want = (End::Done, wrote);
-            runs(
-                rt,
-                &["play", "ECHO"],
-                (&[], none),
-                (script, none, none),
-                &mut yard,
-                want,
-            )
-        }
-        Err(_) => false,
+        Some(mut yard) => is_served(rt, &mut yard, script, wrote),
+        None => false,
     }
+}
+
+fn first_not_served(rt: &HostRuntime) -> Option<usize> {
+    for (place, row) in ROWS.iter().enumerate() {
+        if !serves(rt, *row) {
+            return Some(place);
+        }
+    }
+    None
 }
 
 #[test]
 fn each_life_is_served(rt: HostRuntime) {
-    for (place, row) in ROWS.iter().enumerate() {
-        assert!(rt; serves(&rt, *row), "row {place}");
-    }
+    none_fails(&rt, first_not_served(&rt));
 }

@@ -5,7 +5,7 @@ use std::alloc::Global;
 use xa_events::Event;
 use xa_link::{MemoryShelf, MemorySink, MemorySource, OpenGate, Yard};
 use xa_program::{Input, Life, Outcome, Status, run};
-use xa_types::{NoMemory, Octets};
+use xa_types::Octets;
 
 /// The files of a shelf, by their names, and the reads of it that fail.
 pub type Files<'a> = (&'a [(&'a [u8], &'a [u8])], &'a [u64]);
@@ -55,60 +55,59 @@ struct Stage {
     out: MemorySink,
 }
 
-fn words_of(alloc: Global, words: &[&str]) -> Result<Vec<String>, NoMemory> {
+/// The words as texts.
+pub fn words_of(alloc: Global, words: &[&str]) -> Option<Vec<String>> {
     let mut texts = Vec::new(alloc);
     for word in words {
-        texts.push(String::from_str(alloc, word)?)?;
+        texts.push(String::from_str(alloc, word).ok()?).ok()?;
     }
-    Ok(texts)
+    Some(texts)
 }
 
-fn shelf_of(alloc: Global, (files, fails): Files<'_>) -> Result<MemoryShelf, NoMemory> {
+fn file_of(alloc: Global, name: &[u8], octets: &[u8]) -> Option<(Octets, Octets)> {
+    let name = Octets::of(alloc, name).ok()?;
+    Some((name, Octets::of(alloc, octets).ok()?))
+}
+
+fn shelf_of(alloc: Global, (files, fails): Files<'_>) -> Option<MemoryShelf> {
     let mut all = Vec::new(alloc);
     for (name, octets) in files {
-        all.push((Octets::of(alloc, name)?, Octets::of(alloc, octets)?))?;
+        all.push(file_of(alloc, name, octets)?).ok()?;
     }
-    Ok(MemoryShelf::new(all, Vec::from_slice(alloc, fails)?))
+    Some(MemoryShelf::new(all, Vec::from_slice(alloc, fails).ok()?))
 }
 
 /// The source of these octets, of which reads with these numbers fail, and give at most so many.
-pub fn source_of(
-    alloc: Global,
-    octets: &[u8],
-    fails: &[u64],
-    most: u32,
-) -> Result<MemorySource, NoMemory>
+pub fn source_of(alloc: Global, octets: &[u8], fails: &[u64], most: u32) -> Option<MemorySource>
     requires { 0 < most }
 {
-    let octets = Octets::of(alloc, octets)?;
-    Ok(MemorySource::new(octets, Vec::from_slice(alloc, fails)?, most))
+    let fails = Vec::from_slice(alloc, fails).ok()?;
+    Some(MemorySource::new(Octets::of(alloc, octets).ok()?, fails, most))
 }
 
 /// A sink of which writes with these numbers fail or take nothing, and take at most so many octets.
-pub fn sink_of(
-    alloc: Global,
-    fails: &[u64],
-    idle: &[u64],
-    most: u32,
-) -> Result<MemorySink, NoMemory>
+pub fn sink_of(alloc: Global, fails: &[u64], idle: &[u64], most: u32) -> Option<MemorySink>
     requires { 0 < most }
 {
-    let fails = Vec::from_slice(alloc, fails)?;
-    Ok(MemorySink::new(alloc, fails, Vec::from_slice(alloc, idle)?, most))
+    let fails = Vec::from_slice(alloc, fails).ok()?;
+    Some(MemorySink::new(alloc, fails, Vec::from_slice(alloc, idle).ok()?, most))
 }
 
 fn set_up(
     alloc: Global,
     words: &[&str],
     files: Files<'_>,
-    script: Script<'_>,
-) -> Result<Stage, NoMemory> {
-    let (octets, fails, idle) = script;
-    Ok(Stage {
-        words: words_of(alloc, words)?,
-        shelf: shelf_of(alloc, files)?,
-        input: source_of(alloc, octets, fails, 7)?,
-        out: sink_of(alloc, &[], idle, 5)?,
+    (octets, fails, idle): Script<'_>,
+) -> Option<Stage> {
+    let out = sink_of(alloc, &[], idle, 5)?;
+    let input = source_of(alloc, octets, fails, 7)?;
+    let shelf = shelf_of(alloc, files)?;
+    let words = words_of(alloc, words)?;
+    Some(Stage {
+        words,
+        shelf,
+        input,
+        out,
     })
 }
 
@@ -158,8 +157,8 @@ where
     Y::Start: Drop,
 {
     match set_up(rt.alloc(), words, files, script) {
-        Ok(mut stage) => ended(rt, &mut stage, yard, want),
-        Err(_) => None,
+        Some(mut stage) => ended(rt, &mut stage, yard, want),
+        None => None,
     }
 }
 

@@ -1,7 +1,8 @@
 //! Data and scripts as long as they may be: no clause says that memory suffices for them.
+use crate::rows::none_fails;
 use crate::running::{End, runs};
 use std::alloc::Global;
-use std::test::Fail;
+use std::io::Write;
 use xa_program::{Input, LocalYard};
 
 // What the octets begin with, what comes again and again, and their end.
@@ -29,7 +30,7 @@ const SAID: Long = (
     b"XA\x01\x02\0\0\0\0\0\0\0\0",
 );
 
-const ROWS: [Row; 4] = [
+static ROWS: [Row; 4] = [
     (
         PLAY,
         65_536,
@@ -48,23 +49,27 @@ const ROWS: [Row; 4] = [
     ),
 ];
 
-fn octets_of(alloc: Global, (first, again, last): Long, count: usize) -> Result<Vec<u8>, Fail> {
-    let mut octets = Vec::from_slice(alloc, first)?;
+fn push_again(octets: &mut Vec<u8>, again: &[u8], count: usize) -> Option<()> {
     for _ in 0..count {
-        octets.extend_from_slice(again)?;
+        octets.extend_from_slice(again).ok()?;
     }
-    octets.extend_from_slice(last)?;
-    Ok(octets)
+    Some(())
+}
+
+fn octets_of(alloc: Global, (first, again, last): Long, count: usize) -> Option<Vec<u8>> {
+    let mut octets = Vec::from_slice(alloc, first).ok()?;
+    push_again(&mut octets, again, count)?;
+    octets.extend_from_slice(last).ok()?;
+    Some(octets)
 }
 
 fn is_run(rt: &HostRuntime, words: &[&str], input: &[u8], want: (End, &[u8])) -> bool {
     let mut yard = LocalYard::new(rt.alloc());
-    let none: &[u64] = &[];
-    runs(rt, words, (&[], none), (input, none, none), &mut yard, want)
+    runs(rt, words, (&[], &[]), (input, &[], &[]), &mut yard, want)
 }
 
 // How long the configuration is, a comment, and how it ends.
-const CONFIGURATIONS: [(usize, End); 2] = [
+static CONFIGURATIONS: [(usize, End); 2] = [
     (262_144, End::ConfigFault(3, "queue")),
     (262_145, End::TooLong(Input::Configuration)),
 ];
@@ -72,52 +77,98 @@ const CONFIGURATIONS: [(usize, End); 2] = [
 fn is_configured(rt: &HostRuntime, config: &[u8], script: &[u8], want: (End, &[u8])) -> bool {
     let mut yard = LocalYard::new(rt.alloc());
     let files: [(&[u8], &[u8]); 1] = [(b"c", config)];
-    let none: &[u64] = &[];
-    let script = (script, none, none);
-    runs(rt, &["run", "c"], (&files, none), script, &mut yard, want)
+    runs(
+        rt,
+        &["run", "c"],
+        (&files, &[]),
+        (script, &[], &[]),
+        &mut yard,
+        want,
+    )
+}
+
+fn is_read(rt: &HostRuntime, count: usize, end: End) -> bool {
+    match octets_of(rt.alloc(), (b"", b"#", b""), count) {
+        Some(config) => is_configured(rt, &config, b"", (end, b"")),
+        None => false,
+    }
+}
+
+fn first_not_read(rt: &HostRuntime) -> Option<usize> {
+    for (place, (count, end)) in CONFIGURATIONS.iter().enumerate() {
+        if !is_read(rt, *count, *end) {
+            return Some(place);
+        }
+    }
+    None
 }
 
 #[test]
-fn the_longest_configuration_is_read(rt: HostRuntime) -> Result<(), Fail> {
-    for (count, end) in CONFIGURATIONS {
-        let config = octets_of(rt.alloc(), (b"", b"#", b""), count)?;
-        assert!(rt; is_configured(&rt, &config, b"", (end, b"")), "{count}");
+fn the_longest_configuration_is_read(rt: HostRuntime) {
+    none_fails(&rt, first_not_read(&rt));
+}
+
+fn is_played(rt: &HostRuntime, (words, count, input, wrote, end): Row) -> bool {
+    let Some(input) = octets_of(rt.alloc(), input, count) else {
+        return false;
+    };
+    match octets_of(rt.alloc(), wrote, count) {
+        Some(wrote) => is_run(rt, words, &input, (end, &wrote)),
+        None => false,
     }
-    Ok(())
+}
+
+fn first_not_played(rt: &HostRuntime) -> Option<usize> {
+    for (place, row) in ROWS.iter().enumerate() {
+        if !is_played(rt, *row) {
+            return Some(place);
+        }
+    }
+    None
 }
 
 #[test]
-fn the_longest_data_and_script_are_played(rt: HostRuntime) -> Result<(), Fail> {
-    for (words, count, input, wrote, end) in ROWS {
-        let input = octets_of(rt.alloc(), input, count)?;
-        let wrote = octets_of(rt.alloc(), wrote, count)?;
-        assert!(rt;
-            is_run(&rt, words, &input, (end, &wrote)),
-            "{words:?}, {count}"
-        );
-    }
-    Ok(())
+fn the_longest_data_and_script_are_played(rt: HostRuntime) {
+    none_fails(&rt, first_not_played(&rt));
+}
+
+fn push_line(lines: &mut Vec<u8>, first: &str, last: &str, number: u32) -> Option<()> {
+    lines.extend_from_slice(first.as_bytes()).ok()?;
+    write!(lines, "{number}").ok()?;
+    lines.extend_from_slice(last.as_bytes()).ok()?;
+    lines.push(b'\n').ok()
 }
 
 // So many lines, or pairs of lines, with the number of each, from 1, between the two texts.
-fn lines_of(alloc: Global, first: &str, last: &str, count: u32) -> Result<Vec<u8>, Fail> {
+fn lines_of(alloc: Global, first: &str, last: &str, count: u32) -> Option<Vec<u8>> {
     let mut lines = Vec::new(alloc);
     for number in 1..=count {
-        let line = format!(in alloc; "{first}{number}{last}\n")?;
-        lines.extend_from_slice(line.as_bytes())?;
+        push_line(&mut lines, first, last, number)?;
     }
-    Ok(lines)
+    Some(lines)
 }
+
+// What is put in and what comes out.
+type Both = (Vec<u8>, Vec<u8>);
 
 const CALLS: u32 = 1_001;
 
-#[test]
-fn many_calls_are_played(rt: HostRuntime) -> Result<(), Fail> {
+fn calls_of(alloc: Global) -> Option<Both> {
     let calls: Long = (b"client a\n", b"call ECHO none\n", b"");
-    let script = octets_of(rt.alloc(), calls, CALLS as usize)?;
-    let lines = lines_of(rt.alloc(), "a ", " OK 0 none", CALLS)?;
-    assert!(rt; is_run(&rt, PLAY, &script, (End::Done, &lines)));
-    Ok(())
+    let script = octets_of(alloc, calls, CALLS as usize)?;
+    Some((script, lines_of(alloc, "a ", " OK 0 none", CALLS)?))
+}
+
+fn are_played(rt: &HostRuntime) -> bool {
+    match calls_of(rt.alloc()) {
+        Some((script, lines)) => is_run(rt, PLAY, &script, (End::Done, &lines)),
+        None => false,
+    }
+}
+
+#[test]
+fn many_calls_are_played(rt: HostRuntime) {
+    assert!(rt; are_played(&rt));
 }
 
 const ONE: &[u8] = b"[[queue]]\nname = \"Q\"\n\
@@ -125,14 +176,30 @@ const ONE: &[u8] = b"[[queue]]\nname = \"Q\"\n\
     [[service]]\nname = \"ECHO\"\nqueues = [\"Q\"]\n";
 
 // How many clients with a call each there are, how many are served, and how it ends: each has two lines.
-const CLIENTS: [(u32, u32, End); 2] = [(64, 64, End::Done), (65, 0, End::BadLine(129, 7))];
+static CLIENTS: [(u32, u32, End); 2] = [(64, 64, End::Done), (65, 0, End::BadLine(129, 7))];
+
+fn clients_of(alloc: Global, count: u32, served: u32) -> Option<Both> {
+    let script = lines_of(alloc, "client c", "\ncall ECHO none", count)?;
+    Some((script, lines_of(alloc, "c", " 1 OK 0 none", served)?))
+}
+
+fn are_served(rt: &HostRuntime, (count, served, end): (u32, u32, End)) -> bool {
+    match clients_of(rt.alloc(), count, served) {
+        Some((script, wrote)) => is_configured(rt, ONE, &script, (end, &wrote)),
+        None => false,
+    }
+}
+
+fn first_not_served(rt: &HostRuntime) -> Option<usize> {
+    for (place, clients) in CLIENTS.iter().enumerate() {
+        if !are_served(rt, *clients) {
+            return Some(place);
+        }
+    }
+    None
+}
 
 #[test]
-fn as_many_clients_as_may_be_are_served(rt: HostRuntime) -> Result<(), Fail> {
-    for (count, served, end) in CLIENTS {
-        let script = lines_of(rt.alloc(), "client c", "\ncall ECHO none", count)?;
-        let wrote = lines_of(rt.alloc(), "c", " 1 OK 0 none", served)?;
-        assert!(rt; is_configured(&rt, ONE, &script, (end, &wrote)), "{count}");
-    }
-    Ok(())
+fn as_many_clients_as_may_be_are_served(rt: HostRuntime) {
+    none_fails(&rt, first_not_served(&rt));
 }

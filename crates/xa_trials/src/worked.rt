@@ -1,7 +1,9 @@
 //! Runs of one server, worked out by hand: what its program got, and what stands in the history.
 use crate::lives::{NEXT, SOUND, yard_of};
+use crate::rows::none_fails;
 use crate::running::{End, run_of};
 use xa_events::{Event, Evidence, Refused};
+use xa_link::MemoryYard;
 
 // One queue with one server, and three services.
 const CONFIG: &[u8] = b"[[queue]]\nname = \"Q1\"\n\
@@ -27,7 +29,7 @@ type Row = (
     Option<u64>,
 );
 
-const ROWS: [Row; 3] = [
+static ROWS: [Row; 3] = [
     (b"", &[READY, NEXT], b"", SHUTDOWN, None),
     (
         b"client a\ncall ECHO text \"hello\"\n",
@@ -60,15 +62,17 @@ fn version_of(history: &[Event]) -> Option<u64> {
     })
 }
 
-fn is_worked(rt: &HostRuntime, (script, said, wrote, got, version): Row) -> bool {
-    let Ok(mut yard) = yard_of(rt.alloc(), Some(said), SOUND) else {
-        return false;
-    };
+fn is_worked(rt: &HostRuntime, yard: &mut MemoryYard, row: Row) -> bool {
+    let (script, _, wrote, got, version) = row;
     let files: [(&[u8], &[u8]); 1] = [(b"c", CONFIG)];
-    let none: &[u64] = &[];
-    let want = (End::Done, wrote);
-    let script = (script, none, none);
-    match run_of(rt, &["run", "c"], (&files, none), script, &mut yard, want) {
+    match run_of(
+        rt,
+        &["run", "c"],
+        (&files, &[]),
+        (script, &[], &[]),
+        yard,
+        (End::Done, wrote),
+    ) {
         Some((history, lives)) => match lives.as_slice() {
             [life] => life.link.taken() == got && version_of(&history) == version,
             _ => false,
@@ -77,9 +81,23 @@ fn is_worked(rt: &HostRuntime, (script, said, wrote, got, version): Row) -> bool
     }
 }
 
+fn works(rt: &HostRuntime, row: Row) -> bool {
+    match yard_of(rt.alloc(), Some(row.1), SOUND) {
+        Some(mut yard) => is_worked(rt, &mut yard, row),
+        None => false,
+    }
+}
+
+fn first_not_worked(rt: &HostRuntime) -> Option<usize> {
+    for (place, row) in ROWS.iter().enumerate() {
+        if !works(rt, *row) {
+            return Some(place);
+        }
+    }
+    None
+}
+
 #[test]
 fn a_server_gets_what_is_due(rt: HostRuntime) {
-    for (place, row) in ROWS.iter().enumerate() {
-        assert!(rt; is_worked(&rt, *row), "row {place}");
-    }
+    none_fails(&rt, first_not_worked(&rt));
 }

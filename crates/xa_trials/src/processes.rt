@@ -1,12 +1,13 @@
-// What the processes of servers do: how they are started, what their pipes carry, and that nothing is left of them.
+//! What the processes of servers do: how they are started, what their pipes carry, and that nothing is left of them.
 ghost use Rattle.std.specs.Prelude.{◌≡◌, true, IfOk, codes};
 ghost use Rattle.xa_types.specs.Configured.{is_configured, is_valid_program};
 
+use crate::rows::none_fails;
+use crate::served::{has, remove};
 use std::alloc::Global;
 use std::fs;
-use std::test::Fail;
-use xa_link::{ChildYard, Link, Source, StartRefused, Starter, Yard, put};
-use xa_types::{Generation, Name, Octets, QueueSetup, Sequence, ServerSetup, Setup};
+use xa_link::{ChildStarter, ChildYard, Link, Source, StartRefused, Starter, Yard, put};
+use xa_types::{Generation, Name, NoMemory, Octets, QueueSetup, Sequence, ServerSetup, Setup};
 
 // What a link is to do next.
 enum Step {
@@ -22,7 +23,7 @@ type Row = (Option<&'static str>, &'static str, Option<&'static [Step]>);
 
 const SHELL: Option<&str> = Some("/bin/sh");
 
-const ROWS: [Row; 10] = [
+static ROWS: [Row; 10] = [
     (
         Some("/bin/echo"),
         "",
@@ -64,7 +65,7 @@ const ROWS: [Row; 10] = [
 ];
 
 // The program of a server; a path that is none, or too long, is left out.
-fn program_of(alloc: Global, path: Option<&str>) -> Result<Option<Octets>, Fail>
+fn program_of(alloc: Global, path: Option<&str>) -> Result<Option<Octets>, NoMemory>
     ensures { IfOk result (λ program. is_valid_program program ≡ true) }
 {
     match path {
@@ -76,7 +77,7 @@ fn program_of(alloc: Global, path: Option<&str>) -> Result<Option<Octets>, Fail>
 }
 
 // One queue and one server, both of that name.
-fn setup(alloc: Global, name: Name, program: Option<Octets>) -> Result<Setup, Fail>
+fn setup(alloc: Global, name: Name, program: Option<Octets>) -> Result<Setup, NoMemory>
     requires name { name ≡ codes "S" }
     requires program { is_valid_program program ≡ true }
     ensures { IfOk result (λ setup. is_configured setup ≡ true) }
@@ -94,12 +95,13 @@ fn setup(alloc: Global, name: Name, program: Option<Octets>) -> Result<Setup, Fa
         maxgen: 1,
         grace: 1,
     };
+    let servers = Vec::from_array(alloc, [server])?;
     Ok(Setup {
         block_time: 1,
         blocks: 1,
         shapes: Sequence::from_vec(Vec::new(alloc)),
         queues: Sequence::from_vec(Vec::from_array(alloc, [queue])?),
-        servers: Sequence::from_vec(Vec::from_array(alloc, [server])?),
+        servers: Sequence::from_vec(servers),
         services: Sequence::from_vec(Vec::new(alloc)),
     })
 }
@@ -124,6 +126,15 @@ fn does<L: Link>(link: &mut L, step: &Step) -> bool {
     }
 }
 
+fn does_all<L: Link>(link: &mut L, steps: &[Step]) -> bool {
+    for step in steps {
+        if !does(link, step) {
+            return false;
+        }
+    }
+    true
+}
+
 // Whether what the starter starts does these in turn; without steps, whether it fails.
 fn runs<L: Link + Drop, S: Starter<L>>(
     starter: &mut S,
@@ -131,42 +142,61 @@ fn runs<L: Link + Drop, S: Starter<L>>(
     steps: Option<&[Step]>,
 ) -> bool {
     match (starter.start(name, Generation(1)), steps) {
-        (Ok(mut link), Some(steps)) => steps.iter().all(|step| does(&mut link, step)),
+        (Ok(mut link), Some(steps)) => does_all(&mut link, steps),
         (Err(refused), None) => refused == StartRefused::Failed,
         _ => false,
     }
 }
 
-fn starts(rt: &HostRuntime, program: Option<&str>, steps: Option<&[Step]>) -> Result<bool, Fail> {
-    let name = Name::read(b"S")?;
-    let setup = setup(rt.alloc(), name, program_of(rt.alloc(), program)?)?;
-    let mut yard = ChildYard::new(rt.clone()?, Octets::of(rt.alloc(), b"echo")?);
-    let mut starters = yard.starters(&setup)?;
-    match starters.as_mut_slice() {
-        [starter] => Ok(runs(starter, &name, steps)),
-        _ => Ok(false),
+fn starters_of(rt: &HostRuntime, setup: &Setup) -> Option<Vec<ChildStarter<HostRuntime>>>
+    requires { is_configured setup.now ≡ true }
+{
+    let own = Octets::of(rt.alloc(), b"echo").ok()?;
+    ChildYard::new(rt.clone().ok()?, own).starters(setup).ok()
+}
+
+fn starts_by(rt: &HostRuntime, name: &Name, setup: &Setup, steps: Option<&[Step]>) -> bool
+    requires { is_configured setup.now ≡ true }
+{
+    match starters_of(rt, setup) {
+        Some(mut starters) => match starters.as_mut_slice() {
+            [starter] => runs(starter, name, steps),
+            _ => false,
+        },
+        None => false,
     }
 }
 
-fn count_descriptors(rt: &HostRuntime) -> Result<usize, Fail> {
-    Ok(fs::read_dir(rt, "/proc/self/fd")?.count())
+fn starts(rt: &HostRuntime, program: Option<&str>, steps: Option<&[Step]>) -> bool {
+    let (Ok(name), Ok(program)) = (Name::read(b"S"), program_of(rt.alloc(), program)) else {
+        return false;
+    };
+    match setup(rt.alloc(), name, program) {
+        Ok(setup) => starts_by(rt, &name, &setup, steps),
+        Err(_) => false,
+    }
+}
+
+fn count_descriptors(rt: &HostRuntime) -> Option<usize> {
+    Some(fs::read_dir(rt, "/proc/self/fd").ok()?.count())
+}
+
+fn first_not_run(rt: &HostRuntime) -> Option<usize> {
+    for (place, (program, script, steps)) in ROWS.iter().enumerate() {
+        if fs::write(rt, "server", *script).is_err() || !starts(rt, *program, *steps) {
+            return Some(place);
+        }
+    }
+    None
 }
 
 // A server is started with the words `server` and its name, so `sh` reads its script from the file `server`. The last
 // one goes on once its input has ended, and notes that nobody reads its output then.
 #[test]
-fn processes_end_alone_and_leave_nothing(rt: HostRuntime) -> Result<(), Fail> {
-    let before = count_descriptors(&rt)?;
-    for (program, script, steps) in ROWS {
-        fs::write(&rt, "server", script)?;
-        assert!(rt; starts(&rt, program, steps)?, "{script}");
-    }
-    assert_eq!(rt; fs::read_to_string(&rt, "ended")?.as_str(), "shut\n");
-    for name in ["server", "ended"] {
-        fs::remove_file(&rt, name)?;
-    }
-    let children = fs::read_to_string(&rt, "/proc/thread-self/children")?;
-    assert_eq!(rt; children.as_str(), "");
-    assert_eq!(rt; count_descriptors(&rt)?, before);
-    Ok(())
+fn processes_end_alone_and_leave_nothing(rt: HostRuntime) {
+    let before = count_descriptors(&rt);
+    none_fails(&rt, first_not_run(&rt));
+    assert!(rt; has(&rt, "ended", "shut\n") && has(&rt, "/proc/thread-self/children", ""));
+    assert!(rt; before.is_some() && count_descriptors(&rt) == before);
+    assert!(rt; remove(&rt, &["server", "ended"]));
 }

@@ -1,6 +1,8 @@
-// Whole runs with real processes: what each call is told where servers end, fail or can't be started, and what is left.
+//! Whole runs with real processes: what each call is told where servers end, fail or can't be started, and what is left.
+use crate::rows::none_fails;
+use crate::running::{source_of, words_of};
+use std::alloc::Global;
 use std::fs;
-use std::test::Fail;
 use xa_link::{ChildYard, FileShelf, MemorySink, MemorySource, OpenGate};
 use xa_program::{Outcome, run};
 use xa_types::Octets;
@@ -14,25 +16,47 @@ const WORDS: &str = "next() { printf 'XA\\001\\002\\000\\000\\000\\000\\000\\000
     give() { printf \"XA\\001\\004\\000\\000\\000\\006\\000\\000\\000\\00$1\\000\\000\\000\\000\\000\\000\"; }\n\
     leave() { printf 'XA\\001\\004\\000\\000\\000\\006\\000\\000\\000\\001\\002\\000\\000\\000\\001\\000'; }\n";
 
-fn write_server(rt: &HostRuntime, does: &str) -> Result<(), Fail> {
-    fs::write(rt, "server", format!(in rt.alloc(); "{WORDS}{does}\n")?)?;
-    Ok(())
+fn server_text(alloc: Global, does: &str) -> Option<String> {
+    format!(in alloc; "{WORDS}{does}\n").ok()
 }
 
-// Whether the command serves the script by so many processes, and prints that.
-fn serves(
-    rt: &HostRuntime,
-    [command, argument]: [&str; 2],
-    script: &str,
-    wrote: &str,
-    count: usize,
-) -> Result<bool, Fail> {
+fn write_server(rt: &HostRuntime, does: &str) -> bool {
+    match server_text(rt.alloc(), does) {
+        Some(text) => fs::write(rt, "server", text).is_ok(),
+        None => false,
+    }
+}
+
+// What a command is run on: its words and its script, its output, and the real files and processes.
+#[derive(Drop)]
+struct Stage {
+    words: Vec<String>,
+    input: MemorySource,
+    out: MemorySink,
+    shelf: FileShelf<HostRuntime>,
+    yard: ChildYard<HostRuntime>,
+}
+
+fn yard_of(rt: &HostRuntime) -> Option<ChildYard<HostRuntime>> {
+    let own = Octets::of(rt.alloc(), b"sh").ok()?;
+    Some(ChildYard::new(rt.clone().ok()?, own))
+}
+
+fn set_up(rt: &HostRuntime, words: &[&str], script: &str) -> Option<Stage> {
     let alloc = rt.alloc();
-    let words = [
-        String::from_str(alloc, command)?,
-        String::from_str(alloc, argument)?,
-    ];
-    let mut out = MemorySink::new(alloc, Vec::new(alloc), Vec::new(alloc), 64);
+    let words = words_of(alloc, words)?;
+    let input = source_of(alloc, script.as_bytes(), &[], 64)?;
+    Some(Stage {
+        words,
+        input,
+        out: MemorySink::new(alloc, Vec::new(alloc), Vec::new(alloc), 64),
+        shelf: FileShelf::new(rt.clone().ok()?, alloc),
+        yard: yard_of(rt)?,
+    })
+}
+
+// Whether the command is done by so many processes, and prints that.
+fn prints(rt: &HostRuntime, stage: &mut Stage, wrote: &str, count: usize) -> bool {
     let Outcome {
         status,
         homes: _,
@@ -41,28 +65,41 @@ fn serves(
         starters: _,
     } = run(
         rt,
-        alloc,
-        words.as_slice(),
-        &mut FileShelf::new(rt.clone()?, alloc),
-        &mut MemorySource::new(Octets::of(alloc, script.as_bytes())?, Vec::new(alloc), 64),
-        &mut out,
-        &mut ChildYard::new(rt.clone()?, Octets::of(alloc, b"sh")?),
+        rt.alloc(),
+        stage.words.as_slice(),
+        &mut stage.shelf,
+        &mut stage.input,
+        &mut stage.out,
+        &mut stage.yard,
         &OpenGate,
     );
-    let told = out.taken() == wrote.as_bytes();
-    Ok(told && status.number() == 0 && lives.len() == count)
+    stage.out.taken() == wrote.as_bytes() && status.number() == 0 && lives.len() == count
 }
 
-// Removes the files that a test wrote.
-fn remove(rt: &HostRuntime, names: &[&str]) -> Result<(), Fail> {
-    for name in names {
-        fs::remove_file(rt, name)?;
+/// Whether the file has that text.
+pub fn has(rt: &HostRuntime, name: &str, text: &str) -> bool {
+    match fs::read_to_string(rt, name) {
+        Ok(read) => read.as_str() == text,
+        Err(_) => false,
     }
-    Ok(())
 }
 
-fn none_is_left(rt: &HostRuntime) -> Result<bool, Fail> {
-    Ok(fs::read_to_string(rt, "/proc/thread-self/children")?.is_empty())
+// Whether the command serves the script by so many processes, prints that, and leaves none of them.
+fn serves(rt: &HostRuntime, words: [&str; 2], script: &str, wrote: &str, count: usize) -> bool {
+    let served = match set_up(rt, &words, script) {
+        Some(mut stage) => prints(rt, &mut stage, wrote, count),
+        None => false,
+    };
+    served && has(rt, "/proc/thread-self/children", "")
+}
+
+/// Removes the files that a test wrote, and answers whether they were there.
+pub fn remove(rt: &HostRuntime, names: &[&str]) -> bool {
+    let mut were_there = true;
+    for name in names {
+        were_there &= fs::remove_file(rt, name).is_ok();
+    }
+    were_there
 }
 
 // ---- one server
@@ -80,13 +117,13 @@ const ONE: &str = "[[queue]]\nname = \"Q\"\n\
                    [[server]]\nname = \"S\"\nqueue = \"Q\"\nprogram = \"/bin/sh\"\n\
                    [[service]]\nname = \"ECHO\"\nqueues = [\"Q\"]\n";
 
-const COMMANDS: [[&str; 2]; 2] = [["play", "ECHO"], ["run", "config"]];
+static COMMANDS: [[&str; 2]; 2] = [["play", "ECHO"], ["run", "config"]];
 
 // What the server does, what is printed, and whether it comes to its own end behind its closed pipes and notes that in
 // the file `ended`. The others that would go on are ended by force: else the test would last longer than it may.
 type Row = (&'static str, &'static str, bool);
 
-const ROWS: [Row; 10] = [
+static ROWS: [Row; 10] = [
     // It ends, or is ended by another, while the call waits.
     ("greet $1; take", DIED, false),
     (
@@ -128,18 +165,32 @@ const ROWS: [Row; 10] = [
     ),
 ];
 
-#[test]
-fn a_server_that_fails_is_ended(rt: HostRuntime) -> Result<(), Fail> {
-    fs::write(&rt, "config", ONE)?;
-    for (server, wrote, ends) in ROWS {
-        write_server(&rt, server)?;
-        for command in COMMANDS {
-            assert!(rt; serves(&rt, command, TWICE, wrote, 1)?, "{server}");
-            assert!(rt; none_is_left(&rt)?, "{server}");
-            assert_eq!(rt; fs::remove_file(&rt, "ended").is_ok(), ends, "{server}");
+fn fails_so(rt: &HostRuntime, (server, wrote, ends): Row) -> bool {
+    if !write_server(rt, server) {
+        return false;
+    }
+    for command in COMMANDS {
+        if !serves(rt, command, TWICE, wrote, 1) || remove(rt, &["ended"]) != ends {
+            return false;
         }
     }
-    remove(&rt, &["config", "server"])
+    true
+}
+
+fn first_not_ended(rt: &HostRuntime) -> Option<usize> {
+    for (place, row) in ROWS.iter().enumerate() {
+        if !fails_so(rt, *row) {
+            return Some(place);
+        }
+    }
+    None
+}
+
+#[test]
+fn a_server_that_fails_is_ended(rt: HostRuntime) {
+    assert!(rt; fs::write(&rt, "config", ONE).is_ok());
+    none_fails(&rt, first_not_ended(&rt));
+    assert!(rt; remove(&rt, &["config", "server"]));
 }
 
 // ---- several servers
@@ -151,7 +202,7 @@ const PAIR: &str = "[[queue]]\nname = \"Q\"\n\
                     [[service]]\nname = \"ECHO\"\nqueues = [\"Q\"]\n";
 
 // What the first server does once it has taken its call.
-const ENDS: [&str; 3] = [
+static ENDS: [&str; 3] = [
     "exit",
     "kill -9 $$",
     "echo no frame but text; exec sleep 600",
@@ -164,19 +215,32 @@ const OTHER: &str =
 
 const PAIRED: &str = "a 1 TPESVCERR\na 2 OK 0 none\nb 1 OK 0 none\n";
 
-#[test]
-fn the_other_server_of_a_queue_goes_on(rt: HostRuntime) -> Result<(), Fail> {
-    fs::write(&rt, "config", PAIR)?;
-    for end in ENDS {
-        let does = format!(in rt.alloc();
-            "greet $1\nif test $1 = A; then echo $$ >pid; take; {end}; fi\n{OTHER}"
-        )?;
-        write_server(&rt, does.as_str())?;
-        let script = "client a\ncall ECHO none\ncall ECHO none\nclient b\ncall ECHO none\n";
-        assert!(rt; serves(&rt, ["run", "config"], script, PAIRED, 2)?, "{end}");
-        assert!(rt; none_is_left(&rt)?, "{end}");
+fn pair_text(alloc: Global, end: &str) -> Option<String> {
+    format!(in alloc; "greet $1\nif test $1 = A; then echo $$ >pid; take; {end}; fi\n{OTHER}").ok()
+}
+
+fn write_pair(rt: &HostRuntime, end: &str) -> bool {
+    match pair_text(rt.alloc(), end) {
+        Some(does) => write_server(rt, does.as_str()),
+        None => false,
     }
-    remove(&rt, &["config", "server", "pid"])
+}
+
+fn first_not_outlived(rt: &HostRuntime) -> Option<usize> {
+    let script = "client a\ncall ECHO none\ncall ECHO none\nclient b\ncall ECHO none\n";
+    for (place, end) in ENDS.iter().enumerate() {
+        if !write_pair(rt, end) || !serves(rt, ["run", "config"], script, PAIRED, 2) {
+            return Some(place);
+        }
+    }
+    None
+}
+
+#[test]
+fn the_other_server_of_a_queue_goes_on(rt: HostRuntime) {
+    assert!(rt; fs::write(&rt, "config", PAIR).is_ok());
+    none_fails(&rt, first_not_outlived(&rt));
+    assert!(rt; remove(&rt, &["config", "server", "pid"]));
 }
 
 // Three queues with a server each: the program of the first isn't there, that of the second is a file that can't be
@@ -189,13 +253,16 @@ const THREE: &str = "[[queue]]\nname = \"P\"\n[[queue]]\nname = \"Q\"\n[[queue]]
                      [[service]]\nname = \"TWO\"\nqueues = [\"Q\"]\n\
                      [[service]]\nname = \"ECHO\"\nqueues = [\"R\"]\n";
 
-#[test]
-fn a_server_that_cannot_be_started_takes_its_queue_alone(rt: HostRuntime) -> Result<(), Fail> {
-    fs::write(&rt, "config", THREE)?;
-    write_server(&rt, "greet $1; take; give 1; next; cat >/dev/null")?;
+fn serves_one_of_three(rt: &HostRuntime) -> bool {
     let script = "client a\ncall ONE none\ncall TWO none\ncall ECHO none\n";
     let wrote = "a 1 TPENOENT\na 2 TPENOENT\na 3 OK 0 none\n";
-    assert!(rt; serves(&rt, ["run", "config"], script, wrote, 1)?);
-    assert!(rt; none_is_left(&rt)?);
-    remove(&rt, &["config", "server"])
+    fs::write(rt, "config", THREE).is_ok()
+        && write_server(rt, "greet $1; take; give 1; next; cat >/dev/null")
+        && serves(rt, ["run", "config"], script, wrote, 1)
+}
+
+#[test]
+fn a_server_that_cannot_be_started_takes_its_queue_alone(rt: HostRuntime) {
+    assert!(rt; serves_one_of_three(&rt));
+    assert!(rt; remove(&rt, &["config", "server"]));
 }
