@@ -111,10 +111,13 @@ fn set_up(
     })
 }
 
-// The history and the lives, where the command ends so and has written that.
-fn ended<Y: Yard>(
+/// The history and the lives of a command of these words, with these files, this script and this yard, where it ends so
+/// and has written that.
+pub fn run_of<Y: Yard>(
     rt: &HostRuntime,
-    stage: &mut Stage,
+    words: &[&str],
+    files: Files<'_>,
+    script: Script<'_>,
     yard: &mut Y,
     want: (End, &[u8]),
 ) -> Option<(Vec<Event>, Vec<Life<Y::Line>>)>
@@ -122,6 +125,7 @@ where
     Y::Line: Drop,
     Y::Start: Drop,
 {
+    let mut stage = set_up(rt.alloc(), words, files, script)?;
     let Outcome {
         status,
         homes: _,
@@ -140,26 +144,6 @@ where
     );
     let as_wanted = ends_so(&status, want.0) && stage.out.taken() == want.1;
     as_wanted.then_some((history, lives))
-}
-
-/// The history and the lives of a command of these words, with these files, this script and this yard, where it ends so
-/// and has written that.
-pub fn run_of<Y: Yard>(
-    rt: &HostRuntime,
-    words: &[&str],
-    files: Files<'_>,
-    script: Script<'_>,
-    yard: &mut Y,
-    want: (End, &[u8]),
-) -> Option<(Vec<Event>, Vec<Life<Y::Line>>)>
-where
-    Y::Line: Drop,
-    Y::Start: Drop,
-{
-    match set_up(rt.alloc(), words, files, script) {
-        Some(mut stage) => ended(rt, &mut stage, yard, want),
-        None => None,
-    }
 }
 
 /// Whether such a command ends so and has written that.
