@@ -74,15 +74,6 @@ fn enter_in_turn<R: Threads + Wait + Sync + Clock + AllocGlobal>(rt: &R) -> Resu
     }
 }
 
-fn count_passes<R: AllocGlobal + Print>(rt: &R, count: u32) -> Result<(), Refused> {
-    if count == 0 {
-        return Err(Refused::Usage);
-    }
-    let passes = make_passes(rt.alloc(), count)?;
-    println!(rt; "{passes} passes")?;
-    Ok(())
-}
-
 fn run<R: Threads + Wait + Sync + Clock + Env + AllocGlobal + Print + Eprint>(
     rt: &R,
 ) -> Result<(), Refused> {
@@ -92,7 +83,14 @@ fn run<R: Threads + Wait + Sync + Clock + Env + AllocGlobal + Print + Eprint>(
             enter(rt, 4, 1_000, 0)
         }
         Command::Enter(threads, enters, steps) => enter(rt, threads, enters, steps),
-        Command::Passes(count) => count_passes(rt, count),
+        Command::Passes(count) => {
+            if count == 0 {
+                return Err(Refused::Usage);
+            }
+            let passes = make_passes(rt.alloc(), count)?;
+            println!(rt; "{passes} passes")?;
+            Ok(())
+        }
     }
 }
 

@@ -74,24 +74,6 @@ fn all_work<R: Threads + Wait + Sync>(
     );
 }
 
-// Does all work, and answers how many nanoseconds it took.
-fn timed<R: Threads + Wait + Sync + Clock>(
-    rt: &R,
-    lock: &Guarded<Log>,
-    threads: u8,
-    enters: u32,
-    steps: u32,
-    places: &mut [Option<LockPass<Entry>>],
-) -> Result<u128, Refused>
-    requires some { (0 < threads) × (length places.old < 2 ^ 32) }
-    requires passes { HaveEach lock.now places.old }
-    ensures { HaveEach lock.now places.new }
-{
-    let start = Instant::now(rt)?;
-    all_work(rt, lock, threads, enters, steps, places);
-    Ok(start.elapsed(rt)?.as_nanos())
-}
-
 fn places_of(
     alloc: Global,
     lock: &Guarded<Log>,
@@ -142,7 +124,9 @@ pub fn enter_all<R: Threads + Wait + Sync + Clock>(
     let log = Log::with_room(alloc, room)?;
     let (lock, dealt) = Guarded::new(alloc, log, u32::from(passes))?;
     let mut places = places_of(alloc, &lock, dealt)?;
-    let took = timed(rt, &lock, threads, enters, steps, places.as_mut_slice())?;
+    let start = Instant::now(rt)?;
+    all_work(rt, &lock, threads, enters, steps, places.as_mut_slice());
+    let took = start.elapsed(rt)?.as_nanos();
     let back = passes_in(alloc, &lock, places)?;
     Ok((lock.close(back).entries.len(), took))
 }
