@@ -16,7 +16,8 @@ fn line_of(status: &Status) -> Option<&'static str> {
         Status::TooLong(Input::Configuration) => Some("too long: configuration"),
         Status::TooLong(Input::Script) => Some("too long: script"),
         Status::Worn(_) => Some("stamp at its end"),
-        _ => None,
+        Status::Done | Status::ConfigFault { .. } | Status::BadLine { .. } | Status::BadFrame(_) =>
+            None,
     }
 }
 
