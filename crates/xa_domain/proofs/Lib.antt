@@ -2,6 +2,7 @@ pub mod Merging
 pub mod Lives
 pub mod Retired
 pub mod Halted
+pub mod Failing
 pub mod Configured
 pub mod Sound
 pub mod Rests

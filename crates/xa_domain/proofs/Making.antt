@@ -1,5 +1,5 @@
 -- Calls one after another, the leave of a client, and clients one after another.
-use Rattle.std.proofs.Common.{◌≡◌, ℕ, ◌+◌, ◌<◌, ◌≤◌, true, false, List, ◌∷◌, length, All, Option, Some, None, Result, Ok, Err, OnOk, IsErrAnd, inl, inr, refl, sym, ◌∙◌, ap, subst, arith, add-one}
+use Rattle.std.proofs.Common.{◌≡◌, ℕ, ◌+◌, ◌<◌, ◌≤◌, true, false, List, ◌∷◌, length, All, Option, Some, None, inl, inr, refl, sym, ◌∙◌, ap, subst, arith, add-one}
 use Rattle.std.specs.Prelude.{slice_get, IsSomeAnd}
 use Rattle.std.proofs.lemmas.Option.{same_Some, slice_get_cases, slice_get_within}
 use Rattle.xa_types.specs.declared.setup.Setup.{Setup}
@@ -214,9 +214,3 @@ module _ {L : Type 0} (setup : Setup) (script : List ScriptClient) (place : ℕ)
 
   pub all_gone : (last : Domain L) → last.clients ≡ now.clients → HaveGone script last
   all_gone last same i x is = let was : slice_get now.clients.items i ≡ Some x = sym (ap (λ v. slice_get v.items i) same) ∙ is in r.gone i x was (within_all i x was)
-
--- ---- a call that failed
-
-pub none_done : {X E : Type 0} (result : Result X E) (e : E) (P : Type 0) → IsErrAnd result (λ y. y ≡ e) → OnOk result P
-none_done (Ok x) e P is = absurd is
-none_done (Err y) e P is = tt

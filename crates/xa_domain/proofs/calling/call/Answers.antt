@@ -116,3 +116,33 @@ turn_down-requires-in-NoKind-clause-ready g c = looks_up_ready c.args.client c.i
 
 pub turn_down-requires-in-NoKind-clause-client : goal.turn_down-requires-in-NoKind-clause-client
 turn_down-requires-in-NoKind-clause-client g c = subst (λ n. c.args.client < n) (sym (clients_kept c.args.client c.args.op c.look_up-version.result c.in-Some.service c.args.domain.now c.look_up-version.new.self c.look_up-version.ensures)) (client_there c.args.domain.now c.args.client (λ x. (c.args.op ≡ x.op + 1) × (x.left ≡ false)) c.requires.turn)
+
+pub returns-in-NoRow-clause-numbered : goal.returns-in-NoRow-clause-numbered
+returns-in-NoRow-clause-numbered g c = c.turn_down-in-NoRow.ensures.numbered
+
+pub returns-in-NoRow-clause-ready : goal.returns-in-NoRow-clause-ready
+returns-in-NoRow-clause-ready g c = c.turn_down-in-NoRow.ensures.ready
+
+pub returns-in-NoKind-clause-numbered : goal.returns-in-NoKind-clause-numbered
+returns-in-NoKind-clause-numbered g c = c.turn_down-in-NoKind.ensures.numbered
+
+pub returns-in-NoKind-clause-ready : goal.returns-in-NoKind-clause-ready
+returns-in-NoKind-clause-ready g c = c.turn_down-in-NoKind.ensures.ready
+
+pub returns-in-Some-idle_server-clause-numbered : goal.returns-in-Some-idle_server-clause-numbered
+returns-in-Some-idle_server-clause-numbered g c = c.carry.ensures.numbered
+
+pub returns-in-Some-idle_server-clause-ready : goal.returns-in-Some-idle_server-clause-ready
+returns-in-Some-idle_server-clause-ready g c = c.carry.ensures.ready
+
+pub returns-in_default-clause-numbered : goal.returns-in_default-clause-numbered
+returns-in_default-clause-numbered g c = c.turn_down.ensures.numbered
+
+pub returns-in_default-clause-attempts : goal.returns-in_default-clause-attempts
+returns-in_default-clause-attempts g c = c.turn_down.ensures.attempts
+
+pub returns-in_default-clause-ready : goal.returns-in_default-clause-ready
+returns-in_default-clause-ready g c = c.turn_down.ensures.ready
+
+pub returns-in_default-clause-called : goal.returns-in_default-clause-called
+returns-in_default-clause-called g c = c.turn_down.ensures.called

@@ -1,4 +1,4 @@
-use Rattle.std.proofs.Common.{◌<◌, length, sym, ◌∙◌, ap, subst}
+use Rattle.std.proofs.Common.{◌<◌, length, sym, ◌∙◌, ap, subst, refl}
 use Rattle.std.proofs.lemmas.Result.{on_ok_weaker, IfErr-weaker}
 use Rattle.xa_tables.specs.declared.halt.Halt.TheVariants.{NoMemory}
 use Rattle.xa_domain.specs.Calling.{MayEndWith, Concludes}
@@ -6,6 +6,7 @@ use Rattle.xa_tables.proofs.Places.{numbered_kept, attempts_kept}
 use Rattle.xa_tables.proofs.Kept.{passed_on}
 use Rattle.xa_domain.proofs.Settling.{either_way}
 use Rattle.xa_domain.proofs.Tabled.{settles_clients, tells_keep}
+use Rattle.xa_domain.proofs.Failing.{none_done}
 use Rattle.xa_domain.proofs.calling.conclude.Goals as goal
 
 pub returns-in_err-answer-clause-failed : goal.returns-in_err-answer-clause-failed
@@ -46,3 +47,21 @@ returns-clause-done g c =
 pub returns-clause-failed : goal.returns-clause-failed
 returns-clause-failed g c =
     IfErr-weaker c.tell.result _ _ (λ halt failed setup count past configured none holds may. failed setup count _ (c.in_ok-settle.ensures.done.holds setup count past configured none holds may).holds) c.tell.ensures.failed
+
+pub returns-in_err-answer-clause-numbered : goal.returns-in_err-answer-clause-numbered
+returns-in_err-answer-clause-numbered g c = c.requires.numbered
+
+pub returns-in_err-answer-clause-attempts : goal.returns-in_err-answer-clause-attempts
+returns-in_err-answer-clause-attempts g c = refl
+
+pub returns-in_err-answer-clause-done : goal.returns-in_err-answer-clause-done
+returns-in_err-answer-clause-done g c = none_done c.from_residual.result _ _ c.from_residual.ensures.1
+
+pub returns-in_err-settle-clause-numbered : goal.returns-in_err-settle-clause-numbered
+returns-in_err-settle-clause-numbered g c = c.settle.ensures.numbered
+
+pub returns-in_err-settle-clause-attempts : goal.returns-in_err-settle-clause-attempts
+returns-in_err-settle-clause-attempts g c = c.settle.ensures.attempts
+
+pub returns-in_err-settle-clause-done : goal.returns-in_err-settle-clause-done
+returns-in_err-settle-clause-done g c = none_done c.from_residual-in_err-settle.result _ _ c.from_residual-in_err-settle.ensures.1

@@ -12,6 +12,7 @@ use Rattle.xa_tables.proofs.Lists.{set_here, set_length}
 use Rattle.xa_tables.proofs.Places.{numbered_kept, attempts_kept, keeps_all}
 use Rattle.xa_domain.proofs.Rests.{ready_same}
 use Rattle.xa_domain.proofs.Settling.{life_within, read_there, only_here, life_keeps, up_of, exchanged_by}
+use Rattle.xa_domain.proofs.Failing.{none_made}
 use Rattle.xa_domain.proofs.calling.exchange.Goals as goal
 
 pub index_mut-its-requires : goal.index_mut-its-requires
@@ -110,3 +111,21 @@ returns-clause-attempts g c =
     attempts_kept c.args.domain.now (record noted { lives = with_item noted.lives c.index.result.now.life c.hear_back-back.new.self })
     (exchange_keeps c.args.client c.args.op c.args.version c.args.row.now c.args.ask.now.payload c.args.server c.in_ok-request.request c.hear_back-back.result c.args.domain.now
     (record noted { lives = with_item noted.lives c.index.result.now.life c.hear_back-back.new.self }) (returns-clause-done g c) c.requires.ready c.requires.turn c.requires.up).places
+
+pub returns-in_err-payload-clause-numbered : goal.returns-in_err-payload-clause-numbered
+returns-in_err-payload-clause-numbered g c = c.requires.ready.numbered
+
+pub returns-in_err-payload-clause-attempts : goal.returns-in_err-payload-clause-attempts
+returns-in_err-payload-clause-attempts g c = refl
+
+pub returns-in_err-payload-clause-done : goal.returns-in_err-payload-clause-done
+returns-in_err-payload-clause-done g c = none_made c.from_residual.result _ _ c.from_residual.ensures.1
+
+pub returns-in_err-payload-clause-lost : goal.returns-in_err-payload-clause-lost
+returns-in_err-payload-clause-lost g c = none_made c.from_residual.result _ _ c.from_residual.ensures.1
+
+pub returns-in_err-request-clause-done : goal.returns-in_err-request-clause-done
+returns-in_err-request-clause-done g c = none_made c.from_residual-in_err-request.result _ _ c.from_residual-in_err-request.ensures.1
+
+pub returns-in_err-request-clause-lost : goal.returns-in_err-request-clause-lost
+returns-in_err-request-clause-lost g c = none_made c.from_residual-in_err-request.result _ _ c.from_residual-in_err-request.ensures.1

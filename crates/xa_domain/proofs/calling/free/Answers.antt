@@ -44,3 +44,9 @@ returns-in-Err-clause-done g c =
     (only_here c.args.domain.now c.index.result.now.life c.index_mut-its.result.now c.await_next.new.self (λ y y'. (y' ≡ record y { pipe = y'.pipe }) × NextOr (Some c.in-Err.cause) y.pipe y'.pipe)
     (life_within c.args.domain.now c.args.server c.index.result.now c.requires.numbered c.requires.up c.index.ensures) c.index_mut-its.ensures.value (c.await_next.ensures.table, c.in-Err.ensures.failed)))
     c.fall.ensures.tables c.fall.ensures.holds
+
+pub returns-in-Err-clause-numbered : goal.returns-in-Err-clause-numbered
+returns-in-Err-clause-numbered g c = c.fall.ensures.numbered
+
+pub returns-in-Err-clause-served : goal.returns-in-Err-clause-served
+returns-in-Err-clause-served g c = c.fall.ensures.served

@@ -8,6 +8,7 @@ use Rattle.xa_tables.proofs.Kept.{passed_on}
 use Rattle.xa_domain.proofs.Rests.{served_kept}
 use Rattle.xa_domain.proofs.Settling.{read_there, ended_holds, may_fall, settles_none, settles_some}
 use Rattle.xa_domain.proofs.Tabled.{ends_keep}
+use Rattle.xa_domain.proofs.Failing.{none_done}
 use Rattle.xa_domain.proofs.calling.settle.Goals as goal
 
 pub returns-in_err-end-clause-numbered : goal.returns-in_err-end-clause-numbered
@@ -70,3 +71,15 @@ returns-in-None-clause-done g c =
     subst (λ (cause : Option StopCause). Settles c.args.server c.args.request c.args.outcome cause c.args.domain.now c.end.new.self) (sym c.in-None.is)
     (settles_none c.args.server c.args.request c.args.outcome c.index.result.now c.args.domain.now c.end.new.self c.in_ok-end.ensures.done
     (read_there c.args.domain.now.servers.items c.args.server c.index.result.now (IsBusy c.args.request) c.requires.busy c.index.ensures) c.requires.busy)
+
+pub returns-in_err-end-clause-served : goal.returns-in_err-end-clause-served
+returns-in_err-end-clause-served g c = none_done c.from_residual.result _ _ c.from_residual.ensures.1
+
+pub returns-in_err-end-clause-done : goal.returns-in_err-end-clause-done
+returns-in_err-end-clause-done g c = none_done c.from_residual.result _ _ c.from_residual.ensures.1
+
+pub returns-in-Some-clause-numbered : goal.returns-in-Some-clause-numbered
+returns-in-Some-clause-numbered g c = c.fall.ensures.numbered
+
+pub returns-in-Some-clause-served : goal.returns-in-Some-clause-served
+returns-in-Some-clause-served g c = c.fall.ensures.served

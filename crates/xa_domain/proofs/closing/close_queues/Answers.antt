@@ -1,6 +1,7 @@
 use Rattle.xa_tables.proofs.Kept.{passed_on}
 use Rattle.xa_tables.proofs.Places.{numbered_kept, attempts_kept, keeps_all}
 use Rattle.xa_domain.proofs.ClosedDown.{closes_more, close_halts}
+use Rattle.xa_domain.proofs.Failing.{none_done}
 use Rattle.xa_domain.proofs.closing.close_queues.Goals as goal
 
 pub returns-in_err-close-clause-numbered : goal.returns-in_err-close-clause-numbered
@@ -17,3 +18,6 @@ loop-queue-preserved g c = record { closing = closes_more c.loop-queue.queue c.a
 
 pub returns-clause-numbered : goal.returns-clause-numbered
 returns-clause-numbered g c = numbered_kept c.args.domain.now c.loop-queue.domain c.loop-queue.invariant.closing.keeps c.requires.ready.numbered
+
+pub returns-in_err-close-clause-closed : goal.returns-in_err-close-clause-closed
+returns-in_err-close-clause-closed g c = none_done c.from_residual.result _ _ c.from_residual.ensures.1

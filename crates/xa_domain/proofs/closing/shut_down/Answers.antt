@@ -190,3 +190,9 @@ returns-in-Err-clause-failed g c =
     let lived = stood_here old.lives.items x.life y within c.index_mut-life.ensures.value in
     let new = c.fall.new.domain in
     IfErr-weaker c.fall.result _ _ (λ halt said. dropped_halts c.args.server old c.requires.numbered x here.0 up y c.shut_down.new.self lived c.shut_down.ensures.table new c.in-Err.cause halt said) c.fall.ensures.failed
+
+pub returns-in-Err-clause-numbered : goal.returns-in-Err-clause-numbered
+returns-in-Err-clause-numbered g c = c.fall.ensures.numbered
+
+pub returns-in-Err-clause-served : goal.returns-in-Err-clause-served
+returns-in-Err-clause-served g c = c.fall.ensures.served

@@ -12,6 +12,7 @@ use Rattle.xa_tables.proofs.Kept.{passed_on, known_here}
 use Rattle.xa_tables.proofs.Places.{numbered_kept, attempts_kept}
 use Rattle.xa_domain.proofs.Halted.{halts_at_server}
 use Rattle.xa_domain.proofs.Fallen.{stopped_by, keeps_stopped, served_stopped, may_retire, fallen_holds, tables_fallen}
+use Rattle.xa_domain.proofs.Failing.{none_done}
 use Rattle.xa_domain.proofs.retiring.fall.Goals as goal
 
 -- ---- the end of its program leaves the domain as it is
@@ -121,3 +122,18 @@ returns-clause-failed g c =
     let here = known_here old.servers.items c.args.server (MayFall c.args.cause) c.requires.may x (still_read old d0 d1 c.end_program.ensures c.args.server x c.index.ensures) in
     let step = still_stops old d0 d1 c.end_program.ensures c.args.server c.args.cause x.id c.in_ok-stop.ensures.done in
     IfErr-weaker c.retire.result _ _ (λ halt said setup count past configured never holds. said setup count (stop_of c.args.server c.args.cause ∷ past) configured never (fallen_holds c.args.server c.args.cause x.id old d1 c.requires.numbered x here.0 refl step here.1 setup count past holds)) c.retire.ensures.failed
+
+pub returns-in_err-stop-clause-served : goal.returns-in_err-stop-clause-served
+returns-in_err-stop-clause-served g c = none_done c.from_residual.result _ _ c.from_residual.ensures.1
+
+pub returns-in_err-stop-clause-tables : goal.returns-in_err-stop-clause-tables
+returns-in_err-stop-clause-tables g c = none_done c.from_residual.result _ _ c.from_residual.ensures.1
+
+pub returns-in_err-stop-clause-holds : goal.returns-in_err-stop-clause-holds
+returns-in_err-stop-clause-holds g c = none_done c.from_residual.result _ _ c.from_residual.ensures.1
+
+pub returns-clause-numbered : goal.returns-clause-numbered
+returns-clause-numbered g c = c.retire.ensures.numbered
+
+pub returns-clause-served : goal.returns-clause-served
+returns-clause-served g c = c.retire.ensures.served

@@ -5,6 +5,7 @@ use Rattle.xa_tables.specs.Boot.{withdrawn_from}
 use Rattle.xa_tables.specs.Resting.{IsNumbered, attempts}
 use Rattle.xa_tables.proofs.Kept.{passed_on}
 use Rattle.xa_tables.proofs.Places.{numbered_kept, attempts_kept}
+use Rattle.xa_domain.proofs.Failing.{none_done}
 use Rattle.xa_domain.proofs.Halted.{halts_at_queue, halts_at_board}
 use Rattle.xa_domain.proofs.GivenUp.{give_up_stands, keeps_given_up, served_left, tables_left, retires_left, gone_holds, keeps_brought_down, served_down, tables_down, withdrawn_holds, retires_down}
 use Rattle.xa_domain.proofs.retiring.retire.Goals as goal
@@ -201,3 +202,21 @@ returns-clause-failed g c =
     let none = sym c.is_served.ensures ∙ c.if-is_served.false in
     IfErr-weaker c.go_down.result _ _ (λ halt failed setup count past configured never holds.
     halts_at_queue setup count (withdrawn_from x.queue.0 d1.board ++ Gone x.id ∷ past) d2 d3 halt (withdrawn_holds c.args.server place x.id x.queue old d1 t step setup count past configured never holds none d2 withdraws) place failed) c.go_down.ensures.failed
+
+pub returns-in_err-give_up-clause-served : goal.returns-in_err-give_up-clause-served
+returns-in_err-give_up-clause-served g c = none_done c.from_residual.result _ _ c.from_residual.ensures.1
+
+pub returns-in_err-give_up-clause-tables : goal.returns-in_err-give_up-clause-tables
+returns-in_err-give_up-clause-tables g c = none_done c.from_residual.result _ _ c.from_residual.ensures.1
+
+pub returns-in_err-give_up-clause-holds : goal.returns-in_err-give_up-clause-holds
+returns-in_err-give_up-clause-holds g c = none_done c.from_residual.result _ _ c.from_residual.ensures.1
+
+pub returns-in_err-withdraw_all-clause-served : goal.returns-in_err-withdraw_all-clause-served
+returns-in_err-withdraw_all-clause-served g c = none_done c.from_residual-in_err-withdraw_all.result _ _ c.from_residual-in_err-withdraw_all.ensures.1
+
+pub returns-in_err-withdraw_all-clause-tables : goal.returns-in_err-withdraw_all-clause-tables
+returns-in_err-withdraw_all-clause-tables g c = none_done c.from_residual-in_err-withdraw_all.result _ _ c.from_residual-in_err-withdraw_all.ensures.1
+
+pub returns-in_err-withdraw_all-clause-holds : goal.returns-in_err-withdraw_all-clause-holds
+returns-in_err-withdraw_all-clause-holds g c = none_done c.from_residual-in_err-withdraw_all.result _ _ c.from_residual-in_err-withdraw_all.ensures.1

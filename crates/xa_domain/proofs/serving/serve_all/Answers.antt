@@ -27,3 +27,12 @@ returns-in_default g c =
       dense = dense_of_none none.homes.homes its.homes;
       asked = inr (its.halt, refl);
     }
+
+pub returns-clause-ends : goal.returns-clause-ends
+returns-clause-ends g c = c.serve_by.ensures.ends
+
+pub returns-clause-dense : goal.returns-clause-dense
+returns-clause-dense g c = c.serve_by.ensures.dense
+
+pub returns-clause-asked : goal.returns-clause-asked
+returns-clause-asked g c = c.serve_by.ensures.asked

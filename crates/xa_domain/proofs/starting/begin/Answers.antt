@@ -1,10 +1,11 @@
-use Rattle.std.proofs.Common.{◌≡◌, List, ℕ, sym, ◌∙◌, subst}
+use Rattle.std.proofs.Common.{◌≡◌, List, ℕ, sym, ◌∙◌, subst, ap}
 use Rattle.std.proofs.lemmas.Result.{on_ok_weaker, IfErr-weaker}
 use Rattle.xa_tables.specs.declared.server.Attempt.{Attempt}
 use Rattle.xa_tables.specs.declared.server.Attempt.TheVariants as tries
 use Rattle.xa_tables.specs.Steps.{Changed}
 use Rattle.xa_tables.specs.Resting.{attempts}
 use Rattle.xa_domain.proofs.Begun.{numbered_begun, served_begun, beside_begins, new_life, up_begun, attempts_begun, clients_begun, is_begun}
+use Rattle.xa_domain.proofs.Failing.{noted_there}
 use Rattle.xa_domain.proofs.starting.begin.Goals as goal
 
 pub greet-requires-clause-numbered : goal.greet-requires-clause-numbered
@@ -78,3 +79,14 @@ returns-clause-failed g c =
     let d2 = c.start.new.self in
     let step = c.in_ok-start.ensures.done in
     IfErr-weaker c.greet.result _ _ (λ halt said setup script past configured never stands. said setup script c.args.started past configured never (is_begun c.args.server c.keep-life.result c.args.started old d1 d2 c.requires.on c.requires.may c.keep-life.ensures step setup script past never stands)) c.greet.ensures.failed
+
+pub returns-in_err-start : goal.returns-in_err-start
+returns-in_err-start g c =
+    let kept = c.keep-life.ensures.others in
+    absurd (noted_there c.args.server c.args.started c.args.domain.now c.keep-life.new.domain c.requires.may (ap (λ d. d.servers) kept) (ap (λ d. d.latest) kept) c.start.result _ c.in_err-start.was c.start.ensures.succeeds)
+
+pub returns-clause-numbered : goal.returns-clause-numbered
+returns-clause-numbered g c = c.greet.ensures.numbered
+
+pub returns-clause-on : goal.returns-clause-on
+returns-clause-on g c = c.greet.ensures.on

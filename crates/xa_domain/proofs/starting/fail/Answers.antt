@@ -1,4 +1,4 @@
-use Rattle.std.proofs.Common.{◌≡◌, List, ℕ, ◌∷◌, sym, subst}
+use Rattle.std.proofs.Common.{◌≡◌, List, ℕ, ◌∷◌, sym, subst, refl}
 use Rattle.std.proofs.lemmas.Result.{IfErr-weaker}
 use Rattle.xa_events.specs.declared.event.Event.TheVariants.{StartFailed}
 use Rattle.xa_tables.specs.declared.server.Attempt.{Attempt}
@@ -7,6 +7,7 @@ use Rattle.xa_tables.specs.Steps.{Changed}
 use Rattle.xa_tables.specs.Resting.{attempts}
 use Rattle.xa_tables.proofs.Places.{on_ok_both}
 use Rattle.xa_domain.proofs.Begun.{numbered_failed, served_failed, retire_failed, attempts_failed, failed_holds, failed_on, failed_goes}
+use Rattle.xa_domain.proofs.Failing.{noted_there}
 use Rattle.xa_domain.proofs.starting.fail.Goals as goal
 
 pub retire-requires-clause-numbered : goal.retire-requires-clause-numbered
@@ -57,3 +58,10 @@ returns-clause-failed g c =
     let d1 = c.fail_start.new.self in
     let step = c.in_ok-fail_start.ensures.done in
     IfErr-weaker c.retire.result _ _ (λ halt said setup script past configured never stands. said setup _ (StartFailed c.args.started ∷ past) configured never (failed_holds c.args.server c.args.started old d1 c.requires.on c.requires.may step setup script past never stands)) c.retire.ensures.failed
+
+pub returns-in_err-fail_start : goal.returns-in_err-fail_start
+returns-in_err-fail_start g c =
+    absurd (noted_there c.args.server c.args.started c.args.domain.now c.args.domain.now c.requires.may refl refl c.fail_start.result _ c.in_err-fail_start.was c.fail_start.ensures.succeeds)
+
+pub returns-clause-numbered : goal.returns-clause-numbered
+returns-clause-numbered g c = c.retire.ensures.numbered

@@ -162,3 +162,6 @@ returns-in-Err-clause-failed g c =
     let same = c.greet.ensures.table in
     let fresh = fresh_life c.args.server old c.requires.life x here.0 y lived in
     IfErr-weaker c.fall.result _ _ (λ halt said setup script b past configured never begun. said setup _ (Start b ∷ past) configured never (holds_begun c.args.server old c.requires.numbered c.requires.served c.requires.beside x here.0 here.1 y y' lived same fresh setup script b past begun)) c.fall.ensures.failed
+
+pub returns-in-Err-clause-numbered : goal.returns-in-Err-clause-numbered
+returns-in-Err-clause-numbered g c = c.fall.ensures.numbered

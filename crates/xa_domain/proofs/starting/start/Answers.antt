@@ -6,6 +6,9 @@ use Rattle.xa_domain.specs.Serving.{IsStarterBy}
 use Rattle.xa_tables.specs.Resting.{attempts}
 use Rattle.xa_tables.proofs.Lists.{other_stands}
 use Rattle.xa_domain.proofs.Begun.{numbered_room, attempts_room, on_room, room_stood, may_begin, stands_room, room_halts, shows_started, shows_failed, shows_same}
+use Rattle.xa_domain.proofs.Failing.{none_done}
+use Rattle.xa_domain.proofs.Halted.{halts}
+use Rattle.xa_tables.proofs.Kept.{passed_on}
 use Rattle.xa_domain.proofs.starting.start.Goals as goal
 
 -- ---- it is started
@@ -157,3 +160,29 @@ returns-in-Err-NoMemory-clause-failed g c =
     let step = c.in_ok-make_room.ensures.done in
     let x = c.index-at.result.now in
     λ setup script past configured never stands. room_halts c.args.server old d1 c.requires.on step setup script past stands
+
+pub returns-in_err-make_room : goal.returns-in_err-make_room
+returns-in_err-make_room g c =
+    let result = c.from_residual.result in
+    let same = c.in_err-make_room.ensures.failed in
+    record {
+      numbered = rw same.0 c.requires.on.numbered;
+      starter = rw same.0 c.requires.fresh;
+      attempts = λ i other. rw same.0;
+      on = none_done result _ _ c.from_residual.ensures.1;
+      clients = none_done result _ _ c.from_residual.ensures.1;
+      goes = none_done result _ _ c.from_residual.ensures.1;
+      failed = passed_on result _ _ c.from_residual.ensures.1 (λ setup script past configured never stands. halts setup _ past c.args.domain.now c.make_room.new.self c.in_err-make_room.field-0.0 stands.holds same);
+    }
+
+pub returns-in-Ok-clause-numbered : goal.returns-in-Ok-clause-numbered
+returns-in-Ok-clause-numbered g c = c.begin.ensures.numbered
+
+pub returns-in-Ok-clause-on : goal.returns-in-Ok-clause-on
+returns-in-Ok-clause-on g c = c.begin.ensures.on
+
+pub returns-in-Err-Failed-clause-numbered : goal.returns-in-Err-Failed-clause-numbered
+returns-in-Err-Failed-clause-numbered g c = c.fail.ensures.numbered
+
+pub returns-in-Err-Failed-clause-on : goal.returns-in-Err-Failed-clause-on
+returns-in-Err-Failed-clause-on g c = c.fail.ensures.on

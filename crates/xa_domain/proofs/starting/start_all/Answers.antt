@@ -4,6 +4,7 @@ use Rattle.xa_tables.proofs.Kept.{passed_on}
 use Rattle.xa_tables.proofs.Lists.{set_length}
 use Rattle.xa_domain.proofs.ClosedDown.{leads_on, leads_to_halt}
 use Rattle.xa_domain.proofs.Begun.{match_long, match_at, match_set, starts_none, ready_all}
+use Rattle.xa_domain.proofs.Failing.{none_done}
 use Rattle.xa_domain.proofs.starting.start_all.Goals as goal
 
 pub loop-server-init : goal.loop-server-init
@@ -61,3 +62,15 @@ returns-clause-clients g c =
 pub returns-clause-goes : goal.returns-clause-goes
 returns-clause-goes g c =
     c.loop-server.invariant.starting.goes
+
+pub returns-in_err-start-clause-clients : goal.returns-in_err-start-clause-clients
+returns-in_err-start-clause-clients g c = none_done c.from_residual.result _ _ c.from_residual.ensures.1
+
+pub returns-in_err-start-clause-goes : goal.returns-in_err-start-clause-goes
+returns-in_err-start-clause-goes g c = none_done c.from_residual.result _ _ c.from_residual.ensures.1
+
+pub returns-in_err-start-clause-ready : goal.returns-in_err-start-clause-ready
+returns-in_err-start-clause-ready g c = none_done c.from_residual.result _ _ c.from_residual.ensures.1
+
+pub returns-in_err-start-clause-numbered : goal.returns-in_err-start-clause-numbered
+returns-in_err-start-clause-numbered g c = c.start.ensures.numbered
