@@ -408,9 +408,18 @@ fn conclude<L: Link>(
     ensures failed { IfErr result (λ halt. (setup : Setup) (count : ℕ) (past : List Event) → is_configured setup ≡ true → NoneRestarts setup → Holds setup count past domain.old
         → may_end_so setup outcome ≡ true → IsHalted setup count halt domain.new) }
 {
-    let answer = reply_to(alloc, &outcome)?;
-    settle(domain, server, request, outcome, cause)?;
-    tell(domain, client, op, request, answer)
+    let Ok(answer) = reply_to(alloc, &outcome) else {
+        // By a call, as below: at the exit of a `?` each kind of outcome would be proved anew.
+        drop(outcome);
+        return Err(Halt::NoMemory);
+    };
+    match settle(domain, server, request, outcome, cause) {
+        Ok(()) => tell(domain, client, op, request, answer),
+        Err(halt) => {
+            drop(answer);
+            Err(halt)
+        }
+    }
 }
 
 // Carries a request by that row, at the server at that place, to its answer.

@@ -43,51 +43,41 @@ pub carry-requires-clause-up : goal.carry-requires-clause-up
 carry-requires-clause-up g c =
     free_is c.look_up-version.new.self (looks_up_ready c.args.client c.in-Some.service c.look_up-version.result c.args.domain.now c.look_up-version.new.self c.look_up-version.ensures c.requires.ready) c.in-ByRow.row c.in-Some-idle_server.server (sym c.idle_server.ensures ∙ c.in-Some-idle_server.is)
 
-pub returns-in-NoRow-clause-attempts : goal.returns-in-NoRow-clause-attempts
-returns-in-NoRow-clause-attempts g c =
-    c.turn_down-in-NoRow.ensures.attempts ∙ attempts_kept c.args.domain.now c.look_up-version.new.self (looks_up_keeps c.args.client c.in-Some.service c.look_up-version.result c.args.domain.now c.look_up-version.new.self c.look_up-version.ensures).places
+pub returns-in-NoRow : goal.returns-in-NoRow
+returns-in-NoRow g c =
+    record {
+      numbered = c.turn_down-in-NoRow.ensures.numbered;
+      attempts = c.turn_down-in-NoRow.ensures.attempts ∙ attempts_kept c.args.domain.now c.look_up-version.new.self (looks_up_keeps c.args.client c.in-Some.service c.look_up-version.result c.args.domain.now c.look_up-version.new.self c.look_up-version.ensures).places;
+      ready = c.turn_down-in-NoRow.ensures.ready;
+      called = on_ok_weaker c.turn_down-in-NoRow.result (made_since c.args.client c.args.op c.look_up-version.result c.in-Some.service c.args.domain.now c.look_up-version.new.self c.look_up-version.ensures c.turn_down-in-NoRow.new.domain) c.turn_down-in-NoRow.ensures.called;
+      goes = on_ok_weaker c.turn_down-in-NoRow.result
+          (λ done script past none stands called. turned_goes c.args.client c.args.op NoEnt (Version c.look_up-version.result) c.look_up-version.new.self c.turn_down-in-NoRow.new.domain done c.args.setup.now script past c.args.ask.now
+          (looks_up_stands c.args.client c.in-Some.service c.look_up-version.result c.args.domain.now c.look_up-version.new.self c.look_up-version.ensures c.args.setup.now script past stands) (looks_up_ready c.args.client c.in-Some.service c.look_up-version.result c.args.domain.now c.look_up-version.new.self c.look_up-version.ensures c.requires.ready) (looks_up_turn c.args.client c.in-Some.service c.look_up-version.result c.args.domain.now c.look_up-version.new.self c.look_up-version.ensures (λ op left. (c.args.op ≡ op + 1) × (left ≡ false)) c.requires.turn) called
+          (no_row c.args.client c.args.op c.look_up-version.result c.in-Some.service c.args.domain.now c.look_up-version.new.self c.look_up-version.ensures c.args.setup.now (length script) past c.args.ask.now stands.holds c.in-Some.ensures.0 c.in-Some.ensures.1 (rows_read c.args.client c.args.op c.look_up-version.result c.in-Some.service c.args.domain.now c.look_up-version.new.self c.look_up-version.ensures c.index.result.now c.found-found.result.now c.as_slice.result.now c.index.ensures
+          (subst (λ n. c.args.client < n) (sym (clients_kept c.args.client c.args.op c.look_up-version.result c.in-Some.service c.args.domain.now c.look_up-version.new.self c.look_up-version.ensures)) (client_there c.args.domain.now c.args.client (λ x. (c.args.op ≡ x.op + 1) × (x.left ≡ false)) c.requires.turn)) c.found-found.ensures (c.as_slice.ensures.value ∙ ap (λ f. f.rows) c.found.view_is) ∙ c.in-NoRow.ensures))
+          (evidence_none c.args.client c.args.op c.look_up-version.result c.in-Some.service c.args.domain.now c.look_up-version.new.self c.look_up-version.ensures c.args.setup.now (length script) past c.args.ask.now stands.holds c.in-Some.ensures.0 c.in-Some.ensures.1)
+          (λ version is. subst (λ v. IsSomeAnd (slice_get c.look_up-version.new.self.clients.items c.args.client) (λ x. x.reader.least ≡ v)) (cc is) (seen_least c.args.client c.args.op c.look_up-version.result c.in-Some.service c.args.domain.now c.look_up-version.new.self c.look_up-version.ensures c.args.setup.now (length script) past c.args.ask.now stands.holds c.in-Some.ensures.0 c.in-Some.ensures.1)))
+          c.turn_down-in-NoRow.ensures.done;
+      failed = IfErr-weaker c.turn_down-in-NoRow.result _ _ (λ halt failed script past none stands called. failed c.args.setup.now (length script) past (looks_up_stands c.args.client c.in-Some.service c.look_up-version.result c.args.domain.now c.look_up-version.new.self c.look_up-version.ensures c.args.setup.now script past stands).holds) c.turn_down-in-NoRow.ensures.failed;
+    }
 
-pub returns-in-NoRow-clause-called : goal.returns-in-NoRow-clause-called
-returns-in-NoRow-clause-called g c =
-    on_ok_weaker c.turn_down-in-NoRow.result (made_since c.args.client c.args.op c.look_up-version.result c.in-Some.service c.args.domain.now c.look_up-version.new.self c.look_up-version.ensures c.turn_down-in-NoRow.new.domain) c.turn_down-in-NoRow.ensures.called
-
-pub returns-in-NoRow-clause-goes : goal.returns-in-NoRow-clause-goes
-returns-in-NoRow-clause-goes g c =
-    on_ok_weaker c.turn_down-in-NoRow.result
-    (λ done script past none stands called. turned_goes c.args.client c.args.op NoEnt (Version c.look_up-version.result) c.look_up-version.new.self c.turn_down-in-NoRow.new.domain done c.args.setup.now script past c.args.ask.now
-    (looks_up_stands c.args.client c.in-Some.service c.look_up-version.result c.args.domain.now c.look_up-version.new.self c.look_up-version.ensures c.args.setup.now script past stands) (looks_up_ready c.args.client c.in-Some.service c.look_up-version.result c.args.domain.now c.look_up-version.new.self c.look_up-version.ensures c.requires.ready) (looks_up_turn c.args.client c.in-Some.service c.look_up-version.result c.args.domain.now c.look_up-version.new.self c.look_up-version.ensures (λ op left. (c.args.op ≡ op + 1) × (left ≡ false)) c.requires.turn) called
-    (no_row c.args.client c.args.op c.look_up-version.result c.in-Some.service c.args.domain.now c.look_up-version.new.self c.look_up-version.ensures c.args.setup.now (length script) past c.args.ask.now stands.holds c.in-Some.ensures.0 c.in-Some.ensures.1 (rows_read c.args.client c.args.op c.look_up-version.result c.in-Some.service c.args.domain.now c.look_up-version.new.self c.look_up-version.ensures c.index.result.now c.found-found.result.now c.as_slice.result.now c.index.ensures
-    (subst (λ n. c.args.client < n) (sym (clients_kept c.args.client c.args.op c.look_up-version.result c.in-Some.service c.args.domain.now c.look_up-version.new.self c.look_up-version.ensures)) (client_there c.args.domain.now c.args.client (λ x. (c.args.op ≡ x.op + 1) × (x.left ≡ false)) c.requires.turn)) c.found-found.ensures (c.as_slice.ensures.value ∙ ap (λ f. f.rows) c.found.view_is) ∙ c.in-NoRow.ensures))
-    (evidence_none c.args.client c.args.op c.look_up-version.result c.in-Some.service c.args.domain.now c.look_up-version.new.self c.look_up-version.ensures c.args.setup.now (length script) past c.args.ask.now stands.holds c.in-Some.ensures.0 c.in-Some.ensures.1)
-    (λ version is. subst (λ v. IsSomeAnd (slice_get c.look_up-version.new.self.clients.items c.args.client) (λ x. x.reader.least ≡ v)) (cc is) (seen_least c.args.client c.args.op c.look_up-version.result c.in-Some.service c.args.domain.now c.look_up-version.new.self c.look_up-version.ensures c.args.setup.now (length script) past c.args.ask.now stands.holds c.in-Some.ensures.0 c.in-Some.ensures.1)))
-    c.turn_down-in-NoRow.ensures.done
-
-pub returns-in-NoRow-clause-failed : goal.returns-in-NoRow-clause-failed
-returns-in-NoRow-clause-failed g c =
-    IfErr-weaker c.turn_down-in-NoRow.result _ _ (λ halt failed script past none stands called. failed c.args.setup.now (length script) past (looks_up_stands c.args.client c.in-Some.service c.look_up-version.result c.args.domain.now c.look_up-version.new.self c.look_up-version.ensures c.args.setup.now script past stands).holds) c.turn_down-in-NoRow.ensures.failed
-
-pub returns-in-NoKind-clause-attempts : goal.returns-in-NoKind-clause-attempts
-returns-in-NoKind-clause-attempts g c =
-    c.turn_down-in-NoKind.ensures.attempts ∙ attempts_kept c.args.domain.now c.look_up-version.new.self (looks_up_keeps c.args.client c.in-Some.service c.look_up-version.result c.args.domain.now c.look_up-version.new.self c.look_up-version.ensures).places
-
-pub returns-in-NoKind-clause-called : goal.returns-in-NoKind-clause-called
-returns-in-NoKind-clause-called g c =
-    on_ok_weaker c.turn_down-in-NoKind.result (made_since c.args.client c.args.op c.look_up-version.result c.in-Some.service c.args.domain.now c.look_up-version.new.self c.look_up-version.ensures c.turn_down-in-NoKind.new.domain) c.turn_down-in-NoKind.ensures.called
-
-pub returns-in-NoKind-clause-goes : goal.returns-in-NoKind-clause-goes
-returns-in-NoKind-clause-goes g c =
-    on_ok_weaker c.turn_down-in-NoKind.result
-    (λ done script past none stands called. turned_goes c.args.client c.args.op IType (Version c.look_up-version.result) c.look_up-version.new.self c.turn_down-in-NoKind.new.domain done c.args.setup.now script past c.args.ask.now
-    (looks_up_stands c.args.client c.in-Some.service c.look_up-version.result c.args.domain.now c.look_up-version.new.self c.look_up-version.ensures c.args.setup.now script past stands) (looks_up_ready c.args.client c.in-Some.service c.look_up-version.result c.args.domain.now c.look_up-version.new.self c.look_up-version.ensures c.requires.ready) (looks_up_turn c.args.client c.in-Some.service c.look_up-version.result c.args.domain.now c.look_up-version.new.self c.look_up-version.ensures (λ op left. (c.args.op ≡ op + 1) × (left ≡ false)) c.requires.turn) called
-    (let refused = kind_refused c.args.setup.now c.as_slice.result.now c.kind.result c.in-NoKind.ensures in no_kind c.args.client c.args.op c.look_up-version.result c.in-Some.service c.args.domain.now c.look_up-version.new.self c.look_up-version.ensures c.args.setup.now (length script) past c.args.ask.now stands.holds c.in-Some.ensures.0 c.in-Some.ensures.1 refused.0 refused.1 (rows_read c.args.client c.args.op c.look_up-version.result c.in-Some.service c.args.domain.now c.look_up-version.new.self c.look_up-version.ensures c.index.result.now c.found-found.result.now c.as_slice.result.now c.index.ensures
-    (subst (λ n. c.args.client < n) (sym (clients_kept c.args.client c.args.op c.look_up-version.result c.in-Some.service c.args.domain.now c.look_up-version.new.self c.look_up-version.ensures)) (client_there c.args.domain.now c.args.client (λ x. (c.args.op ≡ x.op + 1) × (x.left ≡ false)) c.requires.turn)) c.found-found.ensures (c.as_slice.ensures.value ∙ ap (λ f. f.rows) c.found.view_is) ∙ refused.2) (ap (is_accepted c.args.setup.now refused.0.accepts) (sym c.kind.ensures) ∙ refused.3))
-    (evidence_kind c.args.client c.args.op c.look_up-version.result c.in-Some.service c.args.domain.now c.look_up-version.new.self c.look_up-version.ensures c.args.setup.now (length script) past c.args.ask.now stands.holds c.in-Some.ensures.0 c.in-Some.ensures.1)
-    (λ version is. subst (λ v. IsSomeAnd (slice_get c.look_up-version.new.self.clients.items c.args.client) (λ x. x.reader.least ≡ v)) (cc is) (seen_least c.args.client c.args.op c.look_up-version.result c.in-Some.service c.args.domain.now c.look_up-version.new.self c.look_up-version.ensures c.args.setup.now (length script) past c.args.ask.now stands.holds c.in-Some.ensures.0 c.in-Some.ensures.1)))
-    c.turn_down-in-NoKind.ensures.done
-
-pub returns-in-NoKind-clause-failed : goal.returns-in-NoKind-clause-failed
-returns-in-NoKind-clause-failed g c =
-    IfErr-weaker c.turn_down-in-NoKind.result _ _ (λ halt failed script past none stands called. failed c.args.setup.now (length script) past (looks_up_stands c.args.client c.in-Some.service c.look_up-version.result c.args.domain.now c.look_up-version.new.self c.look_up-version.ensures c.args.setup.now script past stands).holds) c.turn_down-in-NoKind.ensures.failed
+pub returns-in-NoKind : goal.returns-in-NoKind
+returns-in-NoKind g c =
+    record {
+      numbered = c.turn_down-in-NoKind.ensures.numbered;
+      attempts = c.turn_down-in-NoKind.ensures.attempts ∙ attempts_kept c.args.domain.now c.look_up-version.new.self (looks_up_keeps c.args.client c.in-Some.service c.look_up-version.result c.args.domain.now c.look_up-version.new.self c.look_up-version.ensures).places;
+      ready = c.turn_down-in-NoKind.ensures.ready;
+      called = on_ok_weaker c.turn_down-in-NoKind.result (made_since c.args.client c.args.op c.look_up-version.result c.in-Some.service c.args.domain.now c.look_up-version.new.self c.look_up-version.ensures c.turn_down-in-NoKind.new.domain) c.turn_down-in-NoKind.ensures.called;
+      goes = on_ok_weaker c.turn_down-in-NoKind.result
+          (λ done script past none stands called. turned_goes c.args.client c.args.op IType (Version c.look_up-version.result) c.look_up-version.new.self c.turn_down-in-NoKind.new.domain done c.args.setup.now script past c.args.ask.now
+          (looks_up_stands c.args.client c.in-Some.service c.look_up-version.result c.args.domain.now c.look_up-version.new.self c.look_up-version.ensures c.args.setup.now script past stands) (looks_up_ready c.args.client c.in-Some.service c.look_up-version.result c.args.domain.now c.look_up-version.new.self c.look_up-version.ensures c.requires.ready) (looks_up_turn c.args.client c.in-Some.service c.look_up-version.result c.args.domain.now c.look_up-version.new.self c.look_up-version.ensures (λ op left. (c.args.op ≡ op + 1) × (left ≡ false)) c.requires.turn) called
+          (let refused = kind_refused c.args.setup.now c.as_slice.result.now c.kind.result c.in-NoKind.ensures in no_kind c.args.client c.args.op c.look_up-version.result c.in-Some.service c.args.domain.now c.look_up-version.new.self c.look_up-version.ensures c.args.setup.now (length script) past c.args.ask.now stands.holds c.in-Some.ensures.0 c.in-Some.ensures.1 refused.0 refused.1 (rows_read c.args.client c.args.op c.look_up-version.result c.in-Some.service c.args.domain.now c.look_up-version.new.self c.look_up-version.ensures c.index.result.now c.found-found.result.now c.as_slice.result.now c.index.ensures
+          (subst (λ n. c.args.client < n) (sym (clients_kept c.args.client c.args.op c.look_up-version.result c.in-Some.service c.args.domain.now c.look_up-version.new.self c.look_up-version.ensures)) (client_there c.args.domain.now c.args.client (λ x. (c.args.op ≡ x.op + 1) × (x.left ≡ false)) c.requires.turn)) c.found-found.ensures (c.as_slice.ensures.value ∙ ap (λ f. f.rows) c.found.view_is) ∙ refused.2) (ap (is_accepted c.args.setup.now refused.0.accepts) (sym c.kind.ensures) ∙ refused.3))
+          (evidence_kind c.args.client c.args.op c.look_up-version.result c.in-Some.service c.args.domain.now c.look_up-version.new.self c.look_up-version.ensures c.args.setup.now (length script) past c.args.ask.now stands.holds c.in-Some.ensures.0 c.in-Some.ensures.1)
+          (λ version is. subst (λ v. IsSomeAnd (slice_get c.look_up-version.new.self.clients.items c.args.client) (λ x. x.reader.least ≡ v)) (cc is) (seen_least c.args.client c.args.op c.look_up-version.result c.in-Some.service c.args.domain.now c.look_up-version.new.self c.look_up-version.ensures c.args.setup.now (length script) past c.args.ask.now stands.holds c.in-Some.ensures.0 c.in-Some.ensures.1)))
+          c.turn_down-in-NoKind.ensures.done;
+      failed = IfErr-weaker c.turn_down-in-NoKind.result _ _ (λ halt failed script past none stands called. failed c.args.setup.now (length script) past (looks_up_stands c.args.client c.in-Some.service c.look_up-version.result c.args.domain.now c.look_up-version.new.self c.look_up-version.ensures c.args.setup.now script past stands).holds) c.turn_down-in-NoKind.ensures.failed;
+    }
 
 pub returns-in-Some-idle_server-clause-called : goal.returns-in-Some-idle_server-clause-called
 returns-in-Some-idle_server-clause-called g c =
@@ -105,44 +95,40 @@ returns-in-Some-idle_server-clause-failed g c =
     (let chosen = row_chosen c.args.setup.now c.as_slice.result.now c.kind.result c.in-ByRow.row c.in-ByRow.ensures in row_serves c.args.client c.args.op c.look_up-version.result c.in-Some.service c.args.domain.now c.look_up-version.new.self c.look_up-version.ensures c.args.setup.now (length script) past c.args.ask.now stands.holds c.in-Some.ensures.0 c.in-Some.ensures.1 c.in-ByRow.row chosen.0 (rows_read c.args.client c.args.op c.look_up-version.result c.in-Some.service c.args.domain.now c.look_up-version.new.self c.look_up-version.ensures c.index.result.now c.found-found.result.now c.as_slice.result.now c.index.ensures
     (subst (λ n. c.args.client < n) (sym (clients_kept c.args.client c.args.op c.look_up-version.result c.in-Some.service c.args.domain.now c.look_up-version.new.self c.look_up-version.ensures)) (client_there c.args.domain.now c.args.client (λ x. (c.args.op ≡ x.op + 1) × (x.left ≡ false)) c.requires.turn)) c.found-found.ensures (c.as_slice.ensures.value ∙ ap (λ f. f.rows) c.found.view_is) ∙ chosen.1) (ap (is_accepted c.args.setup.now c.in-ByRow.row.accepts) (sym c.kind.ensures) ∙ chosen.2))) c.carry.ensures.failed
 
-pub turn_down-requires-in-NoRow-clause-ready : goal.turn_down-requires-in-NoRow-clause-ready
-turn_down-requires-in-NoRow-clause-ready g c = looks_up_ready c.args.client c.in-Some.service c.look_up-version.result c.args.domain.now c.look_up-version.new.self c.look_up-version.ensures c.requires.ready
+pub turn_down-requires-in-NoRow : goal.turn_down-requires-in-NoRow
+turn_down-requires-in-NoRow g c =
+    record {
+      ready = looks_up_ready c.args.client c.in-Some.service c.look_up-version.result c.args.domain.now c.look_up-version.new.self c.look_up-version.ensures c.requires.ready;
+      client = subst (λ n. c.args.client < n) (sym (clients_kept c.args.client c.args.op c.look_up-version.result c.in-Some.service c.args.domain.now c.look_up-version.new.self c.look_up-version.ensures)) (client_there c.args.domain.now c.args.client (λ x. (c.args.op ≡ x.op + 1) × (x.left ≡ false)) c.requires.turn);
+    }
 
-pub turn_down-requires-in-NoRow-clause-client : goal.turn_down-requires-in-NoRow-clause-client
-turn_down-requires-in-NoRow-clause-client g c = subst (λ n. c.args.client < n) (sym (clients_kept c.args.client c.args.op c.look_up-version.result c.in-Some.service c.args.domain.now c.look_up-version.new.self c.look_up-version.ensures)) (client_there c.args.domain.now c.args.client (λ x. (c.args.op ≡ x.op + 1) × (x.left ≡ false)) c.requires.turn)
-
-pub turn_down-requires-in-NoKind-clause-ready : goal.turn_down-requires-in-NoKind-clause-ready
-turn_down-requires-in-NoKind-clause-ready g c = looks_up_ready c.args.client c.in-Some.service c.look_up-version.result c.args.domain.now c.look_up-version.new.self c.look_up-version.ensures c.requires.ready
-
-pub turn_down-requires-in-NoKind-clause-client : goal.turn_down-requires-in-NoKind-clause-client
-turn_down-requires-in-NoKind-clause-client g c = subst (λ n. c.args.client < n) (sym (clients_kept c.args.client c.args.op c.look_up-version.result c.in-Some.service c.args.domain.now c.look_up-version.new.self c.look_up-version.ensures)) (client_there c.args.domain.now c.args.client (λ x. (c.args.op ≡ x.op + 1) × (x.left ≡ false)) c.requires.turn)
-
-pub returns-in-NoRow-clause-numbered : goal.returns-in-NoRow-clause-numbered
-returns-in-NoRow-clause-numbered g c = c.turn_down-in-NoRow.ensures.numbered
-
-pub returns-in-NoRow-clause-ready : goal.returns-in-NoRow-clause-ready
-returns-in-NoRow-clause-ready g c = c.turn_down-in-NoRow.ensures.ready
-
-pub returns-in-NoKind-clause-numbered : goal.returns-in-NoKind-clause-numbered
-returns-in-NoKind-clause-numbered g c = c.turn_down-in-NoKind.ensures.numbered
-
-pub returns-in-NoKind-clause-ready : goal.returns-in-NoKind-clause-ready
-returns-in-NoKind-clause-ready g c = c.turn_down-in-NoKind.ensures.ready
+pub turn_down-requires-in-NoKind : goal.turn_down-requires-in-NoKind
+turn_down-requires-in-NoKind g c =
+    record {
+      ready = looks_up_ready c.args.client c.in-Some.service c.look_up-version.result c.args.domain.now c.look_up-version.new.self c.look_up-version.ensures c.requires.ready;
+      client = subst (λ n. c.args.client < n) (sym (clients_kept c.args.client c.args.op c.look_up-version.result c.in-Some.service c.args.domain.now c.look_up-version.new.self c.look_up-version.ensures)) (client_there c.args.domain.now c.args.client (λ x. (c.args.op ≡ x.op + 1) × (x.left ≡ false)) c.requires.turn);
+    }
 
 pub returns-in-Some-idle_server-clause-numbered : goal.returns-in-Some-idle_server-clause-numbered
-returns-in-Some-idle_server-clause-numbered g c = c.carry.ensures.numbered
+returns-in-Some-idle_server-clause-numbered g c =
+    c.carry.ensures.numbered
 
 pub returns-in-Some-idle_server-clause-ready : goal.returns-in-Some-idle_server-clause-ready
-returns-in-Some-idle_server-clause-ready g c = c.carry.ensures.ready
+returns-in-Some-idle_server-clause-ready g c =
+    c.carry.ensures.ready
 
 pub returns-in_default-clause-numbered : goal.returns-in_default-clause-numbered
-returns-in_default-clause-numbered g c = c.turn_down.ensures.numbered
+returns-in_default-clause-numbered g c =
+    c.turn_down.ensures.numbered
 
 pub returns-in_default-clause-attempts : goal.returns-in_default-clause-attempts
-returns-in_default-clause-attempts g c = c.turn_down.ensures.attempts
+returns-in_default-clause-attempts g c =
+    c.turn_down.ensures.attempts
 
 pub returns-in_default-clause-ready : goal.returns-in_default-clause-ready
-returns-in_default-clause-ready g c = c.turn_down.ensures.ready
+returns-in_default-clause-ready g c =
+    c.turn_down.ensures.ready
 
 pub returns-in_default-clause-called : goal.returns-in_default-clause-called
-returns-in_default-clause-called g c = c.turn_down.ensures.called
+returns-in_default-clause-called g c =
+    c.turn_down.ensures.called

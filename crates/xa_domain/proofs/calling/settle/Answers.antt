@@ -11,75 +11,51 @@ use Rattle.xa_domain.proofs.Tabled.{ends_keep}
 use Rattle.xa_domain.proofs.Failing.{none_done}
 use Rattle.xa_domain.proofs.calling.settle.Goals as goal
 
-pub returns-in_err-end-clause-numbered : goal.returns-in_err-end-clause-numbered
-returns-in_err-end-clause-numbered g c = numbered_kept c.args.domain.now c.end.new.self c.in_err-end.ensures.kept c.requires.numbered
+pub returns-in_err-end : goal.returns-in_err-end
+returns-in_err-end g c =
+    record {
+      numbered = numbered_kept c.args.domain.now c.end.new.self c.in_err-end.ensures.kept c.requires.numbered;
+      attempts = attempts_kept c.args.domain.now c.end.new.self c.in_err-end.ensures.kept;
+      served = none_done c.from_residual.result _ _ c.from_residual.ensures.1;
+      done = none_done c.from_residual.result _ _ c.from_residual.ensures.1;
+      failed = passed_on c.from_residual.result c.in_err-end.field-0.0 _ c.from_residual.ensures.1
+          (λ setup count past configured none holds may. halts_at_server setup count past c.args.domain.now c.end.new.self c.in_err-end.field-0.0 holds c.args.server c.in_err-end.ensures.failed);
+    }
 
-pub returns-in_err-end-clause-attempts : goal.returns-in_err-end-clause-attempts
-returns-in_err-end-clause-attempts g c = attempts_kept c.args.domain.now c.end.new.self c.in_err-end.ensures.kept
+pub fall-requires : goal.fall-requires
+fall-requires g c =
+    record {
+      numbered = numbered_kept c.args.domain.now c.end.new.self (ends_keep c.args.server (ended_of c.index.result.now c.args.request c.args.outcome) c.args.domain.now c.end.new.self c.in_ok-end.ensures.done).places c.requires.numbered;
+      served = served_kept c.args.domain.now c.end.new.self (ends_keep c.args.server (ended_of c.index.result.now c.args.request c.args.outcome) c.args.domain.now c.end.new.self c.in_ok-end.ensures.done) c.requires.served;
+      may = may_fall c.args.server c.args.request c.args.outcome c.index.result.now c.args.domain.now c.end.new.self c.in_ok-end.ensures.done
+          (read_there c.args.domain.now.servers.items c.args.server c.index.result.now (IsBusy c.args.request) c.requires.busy c.index.ensures) c.requires.busy c.in-Some.cause (subst (MayEndWith c.args.outcome) c.in-Some.is c.requires.fits);
+    }
 
-pub returns-in_err-end-clause-failed : goal.returns-in_err-end-clause-failed
-returns-in_err-end-clause-failed g c =
-    passed_on c.from_residual.result c.in_err-end.field-0.0 _ c.from_residual.ensures.1
-    (λ setup count past configured none holds may. halts_at_server setup count past c.args.domain.now c.end.new.self c.in_err-end.field-0.0 holds c.args.server c.in_err-end.ensures.failed)
+pub returns-in-Some : goal.returns-in-Some
+returns-in-Some g c =
+    record {
+      numbered = c.fall.ensures.numbered;
+      attempts = c.fall.ensures.attempts
+          ∙ attempts_kept c.args.domain.now c.end.new.self (ends_keep c.args.server (ended_of c.index.result.now c.args.request c.args.outcome) c.args.domain.now c.end.new.self c.in_ok-end.ensures.done).places;
+      served = c.fall.ensures.served;
+      done = subst (λ (cause : Option StopCause). OnOk c.fall.result (Settles c.args.server c.args.request c.args.outcome cause c.args.domain.now c.fall.new.domain)) (sym c.in-Some.is)
+          (on_ok_both c.fall.result (settles_some c.args.server c.args.request c.args.outcome c.index.result.now c.args.domain.now c.end.new.self c.in_ok-end.ensures.done
+          (read_there c.args.domain.now.servers.items c.args.server c.index.result.now (IsBusy c.args.request) c.requires.busy c.index.ensures) c.requires.busy c.in-Some.cause c.fall.new.domain) c.fall.ensures.tables c.fall.ensures.holds);
+      failed = IfErr-weaker c.fall.result _ _
+          (λ halt failed setup count past configured none holds may. failed setup count _ configured none
+          (ended_holds c.args.server c.args.request c.args.outcome c.index.result.now c.args.domain.now c.end.new.self c.in_ok-end.ensures.done
+          (read_there c.args.domain.now.servers.items c.args.server c.index.result.now (IsBusy c.args.request) c.requires.busy c.index.ensures) c.requires.busy setup count past holds may))
+          c.fall.ensures.failed;
+    }
 
-pub fall-requires-clause-numbered : goal.fall-requires-clause-numbered
-fall-requires-clause-numbered g c =
-    numbered_kept c.args.domain.now c.end.new.self (ends_keep c.args.server (ended_of c.index.result.now c.args.request c.args.outcome) c.args.domain.now c.end.new.self c.in_ok-end.ensures.done).places c.requires.numbered
-
-pub fall-requires-clause-served : goal.fall-requires-clause-served
-fall-requires-clause-served g c =
-    served_kept c.args.domain.now c.end.new.self (ends_keep c.args.server (ended_of c.index.result.now c.args.request c.args.outcome) c.args.domain.now c.end.new.self c.in_ok-end.ensures.done) c.requires.served
-
-pub fall-requires-clause-may : goal.fall-requires-clause-may
-fall-requires-clause-may g c =
-    may_fall c.args.server c.args.request c.args.outcome c.index.result.now c.args.domain.now c.end.new.self c.in_ok-end.ensures.done
-    (read_there c.args.domain.now.servers.items c.args.server c.index.result.now (IsBusy c.args.request) c.requires.busy c.index.ensures) c.requires.busy c.in-Some.cause (subst (MayEndWith c.args.outcome) c.in-Some.is c.requires.fits)
-
-pub returns-in-Some-clause-attempts : goal.returns-in-Some-clause-attempts
-returns-in-Some-clause-attempts g c =
-    c.fall.ensures.attempts
-    ∙ attempts_kept c.args.domain.now c.end.new.self (ends_keep c.args.server (ended_of c.index.result.now c.args.request c.args.outcome) c.args.domain.now c.end.new.self c.in_ok-end.ensures.done).places
-
-pub returns-in-Some-clause-done : goal.returns-in-Some-clause-done
-returns-in-Some-clause-done g c =
-    subst (λ (cause : Option StopCause). OnOk c.fall.result (Settles c.args.server c.args.request c.args.outcome cause c.args.domain.now c.fall.new.domain)) (sym c.in-Some.is)
-    (on_ok_both c.fall.result (settles_some c.args.server c.args.request c.args.outcome c.index.result.now c.args.domain.now c.end.new.self c.in_ok-end.ensures.done
-    (read_there c.args.domain.now.servers.items c.args.server c.index.result.now (IsBusy c.args.request) c.requires.busy c.index.ensures) c.requires.busy c.in-Some.cause c.fall.new.domain) c.fall.ensures.tables c.fall.ensures.holds)
-
-pub returns-in-Some-clause-failed : goal.returns-in-Some-clause-failed
-returns-in-Some-clause-failed g c =
-    IfErr-weaker c.fall.result _ _
-    (λ halt failed setup count past configured none holds may. failed setup count _ configured none
-    (ended_holds c.args.server c.args.request c.args.outcome c.index.result.now c.args.domain.now c.end.new.self c.in_ok-end.ensures.done
-    (read_there c.args.domain.now.servers.items c.args.server c.index.result.now (IsBusy c.args.request) c.requires.busy c.index.ensures) c.requires.busy setup count past holds may))
-    c.fall.ensures.failed
-
-pub returns-in-None-clause-numbered : goal.returns-in-None-clause-numbered
-returns-in-None-clause-numbered g c =
-    numbered_kept c.args.domain.now c.end.new.self (ends_keep c.args.server (ended_of c.index.result.now c.args.request c.args.outcome) c.args.domain.now c.end.new.self c.in_ok-end.ensures.done).places c.requires.numbered
-
-pub returns-in-None-clause-attempts : goal.returns-in-None-clause-attempts
-returns-in-None-clause-attempts g c =
-    attempts_kept c.args.domain.now c.end.new.self (ends_keep c.args.server (ended_of c.index.result.now c.args.request c.args.outcome) c.args.domain.now c.end.new.self c.in_ok-end.ensures.done).places
-
-pub returns-in-None-clause-served : goal.returns-in-None-clause-served
-returns-in-None-clause-served g c =
-    served_kept c.args.domain.now c.end.new.self (ends_keep c.args.server (ended_of c.index.result.now c.args.request c.args.outcome) c.args.domain.now c.end.new.self c.in_ok-end.ensures.done) c.requires.served
-
-pub returns-in-None-clause-done : goal.returns-in-None-clause-done
-returns-in-None-clause-done g c =
-    subst (λ (cause : Option StopCause). Settles c.args.server c.args.request c.args.outcome cause c.args.domain.now c.end.new.self) (sym c.in-None.is)
-    (settles_none c.args.server c.args.request c.args.outcome c.index.result.now c.args.domain.now c.end.new.self c.in_ok-end.ensures.done
-    (read_there c.args.domain.now.servers.items c.args.server c.index.result.now (IsBusy c.args.request) c.requires.busy c.index.ensures) c.requires.busy)
-
-pub returns-in_err-end-clause-served : goal.returns-in_err-end-clause-served
-returns-in_err-end-clause-served g c = none_done c.from_residual.result _ _ c.from_residual.ensures.1
-
-pub returns-in_err-end-clause-done : goal.returns-in_err-end-clause-done
-returns-in_err-end-clause-done g c = none_done c.from_residual.result _ _ c.from_residual.ensures.1
-
-pub returns-in-Some-clause-numbered : goal.returns-in-Some-clause-numbered
-returns-in-Some-clause-numbered g c = c.fall.ensures.numbered
-
-pub returns-in-Some-clause-served : goal.returns-in-Some-clause-served
-returns-in-Some-clause-served g c = c.fall.ensures.served
+pub returns-in-None : goal.returns-in-None
+returns-in-None g c =
+    record {
+      numbered = numbered_kept c.args.domain.now c.end.new.self (ends_keep c.args.server (ended_of c.index.result.now c.args.request c.args.outcome) c.args.domain.now c.end.new.self c.in_ok-end.ensures.done).places c.requires.numbered;
+      attempts = attempts_kept c.args.domain.now c.end.new.self (ends_keep c.args.server (ended_of c.index.result.now c.args.request c.args.outcome) c.args.domain.now c.end.new.self c.in_ok-end.ensures.done).places;
+      served = served_kept c.args.domain.now c.end.new.self (ends_keep c.args.server (ended_of c.index.result.now c.args.request c.args.outcome) c.args.domain.now c.end.new.self c.in_ok-end.ensures.done) c.requires.served;
+      done = subst (λ (cause : Option StopCause). Settles c.args.server c.args.request c.args.outcome cause c.args.domain.now c.end.new.self) (sym c.in-None.is)
+          (settles_none c.args.server c.args.request c.args.outcome c.index.result.now c.args.domain.now c.end.new.self c.in_ok-end.ensures.done
+          (read_there c.args.domain.now.servers.items c.args.server c.index.result.now (IsBusy c.args.request) c.requires.busy c.index.ensures) c.requires.busy);
+      failed = tt;
+    }

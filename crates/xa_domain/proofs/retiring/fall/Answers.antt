@@ -32,108 +32,49 @@ module _ {L : Type 0} (old d0 d1 : Domain L) (same : d0 ≡ old) (server : ℕ) 
 
 -- ---- its life can't be ended
 
-pub returns-in_err-stop-clause-numbered : goal.returns-in_err-stop-clause-numbered
-returns-in_err-stop-clause-numbered g c =
-    let old = c.args.domain.now in
-    let d1 = c.stop.new.self in
-    numbered_kept old d1 (still_keeps old c.end_program.new.domain d1 c.end_program.ensures c.args.server c.in_err-stop.ensures.kept) c.requires.numbered
-
-pub returns-in_err-stop-clause-attempts : goal.returns-in_err-stop-clause-attempts
-returns-in_err-stop-clause-attempts g c =
-    let old = c.args.domain.now in
-    let d1 = c.stop.new.self in
-    attempts_kept old d1 (still_keeps old c.end_program.new.domain d1 c.end_program.ensures c.args.server c.in_err-stop.ensures.kept)
-
-pub returns-in_err-stop-clause-failed : goal.returns-in_err-stop-clause-failed
-returns-in_err-stop-clause-failed g c =
+pub returns-in_err-stop : goal.returns-in_err-stop
+returns-in_err-stop g c =
     let old = c.args.domain.now in
     let d1 = c.stop.new.self in
     let halt = c.in_err-stop.field-0.0 in
-    passed_on c.from_residual.result halt _ c.from_residual.ensures.1 (λ setup count past configured never holds. halts_at_server setup count past old d1 halt holds c.args.server (still_fails old c.end_program.new.domain d1 c.end_program.ensures c.args.server halt c.in_err-stop.ensures.failed))
+    record {
+      numbered = numbered_kept old d1 (still_keeps old c.end_program.new.domain d1 c.end_program.ensures c.args.server c.in_err-stop.ensures.kept) c.requires.numbered;
+      attempts = attempts_kept old d1 (still_keeps old c.end_program.new.domain d1 c.end_program.ensures c.args.server c.in_err-stop.ensures.kept);
+      served = none_done c.from_residual.result _ _ c.from_residual.ensures.1;
+      tables = none_done c.from_residual.result _ _ c.from_residual.ensures.1;
+      holds = none_done c.from_residual.result _ _ c.from_residual.ensures.1;
+      failed = passed_on c.from_residual.result halt _ c.from_residual.ensures.1 (λ setup count past configured never holds. halts_at_server setup count past old d1 halt holds c.args.server (still_fails old c.end_program.new.domain d1 c.end_program.ensures c.args.server halt c.in_err-stop.ensures.failed));
+    }
 
 -- ---- it is given up
 
-pub retire-requires-clause-numbered : goal.retire-requires-clause-numbered
-retire-requires-clause-numbered g c =
+pub retire-requires : goal.retire-requires
+retire-requires g c =
     let old = c.args.domain.now in
     let x = c.index.result.now in
     let d0 = c.end_program.new.domain in
     let d1 = c.stop.new.self in
     let here = known_here old.servers.items c.args.server (MayFall c.args.cause) c.requires.may x (still_read old d0 d1 c.end_program.ensures c.args.server x c.index.ensures) in
     let step = still_stops old d0 d1 c.end_program.ensures c.args.server c.args.cause x.id c.in_ok-stop.ensures.done in
-    numbered_kept old d1 (keeps_stopped c.args.server c.args.cause x.id old d1 c.requires.numbered x here.0 refl step) c.requires.numbered
+    record {
+      numbered = numbered_kept old d1 (keeps_stopped c.args.server c.args.cause x.id old d1 c.requires.numbered x here.0 refl step) c.requires.numbered;
+      served = served_stopped c.args.server c.args.cause x.id old d1 c.requires.numbered x here.0 refl step c.requires.served;
+      may = may_retire c.args.server c.args.cause x.id old d1 c.requires.numbered x here.0 refl step here.1;
+    }
 
-pub retire-requires-clause-served : goal.retire-requires-clause-served
-retire-requires-clause-served g c =
+pub returns : goal.returns
+returns g c =
     let old = c.args.domain.now in
     let x = c.index.result.now in
     let d0 = c.end_program.new.domain in
     let d1 = c.stop.new.self in
     let here = known_here old.servers.items c.args.server (MayFall c.args.cause) c.requires.may x (still_read old d0 d1 c.end_program.ensures c.args.server x c.index.ensures) in
     let step = still_stops old d0 d1 c.end_program.ensures c.args.server c.args.cause x.id c.in_ok-stop.ensures.done in
-    served_stopped c.args.server c.args.cause x.id old d1 c.requires.numbered x here.0 refl step c.requires.served
-
-pub retire-requires-clause-may : goal.retire-requires-clause-may
-retire-requires-clause-may g c =
-    let old = c.args.domain.now in
-    let x = c.index.result.now in
-    let d0 = c.end_program.new.domain in
-    let d1 = c.stop.new.self in
-    let here = known_here old.servers.items c.args.server (MayFall c.args.cause) c.requires.may x (still_read old d0 d1 c.end_program.ensures c.args.server x c.index.ensures) in
-    let step = still_stops old d0 d1 c.end_program.ensures c.args.server c.args.cause x.id c.in_ok-stop.ensures.done in
-    may_retire c.args.server c.args.cause x.id old d1 c.requires.numbered x here.0 refl step here.1
-
-pub returns-clause-attempts : goal.returns-clause-attempts
-returns-clause-attempts g c =
-    let old = c.args.domain.now in
-    let x = c.index.result.now in
-    let d0 = c.end_program.new.domain in
-    let d1 = c.stop.new.self in
-    let here = known_here old.servers.items c.args.server (MayFall c.args.cause) c.requires.may x (still_read old d0 d1 c.end_program.ensures c.args.server x c.index.ensures) in
-    let step = still_stops old d0 d1 c.end_program.ensures c.args.server c.args.cause x.id c.in_ok-stop.ensures.done in
-    c.retire.ensures.attempts ∙ attempts_kept old d1 (keeps_stopped c.args.server c.args.cause x.id old d1 c.requires.numbered x here.0 refl step)
-
-pub returns-clause-tables : goal.returns-clause-tables
-returns-clause-tables g c =
-    let old = c.args.domain.now in
-    let x = c.index.result.now in
-    let d0 = c.end_program.new.domain in
-    let d1 = c.stop.new.self in
-    let here = known_here old.servers.items c.args.server (MayFall c.args.cause) c.requires.may x (still_read old d0 d1 c.end_program.ensures c.args.server x c.index.ensures) in
-    let step = still_stops old d0 d1 c.end_program.ensures c.args.server c.args.cause x.id c.in_ok-stop.ensures.done in
-    on_ok_weaker c.retire.result (λ tables. tables_fallen c.args.server c.args.cause x.id old d1 c.requires.numbered x here.0 refl step here.1 c.retire.new.domain tables) c.retire.ensures.tables
-
-pub returns-clause-holds : goal.returns-clause-holds
-returns-clause-holds g c =
-    let old = c.args.domain.now in
-    let x = c.index.result.now in
-    let d0 = c.end_program.new.domain in
-    let d1 = c.stop.new.self in
-    let here = known_here old.servers.items c.args.server (MayFall c.args.cause) c.requires.may x (still_read old d0 d1 c.end_program.ensures c.args.server x c.index.ensures) in
-    let step = still_stops old d0 d1 c.end_program.ensures c.args.server c.args.cause x.id c.in_ok-stop.ensures.done in
-    on_ok_weaker c.retire.result (λ said setup count past configured never holds. said setup count (stop_of c.args.server c.args.cause ∷ past) configured never (fallen_holds c.args.server c.args.cause x.id old d1 c.requires.numbered x here.0 refl step here.1 setup count past holds)) c.retire.ensures.holds
-
-pub returns-clause-failed : goal.returns-clause-failed
-returns-clause-failed g c =
-    let old = c.args.domain.now in
-    let x = c.index.result.now in
-    let d0 = c.end_program.new.domain in
-    let d1 = c.stop.new.self in
-    let here = known_here old.servers.items c.args.server (MayFall c.args.cause) c.requires.may x (still_read old d0 d1 c.end_program.ensures c.args.server x c.index.ensures) in
-    let step = still_stops old d0 d1 c.end_program.ensures c.args.server c.args.cause x.id c.in_ok-stop.ensures.done in
-    IfErr-weaker c.retire.result _ _ (λ halt said setup count past configured never holds. said setup count (stop_of c.args.server c.args.cause ∷ past) configured never (fallen_holds c.args.server c.args.cause x.id old d1 c.requires.numbered x here.0 refl step here.1 setup count past holds)) c.retire.ensures.failed
-
-pub returns-in_err-stop-clause-served : goal.returns-in_err-stop-clause-served
-returns-in_err-stop-clause-served g c = none_done c.from_residual.result _ _ c.from_residual.ensures.1
-
-pub returns-in_err-stop-clause-tables : goal.returns-in_err-stop-clause-tables
-returns-in_err-stop-clause-tables g c = none_done c.from_residual.result _ _ c.from_residual.ensures.1
-
-pub returns-in_err-stop-clause-holds : goal.returns-in_err-stop-clause-holds
-returns-in_err-stop-clause-holds g c = none_done c.from_residual.result _ _ c.from_residual.ensures.1
-
-pub returns-clause-numbered : goal.returns-clause-numbered
-returns-clause-numbered g c = c.retire.ensures.numbered
-
-pub returns-clause-served : goal.returns-clause-served
-returns-clause-served g c = c.retire.ensures.served
+    record {
+      numbered = c.retire.ensures.numbered;
+      attempts = c.retire.ensures.attempts ∙ attempts_kept old d1 (keeps_stopped c.args.server c.args.cause x.id old d1 c.requires.numbered x here.0 refl step);
+      served = c.retire.ensures.served;
+      tables = on_ok_weaker c.retire.result (λ tables. tables_fallen c.args.server c.args.cause x.id old d1 c.requires.numbered x here.0 refl step here.1 c.retire.new.domain tables) c.retire.ensures.tables;
+      holds = on_ok_weaker c.retire.result (λ said setup count past configured never holds. said setup count (stop_of c.args.server c.args.cause ∷ past) configured never (fallen_holds c.args.server c.args.cause x.id old d1 c.requires.numbered x here.0 refl step here.1 setup count past holds)) c.retire.ensures.holds;
+      failed = IfErr-weaker c.retire.result _ _ (λ halt said setup count past configured never holds. said setup count (stop_of c.args.server c.args.cause ∷ past) configured never (fallen_holds c.args.server c.args.cause x.id old d1 c.requires.numbered x here.0 refl step here.1 setup count past holds)) c.retire.ensures.failed;
+    }

@@ -12,101 +12,43 @@ use Rattle.xa_domain.proofs.retiring.retire.Goals as goal
 
 -- ---- the server can't be given up
 
-pub returns-in_err-give_up-clause-numbered : goal.returns-in_err-give_up-clause-numbered
-returns-in_err-give_up-clause-numbered g c =
-    let old = c.args.domain.now in
-    let d1 = c.give_up.new.self in
-    numbered_kept old d1 c.in_err-give_up.ensures.kept c.requires.numbered
-
-pub returns-in_err-give_up-clause-attempts : goal.returns-in_err-give_up-clause-attempts
-returns-in_err-give_up-clause-attempts g c =
-    let old = c.args.domain.now in
-    let d1 = c.give_up.new.self in
-    attempts_kept old d1 c.in_err-give_up.ensures.kept
-
-pub returns-in_err-give_up-clause-failed : goal.returns-in_err-give_up-clause-failed
-returns-in_err-give_up-clause-failed g c =
+pub returns-in_err-give_up : goal.returns-in_err-give_up
+returns-in_err-give_up g c =
     let old = c.args.domain.now in
     let d1 = c.give_up.new.self in
     let halt = c.in_err-give_up.field-0.0 in
-    passed_on c.from_residual.result halt _ c.from_residual.ensures.1 (λ setup count past configured never holds. halts_at_queue setup count past old d1 halt holds c.place_of-place.result c.in_err-give_up.ensures.failed)
+    record {
+      numbered = numbered_kept old d1 c.in_err-give_up.ensures.kept c.requires.numbered;
+      attempts = attempts_kept old d1 c.in_err-give_up.ensures.kept;
+      served = none_done c.from_residual.result _ _ c.from_residual.ensures.1;
+      tables = none_done c.from_residual.result _ _ c.from_residual.ensures.1;
+      holds = none_done c.from_residual.result _ _ c.from_residual.ensures.1;
+      failed = passed_on c.from_residual.result halt _ c.from_residual.ensures.1 (λ setup count past configured never holds. halts_at_queue setup count past old d1 halt holds c.place_of-place.result c.in_err-give_up.ensures.failed);
+    }
 
 -- ---- another server of its queue is left
 
-pub returns-then-is_served-clause-numbered : goal.returns-then-is_served-clause-numbered
-returns-then-is_served-clause-numbered g c =
+pub returns-then-is_served : goal.returns-then-is_served
+returns-then-is_served g c =
     let old = c.args.domain.now in
     let x = c.index-gone.result.now in
     let place = c.place_of-place.result in
     let d1 = c.give_up.new.self in
     let t = give_up_stands old c.args.server place x c.requires.numbered c.requires.served c.requires.may c.index-gone.ensures c.place_of-place.ensures in
     let step = c.in_ok-give_up.ensures.done in
-    numbered_kept old d1 (keeps_given_up c.args.server place x.id x.queue old d1 t step) c.requires.numbered
-
-pub returns-then-is_served-clause-attempts : goal.returns-then-is_served-clause-attempts
-returns-then-is_served-clause-attempts g c =
-    let old = c.args.domain.now in
-    let x = c.index-gone.result.now in
-    let place = c.place_of-place.result in
-    let d1 = c.give_up.new.self in
-    let t = give_up_stands old c.args.server place x c.requires.numbered c.requires.served c.requires.may c.index-gone.ensures c.place_of-place.ensures in
-    let step = c.in_ok-give_up.ensures.done in
-    attempts_kept old d1 (keeps_given_up c.args.server place x.id x.queue old d1 t step)
-
-pub returns-then-is_served-clause-served : goal.returns-then-is_served-clause-served
-returns-then-is_served-clause-served g c =
-    let old = c.args.domain.now in
-    let x = c.index-gone.result.now in
-    let place = c.place_of-place.result in
-    let d1 = c.give_up.new.self in
-    let t = give_up_stands old c.args.server place x c.requires.numbered c.requires.served c.requires.may c.index-gone.ensures c.place_of-place.ensures in
-    let step = c.in_ok-give_up.ensures.done in
-    served_left c.args.server place x.id x.queue old d1 t step (sym c.is_served.ensures ∙ c.if-is_served.true)
-
-pub returns-then-is_served-clause-tables : goal.returns-then-is_served-clause-tables
-returns-then-is_served-clause-tables g c =
-    let old = c.args.domain.now in
-    let x = c.index-gone.result.now in
-    let place = c.place_of-place.result in
-    let d1 = c.give_up.new.self in
-    let t = give_up_stands old c.args.server place x c.requires.numbered c.requires.served c.requires.may c.index-gone.ensures c.place_of-place.ensures in
-    let step = c.in_ok-give_up.ensures.done in
-    tables_left c.args.server place x.id x.queue old d1 t step
-
-pub returns-then-is_served-clause-holds : goal.returns-then-is_served-clause-holds
-returns-then-is_served-clause-holds g c =
-    let old = c.args.domain.now in
-    let x = c.index-gone.result.now in
-    let place = c.place_of-place.result in
-    let d1 = c.give_up.new.self in
-    let t = give_up_stands old c.args.server place x c.requires.numbered c.requires.served c.requires.may c.index-gone.ensures c.place_of-place.ensures in
-    let step = c.in_ok-give_up.ensures.done in
-    λ setup count past configured never holds. retires_left c.args.server place x.id x.queue old d1 t step setup count past configured never holds
+    record {
+      numbered = numbered_kept old d1 (keeps_given_up c.args.server place x.id x.queue old d1 t step) c.requires.numbered;
+      attempts = attempts_kept old d1 (keeps_given_up c.args.server place x.id x.queue old d1 t step);
+      served = served_left c.args.server place x.id x.queue old d1 t step (sym c.is_served.ensures ∙ c.if-is_served.true);
+      tables = tables_left c.args.server place x.id x.queue old d1 t step;
+      holds = λ setup count past configured never holds. retires_left c.args.server place x.id x.queue old d1 t step setup count past configured never holds;
+      failed = tt;
+    }
 
 -- ---- none is left, and the rows can't be withdrawn
 
-pub returns-in_err-withdraw_all-clause-numbered : goal.returns-in_err-withdraw_all-clause-numbered
-returns-in_err-withdraw_all-clause-numbered g c =
-    let old = c.args.domain.now in
-    let x = c.index-gone.result.now in
-    let place = c.place_of-place.result in
-    let d1 = c.give_up.new.self in
-    let t = give_up_stands old c.args.server place x c.requires.numbered c.requires.served c.requires.may c.index-gone.ensures c.place_of-place.ensures in
-    let step = c.in_ok-give_up.ensures.done in
-    subst IsNumbered (sym c.in_err-withdraw_all.ensures.kept) (numbered_kept old d1 (keeps_given_up c.args.server place x.id x.queue old d1 t step) c.requires.numbered)
-
-pub returns-in_err-withdraw_all-clause-attempts : goal.returns-in_err-withdraw_all-clause-attempts
-returns-in_err-withdraw_all-clause-attempts g c =
-    let old = c.args.domain.now in
-    let x = c.index-gone.result.now in
-    let place = c.place_of-place.result in
-    let d1 = c.give_up.new.self in
-    let t = give_up_stands old c.args.server place x c.requires.numbered c.requires.served c.requires.may c.index-gone.ensures c.place_of-place.ensures in
-    let step = c.in_ok-give_up.ensures.done in
-    ap attempts c.in_err-withdraw_all.ensures.kept ∙ attempts_kept old d1 (keeps_given_up c.args.server place x.id x.queue old d1 t step)
-
-pub returns-in_err-withdraw_all-clause-failed : goal.returns-in_err-withdraw_all-clause-failed
-returns-in_err-withdraw_all-clause-failed g c =
+pub returns-in_err-withdraw_all : goal.returns-in_err-withdraw_all
+returns-in_err-withdraw_all g c =
     let old = c.args.domain.now in
     let x = c.index-gone.result.now in
     let place = c.place_of-place.result in
@@ -114,13 +56,20 @@ returns-in_err-withdraw_all-clause-failed g c =
     let t = give_up_stands old c.args.server place x c.requires.numbered c.requires.served c.requires.may c.index-gone.ensures c.place_of-place.ensures in
     let step = c.in_ok-give_up.ensures.done in
     let halt = c.in_err-withdraw_all.field-0.0 in
-    passed_on c.from_residual-in_err-withdraw_all.result halt _ c.from_residual-in_err-withdraw_all.ensures.1
-    (λ setup count past configured never holds. halts_at_board setup count (Gone x.id ∷ past) d1 c.withdraw_all.new.self halt (gone_holds c.args.server place x.id x.queue old d1 t step setup count past configured never holds) c.in_err-withdraw_all.ensures.failed)
+    record {
+      numbered = subst IsNumbered (sym c.in_err-withdraw_all.ensures.kept) (numbered_kept old d1 (keeps_given_up c.args.server place x.id x.queue old d1 t step) c.requires.numbered);
+      attempts = ap attempts c.in_err-withdraw_all.ensures.kept ∙ attempts_kept old d1 (keeps_given_up c.args.server place x.id x.queue old d1 t step);
+      served = none_done c.from_residual-in_err-withdraw_all.result _ _ c.from_residual-in_err-withdraw_all.ensures.1;
+      tables = none_done c.from_residual-in_err-withdraw_all.result _ _ c.from_residual-in_err-withdraw_all.ensures.1;
+      holds = none_done c.from_residual-in_err-withdraw_all.result _ _ c.from_residual-in_err-withdraw_all.ensures.1;
+      failed = passed_on c.from_residual-in_err-withdraw_all.result halt _ c.from_residual-in_err-withdraw_all.ensures.1
+          (λ setup count past configured never holds. halts_at_board setup count (Gone x.id ∷ past) d1 c.withdraw_all.new.self halt (gone_holds c.args.server place x.id x.queue old d1 t step setup count past configured never holds) c.in_err-withdraw_all.ensures.failed);
+    }
 
 -- ---- none is left, and the queue goes down, or can't
 
-pub returns-clause-numbered : goal.returns-clause-numbered
-returns-clause-numbered g c =
+pub returns : goal.returns
+returns g c =
     let old = c.args.domain.now in
     let x = c.index-gone.result.now in
     let place = c.place_of-place.result in
@@ -131,92 +80,13 @@ returns-clause-numbered g c =
     let d3 = c.go_down.new.self in
     let withdraws = c.in_ok-withdraw_all.ensures.done in
     let keeps = keeps_brought_down c.args.server place x.id x.queue old d1 t step d2 withdraws d3 c.go_down.result c.go_down.ensures.done c.go_down.ensures.kept in
-    numbered_kept old d3 keeps c.requires.numbered
-
-pub returns-clause-attempts : goal.returns-clause-attempts
-returns-clause-attempts g c =
-    let old = c.args.domain.now in
-    let x = c.index-gone.result.now in
-    let place = c.place_of-place.result in
-    let d1 = c.give_up.new.self in
-    let t = give_up_stands old c.args.server place x c.requires.numbered c.requires.served c.requires.may c.index-gone.ensures c.place_of-place.ensures in
-    let step = c.in_ok-give_up.ensures.done in
-    let d2 = c.withdraw_all.new.self in
-    let d3 = c.go_down.new.self in
-    let withdraws = c.in_ok-withdraw_all.ensures.done in
-    let keeps = keeps_brought_down c.args.server place x.id x.queue old d1 t step d2 withdraws d3 c.go_down.result c.go_down.ensures.done c.go_down.ensures.kept in
-    attempts_kept old d3 keeps
-
-pub returns-clause-served : goal.returns-clause-served
-returns-clause-served g c =
-    let old = c.args.domain.now in
-    let x = c.index-gone.result.now in
-    let place = c.place_of-place.result in
-    let d1 = c.give_up.new.self in
-    let t = give_up_stands old c.args.server place x c.requires.numbered c.requires.served c.requires.may c.index-gone.ensures c.place_of-place.ensures in
-    let step = c.in_ok-give_up.ensures.done in
-    let d2 = c.withdraw_all.new.self in
-    let d3 = c.go_down.new.self in
-    let withdraws = c.in_ok-withdraw_all.ensures.done in
     let none = sym c.is_served.ensures ∙ c.if-is_served.false in
-    on_ok_weaker c.go_down.result (λ down. served_down c.args.server place x.id x.queue old d1 t step d2 withdraws d3 down none) c.go_down.ensures.done
-
-pub returns-clause-tables : goal.returns-clause-tables
-returns-clause-tables g c =
-    let old = c.args.domain.now in
-    let x = c.index-gone.result.now in
-    let place = c.place_of-place.result in
-    let d1 = c.give_up.new.self in
-    let t = give_up_stands old c.args.server place x c.requires.numbered c.requires.served c.requires.may c.index-gone.ensures c.place_of-place.ensures in
-    let step = c.in_ok-give_up.ensures.done in
-    let d2 = c.withdraw_all.new.self in
-    let d3 = c.go_down.new.self in
-    let withdraws = c.in_ok-withdraw_all.ensures.done in
-    on_ok_weaker c.go_down.result (λ down. tables_down c.args.server place x.id x.queue old d1 t step d2 withdraws d3 down) c.go_down.ensures.done
-
-pub returns-clause-holds : goal.returns-clause-holds
-returns-clause-holds g c =
-    let old = c.args.domain.now in
-    let x = c.index-gone.result.now in
-    let place = c.place_of-place.result in
-    let d1 = c.give_up.new.self in
-    let t = give_up_stands old c.args.server place x c.requires.numbered c.requires.served c.requires.may c.index-gone.ensures c.place_of-place.ensures in
-    let step = c.in_ok-give_up.ensures.done in
-    let d2 = c.withdraw_all.new.self in
-    let d3 = c.go_down.new.self in
-    let withdraws = c.in_ok-withdraw_all.ensures.done in
-    let none = sym c.is_served.ensures ∙ c.if-is_served.false in
-    on_ok_weaker c.go_down.result (λ down setup count past configured never holds. retires_down c.args.server place x.id x.queue old d1 t step setup count past configured never holds none d2 withdraws d3 down) c.go_down.ensures.done
-
-pub returns-clause-failed : goal.returns-clause-failed
-returns-clause-failed g c =
-    let old = c.args.domain.now in
-    let x = c.index-gone.result.now in
-    let place = c.place_of-place.result in
-    let d1 = c.give_up.new.self in
-    let t = give_up_stands old c.args.server place x c.requires.numbered c.requires.served c.requires.may c.index-gone.ensures c.place_of-place.ensures in
-    let step = c.in_ok-give_up.ensures.done in
-    let d2 = c.withdraw_all.new.self in
-    let d3 = c.go_down.new.self in
-    let withdraws = c.in_ok-withdraw_all.ensures.done in
-    let none = sym c.is_served.ensures ∙ c.if-is_served.false in
-    IfErr-weaker c.go_down.result _ _ (λ halt failed setup count past configured never holds.
-    halts_at_queue setup count (withdrawn_from x.queue.0 d1.board ++ Gone x.id ∷ past) d2 d3 halt (withdrawn_holds c.args.server place x.id x.queue old d1 t step setup count past configured never holds none d2 withdraws) place failed) c.go_down.ensures.failed
-
-pub returns-in_err-give_up-clause-served : goal.returns-in_err-give_up-clause-served
-returns-in_err-give_up-clause-served g c = none_done c.from_residual.result _ _ c.from_residual.ensures.1
-
-pub returns-in_err-give_up-clause-tables : goal.returns-in_err-give_up-clause-tables
-returns-in_err-give_up-clause-tables g c = none_done c.from_residual.result _ _ c.from_residual.ensures.1
-
-pub returns-in_err-give_up-clause-holds : goal.returns-in_err-give_up-clause-holds
-returns-in_err-give_up-clause-holds g c = none_done c.from_residual.result _ _ c.from_residual.ensures.1
-
-pub returns-in_err-withdraw_all-clause-served : goal.returns-in_err-withdraw_all-clause-served
-returns-in_err-withdraw_all-clause-served g c = none_done c.from_residual-in_err-withdraw_all.result _ _ c.from_residual-in_err-withdraw_all.ensures.1
-
-pub returns-in_err-withdraw_all-clause-tables : goal.returns-in_err-withdraw_all-clause-tables
-returns-in_err-withdraw_all-clause-tables g c = none_done c.from_residual-in_err-withdraw_all.result _ _ c.from_residual-in_err-withdraw_all.ensures.1
-
-pub returns-in_err-withdraw_all-clause-holds : goal.returns-in_err-withdraw_all-clause-holds
-returns-in_err-withdraw_all-clause-holds g c = none_done c.from_residual-in_err-withdraw_all.result _ _ c.from_residual-in_err-withdraw_all.ensures.1
+    record {
+      numbered = numbered_kept old d3 keeps c.requires.numbered;
+      attempts = attempts_kept old d3 keeps;
+      served = on_ok_weaker c.go_down.result (λ down. served_down c.args.server place x.id x.queue old d1 t step d2 withdraws d3 down none) c.go_down.ensures.done;
+      tables = on_ok_weaker c.go_down.result (λ down. tables_down c.args.server place x.id x.queue old d1 t step d2 withdraws d3 down) c.go_down.ensures.done;
+      holds = on_ok_weaker c.go_down.result (λ down setup count past configured never holds. retires_down c.args.server place x.id x.queue old d1 t step setup count past configured never holds none d2 withdraws d3 down) c.go_down.ensures.done;
+      failed = IfErr-weaker c.go_down.result _ _ (λ halt failed setup count past configured never holds.
+          halts_at_queue setup count (withdrawn_from x.queue.0 d1.board ++ Gone x.id ∷ past) d2 d3 halt (withdrawn_holds c.args.server place x.id x.queue old d1 t step setup count past configured never holds none d2 withdraws) place failed) c.go_down.ensures.failed;
+    }

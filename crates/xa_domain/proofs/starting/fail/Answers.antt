@@ -10,26 +10,16 @@ use Rattle.xa_domain.proofs.Begun.{numbered_failed, served_failed, retire_failed
 use Rattle.xa_domain.proofs.Failing.{noted_there}
 use Rattle.xa_domain.proofs.starting.fail.Goals as goal
 
-pub retire-requires-clause-numbered : goal.retire-requires-clause-numbered
-retire-requires-clause-numbered g c =
+pub retire-requires : goal.retire-requires
+retire-requires g c =
     let old = c.args.domain.now in
     let d1 = c.fail_start.new.self in
     let step = c.in_ok-fail_start.ensures.done in
-    numbered_failed c.args.server c.args.started old d1 c.requires.on c.requires.may step
-
-pub retire-requires-clause-served : goal.retire-requires-clause-served
-retire-requires-clause-served g c =
-    let old = c.args.domain.now in
-    let d1 = c.fail_start.new.self in
-    let step = c.in_ok-fail_start.ensures.done in
-    served_failed c.args.server c.args.started old d1 c.requires.on c.requires.may step
-
-pub retire-requires-clause-may : goal.retire-requires-clause-may
-retire-requires-clause-may g c =
-    let old = c.args.domain.now in
-    let d1 = c.fail_start.new.self in
-    let step = c.in_ok-fail_start.ensures.done in
-    retire_failed c.args.server c.args.started old d1 c.requires.on c.requires.may step
+    record {
+      numbered = numbered_failed c.args.server c.args.started old d1 c.requires.on c.requires.may step;
+      served = served_failed c.args.server c.args.started old d1 c.requires.on c.requires.may step;
+      may = retire_failed c.args.server c.args.started old d1 c.requires.on c.requires.may step;
+    }
 
 pub returns-clause-tried : goal.returns-clause-tried
 returns-clause-tried g c =
@@ -64,4 +54,5 @@ returns-in_err-fail_start g c =
     absurd (noted_there c.args.server c.args.started c.args.domain.now c.args.domain.now c.requires.may refl refl c.fail_start.result _ c.in_err-fail_start.was c.fail_start.ensures.succeeds)
 
 pub returns-clause-numbered : goal.returns-clause-numbered
-returns-clause-numbered g c = c.retire.ensures.numbered
+returns-clause-numbered g c =
+    c.retire.ensures.numbered

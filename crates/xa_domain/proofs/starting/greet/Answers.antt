@@ -72,44 +72,30 @@ returns-in-Ok-clause-attempts g c =
 
 -- ---- its life ends
 
-pub fall-requires-clause-numbered : goal.fall-requires-clause-numbered
-fall-requires-clause-numbered g c =
+pub fall-requires : goal.fall-requires
+fall-requires g c =
     let old = c.args.domain.now in
     let x = c.index-at.result.now in
     let here = known_here old.servers.items c.args.server IsUp c.requires.up x c.index-at.ensures in
     let within = life_there c.args.server old c.requires.life x here.0 in
     let y = c.index_mut-life.result.now in
-    let y' = c.greet.new.self in
-    let lived = stood_here old.lives.items x.life y within c.index_mut-life.ensures.value in
-    let same = c.greet.ensures.table in
-    let fresh = fresh_life c.args.server old c.requires.life x here.0 y lived in
-    numbered_told c.args.server old c.requires.numbered x here.0 here.1 y y' lived same
-
-pub fall-requires-clause-served : goal.fall-requires-clause-served
-fall-requires-clause-served g c =
-    let old = c.args.domain.now in
-    let x = c.index-at.result.now in
-    let here = known_here old.servers.items c.args.server IsUp c.requires.up x c.index-at.ensures in
-    let within = life_there c.args.server old c.requires.life x here.0 in
-    let y = c.index_mut-life.result.now in
-    let y' = c.greet.new.self in
-    let lived = stood_here old.lives.items x.life y within c.index_mut-life.ensures.value in
-    let same = c.greet.ensures.table in
-    let fresh = fresh_life c.args.server old c.requires.life x here.0 y lived in
-    served_told c.args.server old c.requires.numbered x here.0 here.1 y y' lived same c.requires.served
-
-pub fall-requires-clause-may : goal.fall-requires-clause-may
-fall-requires-clause-may g c =
-    let old = c.args.domain.now in
-    let x = c.index-at.result.now in
-    let here = known_here old.servers.items c.args.server IsUp c.requires.up x c.index-at.ensures in
-    let within = life_there c.args.server old c.requires.life x here.0 in
-    let y = c.index_mut-life.result.now in
-    let y' = c.greet.new.self in
-    let lived = stood_here old.lives.items x.life y within c.index_mut-life.ensures.value in
-    let same = c.greet.ensures.table in
-    let fresh = fresh_life c.args.server old c.requires.life x here.0 y lived in
-    may_fall_there c.args.server old c.requires.numbered c.requires.served c.requires.beside x here.0 here.1 y y' lived same fresh c.in-Err.cause c.in-Err.ensures.failed
+    record {
+      numbered = let y' = c.greet.new.self in
+          let lived = stood_here old.lives.items x.life y within c.index_mut-life.ensures.value in
+          let same = c.greet.ensures.table in
+          let fresh = fresh_life c.args.server old c.requires.life x here.0 y lived in
+          numbered_told c.args.server old c.requires.numbered x here.0 here.1 y y' lived same;
+      served = let y' = c.greet.new.self in
+          let lived = stood_here old.lives.items x.life y within c.index_mut-life.ensures.value in
+          let same = c.greet.ensures.table in
+          let fresh = fresh_life c.args.server old c.requires.life x here.0 y lived in
+          served_told c.args.server old c.requires.numbered x here.0 here.1 y y' lived same c.requires.served;
+      may = let y' = c.greet.new.self in
+          let lived = stood_here old.lives.items x.life y within c.index_mut-life.ensures.value in
+          let same = c.greet.ensures.table in
+          let fresh = fresh_life c.args.server old c.requires.life x here.0 y lived in
+          may_fall_there c.args.server old c.requires.numbered c.requires.served c.requires.beside x here.0 here.1 y y' lived same fresh c.in-Err.cause c.in-Err.ensures.failed;
+    }
 
 pub returns-in-Err-clause-attempts : goal.returns-in-Err-clause-attempts
 returns-in-Err-clause-attempts g c =
@@ -164,4 +150,5 @@ returns-in-Err-clause-failed g c =
     IfErr-weaker c.fall.result _ _ (λ halt said setup script b past configured never begun. said setup _ (Start b ∷ past) configured never (holds_begun c.args.server old c.requires.numbered c.requires.served c.requires.beside x here.0 here.1 y y' lived same fresh setup script b past begun)) c.fall.ensures.failed
 
 pub returns-in-Err-clause-numbered : goal.returns-in-Err-clause-numbered
-returns-in-Err-clause-numbered g c = c.fall.ensures.numbered
+returns-in-Err-clause-numbered g c =
+    c.fall.ensures.numbered

@@ -29,137 +29,68 @@ begin-requires-clause-may g c =
     let x = c.index-at.result.now in
     may_begin c.args.server old d1 c.requires.on step x c.index-at.ensures
 
-pub returns-in-Ok-clause-starter : goal.returns-in-Ok-clause-starter
-returns-in-Ok-clause-starter g c =
+pub returns-in-Ok : goal.returns-in-Ok
+returns-in-Ok g c =
     let old = c.args.domain.now in
     let d1 = c.make_room.new.self in
     let step = c.in_ok-make_room.ensures.done in
     let x = c.index-at.result.now in
-    shows_started c.args.server d1 c.begin.new.domain (on_room c.args.server old d1 c.requires.on step) x (room_stood c.args.server old d1 c.requires.on step x c.index-at.ensures) (g.S.Starter.start_faults c.args.starter.now) (g.S.Starter.start_faults c.start.new.self) (g.S.Starter.asked c.args.starter.now) (g.S.Starter.asked c.start.new.self) (subst (λ (all : List (List ℕ × Attempt)). IsSomeAnd (slice_get all c.args.server) (λ a. IsStarterBy a.0 a.1 (record { faults = g.S.Starter.start_faults c.args.starter.now; asked = g.S.Starter.asked c.args.starter.now }))) (sym (attempts_room c.args.server old d1 c.requires.on step)) c.requires.fresh) (c.in-Ok.ensures.quiet (λ e. cc e)) c.in-Ok.ensures.started c.begin.ensures.tried
-
-pub returns-in-Ok-clause-attempts : goal.returns-in-Ok-clause-attempts
-returns-in-Ok-clause-attempts g c =
-    let old = c.args.domain.now in
-    let d1 = c.make_room.new.self in
-    let step = c.in_ok-make_room.ensures.done in
-    let x = c.index-at.result.now in
-    λ i other. other_stands c.args.server (attempts d1) (attempts c.begin.new.domain) c.begin.ensures.tried i other ∙ ap (λ (all : List (List ℕ × Attempt)). slice_get all i) (attempts_room c.args.server old d1 c.requires.on step)
-
-pub returns-in-Ok-clause-clients : goal.returns-in-Ok-clause-clients
-returns-in-Ok-clause-clients g c =
-    let old = c.args.domain.now in
-    let d1 = c.make_room.new.self in
-    let step = c.in_ok-make_room.ensures.done in
-    let x = c.index-at.result.now in
-    on_ok_weaker c.begin.result (λ same. same ∙ step.others.3) c.begin.ensures.clients
-
-pub returns-in-Ok-clause-goes : goal.returns-in-Ok-clause-goes
-returns-in-Ok-clause-goes g c =
-    let old = c.args.domain.now in
-    let d1 = c.make_room.new.self in
-    let step = c.in_ok-make_room.ensures.done in
-    let x = c.index-at.result.now in
-    on_ok_weaker c.begin.result (λ said setup script past configured never stands. said setup script past configured never (stands_room c.args.server old d1 c.requires.on step setup script past stands)) c.begin.ensures.goes
-
-pub returns-in-Ok-clause-failed : goal.returns-in-Ok-clause-failed
-returns-in-Ok-clause-failed g c =
-    let old = c.args.domain.now in
-    let d1 = c.make_room.new.self in
-    let step = c.in_ok-make_room.ensures.done in
-    let x = c.index-at.result.now in
-    IfErr-weaker c.begin.result _ _ (λ halt said setup script past configured never stands. said setup script past configured never (stands_room c.args.server old d1 c.requires.on step setup script past stands)) c.begin.ensures.failed
+    record {
+      numbered = c.begin.ensures.numbered;
+      starter = shows_started c.args.server d1 c.begin.new.domain (on_room c.args.server old d1 c.requires.on step) x (room_stood c.args.server old d1 c.requires.on step x c.index-at.ensures) (g.S.Starter.start_faults c.args.starter.now) (g.S.Starter.start_faults c.start.new.self) (g.S.Starter.asked c.args.starter.now) (g.S.Starter.asked c.start.new.self) (subst (λ (all : List (List ℕ × Attempt)). IsSomeAnd (slice_get all c.args.server) (λ a. IsStarterBy a.0 a.1 (record { faults = g.S.Starter.start_faults c.args.starter.now; asked = g.S.Starter.asked c.args.starter.now }))) (sym (attempts_room c.args.server old d1 c.requires.on step)) c.requires.fresh) (c.in-Ok.ensures.quiet (λ e. cc e)) c.in-Ok.ensures.started c.begin.ensures.tried;
+      attempts = λ i other. other_stands c.args.server (attempts d1) (attempts c.begin.new.domain) c.begin.ensures.tried i other ∙ ap (λ (all : List (List ℕ × Attempt)). slice_get all i) (attempts_room c.args.server old d1 c.requires.on step);
+      on = c.begin.ensures.on;
+      clients = on_ok_weaker c.begin.result (λ same. same ∙ step.others.3) c.begin.ensures.clients;
+      goes = on_ok_weaker c.begin.result (λ said setup script past configured never stands. said setup script past configured never (stands_room c.args.server old d1 c.requires.on step setup script past stands)) c.begin.ensures.goes;
+      failed = IfErr-weaker c.begin.result _ _ (λ halt said setup script past configured never stands. said setup script past configured never (stands_room c.args.server old d1 c.requires.on step setup script past stands)) c.begin.ensures.failed;
+    }
 
 -- ---- its start fails
 
-pub fail-requires-clause-on : goal.fail-requires-clause-on
-fail-requires-clause-on g c =
+pub fail-requires : goal.fail-requires
+fail-requires g c =
     let old = c.args.domain.now in
     let d1 = c.make_room.new.self in
     let step = c.in_ok-make_room.ensures.done in
     let x = c.index-at.result.now in
-    on_room c.args.server old d1 c.requires.on step
+    record {
+      on = on_room c.args.server old d1 c.requires.on step;
+      may = may_begin c.args.server old d1 c.requires.on step x c.index-at.ensures;
+    }
 
-pub fail-requires-clause-may : goal.fail-requires-clause-may
-fail-requires-clause-may g c =
+pub returns-in-Err-Failed : goal.returns-in-Err-Failed
+returns-in-Err-Failed g c =
     let old = c.args.domain.now in
     let d1 = c.make_room.new.self in
     let step = c.in_ok-make_room.ensures.done in
     let x = c.index-at.result.now in
-    may_begin c.args.server old d1 c.requires.on step x c.index-at.ensures
-
-pub returns-in-Err-Failed-clause-starter : goal.returns-in-Err-Failed-clause-starter
-returns-in-Err-Failed-clause-starter g c =
-    let old = c.args.domain.now in
-    let d1 = c.make_room.new.self in
-    let step = c.in_ok-make_room.ensures.done in
-    let x = c.index-at.result.now in
-    shows_failed c.args.server d1 c.fail.new.domain (on_room c.args.server old d1 c.requires.on step) x (room_stood c.args.server old d1 c.requires.on step x c.index-at.ensures) (g.S.Starter.start_faults c.args.starter.now) (g.S.Starter.start_faults c.start.new.self) (g.S.Starter.asked c.args.starter.now) (g.S.Starter.asked c.start.new.self) (subst (λ (all : List (List ℕ × Attempt)). IsSomeAnd (slice_get all c.args.server) (λ a. IsStarterBy a.0 a.1 (record { faults = g.S.Starter.start_faults c.args.starter.now; asked = g.S.Starter.asked c.args.starter.now }))) (sym (attempts_room c.args.server old d1 c.requires.on step)) c.requires.fresh) (c.in-Err-Failed.ensures.cause (ap (λ e. Err e) c.in-Err-Failed.field-0-is)) (c.in-Err-Failed.ensures.failed (ap (λ e. Err e) c.in-Err-Failed.field-0-is)) c.fail.ensures.tried
-
-pub returns-in-Err-Failed-clause-attempts : goal.returns-in-Err-Failed-clause-attempts
-returns-in-Err-Failed-clause-attempts g c =
-    let old = c.args.domain.now in
-    let d1 = c.make_room.new.self in
-    let step = c.in_ok-make_room.ensures.done in
-    let x = c.index-at.result.now in
-    λ i other. other_stands c.args.server (attempts d1) (attempts c.fail.new.domain) c.fail.ensures.tried i other ∙ ap (λ (all : List (List ℕ × Attempt)). slice_get all i) (attempts_room c.args.server old d1 c.requires.on step)
-
-pub returns-in-Err-Failed-clause-clients : goal.returns-in-Err-Failed-clause-clients
-returns-in-Err-Failed-clause-clients g c =
-    let old = c.args.domain.now in
-    let d1 = c.make_room.new.self in
-    let step = c.in_ok-make_room.ensures.done in
-    let x = c.index-at.result.now in
-    on_ok_weaker c.fail.result (λ same. same ∙ step.others.3) c.fail.ensures.clients
-
-pub returns-in-Err-Failed-clause-goes : goal.returns-in-Err-Failed-clause-goes
-returns-in-Err-Failed-clause-goes g c =
-    let old = c.args.domain.now in
-    let d1 = c.make_room.new.self in
-    let step = c.in_ok-make_room.ensures.done in
-    let x = c.index-at.result.now in
-    on_ok_weaker c.fail.result (λ said setup script past configured never stands. said setup script past configured never (stands_room c.args.server old d1 c.requires.on step setup script past stands)) c.fail.ensures.goes
-
-pub returns-in-Err-Failed-clause-failed : goal.returns-in-Err-Failed-clause-failed
-returns-in-Err-Failed-clause-failed g c =
-    let old = c.args.domain.now in
-    let d1 = c.make_room.new.self in
-    let step = c.in_ok-make_room.ensures.done in
-    let x = c.index-at.result.now in
-    IfErr-weaker c.fail.result _ _ (λ halt said setup script past configured never stands. said setup script past configured never (stands_room c.args.server old d1 c.requires.on step setup script past stands)) c.fail.ensures.failed
+    record {
+      numbered = c.fail.ensures.numbered;
+      starter = shows_failed c.args.server d1 c.fail.new.domain (on_room c.args.server old d1 c.requires.on step) x (room_stood c.args.server old d1 c.requires.on step x c.index-at.ensures) (g.S.Starter.start_faults c.args.starter.now) (g.S.Starter.start_faults c.start.new.self) (g.S.Starter.asked c.args.starter.now) (g.S.Starter.asked c.start.new.self) (subst (λ (all : List (List ℕ × Attempt)). IsSomeAnd (slice_get all c.args.server) (λ a. IsStarterBy a.0 a.1 (record { faults = g.S.Starter.start_faults c.args.starter.now; asked = g.S.Starter.asked c.args.starter.now }))) (sym (attempts_room c.args.server old d1 c.requires.on step)) c.requires.fresh) (c.in-Err-Failed.ensures.cause (ap (λ e. Err e) c.in-Err-Failed.field-0-is)) (c.in-Err-Failed.ensures.failed (ap (λ e. Err e) c.in-Err-Failed.field-0-is)) c.fail.ensures.tried;
+      attempts = λ i other. other_stands c.args.server (attempts d1) (attempts c.fail.new.domain) c.fail.ensures.tried i other ∙ ap (λ (all : List (List ℕ × Attempt)). slice_get all i) (attempts_room c.args.server old d1 c.requires.on step);
+      on = c.fail.ensures.on;
+      clients = on_ok_weaker c.fail.result (λ same. same ∙ step.others.3) c.fail.ensures.clients;
+      goes = on_ok_weaker c.fail.result (λ said setup script past configured never stands. said setup script past configured never (stands_room c.args.server old d1 c.requires.on step setup script past stands)) c.fail.ensures.goes;
+      failed = IfErr-weaker c.fail.result _ _ (λ halt said setup script past configured never stands. said setup script past configured never (stands_room c.args.server old d1 c.requires.on step setup script past stands)) c.fail.ensures.failed;
+    }
 
 -- ---- memory ran out
 
-pub returns-in-Err-NoMemory-clause-numbered : goal.returns-in-Err-NoMemory-clause-numbered
-returns-in-Err-NoMemory-clause-numbered g c =
+pub returns-in-Err-NoMemory : goal.returns-in-Err-NoMemory
+returns-in-Err-NoMemory g c =
     let old = c.args.domain.now in
     let d1 = c.make_room.new.self in
     let step = c.in_ok-make_room.ensures.done in
     let x = c.index-at.result.now in
-    numbered_room c.args.server old d1 c.requires.on step
-
-pub returns-in-Err-NoMemory-clause-starter : goal.returns-in-Err-NoMemory-clause-starter
-returns-in-Err-NoMemory-clause-starter g c =
-    let old = c.args.domain.now in
-    let d1 = c.make_room.new.self in
-    let step = c.in_ok-make_room.ensures.done in
-    let x = c.index-at.result.now in
-    shows_same (attempts d1) c.args.server (g.S.Starter.start_faults c.args.starter.now) (g.S.Starter.start_faults c.start.new.self) (g.S.Starter.asked c.args.starter.now) (g.S.Starter.asked c.start.new.self) (c.in-Err-NoMemory.ensures.quiet (λ failed. let none = c.in-Err-NoMemory.field-0-is in cc (failed, none))) (c.in-Err-NoMemory.ensures.starved (ap (λ e. Err e) c.in-Err-NoMemory.field-0-is)) (subst (λ (all : List (List ℕ × Attempt)). IsSomeAnd (slice_get all c.args.server) (λ a. IsStarterBy a.0 a.1 (record { faults = g.S.Starter.start_faults c.args.starter.now; asked = g.S.Starter.asked c.args.starter.now }))) (sym (attempts_room c.args.server old d1 c.requires.on step)) c.requires.fresh)
-
-pub returns-in-Err-NoMemory-clause-attempts : goal.returns-in-Err-NoMemory-clause-attempts
-returns-in-Err-NoMemory-clause-attempts g c =
-    let old = c.args.domain.now in
-    let d1 = c.make_room.new.self in
-    let step = c.in_ok-make_room.ensures.done in
-    let x = c.index-at.result.now in
-    λ i other. ap (λ (all : List (List ℕ × Attempt)). slice_get all i) (attempts_room c.args.server old d1 c.requires.on step)
-
-pub returns-in-Err-NoMemory-clause-failed : goal.returns-in-Err-NoMemory-clause-failed
-returns-in-Err-NoMemory-clause-failed g c =
-    let old = c.args.domain.now in
-    let d1 = c.make_room.new.self in
-    let step = c.in_ok-make_room.ensures.done in
-    let x = c.index-at.result.now in
-    λ setup script past configured never stands. room_halts c.args.server old d1 c.requires.on step setup script past stands
+    record {
+      numbered = numbered_room c.args.server old d1 c.requires.on step;
+      starter = shows_same (attempts d1) c.args.server (g.S.Starter.start_faults c.args.starter.now) (g.S.Starter.start_faults c.start.new.self) (g.S.Starter.asked c.args.starter.now) (g.S.Starter.asked c.start.new.self) (c.in-Err-NoMemory.ensures.quiet (λ failed. let none = c.in-Err-NoMemory.field-0-is in cc (failed, none))) (c.in-Err-NoMemory.ensures.starved (ap (λ e. Err e) c.in-Err-NoMemory.field-0-is)) (subst (λ (all : List (List ℕ × Attempt)). IsSomeAnd (slice_get all c.args.server) (λ a. IsStarterBy a.0 a.1 (record { faults = g.S.Starter.start_faults c.args.starter.now; asked = g.S.Starter.asked c.args.starter.now }))) (sym (attempts_room c.args.server old d1 c.requires.on step)) c.requires.fresh);
+      attempts = λ i other. ap (λ (all : List (List ℕ × Attempt)). slice_get all i) (attempts_room c.args.server old d1 c.requires.on step);
+      on = tt;
+      clients = tt;
+      goes = tt;
+      failed = λ setup script past configured never stands. room_halts c.args.server old d1 c.requires.on step setup script past stands;
+    }
 
 pub returns-in_err-make_room : goal.returns-in_err-make_room
 returns-in_err-make_room g c =
@@ -174,15 +105,3 @@ returns-in_err-make_room g c =
       goes = none_done result _ _ c.from_residual.ensures.1;
       failed = passed_on result _ _ c.from_residual.ensures.1 (λ setup script past configured never stands. halts setup _ past c.args.domain.now c.make_room.new.self c.in_err-make_room.field-0.0 stands.holds same);
     }
-
-pub returns-in-Ok-clause-numbered : goal.returns-in-Ok-clause-numbered
-returns-in-Ok-clause-numbered g c = c.begin.ensures.numbered
-
-pub returns-in-Ok-clause-on : goal.returns-in-Ok-clause-on
-returns-in-Ok-clause-on g c = c.begin.ensures.on
-
-pub returns-in-Err-Failed-clause-numbered : goal.returns-in-Err-Failed-clause-numbered
-returns-in-Err-Failed-clause-numbered g c = c.fail.ensures.numbered
-
-pub returns-in-Err-Failed-clause-on : goal.returns-in-Err-Failed-clause-on
-returns-in-Err-Failed-clause-on g c = c.fail.ensures.on
