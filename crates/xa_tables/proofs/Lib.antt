@@ -9,3 +9,4 @@ pub mod Places
 pub mod Setups
 pub mod Booting
 pub mod Founding
+pub mod Failing

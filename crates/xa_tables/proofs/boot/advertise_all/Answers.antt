@@ -4,6 +4,7 @@ use Rattle.std.proofs.lemmas.Option.{slice_get_read}
 use Rattle.xa_tables.specs.Booting.{IsBehind, MayAdvertise, Advertises}
 use Rattle.xa_tables.proofs.Setups.{good}
 use Rattle.xa_tables.proofs.Booting.{service_begins, next_may, next_behind, service_done, all_done}
+use Rattle.xa_tables.proofs.Failing.{none_done}
 use Rattle.xa_tables.proofs.boot.advertise_all.Goals as goal
 
 pub loop-name-init : goal.loop-name-init
@@ -57,3 +58,6 @@ returns-clause-done c =
     let setup = c.args.setup.now in
     let all : length setup.services ≤ c.loop-service.service-index = omega (arith, ap length keeps.0, c.loop-service-test.false) in
     subst (λ made. IsBehind setup made c.loop-service.board c.loop-service.latest) (all_done setup c.loop-service.service-index all) keeps.1
+
+pub returns-in_err-advertise-clause-done : goal.returns-in_err-advertise-clause-done
+returns-in_err-advertise-clause-done c = none_done c.from_residual.result _ _ c.from_residual.ensures.1

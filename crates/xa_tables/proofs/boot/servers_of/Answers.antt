@@ -4,6 +4,7 @@ use Rattle.std.proofs.lemmas.Option.{slice_get_read}
 use Rattle.xa_types.specs.Setup.{numbered}
 use Rattle.xa_tables.specs.Booting.{IsNewServer}
 use Rattle.xa_tables.proofs.Founding.{new_more}
+use Rattle.xa_tables.proofs.Failing.{none_made}
 use Rattle.xa_tables.proofs.boot.servers_of.Goals as goal
 
 pub new_server-requires-clause-numbered : goal.new_server-requires-clause-numbered
@@ -21,3 +22,6 @@ loop-server-preserved c =
       ap (λ n. n + 1) keeps.2,
       new_more (IsNewServer c.args.setup.now c.args.first) c.loop-server.server-index c.loop-server.servers.items c.push.new.self.items c.new_server.result keeps.3 new c.in_ok-push.ensures.items,
     )
+
+pub returns-in_err-push : goal.returns-in_err-push
+returns-in_err-push c = none_made c.from_residual.result _ _ c.from_residual.ensures.1
