@@ -1,12 +1,14 @@
 -- The words, as they are read one by one.
-use Rattle.std.proofs.Common.{◌≡◌, ◌∙◌, ℕ, ◌+◌, ◌-◌, add-one, arith, List, [], ◌∷◌, ◌++◌, take, drop, length, length-drop, Option, Some, None, ap, sym}
-use Rattle.std.specs.Prelude.{IfSome, Result, Ok, Err, OnErr, true, codes, refl}
+use Rattle.std.proofs.Common.{◌≡◌, ◌∙◌, ℕ, ◌+◌, ◌-◌, ◌<◌, ◌≤◌, add-one, arith, List, [], ◌∷◌, ◌++◌, take, drop, map, length, length-drop, get_or, Option, Some, None, IfOk, IsErrAnd, inl, inr, ap, sym}
+use Rattle.std.specs.Prelude.{IfSome, Result, Ok, Err, OnOk, OnErr, true, codes, refl}
 use Rattle.std.specs.Str.{bytes_eq}
 use Rattle.std.proofs.Math.Seq.{take-suc}
-use Rattle.std.proofs.lemmas.List.{take_all}
-use Rattle.std.proofs.lemmas.Option.{slice_get_within, get_or_from_slice_get}
+use Rattle.std.proofs.lemmas.List.{take_all, map-append}
+use Rattle.std.proofs.lemmas.Option.{none-some, slice_get_cases, slice_get_within, get_or_from_slice_get}
 use Rattle.xa_link.specs.Arguments.{word_at}
-use Rattle.xa_program.specs.Words.{file_in, command_of}
+use Rattle.xa_script.specs.declared.script.Client.{Client}
+use Rattle.xa_program.specs.Headline.{names_of}
+use Rattle.xa_program.specs.Words.{file_in, command_of, command_in}
 use Rattle.xa_program.specs.declared.words.Command.TheVariants.{Run}
 
 -- the first words, and one more
@@ -18,6 +20,47 @@ taken_more (Some ws) all place word so there =
     let within = slice_get_within ws place word (sym there) in
     ap (λ (xs : List (List ℕ)). xs ++ word ∷ []) so ∙ (ap (λ (w : List ℕ). take place ws ++ w ∷ []) (sym at)
     ∙ (sym (take-suc ws place word within) ∙ ap (λ n. take n ws) (sym (add-one place))))
+
+-- of none the first are none
+pub taken_none : (told : Option (List (List ℕ))) (all : List (List ℕ)) → all ≡ [] → IfSome told (λ ws. all ≡ take 0 ws)
+taken_none None all none = tt
+taken_none (Some ws) all none = none
+
+-- where no word is at the place, the words before it are all
+pub taken_all : (told : Option (List (List ℕ))) (all : List (List ℕ)) (place : ℕ) (word : Option (List ℕ)) → word ≡ None → IfSome told (λ ws. all ≡ take place ws) → IfSome told (λ ws. word ≡ word_at ws place)
+    → IfSome told (λ ws. all ≡ ws)
+taken_all None all place word none so beyond = tt
+taken_all (Some ws) all place word none so beyond =
+    elim (slice_get_cases ws place).1 [
+      | inl here ↦ absurd (none-some here.0 (sym none ∙ (beyond ∙ here.2)))
+      | inr past ↦ so ∙ take_all place ws past.0
+    ]
+
+-- what is said of the success of a call that failed holds
+pub none_done : {X E : Type 0} (result : Result X E) (Q : E → Type 0) (P : Type 0) → IsErrAnd result Q → OnOk result P
+none_done (Ok x) Q P is = absurd is
+none_done (Err e) Q P is = tt
+
+-- and so does what is said of the value that it would have answered
+pub none_made : {X E : Type 0} (result : Result X E) (Q : E → Type 0) (P : X → Type 0) → IsErrAnd result Q → IfOk result P
+none_made (Ok x) Q P is = absurd is
+none_made (Err e) Q P is = tt
+
+-- the names of the first clients, and that of one more
+pub names_more : (clients : List Client) (place : ℕ) (client : Client) (names : List (List ℕ)) → place < length clients → client ≡ get_or clients place client → names ≡ names_of (take place clients)
+    → names ++ client.name ∷ [] ≡ names_of (take (place + 1) clients)
+names_more clients place client names within is so =
+    ap (λ (ns : List (List ℕ)). ns ++ client.name ∷ []) so ∙ (sym (map-append (λ (x : Client). x.name) (take place clients) (client ∷ []))
+    ∙ ap names_of (ap (λ (x : Client). take place clients ++ x ∷ []) is ∙ (sym (take-suc clients place client within) ∙ ap (λ n. take n clients) (sym (add-one place)))))
+
+-- two words are a command and its argument
+pub two_words : {S : Type 0} (text : S → List ℕ) (words : List S) (first second : S) (command argument : List ℕ) → 2 ≤ length words → length words < 3 → first ≡ get_or words 0 first → second ≡ get_or words 1 second
+    → command ≡ text first → argument ≡ text second → command_of command argument ≡ command_in (map text words)
+two_words text [] first second command argument least below is_first is_second its other = absurd (omega arith)
+two_words text (x ∷ []) first second command argument least below is_first is_second its other = absurd (omega arith)
+two_words text (x ∷ y ∷ []) first second command argument least below is_first is_second its other =
+    ap (λ (word : List ℕ). command_of word argument) (its ∙ ap text is_first) ∙ ap (λ (word : List ℕ). command_of (text x) word) (other ∙ ap text is_second)
+two_words text (x ∷ y ∷ z ∷ rest) first second command argument least below is_first is_second its other = absurd (omega arith)
 
 -- where the name of a file couldn't be kept, the words are those of `run`
 pub starved_run : {A E : Type 0} (result : Result A E) (command argument octets : List ℕ) → true ≡ bytes_eq command (codes "run") → octets ≡ argument → OnErr result (file_in octets ≡ Some octets)

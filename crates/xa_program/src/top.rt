@@ -93,7 +93,7 @@ pub fn run<R, S: Shelf, I: Source, O: Sink, Y: Yard, G: Gate>(
     ensures early { EndsEarly result.status result.homes.homes result.history.items result.lives.items result.starters.items }
 {
     match read_words(alloc, words) {
-        Ok(Some(command)) => obey(rt, alloc, command, shelf, input, out, yard, gate),
+        Ok(Some(command)) => obey(rt, alloc, &command, shelf, input, out, yard, gate),
         Ok(None) => nothing(alloc, Status::Usage),
         Err(NoMemory) => nothing(alloc, Status::NoMemory),
     }
@@ -102,7 +102,7 @@ pub fn run<R, S: Shelf, I: Source, O: Sink, Y: Yard, G: Gate>(
 fn obey<R, S: Shelf, I: Source, O: Sink, Y: Yard, G: Gate>(
     rt: &R,
     alloc: Global,
-    command: Command,
+    command: &Command,
     shelf: &mut S,
     input: &mut I,
     out: &mut O,
@@ -110,8 +110,8 @@ fn obey<R, S: Shelf, I: Source, O: Sink, Y: Yard, G: Gate>(
     gate: &G,
 ) -> Outcome<Y>
     ensures known { result.status ≡ Status.Usage → ⊥ }
-    ensures shelf { KeepsShelf (Some command) result.status (S.shelf_faults shelf.old) (S.shelf_faults shelf.new) }
-    ensures ends { Serves command
+    ensures shelf { KeepsShelf (Some command.now) result.status (S.shelf_faults shelf.old) (S.shelf_faults shelf.new) }
+    ensures ends { Serves command.now
         → RunEnds (record { took = Y.Line.took; gave = Y.Line.gave; left = Y.Line.left; reads = Y.Line.read_faults; writes = Y.Line.write_faults }) (λ s. record { faults = Y.Start.start_faults s; asked = Y.Start.asked s })
         (record { file = S.file shelf.old; faults = S.shelf_faults shelf.old; faults_after = S.shelf_faults shelf.new })
         (record {
@@ -123,17 +123,17 @@ fn obey<R, S: Shelf, I: Source, O: Sink, Y: Yard, G: Gate>(
           writes_before = O.write_faults out.old;
           writes_after = O.write_faults out.new;
         })
-        command result.status result.homes.homes result.history.items result.lives.items result.starters.items }
-    ensures yard { AsksYard (S.file shelf.old) (Some command) result.status (Y.asked yard.old) (Y.asked yard.new) }
-    ensures server { (name : List ℕ) → command ≡ Server name
+        command.now result.status result.homes.homes result.history.items result.lives.items result.starters.items }
+    ensures yard { AsksYard (S.file shelf.old) (Some command.now) result.status (Y.asked yard.old) (Y.asked yard.new) }
+    ensures server { (name : List ℕ) → command.now ≡ Server name
         → ServerEnds name (I.left input.old) (I.left input.new) (I.gave input.old) (I.gave input.new) (O.took out.old) (O.took out.new) (I.read_faults input.old) (I.read_faults input.new) (O.write_faults out.old) (O.write_faults out.new) result.status
         × HandsNothing result.homes.homes result.history.items result.lives.items result.starters.items }
     ensures early { EndsEarly result.status result.homes.homes result.history.items result.lives.items result.starters.items }
 {
-    if let Command::Server(name) = &command {
+    if let Command::Server(name) = command {
         return nothing(alloc, child_work(alloc, name, input, out));
     }
-    match setup_of(alloc, &command, shelf) {
+    match setup_of(alloc, command, shelf) {
         Ok((setup, most)) => serve_script(rt, alloc, setup, most, input, out, yard, gate),
         Err(status) => nothing(alloc, status),
     }

@@ -1,6 +1,7 @@
 use Rattle.std.proofs.Common.{◌∙◌, ◌≡◌, Some, sym}
 use Rattle.xa_program.specs.declared.words.Command.TheVariants.{Server}
 use Rattle.xa_program.proofs.Complete.{nothing_else}
+use Rattle.std.proofs.lemmas.Option.{none-some}
 use Rattle.xa_program.proofs.top.run.Goals as goal
 
 pub returns-in-Ok-Some-clause-server : goal.returns-in-Ok-Some-clause-server
@@ -15,3 +16,20 @@ returns-in-Ok-Some-clause-complete g c command octets script is serves configure
     let ends = rw same at c.obey.ensures.ends in
     nothing_else _ (λ s. record { faults = g.Y.Start.Starter.start_faults s; asked = g.Y.Start.Starter.asked s }) _ _ command c.obey.result.status
     c.obey.result.homes.homes c.obey.result.history.items c.obey.result.lives.items c.obey.result.starters.items octets script (ends serves) configured told short is_script files reads writes
+
+-- ---- the words are no command's
+
+pub returns-in-Ok-None-clause-ends : goal.returns-in-Ok-None-clause-ends
+returns-in-Ok-None-clause-ends g c command is =
+    let none = sym c.in-Ok-None.ensures.found ∙ c.in-Ok-None.field-0-is in
+    absurd (none-some command (sym none ∙ is))
+
+pub returns-in-Ok-None-clause-complete : goal.returns-in-Ok-None-clause-complete
+returns-in-Ok-None-clause-complete g c command octets script is =
+    let none = sym c.in-Ok-None.ensures.found ∙ c.in-Ok-None.field-0-is in
+    absurd (none-some command (sym none ∙ is))
+
+pub returns-in-Ok-None-clause-server : goal.returns-in-Ok-None-clause-server
+returns-in-Ok-None-clause-server g c name is =
+    let none = sym c.in-Ok-None.ensures.found ∙ c.in-Ok-None.field-0-is in
+    absurd (none-some (Server name) (sym none ∙ is))
