@@ -1,21 +1,11 @@
--- A call that failed: what is said of its success, and that one which had all it needs didn't fail.
-use Rattle.std.proofs.Common.{◌≡◌, ℕ, ◌<◌, ◌^◌, Option, Result, Ok, Err, OnOk, IsErrAnd, IsSomeAnd, sym, ◌∙◌, ap, subst}
-use Rattle.std.specs.Prelude.{slice_get, IfOk, IsOk}
+-- A call that had all it needs didn't fail.
+use Rattle.std.proofs.Common.{◌≡◌, ℕ, ◌<◌, ◌^◌, Option, Result, Err, IsSomeAnd, sym, ◌∙◌, ap, subst}
+use Rattle.std.specs.Prelude.{slice_get, IsOk}
 use Rattle.xa_events.specs.declared.event.Started.{Started as StartedBy}
 use Rattle.xa_tables.specs.declared.server.Server.{Server}
 use Rattle.xa_tables.specs.declared.domain.Domain.{Domain}
 use Rattle.xa_tables.specs.Stamps.{larger}
 use Rattle.xa_domain.specs.Beginning.{MayBegin}
-
--- what is said of its success holds
-pub none_done : {X E : Type 0} (result : Result X E) (Q : E → Type 0) (P : Type 0) → IsErrAnd result Q → OnOk result P
-none_done (Ok x) Q P is = absurd is
-none_done (Err e) Q P is = tt
-
--- and so does what is said of the value that it would have answered
-pub none_made : {X E : Type 0} (result : Result X E) (Q : E → Type 0) (P : X → Type 0) → IsErrAnd result Q → IfOk result P
-none_made (Ok x) Q P is = absurd is
-none_made (Err e) Q P is = tt
 
 -- where the server at that place may begin, the event of its start can be noted
 pub noted_there : {L X E : Type 0} (server : ℕ) (b : StartedBy) (old d : Domain L) → MayBegin server b old → d.servers ≡ old.servers → d.latest ≡ old.latest → (result : Result X E) (e : E) → result ≡ Err e

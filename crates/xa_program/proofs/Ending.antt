@@ -58,7 +58,7 @@ module _ {L S : Type 0} (tells : LinkTells L) (shows : S → StarterShows) (stre
   served_ends (Some halts.NoMemory) NoMemory ends told = inr (clients, halted halts.NoMemory told ends.1)
   served_ends (Some (halts.Worn stamp)) (Worn last) ends told =
       subst (λ s. (clients : List Client) × IsHaltedRun shows streams (halts.Worn s) setup most clients homes history lives starters × IsWorn (halts.Worn s) homes) (sym told.0)
-          (clients, halted (halts.Worn stamp) told.1 ends.1, ends.0)
+      (clients, halted (halts.Worn stamp) told.1 ends.1, ends.0)
   served_ends halt status ends told = absurd told
 
 -- how serving a script ends, at that status

@@ -1,6 +1,6 @@
 -- The words, as they are read one by one.
-use Rattle.std.proofs.Common.{◌≡◌, ◌∙◌, ℕ, ◌+◌, ◌-◌, ◌<◌, ◌≤◌, add-one, arith, List, [], ◌∷◌, ◌++◌, take, drop, map, length, length-drop, get_or, Option, Some, None, IfOk, IsErrAnd, inl, inr, ap, sym}
-use Rattle.std.specs.Prelude.{IfSome, Result, Ok, Err, OnOk, OnErr, true, codes, refl}
+use Rattle.std.proofs.Common.{◌≡◌, ◌∙◌, ℕ, ◌+◌, ◌-◌, ◌<◌, ◌≤◌, add-one, arith, List, [], ◌∷◌, ◌++◌, take, drop, map, length, length-drop, get_or, Option, Some, None, inl, inr, ap, sym}
+use Rattle.std.specs.Prelude.{IfSome, Result, Ok, Err, OnErr, true, codes, refl}
 use Rattle.std.specs.Str.{bytes_eq}
 use Rattle.std.proofs.Math.Seq.{take-suc}
 use Rattle.std.proofs.lemmas.List.{take_all, map-append}
@@ -35,16 +35,6 @@ taken_all (Some ws) all place word none so beyond =
       | inl here ↦ absurd (none-some here.0 (sym none ∙ (beyond ∙ here.2)))
       | inr past ↦ so ∙ take_all place ws past.0
     ]
-
--- what is said of the success of a call that failed holds
-pub none_done : {X E : Type 0} (result : Result X E) (Q : E → Type 0) (P : Type 0) → IsErrAnd result Q → OnOk result P
-none_done (Ok x) Q P is = absurd is
-none_done (Err e) Q P is = tt
-
--- and so does what is said of the value that it would have answered
-pub none_made : {X E : Type 0} (result : Result X E) (Q : E → Type 0) (P : X → Type 0) → IsErrAnd result Q → IfOk result P
-none_made (Ok x) Q P is = absurd is
-none_made (Err e) Q P is = tt
 
 -- the names of the first clients, and that of one more
 pub names_more : (clients : List Client) (place : ℕ) (client : Client) (names : List (List ℕ)) → place < length clients → client ≡ get_or clients place client → names ≡ names_of (take place clients)

@@ -4,7 +4,7 @@ use Rattle.xa_domain.proofs.Course.{none_tested, some_tested, course_fits, cours
 use Rattle.xa_tables.proofs.Places.{on_ok_both}
 use Rattle.xa_tables.proofs.Kept.{passed_on}
 use Rattle.xa_domain.proofs.Sound.{sound_is_data}
-use Rattle.xa_domain.proofs.Failing.{none_done}
+use Rattle.xa_tables.proofs.Failing.{none_done}
 use Rattle.xa_domain.proofs.calling.carry.Goals as goal
 
 pub exchange-requires-clause-data : goal.exchange-requires-clause-data

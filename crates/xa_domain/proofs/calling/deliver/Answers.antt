@@ -1,7 +1,7 @@
 use Rattle.xa_domain.proofs.Delivering.{sends_keep, sends_hold}
 use Rattle.xa_tables.proofs.Places.{keeps_all, on_err}
 use Rattle.xa_tables.proofs.Kept.{passed_on}
-use Rattle.xa_domain.proofs.Failing.{none_made}
+use Rattle.xa_tables.proofs.Failing.{none_made}
 use Rattle.xa_domain.proofs.calling.deliver.Goals as goal
 
 pub returns-in_err-receive-clause-kept : goal.returns-in_err-receive-clause-kept

@@ -12,7 +12,7 @@ use Rattle.xa_tables.proofs.Lists.{set_here, set_length}
 use Rattle.xa_tables.proofs.Places.{numbered_kept, attempts_kept, keeps_all}
 use Rattle.xa_domain.proofs.Rests.{ready_same}
 use Rattle.xa_domain.proofs.Settling.{life_within, read_there, only_here, life_keeps, up_of, exchanged_by}
-use Rattle.xa_domain.proofs.Failing.{none_made}
+use Rattle.xa_tables.proofs.Failing.{none_made}
 use Rattle.xa_domain.proofs.calling.exchange.Goals as goal
 
 pub index_mut-its-requires : goal.index_mut-its-requires

@@ -8,7 +8,7 @@ use Rattle.xa_tables.proofs.Kept.{passed_on}
 use Rattle.xa_domain.proofs.Rests.{served_kept}
 use Rattle.xa_domain.proofs.Settling.{read_there, ended_holds, may_fall, settles_none, settles_some}
 use Rattle.xa_domain.proofs.Tabled.{ends_keep}
-use Rattle.xa_domain.proofs.Failing.{none_done}
+use Rattle.xa_tables.proofs.Failing.{none_done}
 use Rattle.xa_domain.proofs.calling.settle.Goals as goal
 
 pub returns-in_err-end : goal.returns-in_err-end

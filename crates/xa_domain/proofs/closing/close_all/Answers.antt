@@ -1,7 +1,7 @@
 use Rattle.std.proofs.Common.{◌∙◌}
 use Rattle.std.proofs.lemmas.Result.{on_ok_weaker, IfErr-weaker}
 use Rattle.xa_domain.proofs.ClosedDown.{leads_on, leads_to_halt, shut_of, each_of, closed_down}
-use Rattle.xa_domain.proofs.Failing.{none_done}
+use Rattle.xa_tables.proofs.Failing.{none_done}
 use Rattle.xa_domain.proofs.closing.close_all.Goals as goal
 
 pub shut_all-requires-clause-shut : goal.shut_all-requires-clause-shut

@@ -1,7 +1,7 @@
 use Rattle.xa_tables.proofs.Kept.{passed_on}
 use Rattle.xa_tables.proofs.Places.{numbered_kept, attempts_kept, keeps_all}
 use Rattle.xa_domain.proofs.ClosedDown.{closes_more, close_halts}
-use Rattle.xa_domain.proofs.Failing.{none_done}
+use Rattle.xa_tables.proofs.Failing.{none_done}
 use Rattle.xa_domain.proofs.closing.close_queues.Goals as goal
 
 pub returns-in_err-close-clause-numbered : goal.returns-in_err-close-clause-numbered

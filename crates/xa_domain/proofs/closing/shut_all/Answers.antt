@@ -1,5 +1,5 @@
 use Rattle.xa_domain.proofs.ClosedDown.{shuts_more}
-use Rattle.xa_domain.proofs.Failing.{none_done}
+use Rattle.xa_tables.proofs.Failing.{none_done}
 use Rattle.xa_domain.proofs.closing.shut_all.Goals as goal
 
 pub loop-server-preserved : goal.loop-server-preserved

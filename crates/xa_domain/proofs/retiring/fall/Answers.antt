@@ -12,7 +12,7 @@ use Rattle.xa_tables.proofs.Kept.{passed_on, known_here}
 use Rattle.xa_tables.proofs.Places.{numbered_kept, attempts_kept}
 use Rattle.xa_domain.proofs.Halted.{halts_at_server}
 use Rattle.xa_domain.proofs.Fallen.{stopped_by, keeps_stopped, served_stopped, may_retire, fallen_holds, tables_fallen}
-use Rattle.xa_domain.proofs.Failing.{none_done}
+use Rattle.xa_tables.proofs.Failing.{none_done}
 use Rattle.xa_domain.proofs.retiring.fall.Goals as goal
 
 -- ---- the end of its program leaves the domain as it is

@@ -5,7 +5,7 @@ use Rattle.xa_tables.specs.Boot.{withdrawn_from}
 use Rattle.xa_tables.specs.Resting.{IsNumbered, attempts}
 use Rattle.xa_tables.proofs.Kept.{passed_on}
 use Rattle.xa_tables.proofs.Places.{numbered_kept, attempts_kept}
-use Rattle.xa_domain.proofs.Failing.{none_done}
+use Rattle.xa_tables.proofs.Failing.{none_done}
 use Rattle.xa_domain.proofs.Halted.{halts_at_queue, halts_at_board}
 use Rattle.xa_domain.proofs.GivenUp.{give_up_stands, keeps_given_up, served_left, tables_left, retires_left, gone_holds, keeps_brought_down, served_down, tables_down, withdrawn_holds, retires_down}
 use Rattle.xa_domain.proofs.retiring.retire.Goals as goal

@@ -15,7 +15,7 @@ use Rattle.xa_tables.proofs.Places.{numbered_kept, attempts_kept}
 use Rattle.xa_tables.proofs.Lists.{after_stands}
 use Rattle.xa_domain.proofs.Settling.{either_way}
 use Rattle.xa_domain.proofs.Making.{makes_none, makes_more, next_turn, call_at, numbered_leave, tried_leave, ready_leave, stays_till, gone_leave, goes_leave}
-use Rattle.xa_domain.proofs.Failing.{none_done}
+use Rattle.xa_tables.proofs.Failing.{none_done}
 use Rattle.xa_domain.proofs.serving.make_calls.Goals as goal
 
 pub loop-op-init : goal.loop-op-init

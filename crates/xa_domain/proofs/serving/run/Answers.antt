@@ -6,7 +6,7 @@ use Rattle.xa_domain.specs.Serving.{IsBuiltOp}
 use Rattle.xa_tables.proofs.Kept.{stood_here, passed_on}
 use Rattle.xa_tables.proofs.Places.{on_ok_both}
 use Rattle.xa_domain.proofs.Making.{runs_none, runs_more, here_fresh, its_calls, all_away, all_gone}
-use Rattle.xa_domain.proofs.Failing.{none_done}
+use Rattle.xa_tables.proofs.Failing.{none_done}
 use Rattle.xa_domain.proofs.serving.run.Goals as goal
 
 pub start_all-requires : goal.start_all-requires

@@ -6,7 +6,7 @@ use Rattle.xa_domain.specs.Serving.{IsStarterBy}
 use Rattle.xa_tables.specs.Resting.{attempts}
 use Rattle.xa_tables.proofs.Lists.{other_stands}
 use Rattle.xa_domain.proofs.Begun.{numbered_room, attempts_room, on_room, room_stood, may_begin, stands_room, room_halts, shows_started, shows_failed, shows_same}
-use Rattle.xa_domain.proofs.Failing.{none_done}
+use Rattle.xa_tables.proofs.Failing.{none_done}
 use Rattle.xa_domain.proofs.Halted.{halts}
 use Rattle.xa_tables.proofs.Kept.{passed_on}
 use Rattle.xa_domain.proofs.starting.start.Goals as goal

@@ -1,4 +1,4 @@
-use Rattle.xa_program.proofs.Given.{none_made}
+use Rattle.xa_tables.proofs.Failing.{none_made}
 use Rattle.xa_program.proofs.setup.play_setup.Goals as goal
 
 pub returns-in_err-queues : goal.returns-in_err-queues

@@ -1,4 +1,4 @@
-use Rattle.xa_program.proofs.Given.{none_done, none_made}
+use Rattle.xa_tables.proofs.Failing.{none_done, none_made}
 use Rattle.xa_program.proofs.top.setup_of.Goals as goal
 
 pub returns-in_err-read_setup-in-Run-clause-found : goal.returns-in_err-read_setup-in-Run-clause-found
