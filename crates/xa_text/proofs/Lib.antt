@@ -1,4 +1,3 @@
 pub mod InTurn
-pub mod Lines
 pub mod Pairs
 pub mod Passing
