@@ -384,6 +384,15 @@ shuts_none d numbered served shut each = record {
   goes = leads_nowhere d;
 }
 
+-- the next of them may end
+pub may_end : {L : Type 0} (place : ℕ) (old d : Domain L) → IsShutting place old d → place < length old.servers.items → IsSomeAnd (slice_get d.servers.items place) MayEnd
+may_end place old d t within =
+    let same = same_length (λ (x : Server). (x.name, x.attempt)) old.servers.items d.servers.items t.same in
+    elim (slice_get_cases d.servers.items place).1 [
+      | inl here ↦ subst (λ (o : Option Server). IsSomeAnd o MayEnd) (sym here.2) (t.each place here.0 here.2)
+      | inr beyond ↦ absurd (omega (arith, same, within, beyond.0))
+    ]
+
 pub shuts_more : {L : Type 0} (place : ℕ) (old d d' : Domain L) → IsShutting place old d → ShutsDown place d d' → IsNumbered d' → attempts d' ≡ attempts d → IsServed d' → LeadsOn d d' → IsShutting (place + 1) old d'
 shuts_more place old d d' t step numbered same served goes =
     let at : (i : ℕ) (x : Server) → i ≡ place → slice_get d'.servers.items i ≡ Some x → IsOver x = λ i x here is. step.over x (subst (λ (k : ℕ). slice_get d'.servers.items k ≡ Some x) here is) in

@@ -37,12 +37,12 @@ use Rattle.xa_tables.specs.May.{AcceptMay, TakeMay}
 use Rattle.xa_tables.specs.Resting.{IsNumbered, IsFresh, IsUp, IsOver}
 use Rattle.xa_domain.specs.Standing.{IsReady, RowServes}
 use Rattle.xa_tables.specs.Steps.{server_place}
-use Rattle.xa_tables.proofs.Lists.{each_changed, after_stands, before_is}
+use Rattle.xa_tables.proofs.Lists.{each_changed, after_stands, before_is, changed_length}
 use Rattle.xa_tables.proofs.Calls.{accept_holds}
 use Rattle.xa_domain.proofs.Configured.{has_capacity}
 use Rattle.xa_tables.proofs.Finding.{rows_are}
 use Rattle.xa_tables.proofs.Places.{map-changed, numbered_kept}
-use Rattle.xa_domain.proofs.Rests.{some_is, some_of, KeepsRest, state_of_queue, state_of_server}
+use Rattle.xa_domain.proofs.Rests.{some_is, some_of, KeepsRest, state_of_queue, state_of_server, some_there}
 use Rattle.xa_tables.proofs.Servers.{take_holds, takes_bound, counted_within}
 
 -- ---- what stays
@@ -76,6 +76,26 @@ receives_keep {L = L} server request old new receives =
       servers = map-changed state_of_server server old.servers.items new.servers.items step.servers (ap state_of_server step.servers.how);
       board = step.others.0;
     }
+
+-- ---- where the queue of a server that waits for a request stands
+
+abbrev Waits : QueueId → Server → Type 0
+Waits queue x = (x.doing ≡ Idle (record { 0 = 1 })) × (x.queue ≡ queue)
+
+pub queue_known : {L : Type 0} (d : Domain L) (server : ℕ) (queue : QueueId) → IsNumbered d → IsSomeAnd (slice_get d.servers.items server) (Waits queue) → (0 < queue.0) × (queue.0 ≤ length d.queues.items)
+queue_known d server queue numbered waits =
+    let there = some_there d.servers.items server (Waits queue) waits in
+    let its = numbered.servers server there.0 there.1 in
+    subst (λ (q : QueueId). (0 < q.0) × (q.0 ≤ length d.queues.items)) there.2.1 (its.1, its.2)
+
+pub taker_known : {L : Type 0} (client op version : ℕ) (row : Row) (payload : Data) (request : RequestId) (old new : Domain L) → Sends client op version row payload request old new → (server : ℕ) → IsNumbered old
+    → IsSomeAnd (slice_get old.servers.items server) (Waits row.queue) → IsSomeAnd (slice_get new.servers.items server) (λ (x : Server). (0 < x.queue.0) × (x.queue.0 ≤ length new.queues.items))
+taker_known client op version row payload request old new sends server numbered waits =
+    let there = some_there old.servers.items server (Waits row.queue) waits in
+    let its = numbered.servers server there.0 there.1 in
+    let same = changed_length sends.place old.queues.items new.queues.items sends.accepts.queues in
+    some_of (slice_get new.servers.items server) (λ (x : Server). (0 < x.queue.0) × (x.queue.0 ≤ length new.queues.items)) there.0 (ap (λ v. slice_get v.items server) sends.accepts.others.1 ∙ there.1)
+    (its.1, omega (arith, its.2, same))
 
 -- ---- servers and clients while a call is under way
 

@@ -1,10 +1,41 @@
--- Lives that are handed back, one after another.
-use Rattle.std.proofs.Common.{◌≡◌, suc, ◌<◌, List, [], ◌∷◌, ◌++◌, length, refl, sym, ◌∙◌, ap, subst, arith, append-nil, append_assoc}
-use Rattle.std.proofs.lemmas.List.{length-append}
+-- Homes and lives that are handed back, one after another.
+use Rattle.std.proofs.Common.{◌≡◌, suc, ◌<◌, List, [], ◌∷◌, ◌++◌, length, refl, sym, ◌∙◌, ap, subst, arith, append-nil, append_assoc, ◌+◌, map}
+use Rattle.std.proofs.lemmas.List.{length-append, length-map}
 use Rattle.xa_tables.specs.declared.life.Lived.{Lived}
 use Rattle.xa_domain.specs.declared.serving.Life.{Life}
-use Rattle.xa_domain.specs.Handing.{IsHanded, AreHanded, HandsOn}
+use Rattle.xa_domain.specs.Handing.{IsHanded, AreHanded, HandsOn, AddsOn}
 use Rattle.xa_domain.specs.Serving.{LinkTells}
+use Rattle.xa_stamp.specs.Home.{Notes}
+
+-- ---- homes
+
+module _ {X : Type 0} (home : X → Notes) (before : List Notes) (all : List X) where
+  pub adds_none : (rest : List X) → rest ≡ all → AddsOn home before all rest before
+  adds_none rest same = ap (λ (xs : List X). before ++ map home xs) same
+
+  pub adds_more : (rest left : List X) (homes now : List Notes) (x : X) → AddsOn home before all rest homes → rest ≡ x ∷ left → now ≡ homes ++ home x ∷ [] → AddsOn home before all left now
+  adds_more rest left homes now x adds is pushed =
+      ap (λ (hs : List Notes). hs ++ map home left) pushed ∙ (append_assoc homes (home x ∷ []) (map home left) ∙ (ap (λ (xs : List X). homes ++ map home xs) (sym is) ∙ adds))
+
+  -- there is one more than were added
+  pub adds_below : (rest left : List X) (homes : List Notes) (x : X) → AddsOn home before all rest homes → rest ≡ x ∷ left → length homes < length before + length all
+  adds_below rest left homes x adds is =
+      omega (arith, ap length adds, length-append homes (map home rest), length-append before (map home all), length-map rest home, length-map all home, ap length is)
+
+  pub adds_all : (rest : List X) (homes : List Notes) → AddsOn home before all rest homes → rest ≡ [] → homes ≡ before ++ map home all
+  adds_all rest homes adds none = sym (append-nil homes) ∙ (ap (λ (xs : List X). homes ++ map home xs) (sym none) ∙ adds)
+
+put_on : (a b c rest : List Notes) → b ≡ a ++ c → b ++ rest ≡ a ++ (c ++ rest)
+put_on a b c rest is = ap (λ (hs : List Notes). hs ++ rest) is ∙ append_assoc a c rest
+
+-- what was added piece by piece
+pub adds_up : (none h1 h2 h3 h4 h5 queues clients servers : List Notes) (board clock : Notes) → none ≡ [] → h1 ≡ none ++ board ∷ [] → h2 ≡ h1 ++ queues → h3 ≡ h2 ++ clock ∷ [] → h4 ≡ h3 ++ clients → h5 ≡ h4 ++ servers
+    → h5 ≡ board ∷ (queues ++ clock ∷ (clients ++ servers))
+adds_up none h1 h2 h3 h4 h5 queues clients servers board clock empty first second third fourth fifth =
+    fifth ∙ (put_on h3 h4 clients servers fourth ∙ (put_on h2 h3 (clock ∷ []) (clients ++ servers) third ∙ (put_on h1 h2 queues (clock ∷ (clients ++ servers)) second
+    ∙ (put_on none h1 (board ∷ []) (queues ++ clock ∷ (clients ++ servers)) first ∙ ap (λ (hs : List Notes). hs ++ board ∷ (queues ++ clock ∷ (clients ++ servers))) empty))))
+
+-- ---- lives
 
 handed_push : {L : Type 0} (tells : LinkTells L) (ys : List (Lived L)) (lives : List (Life L)) (y : Lived L) (life : Life L) → AreHanded tells ys lives → IsHanded tells y life → AreHanded tells (ys ++ y ∷ []) (lives ++ life ∷ [])
 handed_push tells [] [] y life handed one = (one, tt)

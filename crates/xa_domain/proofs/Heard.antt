@@ -1,5 +1,5 @@
 -- What was heard of a request: how it ends, and with which cause the life of its server.
-use Rattle.std.proofs.Common.{◌≡◌, ℕ, Bool, true, false, Option, Some, None, Result, Ok, Err, inl, inr, refl, subst}
+use Rattle.std.proofs.Common.{◌≡◌, ℕ, Bool, true, false, Option, Some, None, Result, Ok, Err, inl, inr, refl, subst, sym}
 use Rattle.std.specs.Prelude.{IfErr, if◌then◌else◌, ℤ}
 use Rattle.xa_types.specs.declared.data.Data.{Data}
 use Rattle.xa_types.specs.declared.call.Rval.{Rval}
@@ -14,8 +14,10 @@ use Rattle.xa_events.specs.Cases.{may_end_so}
 use Rattle.xa_events.specs.Server.{after_end}
 use Rattle.xa_pipe.specs.declared.hearing.Return.{Return}
 use Rattle.xa_pipe.specs.Life.{outcome_of, lost_by}
-use Rattle.xa_pipe.specs.Pipe.{CountsReads, CountsWrites}
+use Rattle.xa_pipe.specs.Pipe.{CountsReads, CountsWrites, Piped}
 use Rattle.xa_domain.specs.Calling.{MayEndWith, cause_by, cause_heard, outcome_heard, is_lost}
+use Rattle.xa_frame.specs.declared.frame.Frame.{Frame}
+use Rattle.xa_tables.specs.Piping.{NotSent, HearsBack}
 
 -- ---- a cause that a read or a write gives
 
@@ -33,6 +35,12 @@ pub lost_writing : (cause : StopCause) (before after : ℕ) → CountsWrites cau
 lost_writing WriteFault before after counts = refl
 lost_writing Starved before after counts = refl
 lost_writing cause before after counts = absurd counts
+
+pub lost_back : (sent : Result (Unit {0}) StopCause) (invoke : Frame) (number : ℕ) (back : Result Return StopCause) (before mid from after : Piped) → IfErr sent (λ cause. NotSent invoke cause before mid) → HearsBack sent number back from after
+    → IfErr back (λ cause. is_lost cause ≡ true)
+lost_back (Ok done) invoke number (Ok back) before mid from after failed heard = tt
+lost_back (Ok done) invoke number (Err cause) before mid from after failed heard = lost_reading cause from.reads after.reads heard.counts
+lost_back (Err cause) invoke number back before mid from after failed heard = subst (λ (r : Result Return StopCause). IfErr r (λ c. is_lost c ≡ true)) (sym heard.0) (lost_writing cause before.writes mid.writes failed.why)
 
 -- ---- the end of the request
 

@@ -3,6 +3,7 @@ use Rattle.std.proofs.Common.{◌≡◌, ℕ, ◌<◌, Bool, true, false, List, 
 use Rattle.std.specs.Prelude.{slice_get, ◌&&◌}
 use Rattle.std.specs.List.{All, Contains}
 use Rattle.std.specs.Str.{bytes_eq}
+use Rattle.std.proofs.lemmas.Bool.{or_parts, not-false}
 use Rattle.std.proofs.lemmas.List.Elements.{All-head, All-filter, All-contains_itself}
 use Rattle.std.proofs.lemmas.Option.{slice_get_within}
 use Rattle.xa_types.specs.declared.call.Ask.{Ask}
@@ -11,7 +12,7 @@ use Rattle.xa_types.specs.declared.fault.Fault.TheVariants.{NoEnt, IType}
 use Rattle.xa_types.specs.declared.row.Row.{Row}
 use Rattle.xa_types.specs.declared.setup.Setup.{Setup}
 use Rattle.xa_types.specs.Found.{FoundRows}
-use Rattle.xa_types.specs.Kind.{is_accepted, kind_of}
+use Rattle.xa_types.specs.Kind.{is_accepted, is_sound, kind_of}
 use Rattle.xa_types.specs.Rows.{row_of, same_truth}
 use Rattle.xa_events.specs.declared.event.Event.{Event}
 use Rattle.xa_events.specs.declared.event.Evidence.TheVariants.{Version}
@@ -30,6 +31,12 @@ use Rattle.xa_tables.proofs.Calls.{looked_up}
 use Rattle.xa_tables.proofs.Kept.{stood_here}
 use Rattle.xa_tables.proofs.Finding.{found_rows, found_stands, same_kinds}
 use Rattle.xa_domain.proofs.Rests.{same_after, some_there}
+
+-- ---- what is refused
+
+-- the data of a call that isn't refused is sound
+pub sound_call : (setup : Setup) (ask : Ask) → is_invalid_call setup ask ≡ false → is_sound setup ask.payload ≡ true
+sound_call setup ask valid = not-false _ (or_parts _ _ (or_parts _ _ valid).0).1
 
 -- ---- what was chosen
 

@@ -1,5 +1,5 @@
 -- The end of a request with the life of its server, or without it, and a life behind a request: how the functions show it.
-use Rattle.std.proofs.Common.{◌≡◌, ℕ, ◌<◌, List, [], ◌∷◌, length, get_or, Some, None, Result, Ok, Err, OnOk, OnErr, IfErr, IsSomeAnd, inl, inr, refl, sym, ◌∙◌, ap, subst, true}
+use Rattle.std.proofs.Common.{◌≡◌, ℕ, ◌<◌, List, [], ◌∷◌, length, get_or, Some, None, Result, Ok, Err, OnOk, OnErr, IfErr, IsSomeAnd, inl, inr, refl, sym, ◌∙◌, ap, subst, true, false}
 use Rattle.std.specs.Prelude.{slice_get}
 use Rattle.std.specs.Vec.{with_item}
 use Rattle.std.proofs.lemmas.Option.{slice_get_within}
@@ -12,10 +12,10 @@ use Rattle.xa_events.specs.declared.event.Doing.TheVariants.{Off, Idle}
 use Rattle.xa_events.specs.declared.event.Outcome.{Outcome}
 use Rattle.xa_events.specs.declared.event.StopCause.{StopCause}
 use Rattle.xa_events.specs.Cases.{may_end_so}
-use Rattle.xa_events.specs.Server.{after_end}
+use Rattle.xa_events.specs.Server.{after_end, is_shutdown}
 use Rattle.xa_frame.specs.declared.frame.Frame.{Frame}
 use Rattle.xa_pipe.specs.declared.hearing.Return.{Return}
-use Rattle.xa_pipe.specs.Pipe.{Piped}
+use Rattle.xa_pipe.specs.Pipe.{Piped, CountsReads}
 use Rattle.xa_tables.specs.declared.server.Server.{Server}
 use Rattle.xa_tables.specs.declared.server.Last.TheVariants.{Nothing}
 use Rattle.xa_tables.specs.declared.domain.Domain.{Domain}
@@ -34,6 +34,7 @@ use Rattle.xa_domain.proofs.Rests.{some_is, some_of, some_there, KeepsRest, only
 use Rattle.xa_tables.proofs.Servers.{end_holds}
 use Rattle.xa_tables.proofs.Lists.{after_stands, before_is}
 use Rattle.xa_domain.proofs.Underway.{holds_beside}
+use Rattle.xa_events.specs.declared.event.StopCause.TheVariants.{Shutdown, Exit, EndOfInput, ReadFault, WriteFault, BadBytes, OutOfTurn, Starved}
 
 -- what is read at a place where something is, is there
 pub read_there : {X : Type 0} (xs : List X) (i : ℕ) (x : X) (P : X → Type 0) → IsSomeAnd (slice_get xs i) P → x ≡ get_or xs i x → slice_get xs i ≡ Some x
@@ -136,6 +137,22 @@ module _ {L : Type 0} (server : ℕ) (request : RequestId) (outcome : Outcome) (
   }
 
 -- ---- behind a request
+
+-- with which cause a read fails
+read_cause : (cause : StopCause) (before after : ℕ) → CountsReads cause before after → (is_shutdown cause ≡ false) × (cause ≡ Exit → ⊥)
+read_cause ReadFault before after counts = (refl, λ is. cc is)
+read_cause WriteFault before after counts = absurd counts
+read_cause Shutdown before after counts = absurd counts
+read_cause Exit before after counts = absurd counts
+read_cause EndOfInput before after counts = (refl, λ is. cc is)
+read_cause (BadBytes place) before after counts = (refl, λ is. cc is)
+read_cause (OutOfTurn kind tag) before after counts = (refl, λ is. cc is)
+read_cause Starved before after counts = (refl, λ is. cc is)
+
+pub may_fall_reading : (cause : StopCause) (before after : ℕ) → CountsReads cause before after → (x : Server) → IsUp x → MayFall cause x
+may_fall_reading cause before after counts x up =
+    let by = read_cause cause before after counts in
+    record { started = up.started; stands = up.stands; kept = up.kept; fails = by.0; alive = inl (up.idle, λ exits. absurd (by.1 exits)) }
 
 module _ {L : Type 0} (server : ℕ) (by : Server) (old read : Domain L) (stood : slice_get old.servers.items server ≡ Some by) where
   pub frees_none : OnlyLife by.life old read (λ (y y' : Lived L). (y' ≡ record y { pipe = y'.pipe }) × NextOr None y.pipe y'.pipe) → Frees server old read

@@ -22,6 +22,10 @@ pub record HasRoomFor {L : Type 0} (homes_due lives_due : ℕ) (room : Room L) :
 abbrev pub homes_in : Notes → List Queue → Notes → List Client → List Server → List Notes
 homes_in board queues clock clients servers = board ∷ (map (λ (q : Queue). q.home) queues ++ clock ∷ (map (λ (x : Client). x.home) clients ++ map (λ (x : Server). x.home) servers))
 
+-- of these homes the rest is still to be added
+abbrev pub AddsOn : {X : Type 0} → (X → Notes) → List Notes → List X → List X → List Notes → Type 0
+AddsOn home before all rest homes = homes ++ map home rest ≡ before ++ map home all
+
 -- these are the homes of the domain, with that of the board and an empty one of the clock
 pub record AreHomesOf {L : Type 0} (d : Domain L) (homes : List Notes) : Type 0 where
   pub board : Notes

@@ -376,7 +376,9 @@ fn exchange<L: Link>(
     ensures failed { IfErr result (λ halt. (setup : Setup) (count : ℕ) (past : List Event) → is_configured setup ≡ true → Holds setup count past domain.old
         → RowServes setup past domain.old client version ask.now row.now → IsHalted setup count halt domain.new) }
 {
-    let payload = ask.payload.copy(alloc)?;
+    let Ok(payload) = ask.payload.copy(alloc) else {
+        return Err(Halt::NoMemory);
+    };
     let life = domain.servers[server].life;
     let its = &mut domain.lives[life];
     let sent = its.send(row, &ask.payload);

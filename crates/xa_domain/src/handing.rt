@@ -33,10 +33,12 @@ pub fn room_for<L>(alloc: Global, setup: &Setup, clients: usize) -> Result<Room<
 {
     let queues = setup.queues.slice().len();
     let servers = setup.servers.slice().len();
-    Ok(Room {
-        homes: Vec::with_capacity(alloc, 2 + queues + clients + servers)?,
-        lives: Vec::with_capacity(alloc, servers)?,
-    })
+    let homes = Vec::with_capacity(alloc, 2 + queues + clients + servers)?;
+    let Ok(lives) = Vec::with_capacity(alloc, servers) else {
+        homes.destroy_empty();
+        return Err(NoMemory);
+    };
+    Ok(Room { homes, lives })
 }
 
 fn add_queues(homes: &mut Vec<Home>, queues: Vec<Queue>)
@@ -44,9 +46,11 @@ fn add_queues(homes: &mut Vec<Home>, queues: Vec<Queue>)
     ensures items { homes.new.items ≡ homes.old.items ++ map (λ (q : Queue). q.home) queues.items }
     ensures room { vec_capacity homes.new ≡ vec_capacity homes.old }
 {
-    for Queue { home, .. } in queues {
+    let mut rest = queues.into_iter();
+    while let Some(Queue { home, .. }) = rest.next() {
         homes.push_reserved(home);
     }
+    rest.destroy_empty();
 }
 
 fn add_clients(homes: &mut Vec<Home>, clients: Vec<Client>)
@@ -54,9 +58,11 @@ fn add_clients(homes: &mut Vec<Home>, clients: Vec<Client>)
     ensures items { homes.new.items ≡ homes.old.items ++ map (λ (x : Client). x.home) clients.items }
     ensures room { vec_capacity homes.new ≡ vec_capacity homes.old }
 {
-    for Client { home, .. } in clients {
+    let mut rest = clients.into_iter();
+    while let Some(Client { home, .. }) = rest.next() {
         homes.push_reserved(home);
     }
+    rest.destroy_empty();
 }
 
 fn add_servers(homes: &mut Vec<Home>, servers: Vec<Server>)
@@ -64,9 +70,11 @@ fn add_servers(homes: &mut Vec<Home>, servers: Vec<Server>)
     ensures items { homes.new.items ≡ homes.old.items ++ map (λ (x : Server). x.home) servers.items }
     ensures room { vec_capacity homes.new ≡ vec_capacity homes.old }
 {
-    for Server { home, .. } in servers {
+    let mut rest = servers.into_iter();
+    while let Some(Server { home, .. }) = rest.next() {
         homes.push_reserved(home);
     }
+    rest.destroy_empty();
 }
 
 // The homes: that of the board, of each queue, of the clock, and of each caller.

@@ -5,15 +5,22 @@ use Rattle.xa_types.specs.declared.fault.Fault.TheVariants.{Inval, NoEnt, IType}
 use Rattle.xa_types.specs.Kind.{is_accepted}
 use Rattle.xa_events.specs.declared.event.Evidence.TheVariants.{Argument, Version}
 use Rattle.xa_domain.proofs.Choosing.{free_there, free_is}
-use Rattle.xa_domain.proofs.Looking.{row_chosen, kind_refused, client_there, clients_kept, rows_read, row_stands, made_since, seen_least, row_serves, no_row, no_kind, evidence_none, evidence_kind}
+use Rattle.xa_domain.proofs.Looking.{row_chosen, kind_refused, client_there, clients_kept, rows_read, row_stands, made_since, seen_least, row_serves, no_row, no_kind, evidence_none, evidence_kind, sound_call}
 use Rattle.xa_tables.proofs.Places.{attempts_kept}
 use Rattle.xa_domain.proofs.Refused.{looks_up_keeps, looks_up_ready, looks_up_turn, looks_up_stands, turned_goes}
 use Rattle.xa_domain.proofs.calling.call.Goals as goal
 
-pub returns-in_default-clause-goes : goal.returns-in_default-clause-goes
-returns-in_default-clause-goes g c =
-    on_ok_weaker c.turn_down.result
-    (λ done script past none stands called. turned_goes c.args.client c.args.op Inval Argument c.args.domain.now c.turn_down.new.domain done c.args.setup.now script past c.args.ask.now stands c.requires.ready c.requires.turn called c.in_default.ensures tt (λ version is. cc is)) c.turn_down.ensures.done
+pub returns-in_default : goal.returns-in_default
+returns-in_default g c =
+    record {
+      numbered = c.turn_down.ensures.numbered;
+      attempts = c.turn_down.ensures.attempts;
+      ready = c.turn_down.ensures.ready;
+      called = c.turn_down.ensures.called;
+      goes = on_ok_weaker c.turn_down.result
+          (λ done script past none stands called. turned_goes c.args.client c.args.op Inval Argument c.args.domain.now c.turn_down.new.domain done c.args.setup.now script past c.args.ask.now stands c.requires.ready c.requires.turn called c.in_default.ensures tt (λ version is. cc is)) c.turn_down.ensures.done;
+      failed = IfErr-weaker c.turn_down.result _ _ (λ halt failed script past none stands called. failed c.args.setup.now (length script) past stands.holds) c.turn_down.ensures.failed;
+    }
 
 pub look_up-version-requires : goal.look_up-version-requires
 look_up-version-requires g c =
@@ -31,17 +38,16 @@ unreachable-requires g c =
     free_there c.look_up-version.new.self (looks_up_ready c.args.client c.in-Some.service c.look_up-version.result c.args.domain.now c.look_up-version.new.self c.look_up-version.ensures c.requires.ready) c.in-ByRow.row (row_stands c.args.client c.args.op c.look_up-version.result c.in-Some.service c.args.domain.now c.look_up-version.new.self c.look_up-version.ensures c.in-ByRow.row chosen.0 (rows_read c.args.client c.args.op c.look_up-version.result c.in-Some.service c.args.domain.now c.look_up-version.new.self c.look_up-version.ensures c.index.result.now c.found-found.result.now c.as_slice.result.now c.index.ensures
     (subst (λ n. c.args.client < n) (sym (clients_kept c.args.client c.args.op c.look_up-version.result c.in-Some.service c.args.domain.now c.look_up-version.new.self c.look_up-version.ensures)) (client_there c.args.domain.now c.args.client (λ x. (c.args.op ≡ x.op + 1) × (x.left ≡ false)) c.requires.turn)) c.found-found.ensures (c.as_slice.ensures.value ∙ ap (λ f. f.rows) c.found.view_is) ∙ chosen.1)) (sym c.idle_server.ensures ∙ c.in_default-idle_server.is)
 
-pub carry-requires-clause-ready : goal.carry-requires-clause-ready
-carry-requires-clause-ready g c =
-    looks_up_ready c.args.client c.in-Some.service c.look_up-version.result c.args.domain.now c.look_up-version.new.self c.look_up-version.ensures c.requires.ready
-
-pub carry-requires-clause-turn : goal.carry-requires-clause-turn
-carry-requires-clause-turn g c =
-    looks_up_turn c.args.client c.in-Some.service c.look_up-version.result c.args.domain.now c.look_up-version.new.self c.look_up-version.ensures (λ op left. (c.args.op ≡ op + 1) × (left ≡ false)) c.requires.turn
-
-pub carry-requires-clause-up : goal.carry-requires-clause-up
-carry-requires-clause-up g c =
-    free_is c.look_up-version.new.self (looks_up_ready c.args.client c.in-Some.service c.look_up-version.result c.args.domain.now c.look_up-version.new.self c.look_up-version.ensures c.requires.ready) c.in-ByRow.row c.in-Some-idle_server.server (sym c.idle_server.ensures ∙ c.in-Some-idle_server.is)
+pub carry-requires : goal.carry-requires
+carry-requires g c =
+    record {
+      ready = looks_up_ready c.args.client c.in-Some.service c.look_up-version.result c.args.domain.now c.look_up-version.new.self c.look_up-version.ensures c.requires.ready;
+      configured = c.requires.configured;
+      turn = looks_up_turn c.args.client c.in-Some.service c.look_up-version.result c.args.domain.now c.look_up-version.new.self c.look_up-version.ensures (λ op left. (c.args.op ≡ op + 1) × (left ≡ false)) c.requires.turn;
+      expects = c.requires.expects;
+      up = free_is c.look_up-version.new.self (looks_up_ready c.args.client c.in-Some.service c.look_up-version.result c.args.domain.now c.look_up-version.new.self c.look_up-version.ensures c.requires.ready) c.in-ByRow.row c.in-Some-idle_server.server (sym c.idle_server.ensures ∙ c.in-Some-idle_server.is);
+      sound = sound_call c.args.setup.now c.args.ask.now c.in-Some.ensures.0;
+    }
 
 pub returns-in-NoRow : goal.returns-in-NoRow
 returns-in-NoRow g c =
@@ -79,21 +85,20 @@ returns-in-NoKind g c =
       failed = IfErr-weaker c.turn_down-in-NoKind.result _ _ (λ halt failed script past none stands called. failed c.args.setup.now (length script) past (looks_up_stands c.args.client c.in-Some.service c.look_up-version.result c.args.domain.now c.look_up-version.new.self c.look_up-version.ensures c.args.setup.now script past stands).holds) c.turn_down-in-NoKind.ensures.failed;
     }
 
-pub returns-in-Some-idle_server-clause-called : goal.returns-in-Some-idle_server-clause-called
-returns-in-Some-idle_server-clause-called g c =
-    on_ok_weaker c.carry.result (made_since c.args.client c.args.op c.look_up-version.result c.in-Some.service c.args.domain.now c.look_up-version.new.self c.look_up-version.ensures c.carry.new.domain) c.carry.ensures.called
-
-pub returns-in-Some-idle_server-clause-goes : goal.returns-in-Some-idle_server-clause-goes
-returns-in-Some-idle_server-clause-goes g c =
-    on_ok_weaker c.carry.result (λ goes script past none stands called. goes script past none (looks_up_stands c.args.client c.in-Some.service c.look_up-version.result c.args.domain.now c.look_up-version.new.self c.look_up-version.ensures c.args.setup.now script past stands) called
-    (let chosen = row_chosen c.args.setup.now c.as_slice.result.now c.kind.result c.in-ByRow.row c.in-ByRow.ensures in row_serves c.args.client c.args.op c.look_up-version.result c.in-Some.service c.args.domain.now c.look_up-version.new.self c.look_up-version.ensures c.args.setup.now (length script) past c.args.ask.now stands.holds c.in-Some.ensures.0 c.in-Some.ensures.1 c.in-ByRow.row chosen.0 (rows_read c.args.client c.args.op c.look_up-version.result c.in-Some.service c.args.domain.now c.look_up-version.new.self c.look_up-version.ensures c.index.result.now c.found-found.result.now c.as_slice.result.now c.index.ensures
-    (subst (λ n. c.args.client < n) (sym (clients_kept c.args.client c.args.op c.look_up-version.result c.in-Some.service c.args.domain.now c.look_up-version.new.self c.look_up-version.ensures)) (client_there c.args.domain.now c.args.client (λ x. (c.args.op ≡ x.op + 1) × (x.left ≡ false)) c.requires.turn)) c.found-found.ensures (c.as_slice.ensures.value ∙ ap (λ f. f.rows) c.found.view_is) ∙ chosen.1) (ap (is_accepted c.args.setup.now c.in-ByRow.row.accepts) (sym c.kind.ensures) ∙ chosen.2))) c.carry.ensures.goes
-
-pub returns-in-Some-idle_server-clause-failed : goal.returns-in-Some-idle_server-clause-failed
-returns-in-Some-idle_server-clause-failed g c =
-    IfErr-weaker c.carry.result _ _ (λ halt failed script past none stands called. failed script past none (looks_up_stands c.args.client c.in-Some.service c.look_up-version.result c.args.domain.now c.look_up-version.new.self c.look_up-version.ensures c.args.setup.now script past stands) called
-    (let chosen = row_chosen c.args.setup.now c.as_slice.result.now c.kind.result c.in-ByRow.row c.in-ByRow.ensures in row_serves c.args.client c.args.op c.look_up-version.result c.in-Some.service c.args.domain.now c.look_up-version.new.self c.look_up-version.ensures c.args.setup.now (length script) past c.args.ask.now stands.holds c.in-Some.ensures.0 c.in-Some.ensures.1 c.in-ByRow.row chosen.0 (rows_read c.args.client c.args.op c.look_up-version.result c.in-Some.service c.args.domain.now c.look_up-version.new.self c.look_up-version.ensures c.index.result.now c.found-found.result.now c.as_slice.result.now c.index.ensures
-    (subst (λ n. c.args.client < n) (sym (clients_kept c.args.client c.args.op c.look_up-version.result c.in-Some.service c.args.domain.now c.look_up-version.new.self c.look_up-version.ensures)) (client_there c.args.domain.now c.args.client (λ x. (c.args.op ≡ x.op + 1) × (x.left ≡ false)) c.requires.turn)) c.found-found.ensures (c.as_slice.ensures.value ∙ ap (λ f. f.rows) c.found.view_is) ∙ chosen.1) (ap (is_accepted c.args.setup.now c.in-ByRow.row.accepts) (sym c.kind.ensures) ∙ chosen.2))) c.carry.ensures.failed
+pub returns-in-Some-idle_server : goal.returns-in-Some-idle_server
+returns-in-Some-idle_server g c =
+    record {
+      numbered = c.carry.ensures.numbered;
+      attempts = c.carry.ensures.attempts ∙ attempts_kept c.args.domain.now c.look_up-version.new.self (looks_up_keeps c.args.client c.in-Some.service c.look_up-version.result c.args.domain.now c.look_up-version.new.self c.look_up-version.ensures).places;
+      ready = c.carry.ensures.ready;
+      called = on_ok_weaker c.carry.result (made_since c.args.client c.args.op c.look_up-version.result c.in-Some.service c.args.domain.now c.look_up-version.new.self c.look_up-version.ensures c.carry.new.domain) c.carry.ensures.called;
+      goes = on_ok_weaker c.carry.result (λ goes script past none stands called. goes script past none (looks_up_stands c.args.client c.in-Some.service c.look_up-version.result c.args.domain.now c.look_up-version.new.self c.look_up-version.ensures c.args.setup.now script past stands) called
+          (let chosen = row_chosen c.args.setup.now c.as_slice.result.now c.kind.result c.in-ByRow.row c.in-ByRow.ensures in row_serves c.args.client c.args.op c.look_up-version.result c.in-Some.service c.args.domain.now c.look_up-version.new.self c.look_up-version.ensures c.args.setup.now (length script) past c.args.ask.now stands.holds c.in-Some.ensures.0 c.in-Some.ensures.1 c.in-ByRow.row chosen.0 (rows_read c.args.client c.args.op c.look_up-version.result c.in-Some.service c.args.domain.now c.look_up-version.new.self c.look_up-version.ensures c.index.result.now c.found-found.result.now c.as_slice.result.now c.index.ensures
+          (subst (λ n. c.args.client < n) (sym (clients_kept c.args.client c.args.op c.look_up-version.result c.in-Some.service c.args.domain.now c.look_up-version.new.self c.look_up-version.ensures)) (client_there c.args.domain.now c.args.client (λ x. (c.args.op ≡ x.op + 1) × (x.left ≡ false)) c.requires.turn)) c.found-found.ensures (c.as_slice.ensures.value ∙ ap (λ f. f.rows) c.found.view_is) ∙ chosen.1) (ap (is_accepted c.args.setup.now c.in-ByRow.row.accepts) (sym c.kind.ensures) ∙ chosen.2))) c.carry.ensures.goes;
+      failed = IfErr-weaker c.carry.result _ _ (λ halt failed script past none stands called. failed script past none (looks_up_stands c.args.client c.in-Some.service c.look_up-version.result c.args.domain.now c.look_up-version.new.self c.look_up-version.ensures c.args.setup.now script past stands) called
+          (let chosen = row_chosen c.args.setup.now c.as_slice.result.now c.kind.result c.in-ByRow.row c.in-ByRow.ensures in row_serves c.args.client c.args.op c.look_up-version.result c.in-Some.service c.args.domain.now c.look_up-version.new.self c.look_up-version.ensures c.args.setup.now (length script) past c.args.ask.now stands.holds c.in-Some.ensures.0 c.in-Some.ensures.1 c.in-ByRow.row chosen.0 (rows_read c.args.client c.args.op c.look_up-version.result c.in-Some.service c.args.domain.now c.look_up-version.new.self c.look_up-version.ensures c.index.result.now c.found-found.result.now c.as_slice.result.now c.index.ensures
+          (subst (λ n. c.args.client < n) (sym (clients_kept c.args.client c.args.op c.look_up-version.result c.in-Some.service c.args.domain.now c.look_up-version.new.self c.look_up-version.ensures)) (client_there c.args.domain.now c.args.client (λ x. (c.args.op ≡ x.op + 1) × (x.left ≡ false)) c.requires.turn)) c.found-found.ensures (c.as_slice.ensures.value ∙ ap (λ f. f.rows) c.found.view_is) ∙ chosen.1) (ap (is_accepted c.args.setup.now c.in-ByRow.row.accepts) (sym c.kind.ensures) ∙ chosen.2))) c.carry.ensures.failed;
+    }
 
 pub turn_down-requires-in-NoRow : goal.turn_down-requires-in-NoRow
 turn_down-requires-in-NoRow g c =
@@ -109,26 +114,12 @@ turn_down-requires-in-NoKind g c =
       client = subst (λ n. c.args.client < n) (sym (clients_kept c.args.client c.args.op c.look_up-version.result c.in-Some.service c.args.domain.now c.look_up-version.new.self c.look_up-version.ensures)) (client_there c.args.domain.now c.args.client (λ x. (c.args.op ≡ x.op + 1) × (x.left ≡ false)) c.requires.turn);
     }
 
-pub returns-in-Some-idle_server-clause-numbered : goal.returns-in-Some-idle_server-clause-numbered
-returns-in-Some-idle_server-clause-numbered g c =
-    c.carry.ensures.numbered
+pub turn_down-requires : goal.turn_down-requires
+turn_down-requires g c =
+    record {
+      ready = c.requires.ready;
+      client = client_there c.args.domain.now c.args.client (λ x. (c.args.op ≡ x.op + 1) × (x.left ≡ false)) c.requires.turn;
+    }
 
-pub returns-in-Some-idle_server-clause-ready : goal.returns-in-Some-idle_server-clause-ready
-returns-in-Some-idle_server-clause-ready g c =
-    c.carry.ensures.ready
-
-pub returns-in_default-clause-numbered : goal.returns-in_default-clause-numbered
-returns-in_default-clause-numbered g c =
-    c.turn_down.ensures.numbered
-
-pub returns-in_default-clause-attempts : goal.returns-in_default-clause-attempts
-returns-in_default-clause-attempts g c =
-    c.turn_down.ensures.attempts
-
-pub returns-in_default-clause-ready : goal.returns-in_default-clause-ready
-returns-in_default-clause-ready g c =
-    c.turn_down.ensures.ready
-
-pub returns-in_default-clause-called : goal.returns-in_default-clause-called
-returns-in_default-clause-called g c =
-    c.turn_down.ensures.called
+pub choose-requires : goal.choose-requires
+choose-requires g c = c.requires.configured

@@ -7,9 +7,14 @@ use Rattle.xa_domain.proofs.Sound.{sound_is_data}
 use Rattle.xa_tables.proofs.Failing.{none_done}
 use Rattle.xa_domain.proofs.calling.carry.Goals as goal
 
-pub exchange-requires-clause-data : goal.exchange-requires-clause-data
-exchange-requires-clause-data g c =
-    sound_is_data c.args.setup.now c.args.ask.now.payload c.requires.configured c.requires.sound
+pub exchange-requires : goal.exchange-requires
+exchange-requires g c =
+    record {
+      ready = c.requires.ready;
+      turn = c.requires.turn;
+      up = c.requires.up;
+      «data» = sound_is_data c.args.setup.now c.args.ask.now.payload c.requires.configured c.requires.sound;
+    }
 
 pub conclude-requires : goal.conclude-requires
 conclude-requires g c =
@@ -82,22 +87,14 @@ returns g c =
           c.requires.ready c.requires.turn c.requires.up c.in_ok-request.ensures.done c.outcome_heard-outcome.ensures c.cause_heard-cause.ensures c.in_ok-request.ensures.lost c.in_ok-conclude.ensures.done.ended c.in_ok-conclude.ensures.done.settles c.in_ok-conclude.ensures.done.numbered c.in_ok-conclude.ensures.done.served c.in_ok-conclude.ensures.done.answer c.conclude.new.domain c.in_ok-conclude.ensures.done.tells c.in_ok-conclude.ensures.done.replies c.requires.expects script past c.requires.configured none stands called serves)) c.free.ensures.failed;
     }
 
-pub returns-in_err-request-clause-ready : goal.returns-in_err-request-clause-ready
-returns-in_err-request-clause-ready g c =
-    none_done c.from_residual.result _ _ c.from_residual.ensures.1
-
-pub returns-in_err-request-clause-called : goal.returns-in_err-request-clause-called
-returns-in_err-request-clause-called g c =
-    none_done c.from_residual.result _ _ c.from_residual.ensures.1
-
-pub returns-in_err-request-clause-goes : goal.returns-in_err-request-clause-goes
-returns-in_err-request-clause-goes g c =
-    none_done c.from_residual.result _ _ c.from_residual.ensures.1
-
-pub returns-in_err-request-clause-numbered : goal.returns-in_err-request-clause-numbered
-returns-in_err-request-clause-numbered g c =
-    c.exchange.ensures.numbered
-
-pub returns-in_err-request-clause-attempts : goal.returns-in_err-request-clause-attempts
-returns-in_err-request-clause-attempts g c =
-    c.exchange.ensures.attempts
+pub returns-in_err-request : goal.returns-in_err-request
+returns-in_err-request g c =
+    record {
+      numbered = c.exchange.ensures.numbered;
+      attempts = c.exchange.ensures.attempts;
+      ready = none_done c.from_residual.result _ _ c.from_residual.ensures.1;
+      called = none_done c.from_residual.result _ _ c.from_residual.ensures.1;
+      goes = none_done c.from_residual.result _ _ c.from_residual.ensures.1;
+      failed = passed_on c.from_residual.result c.in_err-request.field-0.0 _ c.from_residual.ensures.1
+          (λ script past none stands called serves. c.in_err-request.ensures.failed c.args.setup.now (length script) past c.requires.configured stands.holds serves);
+    }

@@ -42,3 +42,12 @@ returns-in-Ok-settle g c =
           (λ tells. record { ended = ended; settles = its.done; numbered = its.numbered; served = its.served; answer = c.in-Ok.answer; replies = c.in-Ok.ensures; tells = tells }) c.tell.ensures.done;
       failed = IfErr-weaker c.tell.result _ _ (λ halt failed setup count past configured none holds may. failed setup count _ (its.done.holds setup count past configured none holds may).holds) c.tell.ensures.failed;
     }
+
+pub settle-requires : goal.settle-requires
+settle-requires g c =
+    record {
+      numbered = c.requires.numbered;
+      served = c.requires.served;
+      busy = c.requires.busy;
+      fits = c.requires.fits;
+    }

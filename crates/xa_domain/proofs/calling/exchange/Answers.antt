@@ -7,12 +7,16 @@ use Rattle.xa_domain.specs.Calling.{Delivers}
 use Rattle.xa_tables.specs.Piping.{HearsBack}
 use Rattle.xa_tables.specs.Resting.{IsUp}
 use Rattle.xa_domain.proofs.Exchanging.{exchange_keeps}
-use Rattle.xa_tables.proofs.Kept.{stood_here}
+use Rattle.xa_tables.proofs.Kept.{stood_here, known_within, passed_on}
 use Rattle.xa_tables.proofs.Lists.{set_here, set_length}
 use Rattle.xa_tables.proofs.Places.{numbered_kept, attempts_kept, keeps_all}
 use Rattle.xa_domain.proofs.Rests.{ready_same}
 use Rattle.xa_domain.proofs.Settling.{life_within, read_there, only_here, life_keeps, up_of, exchanged_by}
 use Rattle.xa_tables.proofs.Failing.{none_made}
+use Rattle.xa_tables.specs.declared.server.Server.{Server}
+use Rattle.xa_events.specs.declared.event.Doing.TheVariants.{Idle}
+use Rattle.xa_domain.proofs.Heard.{lost_back}
+use Rattle.xa_domain.proofs.Underway.{holds_beside}
 use Rattle.xa_domain.proofs.calling.exchange.Goals as goal
 
 pub index_mut-its-requires : goal.index_mut-its-requires
@@ -22,14 +26,18 @@ index_mut-its-requires g c =
     let long = c.args.domain.now.lives.ok.0 in
     omega (arith, within, long)
 
-pub deliver-requires-clause-ready : goal.deliver-requires-clause-ready
-deliver-requires-clause-ready g c =
-    let d = c.args.domain.now in
-    let life = c.index.result.now.life in
-    let up = up_of d c.args.server (λ x. x.queue ≡ c.args.row.now.queue) c.requires.ready c.requires.up in
-    let within = life_within d c.args.server c.index.result.now c.requires.ready.numbered up c.index.ensures in
-    ready_same d (record d { lives = with_item d.lives life c.send-sent.new.self })
-    (life_keeps d life c.index_mut-its.result.now c.send-sent.new.self within c.index_mut-its.ensures.value (ap (λ y. y.server) c.send-sent.ensures.table)) refl refl refl c.requires.ready
+pub deliver-requires : goal.deliver-requires
+deliver-requires g c =
+    record {
+      ready = let d = c.args.domain.now in
+          let life = c.index.result.now.life in
+          let up = up_of d c.args.server (λ x. x.queue ≡ c.args.row.now.queue) c.requires.ready c.requires.up in
+          let within = life_within d c.args.server c.index.result.now c.requires.ready.numbered up c.index.ensures in
+          ready_same d (record d { lives = with_item d.lives life c.send-sent.new.self })
+          (life_keeps d life c.index_mut-its.result.now c.send-sent.new.self within c.index_mut-its.ensures.value (ap (λ y. y.server) c.send-sent.ensures.table)) refl refl refl c.requires.ready;
+      turn = c.requires.turn;
+      up = c.requires.up;
+    }
 
 pub returns-in_err-request-clause-numbered : goal.returns-in_err-request-clause-numbered
 returns-in_err-request-clause-numbered g c =
@@ -93,7 +101,7 @@ returns-clause-done g c =
       asks = only_here d life y0 y1 (λ y y'. y' ≡ record y { invocation = (y.invocation + 1) % 2 ^ 32; pipe = y'.pipe }) within c.index_mut-its.ensures.value
           (c.send-sent.ensures.table ∙ ap (λ (n : ℕ). record y0 { invocation = n; pipe = y1.pipe }) c.send-sent.ensures.number);
       noted = noted;
-      delivers = subst (λ (payload : Data). Delivers c.args.client c.args.op c.args.version row payload c.args.server c.in_ok-request.request (record d { lives = with_item d.lives life y1 }) noted) c.in_ok-payload.ensures done;
+      delivers = subst (λ (payload : Data). Delivers c.args.client c.args.op c.args.version row payload c.args.server c.in_ok-request.request (record d { lives = with_item d.lives life y1 }) noted) c.in-Ok.ensures done;
       hears = only_here noted life y2 y3 (λ y y'. y' ≡ record y { pipe = y'.pipe }) within_2 c.index_mut-its-2.ensures.value c.hear_back-back.ensures.table;
       exchanged = exchanged_by c.send-sent.result (invoke_frame row.service row.routine y1.invocation c.args.ask.now.payload) y1.invocation c.hear_back-back.result y0.pipe y1.pipe y3.pipe c.send-sent.ensures.sent c.send-sent.ensures.failed heard;
     }
@@ -112,20 +120,46 @@ returns-clause-attempts g c =
     (exchange_keeps c.args.client c.args.op c.args.version c.args.row.now c.args.ask.now.payload c.args.server c.in_ok-request.request c.hear_back-back.result c.args.domain.now
     (record noted { lives = with_item noted.lives c.index.result.now.life c.hear_back-back.new.self }) (returns-clause-done g c) c.requires.ready c.requires.turn c.requires.up).places
 
-pub returns-in_err-payload-clause-numbered : goal.returns-in_err-payload-clause-numbered
-returns-in_err-payload-clause-numbered g c = c.requires.ready.numbered
-
-pub returns-in_err-payload-clause-attempts : goal.returns-in_err-payload-clause-attempts
-returns-in_err-payload-clause-attempts g c = refl
-
-pub returns-in_err-payload-clause-done : goal.returns-in_err-payload-clause-done
-returns-in_err-payload-clause-done g c = none_made c.from_residual.result _ _ c.from_residual.ensures.1
-
-pub returns-in_err-payload-clause-lost : goal.returns-in_err-payload-clause-lost
-returns-in_err-payload-clause-lost g c = none_made c.from_residual.result _ _ c.from_residual.ensures.1
-
 pub returns-in_err-request-clause-done : goal.returns-in_err-request-clause-done
-returns-in_err-request-clause-done g c = none_made c.from_residual-in_err-request.result _ _ c.from_residual-in_err-request.ensures.1
+returns-in_err-request-clause-done g c = none_made c.from_residual.result _ _ c.from_residual.ensures.1
 
 pub returns-in_err-request-clause-lost : goal.returns-in_err-request-clause-lost
-returns-in_err-request-clause-lost g c = none_made c.from_residual-in_err-request.result _ _ c.from_residual-in_err-request.ensures.1
+returns-in_err-request-clause-lost g c = none_made c.from_residual.result _ _ c.from_residual.ensures.1
+
+pub index-requires : goal.index-requires
+index-requires g c =
+    let within = known_within c.args.domain.now.servers.items c.args.server (λ (x : Server). (x.doing ≡ Idle (record { 0 = 1 })) × (x.queue ≡ c.args.row.now.queue)) c.requires.up in
+    omega (arith, within, c.args.domain.now.servers.ok.0)
+
+pub returns-in_default : goal.returns-in_default
+returns-in_default g c = record {
+  numbered = c.requires.ready.numbered;
+  attempts = refl;
+  done = tt;
+  lost = tt;
+  failed = λ setup count past configured holds serves. record { past = past; holds = holds; why = tt };
+}
+
+pub send-sent-requires : goal.send-sent-requires
+send-sent-requires g c = c.requires.data
+
+pub returns-clause-lost : goal.returns-clause-lost
+returns-clause-lost g c =
+    lost_back c.send-sent.result _ c.index_mut-its-2.result.now.invocation c.hear_back-back.result c.index_mut-its.result.now.pipe c.send-sent.new.self.pipe c.index_mut-its-2.result.now.pipe c.hear_back-back.new.self.pipe
+    c.send-sent.ensures.failed c.hear_back-back.ensures.heard
+
+pub returns-clause-failed : goal.returns-clause-failed
+returns-clause-failed g c = tt
+
+pub returns-in_err-request-clause-failed : goal.returns-in_err-request-clause-failed
+returns-in_err-request-clause-failed g c =
+    let d = c.args.domain.now in
+    let life = c.index.result.now.life in
+    let up = up_of d c.args.server (λ x. x.queue ≡ c.args.row.now.queue) c.requires.ready c.requires.up in
+    let within = life_within d c.args.server c.index.result.now c.requires.ready.numbered up c.index.ensures in
+    let y = c.index_mut-its.result.now in
+    let only = only_here d life y c.send-sent.new.self (λ y y'. Unit {0}) within c.index_mut-its.ensures.value tt in
+    passed_on c.from_residual.result c.in_err-request.field-0.0 _ c.from_residual.ensures.1
+    (λ setup count past configured holds serves.
+    c.in_err-request.ensures.failed setup count past c.args.ask.now configured (holds_beside setup count past d (record d { lives = with_item d.lives life c.send-sent.new.self }) life only holds) c.in-Ok.ensures
+    (record { version_is = serves.version_is; seen = serves.seen; valid = serves.valid; service = serves.service; stands = serves.stands; replies = serves.replies; kind = serves.kind }))

@@ -1,10 +1,10 @@
-use Rattle.std.proofs.Common.{Option, OnOk, sym, ◌∙◌, subst}
+use Rattle.std.proofs.Common.{Option, OnOk, sym, ◌∙◌, subst, refl, arith}
 use Rattle.std.proofs.lemmas.Result.{IfErr-weaker}
 use Rattle.xa_events.specs.declared.event.StopCause.{StopCause}
 use Rattle.xa_domain.specs.Calling.{MayEndWith, IsBusy, Settles, ended_of}
 use Rattle.xa_domain.proofs.Halted.{halts_at_server}
 use Rattle.xa_tables.proofs.Places.{numbered_kept, attempts_kept, on_ok_both}
-use Rattle.xa_tables.proofs.Kept.{passed_on}
+use Rattle.xa_tables.proofs.Kept.{passed_on, known_within}
 use Rattle.xa_domain.proofs.Rests.{served_kept}
 use Rattle.xa_domain.proofs.Settling.{read_there, ended_holds, may_fall, settles_none, settles_some}
 use Rattle.xa_domain.proofs.Tabled.{ends_keep}
@@ -59,3 +59,11 @@ returns-in-None g c =
           (read_there c.args.domain.now.servers.items c.args.server c.index.result.now (IsBusy c.args.request) c.requires.busy c.index.ensures) c.requires.busy);
       failed = tt;
     }
+
+pub index-requires : goal.index-requires
+index-requires g c =
+    let within = known_within c.args.domain.now.servers.items c.args.server (IsBusy c.args.request) c.requires.busy in
+    omega (arith, within, c.args.domain.now.servers.ok.0)
+
+pub end-requires : goal.end-requires
+end-requires g c = record { server = known_within c.args.domain.now.servers.items c.args.server (IsBusy c.args.request) c.requires.busy; life = refl }

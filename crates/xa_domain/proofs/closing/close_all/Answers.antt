@@ -2,15 +2,17 @@ use Rattle.std.proofs.Common.{◌∙◌}
 use Rattle.std.proofs.lemmas.Result.{on_ok_weaker, IfErr-weaker}
 use Rattle.xa_domain.proofs.ClosedDown.{leads_on, leads_to_halt, shut_of, each_of, closed_down}
 use Rattle.xa_tables.proofs.Failing.{none_done}
+use Rattle.xa_tables.proofs.Kept.{passed_on}
 use Rattle.xa_domain.proofs.closing.close_all.Goals as goal
 
-pub shut_all-requires-clause-shut : goal.shut_all-requires-clause-shut
-shut_all-requires-clause-shut g c =
-    shut_of c.args.domain.now c.close_queues.new.domain c.in_ok-close_queues.ensures.closed
-
-pub shut_all-requires-clause-each : goal.shut_all-requires-clause-each
-shut_all-requires-clause-each g c =
-    each_of c.args.domain.now c.close_queues.new.domain c.requires.ready c.in_ok-close_queues.ensures.closed
+pub shut_all-requires : goal.shut_all-requires
+shut_all-requires g c =
+    record {
+      numbered = c.close_queues.ensures.numbered;
+      served = c.in_ok-close_queues.ensures.closed.served;
+      shut = shut_of c.args.domain.now c.close_queues.new.domain c.in_ok-close_queues.ensures.closed;
+      each = each_of c.args.domain.now c.close_queues.new.domain c.requires.ready c.in_ok-close_queues.ensures.closed;
+    }
 
 pub returns : goal.returns
 returns g c =
@@ -23,22 +25,20 @@ returns g c =
       failed = IfErr-weaker c.shut_all.result _ _ (λ halt said. leads_to_halt c.args.domain.now c.close_queues.new.domain c.shut_all.new.domain halt c.in_ok-close_queues.ensures.closed.goes said) c.shut_all.ensures.failed;
     }
 
-pub returns-in_err-close_queues-clause-over : goal.returns-in_err-close_queues-clause-over
-returns-in_err-close_queues-clause-over g c =
-    none_done c.from_residual.result _ _ c.from_residual.ensures.1
+pub returns-in_err-close_queues : goal.returns-in_err-close_queues
+returns-in_err-close_queues g c =
+    record {
+      numbered = c.close_queues.ensures.numbered;
+      attempts = c.close_queues.ensures.attempts;
+      over = none_done c.from_residual.result _ _ c.from_residual.ensures.1;
+      clients = none_done c.from_residual.result _ _ c.from_residual.ensures.1;
+      goes = none_done c.from_residual.result _ _ c.from_residual.ensures.1;
+      failed = passed_on c.from_residual.result c.in_err-close_queues.field-0.0 _ c.from_residual.ensures.1 c.in_err-close_queues.ensures.failed;
+    }
 
-pub returns-in_err-close_queues-clause-clients : goal.returns-in_err-close_queues-clause-clients
-returns-in_err-close_queues-clause-clients g c =
-    none_done c.from_residual.result _ _ c.from_residual.ensures.1
-
-pub returns-in_err-close_queues-clause-goes : goal.returns-in_err-close_queues-clause-goes
-returns-in_err-close_queues-clause-goes g c =
-    none_done c.from_residual.result _ _ c.from_residual.ensures.1
-
-pub returns-in_err-close_queues-clause-numbered : goal.returns-in_err-close_queues-clause-numbered
-returns-in_err-close_queues-clause-numbered g c =
-    c.close_queues.ensures.numbered
-
-pub returns-in_err-close_queues-clause-attempts : goal.returns-in_err-close_queues-clause-attempts
-returns-in_err-close_queues-clause-attempts g c =
-    c.close_queues.ensures.attempts
+pub close_queues-requires : goal.close_queues-requires
+close_queues-requires g c =
+    record {
+      ready = c.requires.ready;
+      away = c.requires.away;
+    }

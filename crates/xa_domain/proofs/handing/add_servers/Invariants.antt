@@ -1,11 +1,13 @@
-use Rattle.std.proofs.Common.{◌≡◌, ◌++◌, map, vec_capacity}
-use Rattle.std.specs.Vec.Iter.{into_iter_items}
+use Rattle.std.proofs.Common.{◌≡◌, length, vec_capacity}
 use Rattle.xa_tables.specs.declared.server.Server.{Server}
+use Rattle.xa_domain.specs.Handing.{AddsOn}
 use Rattle.xa_domain.proofs.handing.add_servers.Given as goal
 
 abbrev pub invariant-loop-home : goal.invariant-loop-home
 invariant-loop-home l = record {
-  split : l.yielded ++ into_iter_items l.home-iterator ≡ l.fn.servers.items;
-  items : l.homes.items ≡ l.initial.homes.items ++ map (λ (x : Server). x.home) l.yielded;
+  adds : AddsOn (λ (x : Server). x.home) l.initial.homes.items l.fn.servers.items l.rest.rest.items l.homes.items;
   room : vec_capacity l.homes ≡ vec_capacity l.initial.homes;
 }
+
+abbrev pub decreases-loop-home : goal.decreases-loop-home
+decreases-loop-home l = length l.rest.rest.items

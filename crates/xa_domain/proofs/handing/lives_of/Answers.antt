@@ -1,4 +1,4 @@
-use Rattle.std.proofs.Common.{◌≡◌, ◌<◌, [], length, refl, sym, ◌∙◌, arith}
+use Rattle.std.proofs.Common.{◌≡◌, ◌<◌, [], length, refl, sym, ◌∙◌, arith, ap}
 use Rattle.std.proofs.lemmas.List.{nil_from_length}
 use Rattle.xa_domain.proofs.Handed.{hands_none, hands_more, hands_below, hands_all}
 use Rattle.xa_domain.proofs.handing.lives_of.Goals as goal
@@ -22,3 +22,9 @@ pub returns : goal.returns
 returns g c =
     let none : c.loop-lived.rest.rest.items ≡ [] = nil_from_length c.loop-lived.rest.rest.items (sym c.loop-lived.rest.rest.ok.0 ∙ c.in_default.ensures.cases.0) in
     hands_all _ _ c.loop-lived.rest.rest.items c.loop-lived.lives.items c.loop-lived.invariant.hands none
+
+pub loop-lived-smaller : goal.loop-lived-smaller
+loop-lived-smaller g c = omega (arith, ap length c.in-Some.ensures.items)
+
+pub destroy_empty-requires : goal.destroy_empty-requires
+destroy_empty-requires g c = omega (arith, c.in_default.ensures.len, c.in_default.ensures.cases.0)

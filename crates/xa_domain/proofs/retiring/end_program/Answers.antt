@@ -1,4 +1,4 @@
-use Rattle.std.proofs.Common.{◌≡◌, ◌<◌, ℕ, length, IsSomeAnd, ap, get_or, arith, ◌∙◌}
+use Rattle.std.proofs.Common.{◌≡◌, ◌<◌, ℕ, length, IsSomeAnd, ap, get_or, arith, ◌∙◌, refl}
 use Rattle.std.specs.Prelude.{slice_get}
 use Rattle.std.specs.Vec.{with_item}
 use Rattle.xa_events.specs.declared.event.StopCause.{StopCause}
@@ -31,3 +31,11 @@ returns g c =
     let within = life_within d c.args.server c.args.cause x c.requires.numbered c.requires.may c.index.ensures in
     let stood = stood_here d.lives.items x.life c.index_mut-its.result.now within c.index_mut-its.ensures.value in
     ap (λ y. record d { lives = with_item d.lives x.life y }) c.kill.ensures ∙ ap (λ v. record d { lives = v }) (item_same d.lives x.life c.index_mut-its.result.now stood)
+
+pub index-requires : goal.index-requires
+index-requires g c =
+    let within = known_within c.args.domain.now.servers.items c.args.server (MayFall c.args.cause) c.requires.may in
+    omega (arith, within, c.args.domain.now.servers.ok.0)
+
+pub returns-then-matches : goal.returns-then-matches
+returns-then-matches g c = refl

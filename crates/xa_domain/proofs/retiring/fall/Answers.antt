@@ -1,4 +1,4 @@
-use Rattle.std.proofs.Common.{◌≡◌, ℕ, ◌∷◌, IsSomeAnd, get_or, refl, ◌∙◌, subst}
+use Rattle.std.proofs.Common.{◌≡◌, ℕ, ◌∷◌, IsSomeAnd, get_or, refl, ◌∙◌, subst, length, ap, arith}
 use Rattle.std.specs.Prelude.{slice_get}
 use Rattle.std.proofs.lemmas.Result.{on_ok_weaker, IfErr-weaker}
 use Rattle.xa_types.specs.declared.ids.ServerId.{ServerId}
@@ -8,7 +8,7 @@ use Rattle.xa_tables.specs.declared.halt.Halt.{Halt}
 use Rattle.xa_tables.specs.declared.server.Server.{Server}
 use Rattle.xa_domain.specs.Standing.{MayFall, stop_of}
 use Rattle.xa_tables.specs.Steps.{Stops, KeepsPlaces, FailsAt}
-use Rattle.xa_tables.proofs.Kept.{passed_on, known_here}
+use Rattle.xa_tables.proofs.Kept.{passed_on, known_here, known_within}
 use Rattle.xa_tables.proofs.Places.{numbered_kept, attempts_kept}
 use Rattle.xa_domain.proofs.Halted.{halts_at_server}
 use Rattle.xa_domain.proofs.Fallen.{stopped_by, keeps_stopped, served_stopped, may_retire, fallen_holds, tables_fallen}
@@ -78,3 +78,15 @@ returns g c =
       holds = on_ok_weaker c.retire.result (λ said setup count past configured never holds. said setup count (stop_of c.args.server c.args.cause ∷ past) configured never (fallen_holds c.args.server c.args.cause x.id old d1 c.requires.numbered x here.0 refl step here.1 setup count past holds)) c.retire.ensures.holds;
       failed = IfErr-weaker c.retire.result _ _ (λ halt said setup count past configured never holds. said setup count (stop_of c.args.server c.args.cause ∷ past) configured never (fallen_holds c.args.server c.args.cause x.id old d1 c.requires.numbered x here.0 refl step here.1 setup count past holds)) c.retire.ensures.failed;
     }
+
+-- ---- where it stands
+
+pub index-requires : goal.index-requires
+index-requires g c =
+    let within = known_within c.args.domain.now.servers.items c.args.server (MayFall c.args.cause) c.requires.may in
+    omega (arith, within, ap (λ d. length d.servers.items) c.end_program.ensures, c.end_program.new.domain.servers.ok.0)
+
+pub stop-requires : goal.stop-requires
+stop-requires g c =
+    let within = known_within c.args.domain.now.servers.items c.args.server (MayFall c.args.cause) c.requires.may in
+    omega (arith, within, ap (λ d. length d.servers.items) c.end_program.ensures)

@@ -1,13 +1,15 @@
-use Rattle.std.proofs.Common.{◌∷◌, ◌++◌, sym, ◌∙◌, ap, subst}
+use Rattle.std.proofs.Common.{◌∷◌, ◌++◌, sym, ◌∙◌, ap, subst, length, arith}
 use Rattle.std.proofs.lemmas.Result.{on_ok_weaker, IfErr-weaker}
 use Rattle.xa_events.specs.declared.event.Event.TheVariants.{Gone}
 use Rattle.xa_tables.specs.Boot.{withdrawn_from}
 use Rattle.xa_tables.specs.Resting.{IsNumbered, attempts}
-use Rattle.xa_tables.proofs.Kept.{passed_on}
+use Rattle.xa_tables.proofs.Kept.{passed_on, known_here, known_within}
 use Rattle.xa_tables.proofs.Places.{numbered_kept, attempts_kept}
 use Rattle.xa_tables.proofs.Failing.{none_done}
 use Rattle.xa_domain.proofs.Halted.{halts_at_queue, halts_at_board}
 use Rattle.xa_domain.proofs.GivenUp.{give_up_stands, keeps_given_up, served_left, tables_left, retires_left, gone_holds, keeps_brought_down, served_down, tables_down, withdrawn_holds, retires_down}
+use Rattle.xa_domain.specs.Standing.{MayRetire}
+use Rattle.xa_tables.proofs.Lists.{changed_length}
 use Rattle.xa_domain.proofs.retiring.retire.Goals as goal
 
 -- ---- the server can't be given up
@@ -90,3 +92,40 @@ returns g c =
       failed = IfErr-weaker c.go_down.result _ _ (λ halt failed setup count past configured never holds.
           halts_at_queue setup count (withdrawn_from x.queue.0 d1.board ++ Gone x.id ∷ past) d2 d3 halt (withdrawn_holds c.args.server place x.id x.queue old d1 t step setup count past configured never holds none d2 withdraws) place failed) c.go_down.ensures.failed;
     }
+
+-- ---- where the server and its queue stand
+
+pub index-gone-requires : goal.index-gone-requires
+index-gone-requires g c =
+    let old = c.args.domain.now in
+    let within = known_within old.servers.items c.args.server MayRetire c.requires.may in
+    omega (arith, within, old.servers.ok.0)
+
+pub place_of-place-requires : goal.place_of-place-requires
+place_of-place-requires g c =
+    let old = c.args.domain.now in
+    let x = c.index-gone.result.now in
+    let here = known_here old.servers.items c.args.server MayRetire c.requires.may x c.index-gone.ensures in
+    (c.requires.numbered.servers c.args.server x here.0).1
+
+pub give_up-requires : goal.give_up-requires
+give_up-requires g c =
+    let old = c.args.domain.now in
+    let x = c.index-gone.result.now in
+    let here = known_here old.servers.items c.args.server MayRetire c.requires.may x c.index-gone.ensures in
+    let its = c.requires.numbered.servers c.args.server x here.0 in
+    record {
+      queue = omega (arith, its.2, c.place_of-place.ensures);
+      server = known_within old.servers.items c.args.server MayRetire c.requires.may;
+    }
+
+pub go_down-requires : goal.go_down-requires
+go_down-requires g c =
+    let old = c.args.domain.now in
+    let x = c.index-gone.result.now in
+    let place = c.place_of-place.result in
+    let here = known_here old.servers.items c.args.server MayRetire c.requires.may x c.index-gone.ensures in
+    let its = c.requires.numbered.servers c.args.server x here.0 in
+    let left = changed_length place old.queues.items c.give_up.new.self.queues.items c.in_ok-give_up.ensures.done.queues in
+    let same = ap (λ v. length v.items) c.in_ok-withdraw_all.ensures.done.others.0 in
+    omega (arith, its.2, c.place_of-place.ensures, left, same)

@@ -1,4 +1,4 @@
-use Rattle.std.proofs.Common.{◌≡◌, List, ℕ, sym, ◌∙◌, subst, ap}
+use Rattle.std.proofs.Common.{◌≡◌, List, ℕ, sym, ◌∙◌, subst, ap, length, arith}
 use Rattle.std.proofs.lemmas.Result.{on_ok_weaker, IfErr-weaker}
 use Rattle.xa_tables.specs.declared.server.Attempt.{Attempt}
 use Rattle.xa_tables.specs.declared.server.Attempt.TheVariants as tries
@@ -6,6 +6,7 @@ use Rattle.xa_tables.specs.Steps.{Changed}
 use Rattle.xa_tables.specs.Resting.{attempts}
 use Rattle.xa_domain.proofs.Begun.{numbered_begun, served_begun, beside_begins, new_life, up_begun, attempts_begun, clients_begun, is_begun}
 use Rattle.xa_domain.proofs.Failing.{noted_there}
+use Rattle.std.proofs.lemmas.Option.{slice_get_within}
 use Rattle.xa_domain.proofs.starting.begin.Goals as goal
 
 pub greet-requires : goal.greet-requires
@@ -41,3 +42,14 @@ pub returns-in_err-start : goal.returns-in_err-start
 returns-in_err-start g c =
     let kept = c.keep-life.ensures.others in
     absurd (noted_there c.args.server c.args.started c.args.domain.now c.keep-life.new.domain c.requires.may (ap (λ d. d.servers) kept) (ap (λ d. d.latest) kept) c.start.result _ c.in_err-start.was c.start.ensures.succeeds)
+
+pub keep-life-requires : goal.keep-life-requires
+keep-life-requires g c =
+    let old = c.args.domain.now in
+    let within = slice_get_within old.servers.items c.args.server c.requires.may.its c.requires.may.stands in
+    record { within = within; room = omega (arith, within, c.requires.on.lives, c.requires.on.room); counts = c.requires.counts; fresh = c.requires.fresh }
+
+pub start-requires : goal.start-requires
+start-requires g c =
+    let within = slice_get_within c.args.domain.now.servers.items c.args.server c.requires.may.its c.requires.may.stands in
+    omega (arith, within, ap (λ d. length d.servers.items) c.keep-life.ensures.others)
