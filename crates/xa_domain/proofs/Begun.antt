@@ -1,5 +1,5 @@
 -- Servers that are started, one after another: what each step leaves, and that the events stand.
-use Rattle.std.proofs.Common.{◌≡◌, ◌⊎◌, ℕ, zero, suc, ◌+◌, ◌<◌, ◌≤◌, ◌^◌, true, false, List, [], ◌∷◌, ◌++◌, length, map, Option, Some, None, IsSomeAnd, inl, inr, refl, sym, ◌∙◌, ap, subst, arith, append_assoc, append-nil, get_or, ◌-◌, min}
+use Rattle.std.proofs.Common.{◌≡◌, ◌⊎◌, ℕ, zero, suc, ◌+◌, ◌<◌, ◌≤◌, ◌^◌, true, false, List, [], ◌∷◌, ◌++◌, length, map, Option, Some, None, IsSomeAnd, inl, inr, refl, sym, ◌∙◌, ap, subst, arith, append_assoc, append-nil, get_or, ◌-◌, min, Vec, Global}
 use Rattle.std.specs.Prelude.{slice_get, slice_set, slice_index_or, option_map, vec_capacity, IsSome, IfSome}
 use Rattle.std.specs.List.{flat_map}
 use Rattle.std.proofs.lemmas.Bool.{cases_eq}
@@ -55,6 +55,7 @@ use Rattle.xa_domain.proofs.Configured.{never_restarts}
 use Rattle.xa_domain.proofs.GivenUp.{left_same}
 use Rattle.xa_domain.proofs.Fallen.{stopped_by, served_kept}
 use Rattle.xa_domain.proofs.ClosedDown.{leads_nowhere, told, other_life, lives_moved, lives_ended, holds_told, numbered_told, served_told}
+use Rattle.xa_domain.proofs.Rests.{some_of}
 
 -- ---- the tables once a server was tried
 
@@ -257,6 +258,24 @@ module _ {L : Type 0} (server : ℕ) (old : Domain L) (numbered : IsNumbered old
         let before : tables.servers.before ≡ x = before_is server mid.servers.items new.servers.items tables.servers x stood in
         starts_on_retired server (λ z. record z { doing = Off; last = Nothing }) old mid new beside refl refl refl (set_length old.lives.items x.life y') refl tables numbered_new served_new refl
         (λ first. let started = up.started in cc (first, started, ap (λ (z : Server). z.attempt) before)) (ap (λ (z : Server). z.shut) before ∙ up.kept)
+
+-- ---- a life that begins
+
+-- its pipes are kept
+pub keeps_life : {L : Type 0} (server place : ℕ) (d : Domain L) (x : Server) → slice_get d.servers.items server ≡ Some x → place ≡ length d.lives.items → (life : Lived L) → life.server ≡ x.id → FreshLife life → (lives : Vec (Lived L) Global)
+    → lives.items ≡ d.lives.items ++ life ∷ [] → vec_capacity lives ≡ vec_capacity d.lives → KeepsLife server place d (record d { lives = lives })
+keeps_life server place d x stood at life its fresh lives last room = record {
+  life = life;
+  last = last;
+  at = at;
+  its = some_of (slice_get d.servers.items server) (λ (y : Server). life.server ≡ y.id) x stood its;
+  first = fresh.first;
+  wrote = fresh.wrote;
+  read = fresh.read;
+  well = fresh.well;
+  others = refl;
+  room = room;
+}
 
 -- ---- words on lists
 

@@ -6,7 +6,6 @@ use Rattle.std.proofs.lemmas.Bool.{cases_eq}
 use Rattle.std.proofs.lemmas.Option.{same_Some, slice_get_cases, slice_get_within}
 use Rattle.xa_types.specs.declared.ids.ServerId.{ServerId}
 use Rattle.xa_types.specs.declared.ids.QueueId.{QueueId}
-use Rattle.xa_types.specs.declared.ids.Generation.{Generation}
 use Rattle.xa_types.specs.declared.setup.Setup.{Setup}
 use Rattle.xa_types.specs.Configured.{is_configured}
 use Rattle.xa_types.specs.Setup.{capacity_of, queue_of}
@@ -15,7 +14,7 @@ use Rattle.xa_events.specs.declared.event.Event.TheVariants.{Close}
 use Rattle.xa_events.specs.declared.event.StopCause.{StopCause}
 use Rattle.xa_events.specs.declared.event.StopCause.TheVariants.{Shutdown, Exit, WriteFault, Starved}
 use Rattle.xa_events.specs.declared.event.Doing.{Doing}
-use Rattle.xa_events.specs.declared.event.Doing.TheVariants.{Off, Idle}
+use Rattle.xa_events.specs.declared.event.Doing.TheVariants.{Off}
 use Rattle.xa_events.specs.Queue.{is_closed}
 use Rattle.xa_events.specs.Server.{is_shutdown}
 use Rattle.xa_events.proofs.Owns.{queue_own}
@@ -146,15 +145,6 @@ pub may_fall_by : (cause : StopCause) (before after : ℕ) → CountsWrites caus
 may_fall_by cause before after why x up =
     let by = write_cause cause before after why in
     record { started = up.started; stands = up.stands; kept = up.kept; fails = by.0; alive = inl (up.idle, λ exits. absurd (by.1 exits)) }
-
--- of a server that may end and is idle it is known that it is up
-pub is_up : (x : Server) (g : Generation) → MayEnd x → x.doing ≡ Idle g → IsUp x
-is_up x g (inl up) idle = up
-is_up x g (inr over) idle = let off = over.off in cc (off, idle)
-
-pub is_over : (x : Server) → MayEnd x → ((g : Generation) → x.doing ≡ Idle g → ⊥) → IsOver x
-is_over x (inl up) not_idle = absurd (not_idle _ up.idle)
-is_over x (inr over) not_idle = over
 
 module _ {L : Type 0} (server : ℕ) (old : Domain L) (numbered : IsNumbered old) (x : Server) (stood : slice_get old.servers.items server ≡ Some x) (up : IsUp x)
     (y y' : Lived L) (lived : slice_get old.lives.items x.life ≡ Some y) (same : y' ≡ record y { pipe = y'.pipe }) where

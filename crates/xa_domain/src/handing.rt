@@ -4,7 +4,7 @@ ghost use Rattle.xa_types.specs.Configured.{is_configured};
 ghost use Rattle.xa_tables.specs.declared.queue.Queue.{Queue};
 ghost use Rattle.xa_tables.specs.declared.client.Client.{Client};
 ghost use Rattle.xa_tables.specs.declared.server.Server.{Server};
-ghost use Rattle.xa_domain.specs.Handing.{HasRoomFor, AreHomesOf, IsHanded, AreHanded, homes_in};
+ghost use Rattle.xa_domain.specs.Handing.{HasRoomFor, AreHomesOf, AreHanded, homes_in};
 
 use crate::serving::Life;
 use std::alloc::Global;
@@ -100,22 +100,7 @@ fn homes_of(
     }
 }
 
-// The life with the link of its pipes.
-fn life_of<L: Link>(lived: Lived<L>) -> Life<L>
-    ensures { IsHanded (record { took = L.took; gave = L.gave; left = L.left; reads = L.read_faults; writes = L.write_faults }) lived result }
-{
-    let Lived {
-        server,
-        invocation: _,
-        pipe,
-    } = lived;
-    Life {
-        server,
-        generation: LIFE,
-        link: pipe.into_link(),
-    }
-}
-
+// The lives, each with the link of its pipes.
 fn lives_of<L: Link>(mut lives: Vec<Life<L>>, all: Vec<Lived<L>>) -> Vec<Life<L>>
     requires none { lives.items ≡ [] }
     requires room { length all.items ≤ vec_capacity lives }
@@ -123,7 +108,16 @@ fn lives_of<L: Link>(mut lives: Vec<Life<L>>, all: Vec<Lived<L>>) -> Vec<Life<L>
 {
     let mut rest = all.into_iter();
     while let Some(lived) = rest.next() {
-        lives.push_reserved(life_of(lived));
+        let Lived {
+            server,
+            invocation: _,
+            pipe,
+        } = lived;
+        lives.push_reserved(Life {
+            server,
+            generation: LIFE,
+            link: pipe.into_link(),
+        });
     }
     rest.destroy_empty();
     lives
@@ -151,20 +145,5 @@ pub fn hand_back<L: Link>(alloc: Global, domain: Domain<L>, room: Room<L>) -> Ha
     Handed {
         homes: homes_of(homes, board.home(), queues, clock, clients, servers),
         lives: lives_of(handed, lives),
-    }
-}
-
-/// Nothing is handed back, since memory ran out first.
-pub fn hand_none<L>(room: Room<L>) -> Handed<L>
-    requires { HasRoomFor 0 0 room }
-    ensures homes { result.homes.homes ≡ [] }
-    ensures lives { result.lives.items ≡ [] }
-{
-    let Room { homes, lives } = room;
-    Handed {
-        homes: Record {
-            homes: Sequence::from_vec(homes),
-        },
-        lives,
     }
 }

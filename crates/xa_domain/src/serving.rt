@@ -17,14 +17,14 @@ ghost use Rattle.xa_domain.specs.Serving.{IsBuiltOp, IsBuilt, NoneRestarts, Serv
 
 use crate::calling::call;
 use crate::closing::close_all;
-use crate::handing::{Handed, Room, hand_back, hand_none, room_for};
+use crate::handing::{Handed, Room, hand_back, room_for};
 use crate::starting::start_all;
 use std::alloc::Global;
 use xa_link::{Gate, Link, Starter, Yard};
 use xa_script::{Client, Script};
 use xa_stamp::Record;
 use xa_tables::{Domain, Halt, found};
-use xa_types::{Generation, Op, ServerId, Setup};
+use xa_types::{Generation, Op, Sequence, ServerId, Setup};
 
 /// A life of a server, and the pipes that its program had.
 #[derive(Drop)]
@@ -114,10 +114,12 @@ fn serve_none<Y: Yard>(alloc: Global, room: Room<Y::Line>) -> Served<Y>
     ensures lives { result.lives.items ≡ [] }
     ensures starters { result.starters.items ≡ [] }
 {
-    let Handed { homes, lives } = hand_none(room);
+    let Room { homes, lives } = room;
     Served {
         halt: Some(Halt::NoMemory),
-        homes,
+        homes: Record {
+            homes: Sequence::from_vec(homes),
+        },
         lives,
         starters: Vec::new(alloc),
     }
@@ -200,5 +202,7 @@ pub fn serve<R, Y: Yard, G: Gate>(
     ensures dense { IsDense (record { 0 = 0 }) result.homes.homes }
     ensures asked { AsksStarters (Y.asked yard.old) (Y.asked yard.new) setup ⊎ ((result.halt ≡ Some Halt.NoMemory) × (Y.asked yard.new ≡ Y.asked yard.old)) }
 {
-    serve_all(alloc, &setup, script.clients.slice(), yard)
+    let served = serve_all(alloc, &setup, script.clients.slice(), yard);
+    drop(setup);
+    served
 }

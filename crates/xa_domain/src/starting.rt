@@ -1,5 +1,5 @@
 // The servers are started, and their programs greet.
-ghost use Rattle.std.specs.Prelude.{◌≡◌, ◌+◌, ◌<◌, ◌≤◌, ◌^◌, ℕ, true, List, [], length, map, OnOk, IfErr, IsSomeAnd, slice_get, vec_capacity};
+ghost use Rattle.std.specs.Prelude.{◌≡◌, ◌+◌, ◌<◌, ◌≤◌, ◌^◌, ℕ, true, List, [], length, map, OnOk, IfErr, IsSomeAnd, slice_get};
 ghost use Rattle.xa_types.specs.Configured.{is_configured};
 ghost use Rattle.xa_types.specs.declared.setup.Setup.{Setup};
 ghost use Rattle.xa_link.specs.Told.{Empty};
@@ -11,7 +11,7 @@ ghost use Rattle.xa_tables.specs.Steps.{Changed};
 ghost use Rattle.xa_tables.specs.Resting.{IsNumbered, IsServed, IsUp, IsBooted, attempts};
 ghost use Rattle.xa_domain.specs.Standing.{IsReady, Stands, GoesOn, IsHalted, StartsOn};
 ghost use Rattle.xa_domain.specs.Serving.{NoneRestarts, StarterShows, StartersMatch, IsStarterBy};
-ghost use Rattle.xa_domain.specs.Beginning.{KeepsLife, StartsBeside, HasNewLife, IsBegun, MayBegin, HaveStamps};
+ghost use Rattle.xa_domain.specs.Beginning.{StartsBeside, HasNewLife, IsBegun, MayBegin, HaveStamps};
 
 use crate::retiring::{fall, retire};
 use std::alloc::Global;
@@ -19,24 +19,6 @@ use xa_events::Started;
 use xa_link::{Link, StartRefused, Starter};
 use xa_pipe::Pipe;
 use xa_tables::{Domain, Halt, LIFE, Lived};
-
-// Keeps the pipes of a life that began. Answers its place.
-fn keep<L: Link>(alloc: Global, domain: &mut Domain<L>, server: usize, link: L) -> usize
-    requires within { server < length domain.old.servers.items }
-    requires room { length domain.old.lives.items < vec_capacity domain.old.lives }
-    requires counts { (L.read_faults link ≡ 0) × (L.write_faults link ≡ 0) }
-    requires fresh { Empty (L.took link) × Empty (L.gave link) }
-    ensures { KeepsLife server result domain.old domain.new }
-{
-    let life = domain.lives.len();
-    let lived = Lived {
-        server: domain.servers[server].id,
-        invocation: 0,
-        pipe: Pipe::new(alloc, link),
-    };
-    domain.lives.push_reserved(lived);
-    life
-}
 
 // The program of the server at that place greets, or its life ends.
 fn greet<L: Link>(domain: &mut Domain<L>, server: usize) -> Result<(), Halt>
@@ -84,7 +66,13 @@ fn begin<L: Link>(
     ensures failed { IfErr result (λ halt. (setup : Setup) (script : List ScriptClient) (past : List Event) → is_configured setup ≡ true → NoneRestarts setup
         → Stands setup script past domain.old → IsHalted setup (length script) halt domain.new) }
 {
-    let life = keep(alloc, domain, server, link);
+    let life = domain.lives.len();
+    let lived = Lived {
+        server: domain.servers[server].id,
+        invocation: 0,
+        pipe: Pipe::new(alloc, link),
+    };
+    domain.lives.push_reserved(lived);
     domain.start(server, started, life)?;
     greet(domain, server)
 }

@@ -3,7 +3,7 @@ use Rattle.std.specs.Prelude.{slice_get}
 use Rattle.std.specs.Vec.{with_item}
 use Rattle.xa_types.specs.declared.data.Data.{Data}
 use Rattle.xa_pipe.specs.Pipe.{invoke_frame}
-use Rattle.xa_domain.specs.Calling.{Delivers}
+use Rattle.xa_domain.specs.Calling.{Delivers, Exchanges}
 use Rattle.xa_tables.specs.Piping.{HearsBack}
 use Rattle.xa_tables.specs.Resting.{IsUp}
 use Rattle.xa_domain.proofs.Exchanging.{exchange_keeps}
@@ -39,25 +39,36 @@ deliver-requires g c =
       up = c.requires.up;
     }
 
-pub returns-in_err-request-clause-numbered : goal.returns-in_err-request-clause-numbered
-returns-in_err-request-clause-numbered g c =
-    let d = c.args.domain.now in
-    let life = c.index.result.now.life in
-    let up = up_of d c.args.server (λ x. x.queue ≡ c.args.row.now.queue) c.requires.ready c.requires.up in
-    let within = life_within d c.args.server c.index.result.now c.requires.ready.numbered up c.index.ensures in
-    let asked = record d { lives = with_item d.lives life c.send-sent.new.self } in
-    let keeps = life_keeps d life c.index_mut-its.result.now c.send-sent.new.self within c.index_mut-its.ensures.value (ap (λ y. y.server) c.send-sent.ensures.table) in
-    numbered_kept d c.deliver.new.domain (keeps_all d asked c.deliver.new.domain keeps.places c.in_err-request.ensures.kept) c.requires.ready.numbered
-
-pub returns-in_err-request-clause-attempts : goal.returns-in_err-request-clause-attempts
-returns-in_err-request-clause-attempts g c =
-    let d = c.args.domain.now in
-    let life = c.index.result.now.life in
-    let up = up_of d c.args.server (λ x. x.queue ≡ c.args.row.now.queue) c.requires.ready c.requires.up in
-    let within = life_within d c.args.server c.index.result.now c.requires.ready.numbered up c.index.ensures in
-    let asked = record d { lives = with_item d.lives life c.send-sent.new.self } in
-    let keeps = life_keeps d life c.index_mut-its.result.now c.send-sent.new.self within c.index_mut-its.ensures.value (ap (λ y. y.server) c.send-sent.ensures.table) in
-    attempts_kept d c.deliver.new.domain (keeps_all d asked c.deliver.new.domain keeps.places c.in_err-request.ensures.kept)
+pub returns-in_err-request : goal.returns-in_err-request
+returns-in_err-request g c =
+    record {
+      numbered = let d = c.args.domain.now in
+          let life = c.index.result.now.life in
+          let up = up_of d c.args.server (λ x. x.queue ≡ c.args.row.now.queue) c.requires.ready c.requires.up in
+          let within = life_within d c.args.server c.index.result.now c.requires.ready.numbered up c.index.ensures in
+          let asked = record d { lives = with_item d.lives life c.send-sent.new.self } in
+          let keeps = life_keeps d life c.index_mut-its.result.now c.send-sent.new.self within c.index_mut-its.ensures.value (ap (λ y. y.server) c.send-sent.ensures.table) in
+          numbered_kept d c.deliver.new.domain (keeps_all d asked c.deliver.new.domain keeps.places c.in_err-request.ensures.kept) c.requires.ready.numbered;
+      attempts = let d = c.args.domain.now in
+          let life = c.index.result.now.life in
+          let up = up_of d c.args.server (λ x. x.queue ≡ c.args.row.now.queue) c.requires.ready c.requires.up in
+          let within = life_within d c.args.server c.index.result.now c.requires.ready.numbered up c.index.ensures in
+          let asked = record d { lives = with_item d.lives life c.send-sent.new.self } in
+          let keeps = life_keeps d life c.index_mut-its.result.now c.send-sent.new.self within c.index_mut-its.ensures.value (ap (λ y. y.server) c.send-sent.ensures.table) in
+          attempts_kept d c.deliver.new.domain (keeps_all d asked c.deliver.new.domain keeps.places c.in_err-request.ensures.kept);
+      done = none_made c.from_residual.result _ _ c.from_residual.ensures.1;
+      lost = none_made c.from_residual.result _ _ c.from_residual.ensures.1;
+      failed = let d = c.args.domain.now in
+          let life = c.index.result.now.life in
+          let up = up_of d c.args.server (λ x. x.queue ≡ c.args.row.now.queue) c.requires.ready c.requires.up in
+          let within = life_within d c.args.server c.index.result.now c.requires.ready.numbered up c.index.ensures in
+          let y = c.index_mut-its.result.now in
+          let only = only_here d life y c.send-sent.new.self (λ y y'. Unit {0}) within c.index_mut-its.ensures.value tt in
+          passed_on c.from_residual.result c.in_err-request.field-0.0 _ c.from_residual.ensures.1
+          (λ setup count past configured holds serves.
+          c.in_err-request.ensures.failed setup count past c.args.ask.now configured (holds_beside setup count past d (record d { lives = with_item d.lives life c.send-sent.new.self }) life only holds) c.in-Ok.ensures
+          (record { version_is = serves.version_is; seen = serves.seen; valid = serves.valid; service = serves.service; stands = serves.stands; replies = serves.replies; kind = serves.kind }));
+    }
 
 pub index_mut-its-requires-2 : goal.index_mut-its-requires-2
 index_mut-its-requires-2 g c =
@@ -71,8 +82,8 @@ index_mut-its-requires-2 g c =
     let set = set_length d.lives.items life c.send-sent.new.self in
     omega (arith, within, same, long, set)
 
-pub returns-clause-done : goal.returns-clause-done
-returns-clause-done g c =
+pub returns : goal.returns
+returns g c =
     let d = c.args.domain.now in
     let x = c.index.result.now in
     let life = x.life in
@@ -94,7 +105,8 @@ returns-clause-done g c =
     let one : y2 ≡ y1 = let both = sym there ∙ here in cc in
     let heard : HearsBack c.send-sent.result y1.invocation c.hear_back-back.result y1.pipe y3.pipe =
     subst (λ y. HearsBack c.send-sent.result y.invocation c.hear_back-back.result y.pipe y3.pipe) one c.hear_back-back.ensures.heard in
-    record {
+    let after = record noted { lives = with_item noted.lives life y3 } in
+    let exchanges : Exchanges c.args.client c.args.op c.args.version row c.args.ask.now.payload c.args.server c.in_ok-request.request c.hear_back-back.result d after = record {
       by = x;
       stood = read_there d.servers.items c.args.server x IsUp up c.index.ensures;
       asked = record d { lives = with_item d.lives life y1 };
@@ -104,27 +116,16 @@ returns-clause-done g c =
       delivers = subst (λ (payload : Data). Delivers c.args.client c.args.op c.args.version row payload c.args.server c.in_ok-request.request (record d { lives = with_item d.lives life y1 }) noted) c.in-Ok.ensures done;
       hears = only_here noted life y2 y3 (λ y y'. y' ≡ record y { pipe = y'.pipe }) within_2 c.index_mut-its-2.ensures.value c.hear_back-back.ensures.table;
       exchanged = exchanged_by c.send-sent.result (invoke_frame row.service row.routine y1.invocation c.args.ask.now.payload) y1.invocation c.hear_back-back.result y0.pipe y1.pipe y3.pipe c.send-sent.ensures.sent c.send-sent.ensures.failed heard;
+    } in
+    let keeps = exchange_keeps c.args.client c.args.op c.args.version row c.args.ask.now.payload c.args.server c.in_ok-request.request c.hear_back-back.result d after exchanges c.requires.ready c.requires.turn c.requires.up in
+    record {
+      numbered = numbered_kept d after keeps.places c.requires.ready.numbered;
+      attempts = attempts_kept d after keeps.places;
+      done = exchanges;
+      lost = lost_back c.send-sent.result _ c.index_mut-its-2.result.now.invocation c.hear_back-back.result c.index_mut-its.result.now.pipe c.send-sent.new.self.pipe c.index_mut-its-2.result.now.pipe c.hear_back-back.new.self.pipe
+          c.send-sent.ensures.failed c.hear_back-back.ensures.heard;
+      failed = tt;
     }
-
-pub returns-clause-numbered : goal.returns-clause-numbered
-returns-clause-numbered g c =
-    let noted = c.deliver.new.domain in
-    numbered_kept c.args.domain.now (record noted { lives = with_item noted.lives c.index.result.now.life c.hear_back-back.new.self })
-    (exchange_keeps c.args.client c.args.op c.args.version c.args.row.now c.args.ask.now.payload c.args.server c.in_ok-request.request c.hear_back-back.result c.args.domain.now
-    (record noted { lives = with_item noted.lives c.index.result.now.life c.hear_back-back.new.self }) (returns-clause-done g c) c.requires.ready c.requires.turn c.requires.up).places c.requires.ready.numbered
-
-pub returns-clause-attempts : goal.returns-clause-attempts
-returns-clause-attempts g c =
-    let noted = c.deliver.new.domain in
-    attempts_kept c.args.domain.now (record noted { lives = with_item noted.lives c.index.result.now.life c.hear_back-back.new.self })
-    (exchange_keeps c.args.client c.args.op c.args.version c.args.row.now c.args.ask.now.payload c.args.server c.in_ok-request.request c.hear_back-back.result c.args.domain.now
-    (record noted { lives = with_item noted.lives c.index.result.now.life c.hear_back-back.new.self }) (returns-clause-done g c) c.requires.ready c.requires.turn c.requires.up).places
-
-pub returns-in_err-request-clause-done : goal.returns-in_err-request-clause-done
-returns-in_err-request-clause-done g c = none_made c.from_residual.result _ _ c.from_residual.ensures.1
-
-pub returns-in_err-request-clause-lost : goal.returns-in_err-request-clause-lost
-returns-in_err-request-clause-lost g c = none_made c.from_residual.result _ _ c.from_residual.ensures.1
 
 pub index-requires : goal.index-requires
 index-requires g c =
@@ -142,24 +143,3 @@ returns-in_default g c = record {
 
 pub send-sent-requires : goal.send-sent-requires
 send-sent-requires g c = c.requires.data
-
-pub returns-clause-lost : goal.returns-clause-lost
-returns-clause-lost g c =
-    lost_back c.send-sent.result _ c.index_mut-its-2.result.now.invocation c.hear_back-back.result c.index_mut-its.result.now.pipe c.send-sent.new.self.pipe c.index_mut-its-2.result.now.pipe c.hear_back-back.new.self.pipe
-    c.send-sent.ensures.failed c.hear_back-back.ensures.heard
-
-pub returns-clause-failed : goal.returns-clause-failed
-returns-clause-failed g c = tt
-
-pub returns-in_err-request-clause-failed : goal.returns-in_err-request-clause-failed
-returns-in_err-request-clause-failed g c =
-    let d = c.args.domain.now in
-    let life = c.index.result.now.life in
-    let up = up_of d c.args.server (λ x. x.queue ≡ c.args.row.now.queue) c.requires.ready c.requires.up in
-    let within = life_within d c.args.server c.index.result.now c.requires.ready.numbered up c.index.ensures in
-    let y = c.index_mut-its.result.now in
-    let only = only_here d life y c.send-sent.new.self (λ y y'. Unit {0}) within c.index_mut-its.ensures.value tt in
-    passed_on c.from_residual.result c.in_err-request.field-0.0 _ c.from_residual.ensures.1
-    (λ setup count past configured holds serves.
-    c.in_err-request.ensures.failed setup count past c.args.ask.now configured (holds_beside setup count past d (record d { lives = with_item d.lives life c.send-sent.new.self }) life only holds) c.in-Ok.ensures
-    (record { version_is = serves.version_is; seen = serves.seen; valid = serves.valid; service = serves.service; stands = serves.stands; replies = serves.replies; kind = serves.kind }))

@@ -13,16 +13,13 @@ index-requires g c =
 pub answer-requires : goal.answer-requires
 answer-requires g c = c.requires
 
-pub returns-clause-done : goal.returns-clause-done
-returns-clause-done g c =
-    let d = c.args.domain.now in
-    let x = c.index.result.now in
-    on_ok_weaker {Q = Tells c.args.client c.args.op c.args.request c.args.answer d c.answer.new.self} c.answer.result
-    (λ answers. record { by = x; stood = stood_here d.clients.items c.args.client x c.requires c.index.ensures; answers = answers }) c.answer.ensures.done
-
-pub returns-clause-kept : goal.returns-clause-kept
-returns-clause-kept g c = c.answer.ensures.kept
-
-pub returns-clause-failed : goal.returns-clause-failed
-returns-clause-failed g c =
-    IfErr-weaker c.answer.result _ _ (λ halt failed setup count past holds. halts_at_client setup count past c.args.domain.now c.answer.new.self halt holds c.args.client failed) c.answer.ensures.failed
+pub returns : goal.returns
+returns g c =
+    record {
+      done = let d = c.args.domain.now in
+          let x = c.index.result.now in
+          on_ok_weaker {Q = Tells c.args.client c.args.op c.args.request c.args.answer d c.answer.new.self} c.answer.result
+          (λ answers. record { by = x; stood = stood_here d.clients.items c.args.client x c.requires c.index.ensures; answers = answers }) c.answer.ensures.done;
+      kept = c.answer.ensures.kept;
+      failed = IfErr-weaker c.answer.result _ _ (λ halt failed setup count past holds. halts_at_client setup count past c.args.domain.now c.answer.new.self halt holds c.args.client failed) c.answer.ensures.failed;
+    }

@@ -21,43 +21,30 @@ index-requires g c =
 pub refuse-requires : goal.refuse-requires
 refuse-requires g c = c.requires.client
 
-pub returns-clause-numbered : goal.returns-clause-numbered
-returns-clause-numbered g c =
-    let x = c.index.result.now in
-    let stood = stood_here c.args.domain.now.clients.items c.args.client x c.requires.client c.index.ensures in
-    either_way c.refuse.result _ _ _
-    (λ step. numbered_kept c.args.domain.now c.refuse.new.self (refuses_keep c.args.client c.args.op c.args.fault c.args.evidence x c.args.domain.now c.refuse.new.self stood step).places c.requires.ready.numbered)
-    (λ kept. numbered_kept c.args.domain.now c.refuse.new.self kept c.requires.ready.numbered) c.refuse.ensures.done c.refuse.ensures.kept
-
-pub returns-clause-attempts : goal.returns-clause-attempts
-returns-clause-attempts g c =
-    let x = c.index.result.now in
-    let stood = stood_here c.args.domain.now.clients.items c.args.client x c.requires.client c.index.ensures in
-    either_way c.refuse.result _ _ _
-    (λ step. attempts_kept c.args.domain.now c.refuse.new.self (refuses_keep c.args.client c.args.op c.args.fault c.args.evidence x c.args.domain.now c.refuse.new.self stood step).places)
-    (λ kept. attempts_kept c.args.domain.now c.refuse.new.self kept) c.refuse.ensures.done c.refuse.ensures.kept
-
-pub returns-clause-ready : goal.returns-clause-ready
-returns-clause-ready g c =
-    let x = c.index.result.now in
-    let stood = stood_here c.args.domain.now.clients.items c.args.client x c.requires.client c.index.ensures in
-    on_ok_weaker c.refuse.result (λ step. refuses_ready c.args.client c.args.op c.args.fault c.args.evidence x c.args.domain.now c.refuse.new.self stood step c.requires.ready) c.refuse.ensures.done
-
-pub returns-clause-called : goal.returns-clause-called
-returns-clause-called g c =
-    on_ok_weaker {Q = HasCalled c.args.client c.args.op c.args.domain.now c.refuse.new.self} c.refuse.result
-    (λ step.
-    let x = step.clients in
-    record { clients = record { before = x.before; after = x.after; stood = x.stood; now = x.now; how = (ap (λ (z : Client). z.op) x.how.1, ap (λ (z : Client). z.left) x.how.1) } }) c.refuse.ensures.done
-
-pub returns-clause-done : goal.returns-clause-done
-returns-clause-done g c =
-    let d = c.args.domain.now in
-    let x = c.index.result.now in
-    on_ok_weaker c.refuse.result
-    (some_of (slice_get d.clients.items c.args.client) (λ (y : Client). Refuses c.args.client (refused_of y c.args.op c.args.fault c.args.evidence) d c.refuse.new.self) x
-    (stood_here d.clients.items c.args.client x c.requires.client c.index.ensures)) c.refuse.ensures.done
-
-pub returns-clause-failed : goal.returns-clause-failed
-returns-clause-failed g c =
-    IfErr-weaker c.refuse.result _ _ (λ halt failed setup count past holds. halts_at_client setup count past c.args.domain.now c.refuse.new.self halt holds c.args.client failed) c.refuse.ensures.failed
+pub returns : goal.returns
+returns g c =
+    record {
+      numbered = let x = c.index.result.now in
+          let stood = stood_here c.args.domain.now.clients.items c.args.client x c.requires.client c.index.ensures in
+          either_way c.refuse.result _ _ _
+          (λ step. numbered_kept c.args.domain.now c.refuse.new.self (refuses_keep c.args.client c.args.op c.args.fault c.args.evidence x c.args.domain.now c.refuse.new.self stood step).places c.requires.ready.numbered)
+          (λ kept. numbered_kept c.args.domain.now c.refuse.new.self kept c.requires.ready.numbered) c.refuse.ensures.done c.refuse.ensures.kept;
+      attempts = let x = c.index.result.now in
+          let stood = stood_here c.args.domain.now.clients.items c.args.client x c.requires.client c.index.ensures in
+          either_way c.refuse.result _ _ _
+          (λ step. attempts_kept c.args.domain.now c.refuse.new.self (refuses_keep c.args.client c.args.op c.args.fault c.args.evidence x c.args.domain.now c.refuse.new.self stood step).places)
+          (λ kept. attempts_kept c.args.domain.now c.refuse.new.self kept) c.refuse.ensures.done c.refuse.ensures.kept;
+      ready = let x = c.index.result.now in
+          let stood = stood_here c.args.domain.now.clients.items c.args.client x c.requires.client c.index.ensures in
+          on_ok_weaker c.refuse.result (λ step. refuses_ready c.args.client c.args.op c.args.fault c.args.evidence x c.args.domain.now c.refuse.new.self stood step c.requires.ready) c.refuse.ensures.done;
+      called = on_ok_weaker {Q = HasCalled c.args.client c.args.op c.args.domain.now c.refuse.new.self} c.refuse.result
+          (λ step.
+          let x = step.clients in
+          record { clients = record { before = x.before; after = x.after; stood = x.stood; now = x.now; how = (ap (λ (z : Client). z.op) x.how.1, ap (λ (z : Client). z.left) x.how.1) } }) c.refuse.ensures.done;
+      done = let d = c.args.domain.now in
+          let x = c.index.result.now in
+          on_ok_weaker c.refuse.result
+          (some_of (slice_get d.clients.items c.args.client) (λ (y : Client). Refuses c.args.client (refused_of y c.args.op c.args.fault c.args.evidence) d c.refuse.new.self) x
+          (stood_here d.clients.items c.args.client x c.requires.client c.index.ensures)) c.refuse.ensures.done;
+      failed = IfErr-weaker c.refuse.result _ _ (λ halt failed setup count past holds. halts_at_client setup count past c.args.domain.now c.refuse.new.self halt holds c.args.client failed) c.refuse.ensures.failed;
+    }

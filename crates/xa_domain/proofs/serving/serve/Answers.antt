@@ -3,13 +3,11 @@ use Rattle.xa_script.specs.declared.script.Client.{Client as ScriptClient}
 use Rattle.xa_domain.specs.Serving.{ServeEnds}
 use Rattle.xa_domain.proofs.serving.serve.Goals as goal
 
-pub returns-clause-ends : goal.returns-clause-ends
-returns-clause-ends g c =
-    let out = c.serve_all.result in
-    subst (λ (clients : List ScriptClient). ServeEnds (record { took = g.Y.Line.Sink.took; gave = g.Y.Line.Source.gave; left = g.Y.Line.Source.left; reads = g.Y.Line.Source.read_faults; writes = g.Y.Line.Sink.write_faults }) (λ s. record { faults = g.Y.Start.Starter.start_faults s; asked = g.Y.Start.Starter.asked s }) c.args.setup clients out.halt out.homes.homes out.lives.items out.starters.items) c.slice.ensures c.serve_all.ensures.ends
-
-pub returns-clause-dense : goal.returns-clause-dense
-returns-clause-dense g c = c.serve_all.ensures.dense
-
-pub returns-clause-asked : goal.returns-clause-asked
-returns-clause-asked g c = c.serve_all.ensures.asked
+pub returns : goal.returns
+returns g c =
+    record {
+      ends = let out = c.serve_all-served.result in
+          subst (λ (clients : List ScriptClient). ServeEnds (record { took = g.Y.Line.Sink.took; gave = g.Y.Line.Source.gave; left = g.Y.Line.Source.left; reads = g.Y.Line.Source.read_faults; writes = g.Y.Line.Sink.write_faults }) (λ s. record { faults = g.Y.Start.Starter.start_faults s; asked = g.Y.Start.Starter.asked s }) c.args.setup clients out.halt out.homes.homes out.lives.items out.starters.items) c.slice.ensures c.serve_all-served.ensures.ends;
+      dense = c.serve_all-served.ensures.dense;
+      asked = c.serve_all-served.ensures.asked;
+    }

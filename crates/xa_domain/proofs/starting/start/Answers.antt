@@ -1,10 +1,10 @@
-use Rattle.std.proofs.Common.{◌∙◌, List, ℕ, Err, ap, sym, subst}
+use Rattle.std.proofs.Common.{◌∙◌, List, ℕ, Err, ap, sym, subst, arith}
 use Rattle.std.specs.Prelude.{slice_get, IsSomeAnd}
 use Rattle.std.proofs.lemmas.Result.{on_ok_weaker, IfErr-weaker}
 use Rattle.xa_tables.specs.declared.server.Attempt.{Attempt}
 use Rattle.xa_domain.specs.Serving.{IsStarterBy}
 use Rattle.xa_tables.specs.Resting.{attempts}
-use Rattle.xa_tables.proofs.Lists.{other_stands}
+use Rattle.xa_tables.proofs.Lists.{other_stands, changed_length}
 use Rattle.xa_domain.proofs.Begun.{numbered_room, attempts_room, on_room, room_stood, may_begin, stands_room, room_halts, shows_started, shows_failed, shows_same}
 use Rattle.xa_tables.proofs.Failing.{none_done}
 use Rattle.xa_domain.proofs.Halted.{halts}
@@ -13,21 +13,22 @@ use Rattle.xa_domain.proofs.starting.start.Goals as goal
 
 -- ---- it is started
 
-pub begin-requires-clause-on : goal.begin-requires-clause-on
-begin-requires-clause-on g c =
-    let old = c.args.domain.now in
-    let d1 = c.make_room.new.self in
-    let step = c.in_ok-make_room.ensures.done in
-    let x = c.index-at.result.now in
-    on_room c.args.server old d1 c.requires.on step
-
-pub begin-requires-clause-may : goal.begin-requires-clause-may
-begin-requires-clause-may g c =
-    let old = c.args.domain.now in
-    let d1 = c.make_room.new.self in
-    let step = c.in_ok-make_room.ensures.done in
-    let x = c.index-at.result.now in
-    may_begin c.args.server old d1 c.requires.on step x c.index-at.ensures
+pub begin-requires : goal.begin-requires
+begin-requires g c =
+    record {
+      on = let old = c.args.domain.now in
+          let d1 = c.make_room.new.self in
+          let step = c.in_ok-make_room.ensures.done in
+          let x = c.index-at.result.now in
+          on_room c.args.server old d1 c.requires.on step;
+      may = let old = c.args.domain.now in
+          let d1 = c.make_room.new.self in
+          let step = c.in_ok-make_room.ensures.done in
+          let x = c.index-at.result.now in
+          may_begin c.args.server old d1 c.requires.on step x c.index-at.ensures;
+      counts = c.in-Ok.ensures.counts;
+      fresh = c.in-Ok.ensures.fresh;
+    }
 
 pub returns-in-Ok : goal.returns-in-Ok
 returns-in-Ok g c =
@@ -105,3 +106,11 @@ returns-in_err-make_room g c =
       goes = none_done result _ _ c.from_residual.ensures.1;
       failed = passed_on result _ _ c.from_residual.ensures.1 (λ setup script past configured never stands. halts setup _ past c.args.domain.now c.make_room.new.self c.in_err-make_room.field-0.0 stands.holds same);
     }
+
+pub make_room-requires : goal.make_room-requires
+make_room-requires g c = c.requires.within
+
+pub index-at-requires : goal.index-at-requires
+index-at-requires g c =
+    let d1 = c.make_room.new.self in
+    omega (arith, c.requires.within, changed_length c.args.server c.args.domain.now.servers.items d1.servers.items c.in_ok-make_room.ensures.done.servers, d1.servers.ok.0)

@@ -11,25 +11,24 @@ pub loop-server-init : goal.loop-server-init
 loop-server-init g c =
     record { starting = starts_none c.args.domain.now c.requires.booted c.requires.stamps; matches = c.requires.fresh; all = refl }
 
-pub start-requires-clause-on : goal.start-requires-clause-on
-start-requires-clause-on g c =
-    c.loop-server.invariant.starting.on
+pub start-requires : goal.start-requires
+start-requires g c =
+    record {
+      on = c.loop-server.invariant.starting.on;
+      within = omega (arith, c.loop-server-test.true, c.loop-server.invariant.all, match_long (λ s. record { faults = g.S.Starter.start_faults s; asked = g.S.Starter.asked s }) c.loop-server.domain c.loop-server.starters c.loop-server.invariant.matches);
+      fresh = match_at (λ s. record { faults = g.S.Starter.start_faults s; asked = g.S.Starter.asked s }) (attempts c.loop-server.domain) c.loop-server.starters c.loop-server.server c.index-starters-server.result c.loop-server.invariant.matches (omega (arith, c.loop-server-test.true, c.loop-server.invariant.all));
+    }
 
-pub start-requires-clause-within : goal.start-requires-clause-within
-start-requires-clause-within g c =
-    omega (arith, c.loop-server-test.true, c.loop-server.invariant.all, match_long (λ s. record { faults = g.S.Starter.start_faults s; asked = g.S.Starter.asked s }) c.loop-server.domain c.loop-server.starters c.loop-server.invariant.matches)
-
-pub start-requires-clause-fresh : goal.start-requires-clause-fresh
-start-requires-clause-fresh g c =
-    match_at (λ s. record { faults = g.S.Starter.start_faults s; asked = g.S.Starter.asked s }) (attempts c.loop-server.domain) c.loop-server.starters c.loop-server.server c.index-starters-server.result c.loop-server.invariant.matches (omega (arith, c.loop-server-test.true, c.loop-server.invariant.all))
-
-pub returns-in_err-start-clause-starters : goal.returns-in_err-start-clause-starters
-returns-in_err-start-clause-starters g c =
-    match_set (λ s. record { faults = g.S.Starter.start_faults s; asked = g.S.Starter.asked s }) (attempts c.loop-server.domain) (attempts c.start.new.domain) c.loop-server.starters c.loop-server.server c.start.new.starter c.loop-server.invariant.matches (omega (arith, c.loop-server-test.true, c.loop-server.invariant.all)) c.start.ensures.starter c.start.ensures.attempts
-
-pub returns-in_err-start-clause-failed : goal.returns-in_err-start-clause-failed
-returns-in_err-start-clause-failed g c =
-    passed_on c.from_residual.result c.in_err-start.field-0.0 _ c.from_residual.ensures.1 (leads_to_halt c.args.domain.now c.loop-server.domain c.start.new.domain c.in_err-start.field-0.0 c.loop-server.invariant.starting.goes c.in_err-start.ensures.failed)
+pub returns-in_err-start : goal.returns-in_err-start
+returns-in_err-start g c =
+    record {
+      numbered = c.start.ensures.numbered;
+      starters = match_set (λ s. record { faults = g.S.Starter.start_faults s; asked = g.S.Starter.asked s }) (attempts c.loop-server.domain) (attempts c.start.new.domain) c.loop-server.starters c.loop-server.server c.start.new.starter c.loop-server.invariant.matches (omega (arith, c.loop-server-test.true, c.loop-server.invariant.all)) c.start.ensures.starter c.start.ensures.attempts;
+      ready = none_done c.from_residual.result _ _ c.from_residual.ensures.1;
+      clients = none_done c.from_residual.result _ _ c.from_residual.ensures.1;
+      goes = none_done c.from_residual.result _ _ c.from_residual.ensures.1;
+      failed = passed_on c.from_residual.result c.in_err-start.field-0.0 _ c.from_residual.ensures.1 (leads_to_halt c.args.domain.now c.loop-server.domain c.start.new.domain c.in_err-start.field-0.0 c.loop-server.invariant.starting.goes c.in_err-start.ensures.failed);
+    }
 
 pub loop-server-preserved : goal.loop-server-preserved
 loop-server-preserved g c =
@@ -43,34 +42,13 @@ loop-server-preserved g c =
       all = set_length c.loop-server.starters c.loop-server.server c.start.new.starter ∙ c.loop-server.invariant.all;
     }
 
-pub returns-clause-numbered : goal.returns-clause-numbered
-returns-clause-numbered g c =
-    c.loop-server.invariant.starting.on.numbered
-
-pub returns-clause-starters : goal.returns-clause-starters
-returns-clause-starters g c =
-    c.loop-server.invariant.matches
-
-pub returns-clause-ready : goal.returns-clause-ready
-returns-clause-ready g c =
-    ready_all c.loop-server.server c.loop-server.domain c.loop-server.invariant.starting.on (omega (arith, c.loop-server-test.false, c.loop-server.invariant.all, match_long (λ s. record { faults = g.S.Starter.start_faults s; asked = g.S.Starter.asked s }) c.loop-server.domain c.loop-server.starters c.loop-server.invariant.matches))
-
-pub returns-clause-clients : goal.returns-clause-clients
-returns-clause-clients g c =
-    c.loop-server.invariant.starting.clients
-
-pub returns-clause-goes : goal.returns-clause-goes
-returns-clause-goes g c =
-    c.loop-server.invariant.starting.goes
-
-pub returns-in_err-start-clause-clients : goal.returns-in_err-start-clause-clients
-returns-in_err-start-clause-clients g c = none_done c.from_residual.result _ _ c.from_residual.ensures.1
-
-pub returns-in_err-start-clause-goes : goal.returns-in_err-start-clause-goes
-returns-in_err-start-clause-goes g c = none_done c.from_residual.result _ _ c.from_residual.ensures.1
-
-pub returns-in_err-start-clause-ready : goal.returns-in_err-start-clause-ready
-returns-in_err-start-clause-ready g c = none_done c.from_residual.result _ _ c.from_residual.ensures.1
-
-pub returns-in_err-start-clause-numbered : goal.returns-in_err-start-clause-numbered
-returns-in_err-start-clause-numbered g c = c.start.ensures.numbered
+pub returns : goal.returns
+returns g c =
+    record {
+      numbered = c.loop-server.invariant.starting.on.numbered;
+      starters = c.loop-server.invariant.matches;
+      ready = ready_all c.loop-server.server c.loop-server.domain c.loop-server.invariant.starting.on (omega (arith, c.loop-server-test.false, c.loop-server.invariant.all, match_long (λ s. record { faults = g.S.Starter.start_faults s; asked = g.S.Starter.asked s }) c.loop-server.domain c.loop-server.starters c.loop-server.invariant.matches));
+      clients = c.loop-server.invariant.starting.clients;
+      goes = c.loop-server.invariant.starting.goes;
+      failed = tt;
+    }
