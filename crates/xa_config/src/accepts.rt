@@ -28,7 +28,12 @@ fn is_text_of_shape(octets: &[u8], shape: Name) -> bool
 fn is_text_of_any(octets: &[u8], shapes: &[Name]) -> bool
     ensures { result ≡ list_any (λ shape. bytes_eq octets.now (codes "c:" ++ shape)) shapes.now }
 {
-    shapes.iter().any(|shape| is_text_of_shape(octets, *shape))
+    for shape in shapes {
+        if is_text_of_shape(octets, *shape) {
+            return true;
+        }
+    }
+    false
 }
 
 fn is_kind(octets: &[u8], shapes: &[Name]) -> bool
@@ -40,7 +45,12 @@ fn is_kind(octets: &[u8], shapes: &[Name]) -> bool
 fn is_listed(values: &[Value], octets: &[u8]) -> bool
     ensures { result ≡ list_any (λ value. bytes_eq octets.now (text_in (view value))) values.now }
 {
-    values.iter().any(|value| octets == octets_of(value))
+    for value in values {
+        if octets == octets_of(value) {
+            return true;
+        }
+    }
+    false
 }
 
 fn names_shape(value: &Value, shape: Name) -> bool
@@ -55,7 +65,12 @@ fn names_shape(value: &Value, shape: Name) -> bool
 fn is_shape_listed(values: &[Value], shape: Name) -> bool
     ensures { result ≡ list_any (λ value. bytes_eq (codes "c:" ++ shape) (text_in (view value))) values.now }
 {
-    values.iter().any(|value| names_shape(value, shape))
+    for value in values {
+        if names_shape(value, shape) {
+            return true;
+        }
+    }
+    false
 }
 
 // An element of `accepts`: a kind, which is none of the earlier elements.

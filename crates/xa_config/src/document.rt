@@ -72,7 +72,12 @@ pub fn is_table(value: &Value) -> bool
 fn is_known(known: &[&str], key: &String) -> bool
     ensures { result ≡ list_any (λ k. bytes_eq (string_bytes key.now) k.now) known.now }
 {
-    known.iter().any(|k| key.as_str() == *k)
+    for k in known {
+        if key.as_str() == *k {
+            return true;
+        }
+    }
+    false
 }
 
 fn unknown_in<'a>(table: &'a Table, known: &[&str]) -> Option<&'a String>

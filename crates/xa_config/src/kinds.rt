@@ -82,7 +82,12 @@ pub fn name(value: &Value) -> Result<Name, u8>
 pub fn is_among(names: &[Name], octets: &[u8]) -> bool
     ensures { result ≡ is_among names.now octets.now }
 {
-    names.iter().any(|name| octets == name.octets())
+    for name in names {
+        if octets == name.octets() {
+            return true;
+        }
+    }
+    false
 }
 
 /// A name that is none of the earlier ones.
@@ -152,7 +157,12 @@ pub fn queue(value: &Value, names: &[Name], earlier: &[Name]) -> Result<Name, u8
 fn has_name(fields: &[FieldSetup], octets: &[u8]) -> bool
     ensures { result ≡ list_any (λ field. bytes_eq octets.now field.name) fields.now }
 {
-    fields.iter().any(|field| octets == field.name.octets())
+    for field in fields {
+        if octets == field.name.octets() {
+            return true;
+        }
+    }
+    false
 }
 
 /// An element of `fields`: a field, of which no earlier one has the name.
