@@ -7,7 +7,7 @@ use Rattle.toml.specs.declared.value.Value.{Value}
 use Rattle.xa_config.specs.declared.refusal.ConfigRefused.{ConfigRefused}
 use Rattle.xa_config.specs.Faults.{Fault, fault, at_key, indexed, in_order}
 use Rattle.xa_config.specs.Keys.{elements}
-use Rattle.xa_config.specs.Meaning.{name_of, names_of, shape_of, queue_of, server_of, service_of}
+use Rattle.xa_config.specs.Meaning.{name_of, names_of}
 use Rattle.xa_config.specs.Tables.{at_entry}
 use Rattle.xa_config.specs.Document.{first, TellsFirst}
 use Rattle.xa_config.proofs.Tells.{tells_at, tells_front}
@@ -41,10 +41,10 @@ in_order_next faults vs i v h is =
     ∙ ap (λ before. faults (seen i vs) (view v) ++ in_order faults before (unseen (i + 1) vs)) (sym (seen_more vs i v h is))
 
 -- what one more value adds to what is kept
-pub kept_more : {A : Type 0} (f : Data → A) (vs : List Value) (i : ℕ) (v : Value) (kept : List A) (x : A) → i < length vs → v ≡ get_or vs i v
-    → kept ≡ map f (seen i vs) → x ≡ f (view v) → kept ++ x ∷ [] ≡ map f (seen (i + 1) vs)
-kept_more f vs i v kept x h is same new =
-    ap (λ xs. xs ++ x ∷ []) same ∙ ap (λ y. map f (seen i vs) ++ y ∷ []) new ∙ sym (map_last f (seen i vs) (view v)) ∙ ap (map f) (sym (seen_more vs i v h is))
+pub kept_more : {A : Type 0} (f : Data → A) (vs : List Value) (i : ℕ) (v : Value) (kept next : List A) (x : A) → i < length vs → v ≡ get_or vs i v
+    → kept ≡ map f (seen i vs) → x ≡ f (view v) → next ≡ kept ++ x ∷ [] → next ≡ map f (seen (i + 1) vs)
+kept_more f vs i v kept next x h is same new more =
+    more ∙ ap (λ xs. xs ++ x ∷ []) same ∙ ap (λ y. map f (seen i vs) ++ y ∷ []) new ∙ sym (map_last f (seen i vs) (view v)) ∙ ap (map f) (sym (seen_more vs i v h is))
 
 -- a value without a fault
 pub next_good : (faults : List Data → Data → List Fault) (vs : List Value) (i : ℕ) (v : Value) (all : List Fault) → i < length vs → v ≡ get_or vs i v
@@ -104,6 +104,15 @@ length_map f (x ∷ xs) = ap suc (length_map f xs)
 pub length_kept : {A : Type 0} (f : Data → A) (kept : List A) (ds : List Data) → kept ≡ map f ds → length kept ≡ length ds
 length_kept f kept ds same = ap length same ∙ length_map f ds
 
+-- where there is room for all values, there is room for the next
+pub has_room : {A : Type 0} (f : Data → A) (vs : List Value) (i : ℕ) (kept : List A) (len capacity : ℕ) → i < length vs → kept ≡ map f (seen i vs)
+    → len ≡ length kept → length vs ≤ capacity → len < capacity
+has_room f vs i kept len capacity h same counted room =
+    omega (arith, h, room, counted, length_kept f kept (seen i vs) same, length_seen vs i (omega (arith, h)))
+
+pub room_kept : (n before after : ℕ) → after ≡ before → n ≤ before → n ≤ after
+room_kept n before after same room = subst (λ m. n ≤ m) (sym same) room
+
 -- what is asked of an entry, by the names before it
 pub at_names : (key : List ℕ) (entry : List ℕ → List (List ℕ) → Data → List Fault) (before : List Data) (d : Data) (names : List (List ℕ))
     → names ≡ names_of before → entry (indexed key (length names)) names d ≡ at_entry key entry before d
@@ -113,19 +122,3 @@ at_names key entry before d names same =
 pub tells_names : (key : List ℕ) (entry : List ℕ → List (List ℕ) → Data → List Fault) (before : List Data) (d : Data) (names : List (List ℕ)) (refusal : ConfigRefused)
     → names ≡ names_of before → TellsFirst (entry (indexed key (length names)) names d) refusal → TellsFirst (at_entry key entry before d) refusal
 tells_names key entry before d names refusal same told = subst (λ faults. TellsFirst faults refusal) (at_names key entry before d names same) told
-
-pub shape_name : (d : Data) → (shape_of d).name ≡ name_of d
-unfolding shape_of
-shape_name d = refl
-
-pub queue_name : (d : Data) → (queue_of d).name ≡ name_of d
-unfolding queue_of
-queue_name d = refl
-
-pub server_name : (d : Data) → (server_of d).name ≡ name_of d
-unfolding server_of
-server_name d = refl
-
-pub service_name : (shapes : List (List ℕ)) (d : Data) → (service_of shapes d).name ≡ name_of d
-unfolding service_of
-service_name shapes d = refl

@@ -1,6 +1,7 @@
 -- What a whole document comes to, table by table.
-use Rattle.std.proofs.Common.{◌≡◌, ℕ, zero, suc, ◌+◌, ◌<◌, ◌≤◌, nat_le, not, Bool, true, false, List, [], ◌∷◌, ◌++◌, length, get_or, drop, map, codes, Some, Result, Ok, Err, IfOk, IfErr, refl, sym, ap, ◌∙◌, subst, arith}
+use Rattle.std.proofs.Common.{◌≡◌, ℕ, zero, suc, ◌+◌, ◌<◌, ◌≤◌, nat_le, not, Bool, true, false, List, [], ◌∷◌, ◌++◌, length, get_or, drop, map, codes, Some, Result, Ok, Err, IfOk, IfErr, MatchResult, append_assoc, refl, sym, ap, ◌∙◌, subst, arith}
 use Rattle.std.proofs.lemmas.List.{drop_more}
+use Rattle.std.specs.Result.{result_and}
 use Rattle.std.specs.List.{list_all, list_any, sum_by}
 use Rattle.std.specs.Str.{bytes_eq}
 use Rattle.toml.specs.Data.{Data, get}
@@ -19,6 +20,7 @@ use Rattle.xa_config.specs.Document.{Says, Reads, TellsFirst, NamesFirstFault}
 use Rattle.xa_config.proofs.GoodSetup.{rows_same, queues_served, setup_is_good, setup_stays}
 use Rattle.xa_config.proofs.Tells.{tells_front}
 use Rattle.xa_config.proofs.Unknown.{any_map}
+use Rattle.xa_config.proofs.Whole.{paired, both_kept}
 
 -- the queues from one place on
 unserved_next : (named : List (List ℕ)) (queues : List (List ℕ)) (place : ℕ) (queue : List ℕ) → place < length queues → queue ≡ get_or queues place queue
@@ -63,19 +65,6 @@ pub all_served : (named queues : List (List ℕ)) (place : ℕ) (all : List Faul
 unfolding unserved
 all_served named queues place all h same = same ∙ ap (unserved named place) (dropped queues place h)
 
--- what is left where the tables have no fault
-faults_left : (d : Data) (queues shapes : List (List ℕ)) → unknown_tables d ≡ [] → domain_faults (get (codes "domain") d) ≡ []
-    → table_faults (codes "shape") 0 64 shape_faults d ≡ [] → table_faults (codes "queue") 1 64 queue_faults d ≡ []
-    → table_faults (codes "server") 1 64 (server_faults queues) d ≡ [] → table_faults (codes "service") 0 256 (service_faults queues shapes) d ≡ []
-    → queues ≡ names_of (list_at (codes "queue") d) → shapes ≡ names_of (list_at (codes "shape") d)
-    → faults_of d ≡ rows_faults (list_at (codes "service") d) ++ unserved (map (text_at (codes "queue") []) (list_at (codes "server") d)) 0 (names_of (list_at (codes "queue") d))
-unfolding faults_of
-faults_left d queues shapes a b c e f g q s =
-    let f' = ap (λ names. table_faults (codes "server") 1 64 (server_faults names) d) (sym q) ∙ f in
-    let g' = ap (λ names. table_faults (codes "service") 0 256 (service_faults names (names_of (list_at (codes "shape") d))) d) (sym q)
-    ∙ ap (λ names. table_faults (codes "service") 0 256 (service_faults queues names) d) (sym s) ∙ g in
-    rw (a, b, c, e, f', g')
-
 rows_are : (shapes : List (List ℕ)) (ds : List Data) (services : List ServiceSetup) → services ≡ map (service_of shapes) ds
     → at_key (codes "service") (expects (nat_le (sum_by (λ (s : ServiceSetup). length s.queues) services) 256) 10) ≡ rows_faults ds
 unfolding rows_faults
@@ -83,27 +72,96 @@ rows_are shapes ds services same =
     ap (λ xs. at_key (codes "service") (expects (nat_le (sum_by (λ (s : ServiceSetup). length s.queues) xs) 256) 10)) same
     ∙ ap (λ n. at_key (codes "service") (expects (nat_le n 256) 10)) (rows_same shapes ds)
 
-served_are : (ds : List Data) (servers : List ServerSetup) (queues names : List (List ℕ)) → servers ≡ map server_of ds → queues ≡ names
-    → unserved (map (λ (s : ServerSetup). s.queue) servers) 0 queues ≡ unserved (map (text_at (codes "queue") []) ds) 0 names
-served_are ds servers queues names same q =
-    ap (λ xs. unserved (map (λ (s : ServerSetup). s.queue) xs) 0 queues) same ∙ ap (λ named. unserved named 0 queues) (queues_served ds)
-    ∙ ap (unserved (map (text_at (codes "queue") []) ds) 0) q
+-- the faults of the servers and the services, and of what is asked of the tables together
+abbrev pub served_faults : List (List ℕ) → List (List ℕ) → Data → List Fault
+served_faults queues shapes d =
+    table_faults (codes "server") 1 64 (server_faults queues) d
+    ++ table_faults (codes "service") 0 256 (service_faults queues shapes) d
+    ++ rows_faults (list_at (codes "service") d)
+    ++ unserved (map (text_at (codes "queue") []) (list_at (codes "server") d)) 0 queues
 
--- what is left, over the servers and services that were read
-pub all_left : (d : Data) (queues shapes : List (List ℕ)) (servers : List ServerSetup) (services : List ServiceSetup)
-    → unknown_tables d ≡ [] → domain_faults (get (codes "domain") d) ≡ []
-    → table_faults (codes "shape") 0 64 shape_faults d ≡ [] → table_faults (codes "queue") 1 64 queue_faults d ≡ []
-    → table_faults (codes "server") 1 64 (server_faults queues) d ≡ [] → table_faults (codes "service") 0 256 (service_faults queues shapes) d ≡ []
-    → queues ≡ names_of (list_at (codes "queue") d) → shapes ≡ names_of (list_at (codes "shape") d)
-    → servers ≡ map server_of (list_at (codes "server") d) → services ≡ map (service_of shapes) (list_at (codes "service") d)
-    → faults_of d ≡ at_key (codes "service") (expects (nat_le (sum_by (λ (s : ServiceSetup). length s.queues) services) 256) 10)
+abbrev pub whole_faults : List ServerSetup → List ServiceSetup → List (List ℕ) → List Fault
+whole_faults servers services queues =
+    at_key (codes "service") (expects (nat_le (sum_by (λ (s : ServiceSetup). length s.queues) services) 256) 10)
     ++ unserved (map (λ (s : ServerSetup). s.queue) servers) 0 queues
-all_left d queues shapes servers services a b c e f g q s x y =
-    let rest = unserved (map (text_at (codes "queue") []) (list_at (codes "server") d)) 0 (names_of (list_at (codes "queue") d)) in
-    faults_left d queues shapes a b c e f g q s
-    ∙ ap (λ rows. rows ++ rest) (sym (rows_are shapes (list_at (codes "service") d) services y))
-    ∙ ap (λ more. at_key (codes "service") (expects (nat_le (sum_by (λ (s : ServiceSetup). length s.queues) services) 256) 10) ++ more)
-    (sym (served_are (list_at (codes "server") d) servers queues (names_of (list_at (codes "queue") d)) x q))
+
+pub many_told : (servers : List ServerSetup) (services : List ServiceSetup) (queues : List (List ℕ)) (refusal : ConfigRefused)
+    → nat_le (sum_by (λ (s : ServiceSetup). length s.queues) services) 256 ≡ false → TellsFirst (fault (codes "service") 10 ∷ []) refusal
+    → TellsFirst (whole_faults servers services queues) refusal
+many_told servers services queues refusal many told =
+    rw many (tells_front (fault (codes "service") 10 ∷ []) (unserved (map (λ (s : ServerSetup). s.queue) servers) 0 queues) refusal told)
+
+pub few_told : {B : Type 0} (servers : List ServerSetup) (services : List ServiceSetup) (queues : List (List ℕ)) (tested : Result B ConfigRefused)
+    → nat_le (sum_by (λ (s : ServiceSetup). length s.queues) services) 256 ≡ true
+    → MatchResult tested (λ _. unserved (map (λ (s : ServerSetup). s.queue) servers) 0 queues ≡ []) (TellsFirst (unserved (map (λ (s : ServerSetup). s.queue) servers) 0 queues))
+    → MatchResult tested (λ _. whole_faults servers services queues ≡ []) (TellsFirst (whole_faults servers services queues))
+few_told servers services queues tested few served = rw few served
+
+-- where servers and services have no fault of their own, the others are left
+whole_left : (d : Data) (queues shapes : List (List ℕ)) (servers : List ServerSetup) (services : List ServiceSetup)
+    → table_faults (codes "server") 1 64 (server_faults queues) d ≡ [] → table_faults (codes "service") 0 256 (service_faults queues shapes) d ≡ []
+    → servers ≡ map server_of (list_at (codes "server") d) → services ≡ map (service_of shapes) (list_at (codes "service") d)
+    → served_faults queues shapes d ≡ whole_faults servers services queues
+whole_left d queues shapes servers services a b x y =
+    let named = ap (λ xs. map (λ (s : ServerSetup). s.queue) xs) x ∙ queues_served (list_at (codes "server") d) in
+    rw (a, b)
+    (ap (λ rows. rows ++ unserved (map (text_at (codes "queue") []) (list_at (codes "server") d)) 0 queues) (sym (rows_are shapes (list_at (codes "service") d) services y))
+    ∙ ap (λ names. at_key (codes "service") (expects (nat_le (sum_by (λ (s : ServiceSetup). length s.queues) services) 256) 10) ++ unserved names 0 queues) (sym named))
+
+-- a value that is read where a test passes
+reads_and : {A B : Type 0} (faults : List Fault) (value found : A) (tested : Result B ConfigRefused)
+    → MatchResult tested (λ _. faults ≡ []) (TellsFirst faults) → found ≡ value → Reads faults value (result_and tested (Ok found))
+reads_and faults value found (Ok _) none same = (none, same)
+reads_and faults value found (Err refusal) told same = told
+
+pub served_read : {B : Type 0} (d : Data) (queues shapes : List (List ℕ)) (servers : List ServerSetup) (services : List ServiceSetup) (tested : Result B ConfigRefused)
+    → table_faults (codes "server") 1 64 (server_faults queues) d ≡ [] → table_faults (codes "service") 0 256 (service_faults queues shapes) d ≡ []
+    → servers ≡ map server_of (list_at (codes "server") d) → services ≡ map (service_of shapes) (list_at (codes "service") d)
+    → MatchResult tested (λ _. whole_faults servers services queues ≡ []) (TellsFirst (whole_faults servers services queues))
+    → Reads (served_faults queues shapes d) (paired (map server_of (list_at (codes "server") d)) (map (service_of shapes) (list_at (codes "service") d)))
+    (result_and tested (Ok (paired servers services)))
+served_read d queues shapes servers services tested a b x y whole =
+    subst (λ faults. Reads faults (paired (map server_of (list_at (codes "server") d)) (map (service_of shapes) (list_at (codes "service") d))) (result_and tested (Ok (paired servers services))))
+    (sym (whole_left d queues shapes servers services a b x y)) (reads_and (whole_faults servers services queues) _ (paired servers services) tested whole (both_kept x y))
+
+-- the faults of a document, with those of servers and services at once
+parts_of : (d : Data) → faults_of d ≡ (
+    unknown_tables d ++ domain_faults (get (codes "domain") d) ++ table_faults (codes "shape") 0 64 shape_faults d ++ table_faults (codes "queue") 1 64 queue_faults d
+    ++ served_faults (names_of (list_at (codes "queue") d)) (names_of (list_at (codes "shape") d)) d)
+unfolding faults_of
+parts_of d = simp append_assoc
+
+told : (d : Data) (refusal : ConfigRefused) → TellsFirst (
+    unknown_tables d ++ domain_faults (get (codes "domain") d) ++ table_faults (codes "shape") 0 64 shape_faults d ++ table_faults (codes "queue") 1 64 queue_faults d
+    ++ served_faults (names_of (list_at (codes "queue") d)) (names_of (list_at (codes "shape") d)) d) refusal → TellsFirst (faults_of d) refusal
+told d refusal h = subst (λ faults. TellsFirst faults refusal) (sym (parts_of d)) h
+
+pub tables_told : (d : Data) (refusal : ConfigRefused) → TellsFirst (unknown_tables d) refusal → TellsFirst (faults_of d) refusal
+tables_told d refusal h = told d refusal (tells_front _ _ _ (tells_front _ _ _ (tells_front _ _ _ (tells_front _ _ _ h))))
+
+pub domain_told : (d : Data) (refusal : ConfigRefused) → unknown_tables d ≡ [] → TellsFirst (domain_faults (get (codes "domain") d)) refusal → TellsFirst (faults_of d) refusal
+domain_told d refusal a h = told d refusal (rw a (tells_front _ _ _ (tells_front _ _ _ (tells_front _ _ _ h))))
+
+pub shapes_told : (d : Data) (refusal : ConfigRefused) → unknown_tables d ≡ [] → domain_faults (get (codes "domain") d) ≡ []
+    → TellsFirst (table_faults (codes "shape") 0 64 shape_faults d) refusal → TellsFirst (faults_of d) refusal
+shapes_told d refusal a b h = told d refusal (rw (a, b) (tells_front _ _ _ (tells_front _ _ _ h)))
+
+pub queues_told : (d : Data) (refusal : ConfigRefused) → unknown_tables d ≡ [] → domain_faults (get (codes "domain") d) ≡ []
+    → table_faults (codes "shape") 0 64 shape_faults d ≡ [] → TellsFirst (table_faults (codes "queue") 1 64 queue_faults d) refusal → TellsFirst (faults_of d) refusal
+queues_told d refusal a b c h = told d refusal (rw (a, b, c) (tells_front _ _ _ h))
+
+-- where the tables before them have no fault, those of servers and services are left
+pub served_left : (d : Data) (queues shapes : List (List ℕ)) → unknown_tables d ≡ [] → domain_faults (get (codes "domain") d) ≡ []
+    → table_faults (codes "shape") 0 64 shape_faults d ≡ [] → table_faults (codes "queue") 1 64 queue_faults d ≡ []
+    → queues ≡ names_of (list_at (codes "queue") d) → shapes ≡ names_of (list_at (codes "shape") d) → faults_of d ≡ served_faults queues shapes d
+served_left d queues shapes a b c e q s =
+    parts_of d ∙ rw (a, b, c, e) (ap (λ names. served_faults names (names_of (list_at (codes "shape") d)) d) (sym q) ∙ ap (λ names. served_faults queues names d) (sym s))
+
+pub served_told : (d : Data) (queues shapes : List (List ℕ)) (refusal : ConfigRefused) → unknown_tables d ≡ [] → domain_faults (get (codes "domain") d) ≡ []
+    → table_faults (codes "shape") 0 64 shape_faults d ≡ [] → table_faults (codes "queue") 1 64 queue_faults d ≡ []
+    → queues ≡ names_of (list_at (codes "queue") d) → shapes ≡ names_of (list_at (codes "shape") d)
+    → TellsFirst (served_faults queues shapes d) refusal → TellsFirst (faults_of d) refusal
+served_told d queues shapes refusal a b c e q s h = subst (λ faults. TellsFirst faults refusal) (sym (served_left d queues shapes a b c e q s)) h
 
 pub refuses : (octets : List ℕ) (d : Data) (value : Setup) (result : Result Setup ConfigRefused) → Says octets (Some d) → Reads (faults_of d) value result
     → IfErr result (NamesFirstFault octets)
@@ -142,13 +200,3 @@ setup_read d block_time blocks shapes queues servers services names a b c e f g 
     ∙ ap (λ x. setup_with time many all_shapes x servers services) e
     ∙ ap (λ x. setup_with time many all_shapes all_queues x services) f
     ∙ ap (λ x. setup_with time many all_shapes all_queues all_servers x) (g ∙ ap (λ n. map (service_of n) (list_at (codes "service") d)) same)
-
--- a refusal for the rows is the first of what is left
-pub rows_told : (all more : List Fault) (services read : List ServiceSetup) (refusal : ConfigRefused)
-    → all ≡ at_key (codes "service") (expects (nat_le (sum_by (λ (s : ServiceSetup). length s.queues) services) 256) 10) ++ more
-    → read ≡ services
-    → TellsFirst (at_key (codes "service") (expects (nat_le (sum_by (λ (s : ServiceSetup). length s.queues) read) 256) 10)) refusal → TellsFirst all refusal
-rows_told all more services read refusal left same told =
-    subst (λ faults. TellsFirst faults refusal) (sym left)
-    (tells_front _ more refusal
-    (subst (λ xs. TellsFirst (at_key (codes "service") (expects (nat_le (sum_by (λ (s : ServiceSetup). length s.queues) xs) 256) 10)) refusal) same told))

@@ -7,14 +7,41 @@ ghost use Rattle.xa_config.specs.declared.refusal.ConfigRefused.TheVariants.{NoM
 ghost use Rattle.xa_config.specs.Document.{TellsFirst, Reads};
 ghost use Rattle.xa_config.specs.Faults.{Fault, in_order, indexed};
 ghost use Rattle.xa_config.specs.Kinds.{is_table};
-ghost use Rattle.xa_config.specs.Meaning.{list_at, names_of, shape_of, queue_of, server_of, service_of};
-ghost use Rattle.xa_config.specs.Tables.{shape_faults, queue_faults, server_faults, service_faults, at_entry, is_array_of_tables, table_faults};
+ghost use Rattle.xa_config.specs.Meaning.{list_at, name_of, names_of};
+ghost use Rattle.xa_config.specs.Tables.{at_entry, is_array_of_tables, table_faults};
 
 use crate::document::{Value, is_table, items, member};
 use crate::entry::Entry;
 use crate::refusal::{ConfigRefused, MISSING_KEY, TOO_MANY, WRONG_TYPE, indexed, refuse};
 use std::alloc::Global;
-use xa_types::{Name, QueueSetup, Sequence, ServerSetup, ServiceSetup, ShapeSetup};
+use xa_types::{Name, Sequence};
+
+/// What the entries of an array of tables are read as.
+pub trait Rows {
+    type Row: Drop;
+
+    /// Whether entries can be read.
+    ghost can_read: { Self → Type 0 };
+
+    /// The faults of an entry, at its place and beside the names of the earlier ones.
+    ghost faults: { Self → List ℕ → List (List ℕ) → Data → List Fault };
+
+    /// The row that an entry without a fault says.
+    ghost says: { Self → Data → Self.Row };
+
+    /// The name of a row.
+    ghost named: { Self.Row → List ℕ };
+
+    /// The row of an entry, where these are the names of the earlier ones.
+    fn read(&self, entry: &Entry<'_>, earlier: &[Name]) -> Result<Self::Row, ConfigRefused>
+        requires { can_read self.now }
+        ensures read { Reads (faults self.now entry.now.place.now earlier.now (view entry.now.table.now)) (says self.now (view entry.now.table.now)) result }
+        ensures named { IfOk result (λ found. named found ≡ name_of (view entry.now.table.now)) };
+
+    /// The name of a row.
+    fn name(row: &Self::Row) -> Name
+        ensures { result ≡ named row.now };
+}
 
 fn all_tables(values: &[Value]) -> bool
     ensures { result ≡ list_all (λ value. is_table (view value)) values.now }
@@ -80,186 +107,59 @@ fn with_room<T: Drop>(alloc: Global, count: usize) -> Result<(Vec<T>, Vec<Name>)
     Ok((entries, names))
 }
 
-fn shape_at(alloc: Global, value: &Value, earlier: &[Name]) -> Result<ShapeSetup, ConfigRefused>
-    ensures { Reads (shape_faults (indexed (codes "shape") (length earlier.now)) earlier.now (view value.now)) (shape_of (view value.now)) result }
-{
-    let place = indexed(alloc, b"shape", earlier.len())?;
-    let entry = Entry {
-        alloc,
-        place: place.slice(),
-        table: value,
-    };
-    entry.shape(earlier)
-}
-
-fn all_shapes(
+fn row_at<R: Rows>(
     alloc: Global,
-    values: &[Value],
-) -> Result<(Sequence<ShapeSetup>, Sequence<Name>), ConfigRefused>
-    ensures { Reads (in_order (at_entry (codes "shape") shape_faults) [] (map view values.now))
-        (map shape_of (map view values.now), names_of (map view values.now)) result }
-{
-    let (mut shapes, mut names) = with_room(alloc, values.len())?;
-    for value in values {
-        let shape = shape_at(alloc, value, names.as_slice())?;
-        names.push_reserved(shape.name);
-        shapes.push_reserved(shape);
-    }
-    Ok((Sequence::from_vec(shapes), Sequence::from_vec(names)))
-}
-
-/// The shapes, and their names.
-pub fn shapes(
-    alloc: Global,
-    document: &Value,
-) -> Result<(Sequence<ShapeSetup>, Sequence<Name>), ConfigRefused>
-    ensures read { Reads (table_faults (codes "shape") 0 64 shape_faults (view document.now))
-        (map shape_of (list_at (codes "shape") (view document.now)), names_of (list_at (codes "shape") (view document.now))) result }
-    ensures few { IfOk result (λ found. length found.1 ≤ 64) }
-{
-    let values = entries(alloc, document, "shape", 0, 64)?;
-    all_shapes(alloc, values)
-}
-
-fn queue_at(alloc: Global, value: &Value, earlier: &[Name]) -> Result<QueueSetup, ConfigRefused>
-    ensures { Reads (queue_faults (indexed (codes "queue") (length earlier.now)) earlier.now (view value.now)) (queue_of (view value.now)) result }
-{
-    let place = indexed(alloc, b"queue", earlier.len())?;
-    let entry = Entry {
-        alloc,
-        place: place.slice(),
-        table: value,
-    };
-    entry.queue(earlier)
-}
-
-fn all_queues(
-    alloc: Global,
-    values: &[Value],
-) -> Result<(Sequence<QueueSetup>, Sequence<Name>), ConfigRefused>
-    ensures { Reads (in_order (at_entry (codes "queue") queue_faults) [] (map view values.now))
-        (map queue_of (map view values.now), names_of (map view values.now)) result }
-{
-    let (mut queues, mut names) = with_room(alloc, values.len())?;
-    for value in values {
-        let queue = queue_at(alloc, value, names.as_slice())?;
-        names.push_reserved(queue.name);
-        queues.push_reserved(queue);
-    }
-    Ok((Sequence::from_vec(queues), Sequence::from_vec(names)))
-}
-
-/// The queues, and their names.
-pub fn queues(
-    alloc: Global,
-    document: &Value,
-) -> Result<(Sequence<QueueSetup>, Sequence<Name>), ConfigRefused>
-    ensures read { Reads (table_faults (codes "queue") 1 64 queue_faults (view document.now))
-        (map queue_of (list_at (codes "queue") (view document.now)), names_of (list_at (codes "queue") (view document.now))) result }
-    ensures few { IfOk result (λ found. length found.1 ≤ 64) }
-{
-    let values = entries(alloc, document, "queue", 1, 64)?;
-    all_queues(alloc, values)
-}
-
-fn server_at(
-    alloc: Global,
+    rows: &R,
+    key: &str,
     value: &Value,
     earlier: &[Name],
-    queues: &[Name],
-) -> Result<ServerSetup, ConfigRefused>
-    ensures { Reads (server_faults queues.now (indexed (codes "server") (length earlier.now)) earlier.now (view value.now)) (server_of (view value.now)) result }
+) -> Result<R::Row, ConfigRefused>
+    requires { R.can_read rows.now }
+    ensures read { Reads (R.faults rows.now (indexed key.now (length earlier.now)) earlier.now (view value.now)) (R.says rows.now (view value.now)) result }
+    ensures named { IfOk result (λ found. R.named found ≡ name_of (view value.now)) }
 {
-    let place = indexed(alloc, b"server", earlier.len())?;
+    let place = indexed(alloc, key.as_bytes(), earlier.len())?;
     let entry = Entry {
         alloc,
         place: place.slice(),
         table: value,
     };
-    entry.server(earlier, queues)
+    rows.read(&entry, earlier)
 }
 
-fn all_servers(
+fn all_rows<R: Rows>(
     alloc: Global,
+    rows: &R,
+    key: &str,
     values: &[Value],
-    queues: &[Name],
-) -> Result<(Sequence<ServerSetup>, Sequence<Name>), ConfigRefused>
-    ensures { Reads (in_order (at_entry (codes "server") (server_faults queues.now)) [] (map view values.now))
-        (map server_of (map view values.now), names_of (map view values.now)) result }
+) -> Result<(Sequence<R::Row>, Sequence<Name>), ConfigRefused>
+    requires { R.can_read rows.now }
+    ensures { Reads (in_order (at_entry key.now (R.faults rows.now)) [] (map view values.now))
+        (map (R.says rows.now) (map view values.now), names_of (map view values.now)) result }
 {
-    let (mut servers, mut names) = with_room(alloc, values.len())?;
+    let (mut kept, mut names) = with_room(alloc, values.len())?;
     for value in values {
-        let server = server_at(alloc, value, names.as_slice(), queues)?;
-        names.push_reserved(server.name);
-        servers.push_reserved(server);
+        let row = row_at(alloc, rows, key, value, names.as_slice())?;
+        names.push_reserved(R::name(&row));
+        kept.push_reserved(row);
     }
-    Ok((Sequence::from_vec(servers), Sequence::from_vec(names)))
+    Ok((Sequence::from_vec(kept), Sequence::from_vec(names)))
 }
 
-/// The servers, and their names.
-pub fn servers(
+/// The rows of an array of `least` to `most` tables, and their names.
+pub fn rows_of<R: Rows>(
     alloc: Global,
     document: &Value,
-    queues: &[Name],
-) -> Result<(Sequence<ServerSetup>, Sequence<Name>), ConfigRefused>
-    ensures read { Reads (table_faults (codes "server") 1 64 (server_faults queues.now) (view document.now))
-        (map server_of (list_at (codes "server") (view document.now)), names_of (list_at (codes "server") (view document.now))) result }
-    ensures few { IfOk result (λ found. length found.1 ≤ 64) }
+    key: &str,
+    least: usize,
+    most: usize,
+    rows: &R,
+) -> Result<(Sequence<R::Row>, Sequence<Name>), ConfigRefused>
+    requires { R.can_read rows.now }
+    ensures read { Reads (table_faults key.now least most (R.faults rows.now) (view document.now))
+        (map (R.says rows.now) (list_at key.now (view document.now)), names_of (list_at key.now (view document.now))) result }
+    ensures few { IfOk result (λ found. length found.1 ≤ most) }
 {
-    let values = entries(alloc, document, "server", 1, 64)?;
-    all_servers(alloc, values, queues)
-}
-
-fn service_at(
-    alloc: Global,
-    value: &Value,
-    earlier: &[Name],
-    queues: &[Name],
-    shapes: &[Name],
-) -> Result<ServiceSetup, ConfigRefused>
-    requires { length shapes.now ≤ 64 }
-    ensures { Reads (service_faults queues.now shapes.now (indexed (codes "service") (length earlier.now)) earlier.now (view value.now)) (service_of shapes.now (view value.now)) result }
-{
-    let place = indexed(alloc, b"service", earlier.len())?;
-    let entry = Entry {
-        alloc,
-        place: place.slice(),
-        table: value,
-    };
-    entry.service(earlier, queues, shapes)
-}
-
-fn all_services(
-    alloc: Global,
-    values: &[Value],
-    queues: &[Name],
-    shapes: &[Name],
-) -> Result<(Sequence<ServiceSetup>, Sequence<Name>), ConfigRefused>
-    requires { length shapes.now ≤ 64 }
-    ensures { Reads (in_order (at_entry (codes "service") (service_faults queues.now shapes.now)) [] (map view values.now))
-        (map (service_of shapes.now) (map view values.now), names_of (map view values.now)) result }
-{
-    let (mut services, mut names) = with_room(alloc, values.len())?;
-    for value in values {
-        let service = service_at(alloc, value, names.as_slice(), queues, shapes)?;
-        names.push_reserved(service.name);
-        services.push_reserved(service);
-    }
-    Ok((Sequence::from_vec(services), Sequence::from_vec(names)))
-}
-
-/// The services, and their names.
-pub fn services(
-    alloc: Global,
-    document: &Value,
-    queues: &[Name],
-    shapes: &[Name],
-) -> Result<(Sequence<ServiceSetup>, Sequence<Name>), ConfigRefused>
-    requires { length shapes.now ≤ 64 }
-    ensures read { Reads (table_faults (codes "service") 0 256 (service_faults queues.now shapes.now) (view document.now))
-        (map (service_of shapes.now) (list_at (codes "service") (view document.now)), names_of (list_at (codes "service") (view document.now))) result }
-    ensures few { IfOk result (λ found. length found.1 ≤ 256) }
-{
-    let values = entries(alloc, document, "service", 0, 256)?;
-    all_services(alloc, values, queues, shapes)
+    let values = entries(alloc, document, key, least, most)?;
+    all_rows(alloc, rows, key, values)
 }

@@ -1,19 +1,17 @@
 // The tables of a configuration.
-ghost use Rattle.std.specs.Prelude.{◌≡◌, ◌++◌, ◌≤◌, ◌∷◌, [], ℕ, List, map, IfOk, IfErr, MatchOption, true, false, length, codes};
-ghost use Rattle.std.specs.List.{list_all};
-ghost use Rattle.toml.specs.Data.{Data, get};
+ghost use Rattle.std.specs.Prelude.{◌≡◌, ◌≤◌, ⊤, length, codes};
+ghost use Rattle.toml.specs.Data.{get};
 ghost use Rattle.toml.specs.View.{view};
-ghost use Rattle.xa_config.specs.Document.{TellsFirst, Reads};
-ghost use Rattle.xa_config.specs.Faults.{Fault, in_order};
-ghost use Rattle.xa_config.specs.Kinds.{is_table};
-ghost use Rattle.xa_config.specs.Meaning.{list_at, number_at, names_of, shape_of, queue_of, server_of, service_of, domain_number};
+ghost use Rattle.xa_config.specs.Document.{Reads};
+ghost use Rattle.xa_config.specs.Meaning.{number_at, shape_of, queue_of, server_of, service_of, domain_number};
 ghost use Rattle.xa_config.specs.Tables.{domain_keys, domain_faults, shape_faults, queue_faults, server_faults, service_faults};
 
-use crate::document::{Value, is_table, items, member};
+use crate::document::{Value, is_table, member};
 use crate::entry::Entry;
-use crate::refusal::{ConfigRefused, MISSING_KEY, TOO_MANY, WRONG_TYPE, indexed, refuse};
+use crate::lists::Rows;
+use crate::refusal::{ConfigRefused, WRONG_TYPE, refuse};
 use std::alloc::Global;
-use xa_types::{Name, QueueSetup, Sequence, ServerSetup, ServiceSetup, ShapeSetup};
+use xa_types::{Name, QueueSetup, ServerSetup, ServiceSetup, ShapeSetup};
 
 // The group of a queue that names none.
 fn main_group() -> Name
@@ -25,27 +23,53 @@ fn main_group() -> Name
     }
 }
 
-impl Entry<'_> {
-    /// A shape, where these are the names of the earlier ones.
+/// The shapes.
+pub struct Shapes;
+
+impl Rows for Shapes {
+    type Row = ShapeSetup;
+
+    ghost can_read = { λ _. ⊤ };
+
+    ghost faults = { λ _. shape_faults };
+
+    ghost says = { λ _. shape_of };
+
+    ghost named = { λ shape. shape.name };
+
     #[tactic(auto, unfolding(crate::specs::Tables::shape_faults, crate::specs::Meaning::shape_of))]
-    pub fn shape(&self, earlier: &[Name]) -> Result<ShapeSetup, ConfigRefused>
-        ensures { Reads (shape_faults self.now.place.now earlier.now (view self.now.table.now)) (shape_of (view self.now.table.now)) result }
-    {
-        self.no_unknown(&["name", "fields"])?;
-        let name = self.new_identifier("name", earlier)?;
-        let fields = self.fields("fields")?;
+    fn read(&self, entry: &Entry<'_>, earlier: &[Name]) -> Result<ShapeSetup, ConfigRefused> {
+        entry.no_unknown(&["name", "fields"])?;
+        let name = entry.new_identifier("name", earlier)?;
+        let fields = entry.fields("fields")?;
         Ok(ShapeSetup { name, fields })
     }
 
-    /// A queue, where these are the names of the earlier ones.
+    fn name(shape: &ShapeSetup) -> Name {
+        shape.name
+    }
+}
+
+/// The queues.
+pub struct Queues;
+
+impl Rows for Queues {
+    type Row = QueueSetup;
+
+    ghost can_read = { λ _. ⊤ };
+
+    ghost faults = { λ _. queue_faults };
+
+    ghost says = { λ _. queue_of };
+
+    ghost named = { λ queue. queue.name };
+
     #[tactic(auto, unfolding(crate::specs::Tables::queue_faults, crate::specs::Meaning::queue_of))]
-    pub fn queue(&self, earlier: &[Name]) -> Result<QueueSetup, ConfigRefused>
-        ensures { Reads (queue_faults self.now.place.now earlier.now (view self.now.table.now)) (queue_of (view self.now.table.now)) result }
-    {
-        self.no_unknown(&["name", "group", "capacity"])?;
-        let name = self.new_name("name", earlier)?;
-        let group = self.name_or("group", main_group())?;
-        let capacity = self.number("capacity", 1, 10_000, 100)?;
+    fn read(&self, entry: &Entry<'_>, earlier: &[Name]) -> Result<QueueSetup, ConfigRefused> {
+        entry.no_unknown(&["name", "group", "capacity"])?;
+        let name = entry.new_name("name", earlier)?;
+        let group = entry.name_or("group", main_group())?;
+        let capacity = entry.number("capacity", 1, 10_000, 100)?;
         Ok(QueueSetup {
             name,
             group,
@@ -53,18 +77,37 @@ impl Entry<'_> {
         })
     }
 
-    /// A server, where these are the names of the earlier ones and of the queues.
+    fn name(queue: &QueueSetup) -> Name {
+        queue.name
+    }
+}
+
+/// The servers, where these are the names of the queues.
+#[derive(Clone, Copy)]
+pub struct Servers<'a> {
+    pub queues: &'a [Name],
+}
+
+impl Rows for Servers<'_> {
+    type Row = ServerSetup;
+
+    ghost can_read = { λ _. ⊤ };
+
+    ghost faults = { λ rows. server_faults rows.queues.now };
+
+    ghost says = { λ _. server_of };
+
+    ghost named = { λ server. server.name };
+
     #[tactic(auto, unfolding(crate::specs::Tables::server_faults, crate::specs::Meaning::server_of))]
-    pub fn server(&self, earlier: &[Name], queues: &[Name]) -> Result<ServerSetup, ConfigRefused>
-        ensures { Reads (server_faults queues.now self.now.place.now earlier.now (view self.now.table.now)) (server_of (view self.now.table.now)) result }
-    {
-        self.no_unknown(&["name", "queue", "program", "restart", "maxgen", "grace"])?;
-        let name = self.new_name("name", earlier)?;
-        let queue = self.name_among("queue", queues)?;
-        let program = self.program("program")?;
-        let restart = self.restarts("restart")?;
-        let maxgen = self.number("maxgen", 1, 255, 1)?;
-        let grace = self.number("grace", 1, 2_147_483_647, 86_400)?;
+    fn read(&self, entry: &Entry<'_>, earlier: &[Name]) -> Result<ServerSetup, ConfigRefused> {
+        entry.no_unknown(&["name", "queue", "program", "restart", "maxgen", "grace"])?;
+        let name = entry.new_name("name", earlier)?;
+        let queue = entry.name_among("queue", self.queues)?;
+        let program = entry.program("program")?;
+        let restart = entry.restarts("restart")?;
+        let maxgen = entry.number("maxgen", 1, 255, 1)?;
+        let grace = entry.number("grace", 1, 2_147_483_647, 86_400)?;
         Ok(ServerSetup {
             name,
             queue,
@@ -75,19 +118,34 @@ impl Entry<'_> {
         })
     }
 
-    /// A service, where these are the names of the earlier ones, of the queues and of the shapes.
-    #[tactic(auto, unfolding(crate::specs::Tables::service_faults, crate::specs::Meaning::service_of))]
-    pub fn service(
-        &self,
-        earlier: &[Name],
-        queues: &[Name],
-        shapes: &[Name],
-    ) -> Result<ServiceSetup, ConfigRefused>
-        requires { length shapes.now ≤ 64 }
-        ensures { Reads (service_faults queues.now shapes.now self.now.place.now earlier.now (view self.now.table.now))
-            (service_of shapes.now (view self.now.table.now)) result }
+    fn name(server: &ServerSetup) -> Name
+        ensures { result ≡ server.now.name }
     {
-        self.no_unknown(&[
+        server.name
+    }
+}
+
+/// The services, where these are the names of the queues and of the shapes.
+#[derive(Clone, Copy)]
+pub struct Services<'a> {
+    pub queues: &'a [Name],
+    pub shapes: &'a [Name],
+}
+
+impl Rows for Services<'_> {
+    type Row = ServiceSetup;
+
+    ghost can_read = { λ rows. length rows.shapes.now ≤ 64 };
+
+    ghost faults = { λ rows. service_faults rows.queues.now rows.shapes.now };
+
+    ghost says = { λ rows. service_of rows.shapes.now };
+
+    ghost named = { λ service. service.name };
+
+    #[tactic(auto, unfolding(crate::specs::Tables::service_faults, crate::specs::Meaning::service_of))]
+    fn read(&self, entry: &Entry<'_>, earlier: &[Name]) -> Result<ServiceSetup, ConfigRefused> {
+        entry.no_unknown(&[
             "name",
             "routine",
             "queues",
@@ -95,12 +153,12 @@ impl Entry<'_> {
             "accepts",
             "conversational",
         ])?;
-        let name = self.new_name("name", earlier)?;
-        let routine = self.name_or("routine", name)?;
-        let queues = self.queues("queues", queues)?;
-        let priority = self.number("priority", 1, 100, 50)?;
-        let accepts = self.accepts("accepts", shapes)?;
-        let conversational = self.truth("conversational")?;
+        let name = entry.new_name("name", earlier)?;
+        let routine = entry.name_or("routine", name)?;
+        let queues = entry.queues("queues", self.queues)?;
+        let priority = entry.number("priority", 1, 100, 50)?;
+        let accepts = entry.accepts("accepts", self.shapes)?;
+        let conversational = entry.truth("conversational")?;
         Ok(ServiceSetup {
             name,
             routine,
@@ -111,6 +169,14 @@ impl Entry<'_> {
         })
     }
 
+    fn name(service: &ServiceSetup) -> Name
+        ensures { result ≡ service.now.name }
+    {
+        service.name
+    }
+}
+
+impl Entry<'_> {
     #[tactic(auto, unfolding(crate::specs::Tables::domain_keys))]
     fn domain(&self) -> Result<(u32, u32), ConfigRefused>
         requires { self.now.place.now ≡ codes "domain" }

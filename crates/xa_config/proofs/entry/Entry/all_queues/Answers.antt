@@ -19,7 +19,7 @@ loop-value-preserved c =
     let found = c.in-Ok.ensures (seen i vs) (c.as_slice.ensures.value ∙ c.loop-value.invariant.kept) in
     let key = dotted c.args.self.now.place.now c.args.key.now in
     record {
-      kept = c.in_ok-push-in-Ok.ensures.items ∙ kept_more text_in vs i v _ _ c.loop-value-test.true c.value-item.is c.loop-value.invariant.kept found.1;
+      kept = kept_more text_in vs i v _ _ _ c.loop-value-test.true c.value-item.is c.loop-value.invariant.kept found.1 c.in_ok-push-in-Ok.ensures.items;
       left = next_good (at_element key (queue c.args.names.now)) vs i v _ c.loop-value-test.true c.value-item.is c.loop-value.invariant.left (at_good key (queue c.args.names.now) (seen i vs) (view v) found.0);
     }
 

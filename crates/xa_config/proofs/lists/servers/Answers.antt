@@ -1,8 +1,0 @@
-use Rattle.std.proofs.lemmas.Result.{err_from_is_err_and}
-use Rattle.xa_config.specs.Tables.{server_faults}
-use Rattle.xa_config.proofs.lists.servers.Goals as goal
-
-pub returns-in_err-values-clause-read : goal.returns-in_err-values-clause-read
-returns-in_err-values-clause-read c =
-    let p = err_from_is_err_and c.from_residual.result c.from_residual.ensures.1 in
-    rw (p.1, p.2) (c.in_err-values.ensures.refused (server_faults c.args.queues.now))
