@@ -1,5 +1,6 @@
 -- The elements of an array, one after the other.
-use Rattle.std.proofs.Common.{◌≡◌, ℕ, suc, not, Bool, true, false, List, [], ◌∷◌, ◌++◌, length, map, Some, None, refl, sym, ap, ◌∙◌, subst}
+use Rattle.std.proofs.Common.{◌≡◌, ℕ, suc, not, ◌||◌, Bool, true, false, List, [], ◌∷◌, ◌++◌, length, map, Some, None, refl, sym, ap, ◌∙◌, subst}
+use Rattle.std.proofs.lemmas.Slice.Eq.{bytes_eq-Decides}
 use Rattle.std.specs.List.{list_any}
 use Rattle.std.specs.Str.{bytes_eq}
 use Rattle.toml.specs.Data.{Data, string, integer, float, boolean, datetime, array, table, as_array, Items}
@@ -106,6 +107,20 @@ field_good before d octets earlier new e g is told same = (
 -- the elements before, as they are read
 pub told_text : (octets : List ℕ) (vs : List Value) → is_among (map text_in (map view vs)) octets ≡ list_any (λ value. bytes_eq octets (text_in (view value))) vs
 told_text octets vs = any_map text_in (bytes_eq octets) (map view vs) ∙ any_map view (λ value. bytes_eq octets (text_in value)) vs
+
+both_same : (a b : Bool) → (a ≡ true → b ≡ true) → (b ≡ true → a ≡ true) → a ≡ b
+both_same true b there back = sym (there refl)
+both_same false true there back = back refl
+both_same false false there back = refl
+
+bytes_swapped : (xs ys : List ℕ) → bytes_eq xs ys ≡ bytes_eq ys xs
+bytes_swapped xs ys =
+    both_same _ _ (λ h. (bytes_eq-Decides ys xs).1 (sym ((bytes_eq-Decides xs ys).0 h))) (λ h. (bytes_eq-Decides xs ys).1 (sym ((bytes_eq-Decides ys xs).0 h)))
+
+pub text_told : (octets : List ℕ) (vs : List Value) → is_among (map text_in (map view vs)) octets ≡ list_any (λ value. bytes_eq (text_in (view value)) octets) vs
+text_told octets [] = refl
+text_told octets (v ∷ vs) =
+    ap (λ b. b || is_among (map text_in (map view vs)) octets) (bytes_swapped octets (text_in (view v))) ∙ ap (λ b. bytes_eq (text_in (view v)) octets || b) (text_told octets vs)
 
 pub kind_is : (shapes : List (List ℕ)) (vs : List Value) (d : Data) (octets : List ℕ) (told good : Bool) → d ≡ string octets
     → list_any (λ value. bytes_eq octets (text_in (view value))) vs ≡ told → is_kind shapes octets ≡ good

@@ -6,7 +6,6 @@ pub mod GoodSetup
 pub mod Loops
 pub mod OneReading
 pub mod Reading
-pub mod Sizes
 pub mod Tells
 pub mod Unknown
 pub mod Whole

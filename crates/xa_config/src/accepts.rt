@@ -53,20 +53,11 @@ fn is_listed(values: &[Value], octets: &[u8]) -> bool
     false
 }
 
-fn names_shape(value: &Value, shape: Name) -> bool
-    ensures { result ≡ bytes_eq (codes "c:" ++ shape) (text_in (view value.now)) }
-{
-    match octets_of(value) {
-        [b'c', b':', name @ ..] => shape.octets() == name,
-        _ => false,
-    }
-}
-
 fn is_shape_listed(values: &[Value], shape: Name) -> bool
-    ensures { result ≡ list_any (λ value. bytes_eq (codes "c:" ++ shape) (text_in (view value))) values.now }
+    ensures { result ≡ list_any (λ value. bytes_eq (text_in (view value)) (codes "c:" ++ shape)) values.now }
 {
     for value in values {
-        if names_shape(value, shape) {
+        if is_text_of_shape(octets_of(value), shape) {
             return true;
         }
     }

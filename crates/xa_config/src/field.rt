@@ -1,10 +1,10 @@
 // The text of a field of a shape.
-ghost use Rattle.std.specs.Prelude.{◌≡◌, ◌||◌, ◌==◌, ◌-◌, ◌≤◌, ◌⊎◌, true, false, length, MatchOption, decimal};
-ghost use Rattle.std.specs.List.{list_all, position};
+ghost use Rattle.std.specs.Prelude.{◌≡◌, ◌||◌, ◌==◌, min, true, false, MatchOption, decimal};
+ghost use Rattle.std.specs.List.{list_all};
 ghost use Rattle.std.specs.Str.{bytes_eq};
 ghost use Rattle.xa_types.specs.Name.{is_name, is_letter, is_digit, begins_with_letter, is_identifier};
 ghost use Rattle.xa_types.specs.Configured.{is_within};
-ghost use Rattle.xa_config.specs.Field.{is_space, name_part, kind_part, number_of_digits, sized, kind_of, is_field, field_of};
+ghost use Rattle.xa_config.specs.Field.{name_part, kind_part, number_of_digits, sized, kind_of, is_field, field_of};
 
 use itoa::Buffer;
 use xa_types::{FieldKind, FieldSetup, Name};
@@ -33,7 +33,12 @@ fn is_plain(octet: u8) -> bool
 fn all_plain(octets: &[u8]) -> bool
     ensures { result ≡ list_all (λ octet. (is_letter octet || is_digit octet) || (octet == 95)) octets.now }
 {
-    octets.iter().all(|octet| is_plain(*octet))
+    for octet in octets {
+        if !is_plain(*octet) {
+            return false;
+        }
+    }
+    true
 }
 
 /// The identifier that the octets are.
@@ -49,41 +54,29 @@ pub fn identifier(octets: &[u8]) -> Option<Name>
     None
 }
 
-fn place_of_space(octets: &[u8]) -> Option<usize>
-    ensures { result ≡ position is_space octets.now }
-{
-    octets.iter().position(|octet| *octet == b' ')
-}
-
 // What stands before the first space, and what behind it.
 fn parts(octets: &[u8]) -> (&[u8], &[u8])
     ensures name { result.0.now ≡ name_part octets.now }
     ensures kind { result.1.now ≡ kind_part octets.now }
 {
-    match place_of_space(octets) {
-        Some(place) => (&octets[..place], &octets[place + 1..]),
-        None => (octets, &[]),
+    for (place, octet) in octets.iter().enumerate() {
+        if *octet == b' ' {
+            return (&octets[..place], &octets[place + 1..]);
+        }
     }
+    (octets, &[])
 }
 
-// The number that one to four digits write.
-fn number_of_digits(digits: &[u8]) -> Option<u32>
-    ensures { MatchOption result ((length digits.now ≡ 0) ⊎ (5 ≤ length digits.now)) (λ n. n ≡ number_of_digits digits.now) }
+// The number that digits write, or the greatest where it is greater.
+fn number_of_digits(digits: &[u8]) -> u32
+    ensures { result ≡ min 4294967295 (number_of_digits digits.now) }
 {
-    match digits {
-        [a] => Some(digit(*a)),
-        [a, b] => Some(10 * digit(*a) + digit(*b)),
-        [a, b, c] => Some(100 * digit(*a) + 10 * digit(*b) + digit(*c)),
-        [a, b, c, d] => Some(1000 * digit(*a) + 100 * digit(*b) + 10 * digit(*c) + digit(*d)),
-        _ => None,
+    let mut n = 0u32;
+    for digit in digits {
+        let value = u32::from(digit.saturating_sub(b'0'));
+        n = n.saturating_mul(10).saturating_add(value);
     }
-}
-
-fn digit(octet: u8) -> u32
-    ensures value { result ≡ octet - 48 }
-    ensures small { result ≤ 255 }
-{
-    u32::from(octet.saturating_sub(b'0'))
+    n
 }
 
 fn is_decimal(digits: &[u8], n: u32) -> bool
@@ -96,7 +89,7 @@ fn is_decimal(digits: &[u8], n: u32) -> bool
 fn sized(digits: &[u8]) -> Option<FieldKind>
     ensures { result ≡ sized digits.now }
 {
-    let n = number_of_digits(digits)?;
+    let n = number_of_digits(digits);
     if is_decimal(digits, n) && n >= 1 && n <= 1024 {
         return Some(FieldKind::Text(n));
     }

@@ -46,7 +46,12 @@ pub trait Rows {
 fn all_tables(values: &[Value]) -> bool
     ensures { result ≡ list_all (λ value. is_table (view value)) values.now }
 {
-    values.iter().all(is_table)
+    for value in values {
+        if !is_table(value) {
+            return false;
+        }
+    }
+    true
 }
 
 // The entries of a table, of which there are `least` to `most`.
