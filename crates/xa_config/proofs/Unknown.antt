@@ -58,3 +58,24 @@ pub key_found : (known : List (Bor (List ℕ))) (entries : List (String Global �
     → first (unknown_in (map (λ k. k.now) known) d) ≡ option_map string_bytes found
 key_found known entries d found h e =
     ap (λ x. first (unknown_in (map (λ k. k.now) known) x)) (table_is (members_view entries) d h) ∙ first_unknown known entries ∙ ap (option_map string_bytes) (sym e)
+
+-- whether a key is none of these
+abbrev pub is_other : List (Bor (List ℕ)) → String Global → Bool
+is_other known key = not (list_any (λ k. bytes_eq (string_bytes key) k.now) known)
+
+-- the first such key where the next is tested, and where none is left
+tested : (known : List (Bor (List ℕ))) (left more all : List (String Global)) (key : String Global) (b : Bool) → left ≡ key ∷ more
+    → list_any (λ k. bytes_eq (string_bytes key) k.now) known ≡ b → find (is_other known) left ≡ find (is_other known) all
+    → cond (not b) (Some key) (find (is_other known) more) ≡ find (is_other known) all
+tested known left more all key b next test same =
+    ap (λ x. cond (not x) (Some key) (find (is_other known) more)) (sym test) ∙ ap (find (is_other known)) (sym next) ∙ same
+
+pub next_known : (known : List (Bor (List ℕ))) (left more all : List (String Global)) (key : String Global) → left ≡ key ∷ more
+    → list_any (λ k. bytes_eq (string_bytes key) k.now) known ≡ true → find (is_other known) left ≡ find (is_other known) all
+    → find (is_other known) more ≡ find (is_other known) all
+next_known known left more all key next test same = tested known left more all key true next test same
+
+pub next_unknown : (known : List (Bor (List ℕ))) (left more all : List (String Global)) (key : String Global) → left ≡ key ∷ more
+    → list_any (λ k. bytes_eq (string_bytes key) k.now) known ≡ false → find (is_other known) left ≡ find (is_other known) all
+    → Some key ≡ find (is_other known) all
+next_unknown known left more all key next test same = tested known left more all key false next test same

@@ -80,12 +80,6 @@ fn is_known(known: &[&str], key: &String) -> bool
     false
 }
 
-fn unknown_in<'a>(table: &'a Table, known: &[&str]) -> Option<&'a String>
-    ensures { option_map (λ key. key.now) result ≡ find (λ key. not (list_any (λ k. bytes_eq (string_bytes key) k.now) known.now)) (keys table.now) }
-{
-    table.keys().find(|key| !is_known(known, *key))
-}
-
 /// The first key of a table that isn't among these.
 pub fn unknown_key<'a>(value: &'a Value, known: &[&str]) -> Option<&'a str>
     ensures { MatchOption result (unknown_in (map (λ k. k.now) known.now) (view value.now) ≡ [])
@@ -94,10 +88,12 @@ pub fn unknown_key<'a>(value: &'a Value, known: &[&str]) -> Option<&'a str>
     let Some(table) = value.as_table() else {
         return None;
     };
-    match unknown_in(table, known) {
-        Some(key) => Some(key.as_str()),
-        None => None,
+    for key in table.keys() {
+        if !is_known(known, key) {
+            return Some(key.as_str());
+        }
     }
+    None
 }
 
 /// The octets of a text; of another value none.
