@@ -6,19 +6,18 @@ ghost use Rattle.xa_types.specs.Configured.{is_within};
 ghost use Rattle.xa_types.specs.Name.{is_name, is_identifier};
 ghost use Rattle.xa_config.specs.Document.{TellsFirst, Reads};
 ghost use Rattle.xa_config.specs.Faults.{fault, dotted, indexed};
-ghost use Rattle.xa_config.specs.Field.{field_of};
 ghost use Rattle.xa_config.specs.Keys.{optional, needed, unknown, array_of, elements, needed_array, optional_array};
-ghost use Rattle.xa_config.specs.Kinds.{number, truth, restarts, name, new_name, name_among, program, field, queue, text_in, list_in};
+ghost use Rattle.xa_config.specs.Kinds.{number, truth, restarts, name, new_name, name_among, program, text_in, list_in};
 ghost use Rattle.xa_config.specs.Meaning.{number_at, truth_at, text_at, list_at};
 
 use crate::document::{Value, items, member, unknown_key};
-use crate::kinds;
+use crate::kinds::{self, Elements};
 use crate::refusal::{
     ConfigRefused, MISSING_KEY, OUT_OF_RANGE, UNKNOWN_KEY, WRONG_TYPE, dotted, refuse_dotted,
     refuse_indexed,
 };
 use std::alloc::Global;
-use xa_types::{FieldSetup, Name, Octets, Sequence};
+use xa_types::{Name, Octets, Sequence};
 
 /// A table, and the place that the keys of its faults begin with.
 #[derive(Drop)]
@@ -89,63 +88,30 @@ impl Entry<'_> {
         Ok(values)
     }
 
-    fn all_fields(&self, key: &str, values: &[Value]) -> Result<Sequence<FieldSetup>, ConfigRefused>
-        ensures { Reads (elements (dotted self.now.place.now key.now) field [] (map view values.now))
-            (map (λ value. field_of (text_in value)) (map view values.now)) result }
-    {
-        let mut fields = Vec::new(self.alloc);
-        for value in values {
-            match kinds::field(value, fields.as_slice()) {
-                Ok(field) => fields.push(field)?,
-                Err(number) => return Err(self.refuse_element(number, key, fields.len())),
-            }
-        }
-        Ok(Sequence::from_vec(fields))
-    }
-
-    /// The fields of a shape.
+    /// The elements of an array, of which there are 1 to 64.
     #[tactic(auto, unfolding(crate::specs::Keys::needed_array, crate::specs::Meaning::list_at))]
-    pub fn fields(&self, key: &str) -> Result<Sequence<FieldSetup>, ConfigRefused>
-        ensures { Reads (needed_array self.now.place.now key.now 1 64 field (view self.now.table.now))
-            (map (λ value. field_of (text_in value)) (list_at key.now (view self.now.table.now))) result }
-    {
-        let Some(value) = member(self.table, key) else {
-            return Err(self.refuse(MISSING_KEY, key));
-        };
-        let values = self.array(key, value, 1, 64)?;
-        self.all_fields(key, values)
-    }
-
-    fn all_queues(
+    pub fn list<E: Elements>(
         &self,
         key: &str,
-        values: &[Value],
-        names: &[Name],
-    ) -> Result<Sequence<Name>, ConfigRefused>
-        ensures { Reads (elements (dotted self.now.place.now key.now) (queue names.now) [] (map view values.now))
-            (map text_in (map view values.now)) result }
-    {
-        let mut queues = Vec::new(self.alloc);
-        for value in values {
-            match kinds::queue(value, names, queues.as_slice()) {
-                Ok(queue) => queues.push(queue)?,
-                Err(number) => return Err(self.refuse_element(number, key, queues.len())),
-            }
-        }
-        Ok(Sequence::from_vec(queues))
-    }
-
-    /// The queues of a service, which are among these.
-    #[tactic(auto, unfolding(crate::specs::Keys::needed_array, crate::specs::Meaning::list_at))]
-    pub fn queues(&self, key: &str, names: &[Name]) -> Result<Sequence<Name>, ConfigRefused>
-        ensures { Reads (needed_array self.now.place.now key.now 1 64 (queue names.now) (view self.now.table.now))
-            (map text_in (list_at key.now (view self.now.table.now))) result }
+        of: &E,
+    ) -> Result<Sequence<E::Element>, ConfigRefused>
+        ensures { Reads (needed_array self.now.place.now key.now 1 64 (E.faults of.now) (view self.now.table.now))
+            (map (E.says of.now) (list_at key.now (view self.now.table.now))) result }
     {
         let Some(value) = member(self.table, key) else {
             return Err(self.refuse(MISSING_KEY, key));
         };
         let values = self.array(key, value, 1, 64)?;
-        self.all_queues(key, values, names)
+        let Ok(mut elements) = Vec::with_capacity(self.alloc, values.len()) else {
+            return Err(ConfigRefused::NoMemory);
+        };
+        for value in values {
+            match of.judge(value, elements.as_slice()) {
+                Ok(element) => elements.push_reserved(element),
+                Err(number) => return Err(self.refuse_element(number, key, elements.len())),
+            }
+        }
+        Ok(Sequence::from_vec(elements))
     }
 
     /// The number at a key, from `least` to `most`.

@@ -1,5 +1,5 @@
 // The kinds of value that a key may have. An `Err` is the number of the value's first fault.
-ghost use Rattle.std.specs.Prelude.{◌≡◌, ◌≤◌, List, [], ◌++◌, Some, IfOk, IfErr, map, codes};
+ghost use Rattle.std.specs.Prelude.{◌≡◌, ◌≤◌, ℕ, List, [], ◌++◌, Some, IfOk, IfErr, map, codes};
 ghost use Rattle.std.specs.List.{list_any};
 ghost use Rattle.std.specs.Str.{bytes_eq};
 ghost use Rattle.toml.specs.Data.{Data};
@@ -14,6 +14,22 @@ use crate::document::{Value, text};
 use crate::field::{field_of, identifier};
 use crate::refusal::{BAD_NAME, DOUBLED, FIELD_TYPE, NO_SUCH, NOT_BUILT, OUT_OF_RANGE, WRONG_TYPE};
 use xa_types::{FieldSetup, Name};
+
+/// What the elements of an array are read as, each beside those before it.
+pub trait Elements {
+    type Element: Drop;
+
+    /// The faults of an element, by their numbers, where these stand before it.
+    ghost faults: { Self → List Data → Data → List ℕ };
+
+    /// What an element without a fault says.
+    ghost says: { Self → Data → Self.Element };
+
+    /// What an element says, where these were read before it.
+    fn judge(&self, value: &Value, earlier: &[Self::Element]) -> Result<Self::Element, u8>
+        ensures { (before : List Data) → earlier.now ≡ map (says self.now) before
+            → Judges (faults self.now before (view value.now)) (says self.now (view value.now)) result };
+}
 
 /// A whole number from `least` to `most`.
 #[tactic(auto, unfolding(crate::specs::Kinds::number))]
@@ -135,23 +151,33 @@ pub fn name_among(value: &Value, names: &[Name]) -> Result<Name, u8>
     Ok(name)
 }
 
-/// An element of `queues`: the name of a queue, which is none of the earlier elements.
-#[tactic(auto, unfolding(crate::specs::Kinds::queue))]
-pub fn queue(value: &Value, names: &[Name], earlier: &[Name]) -> Result<Name, u8>
-    ensures { (before : List Data) → earlier.now ≡ map text_in before
-        → Judges (queue names.now before (view value.now)) (text_in (view value.now)) result }
-{
-    let octets = text(value)?;
-    let Ok(name) = Name::read(octets) else {
-        return Err(BAD_NAME);
-    };
-    if is_among(earlier, octets) {
-        return Err(DOUBLED);
+/// The queues of a service: names among these, of which each stands there once.
+#[derive(Clone, Copy)]
+pub struct QueueNames<'a> {
+    pub names: &'a [Name],
+}
+
+impl Elements for QueueNames<'_> {
+    type Element = Name;
+
+    ghost faults = { λ of. queue of.names.now };
+
+    ghost says = { λ _. text_in };
+
+    #[tactic(auto, unfolding(crate::specs::Kinds::queue))]
+    fn judge(&self, value: &Value, earlier: &[Name]) -> Result<Name, u8> {
+        let octets = text(value)?;
+        let Ok(name) = Name::read(octets) else {
+            return Err(BAD_NAME);
+        };
+        if is_among(earlier, octets) {
+            return Err(DOUBLED);
+        }
+        if !is_among(self.names, octets) {
+            return Err(NO_SUCH);
+        }
+        Ok(name)
     }
-    if !is_among(names, octets) {
-        return Err(NO_SUCH);
-    }
-    Ok(name)
 }
 
 fn has_name(fields: &[FieldSetup], octets: &[u8]) -> bool
@@ -165,18 +191,25 @@ fn has_name(fields: &[FieldSetup], octets: &[u8]) -> bool
     false
 }
 
-/// An element of `fields`: a field, of which no earlier one has the name.
-#[tactic(auto, unfolding(crate::specs::Kinds::field))]
-pub fn field(value: &Value, earlier: &[FieldSetup]) -> Result<FieldSetup, u8>
-    ensures { (before : List Data) → earlier.now ≡ map (λ value. field_of (text_in value)) before
-        → Judges (field before (view value.now)) (field_of (text_in (view value.now))) result }
-{
-    let octets = text(value)?;
-    let Some(field) = field_of(octets) else {
-        return Err(FIELD_TYPE);
-    };
-    if has_name(earlier, field.name.octets()) {
-        return Err(DOUBLED);
+/// The fields of a shape, of which no two have one name.
+pub struct Fields;
+
+impl Elements for Fields {
+    type Element = FieldSetup;
+
+    ghost faults = { λ _. field };
+
+    ghost says = { λ _ value. field_of (text_in value) };
+
+    #[tactic(auto, unfolding(crate::specs::Kinds::field))]
+    fn judge(&self, value: &Value, earlier: &[FieldSetup]) -> Result<FieldSetup, u8> {
+        let octets = text(value)?;
+        let Some(field) = field_of(octets) else {
+            return Err(FIELD_TYPE);
+        };
+        if has_name(earlier, field.name.octets()) {
+            return Err(DOUBLED);
+        }
+        Ok(field)
     }
-    Ok(field)
 }

@@ -8,6 +8,7 @@ ghost use Rattle.xa_config.specs.Tables.{domain_keys, domain_faults, shape_fault
 
 use crate::document::{Value, is_table, member};
 use crate::entry::Entry;
+use crate::kinds::{Fields, QueueNames};
 use crate::lists::Rows;
 use crate::refusal::{ConfigRefused, WRONG_TYPE, refuse};
 use std::alloc::Global;
@@ -41,7 +42,7 @@ impl Rows for Shapes {
     fn read(&self, entry: &Entry<'_>, earlier: &[Name]) -> Result<ShapeSetup, ConfigRefused> {
         entry.no_unknown(&["name", "fields"])?;
         let name = entry.new_identifier("name", earlier)?;
-        let fields = entry.fields("fields")?;
+        let fields = entry.list("fields", &Fields)?;
         Ok(ShapeSetup { name, fields })
     }
 
@@ -155,7 +156,7 @@ impl Rows for Services<'_> {
         ])?;
         let name = entry.new_name("name", earlier)?;
         let routine = entry.name_or("routine", name)?;
-        let queues = entry.queues("queues", self.queues)?;
+        let queues = entry.list("queues", &QueueNames { names: self.queues })?;
         let priority = entry.number("priority", 1, 100, 50)?;
         let accepts = entry.accepts("accepts", self.shapes)?;
         let conversational = entry.truth("conversational")?;

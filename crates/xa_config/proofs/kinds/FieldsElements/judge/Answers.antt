@@ -4,7 +4,7 @@ use Rattle.std.specs.Str.{bytes_eq}
 use Rattle.toml.specs.View.{view}
 use Rattle.xa_types.specs.declared.setup.FieldSetup.{FieldSetup}
 use Rattle.xa_config.proofs.Arrays.{field_doubled, field_good}
-use Rattle.xa_config.proofs.kinds.field.Goals as goal
+use Rattle.xa_config.proofs.kinds.FieldsElements.judge.Goals as goal
 
 pub returns-then-has_name : goal.returns-then-has_name
 returns-then-has_name c before same =
