@@ -152,7 +152,7 @@ pub fn name_among(value: &Value, names: &[Name]) -> Result<Name, u8>
 }
 
 /// The queues of a service: names among these, of which each stands there once.
-#[derive(Clone, Copy)]
+#[derive(Drop)]
 pub struct QueueNames<'a> {
     pub names: &'a [Name],
 }

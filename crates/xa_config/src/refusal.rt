@@ -4,7 +4,7 @@ ghost use Rattle.xa_config.specs.Faults.{fault, indexed, dotted};
 ghost use Rattle.xa_config.specs.Document.{TellsFirst};
 
 use itoa::Buffer;
-use std::alloc::{AllocFailed, Global};
+use std::alloc::Global;
 use xa_types::{NoMemory, Octets};
 
 /// Why octets were not read as a configuration: the number of the first fault and its key, or want of memory.
@@ -27,17 +27,6 @@ use xa_types::{NoMemory, Octets};
 pub enum ConfigRefused {
     Fault { number: u8, key: Octets },
     NoMemory,
-}
-
-impl<T: Drop> From<AllocFailed<T>> for ConfigRefused {
-    ghost use Rattle.std.specs.Prelude.{◌≡◌};
-    ghost use Rattle.xa_config.specs.declared.refusal.ConfigRefused.TheVariants.{NoMemory};
-
-    ghost from_gives = { λ _ e. e ≡ NoMemory };
-
-    fn from(_: AllocFailed<T>) -> Self {
-        ConfigRefused::NoMemory
-    }
 }
 
 impl From<NoMemory> for ConfigRefused {

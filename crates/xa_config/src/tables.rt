@@ -3,8 +3,8 @@ ghost use Rattle.std.specs.Prelude.{◌≡◌, ◌≤◌, ⊤, length, codes};
 ghost use Rattle.toml.specs.Data.{get};
 ghost use Rattle.toml.specs.View.{view};
 ghost use Rattle.xa_config.specs.Document.{Reads};
-ghost use Rattle.xa_config.specs.Meaning.{number_at, shape_of, queue_of, server_of, service_of, domain_number};
-ghost use Rattle.xa_config.specs.Tables.{domain_keys, domain_faults, shape_faults, queue_faults, server_faults, service_faults};
+ghost use Rattle.xa_config.specs.Meaning.{shape_of, queue_of, server_of, service_of, domain_number};
+ghost use Rattle.xa_config.specs.Tables.{domain_faults, shape_faults, queue_faults, server_faults, service_faults};
 
 use crate::document::{Value, is_table, member};
 use crate::entry::Entry;
@@ -84,7 +84,7 @@ impl Rows for Queues {
 }
 
 /// The servers, where these are the names of the queues.
-#[derive(Clone, Copy)]
+#[derive(Drop)]
 pub struct Servers<'a> {
     pub queues: &'a [Name],
 }
@@ -127,7 +127,7 @@ impl Rows for Servers<'_> {
 }
 
 /// The services, where these are the names of the queues and of the shapes.
-#[derive(Clone, Copy)]
+#[derive(Drop)]
 pub struct Services<'a> {
     pub queues: &'a [Name],
     pub shapes: &'a [Name],
@@ -177,22 +177,8 @@ impl Rows for Services<'_> {
     }
 }
 
-impl Entry<'_> {
-    #[tactic(auto, unfolding(crate::specs::Tables::domain_keys))]
-    fn domain(&self) -> Result<(u32, u32), ConfigRefused>
-        requires { self.now.place.now ≡ codes "domain" }
-        ensures { Reads (domain_keys (view self.now.table.now))
-            (number_at (codes "blocktime") 60 (view self.now.table.now), number_at (codes "blocks") 256 (view self.now.table.now)) result }
-    {
-        self.no_unknown(&["blocktime", "blocks"])?;
-        let block_time = self.number("blocktime", 1, 2_147_483_647, 60)?;
-        let blocks = self.number("blocks", 1, 4_096, 256)?;
-        Ok((block_time, blocks))
-    }
-}
-
 /// The block time and the number of blocks.
-#[tactic(auto, unfolding(crate::specs::Tables::domain_faults, crate::specs::Meaning::domain_number))]
+#[tactic(auto, unfolding(crate::specs::Tables::domain_faults, crate::specs::Tables::domain_keys, crate::specs::Meaning::domain_number))]
 pub fn domain(alloc: Global, document: &Value) -> Result<(u32, u32), ConfigRefused>
     ensures { Reads (domain_faults (get (codes "domain") (view document.now))) (
       domain_number (codes "blocktime") 60 (get (codes "domain") (view document.now)),
@@ -210,5 +196,8 @@ pub fn domain(alloc: Global, document: &Value) -> Result<(u32, u32), ConfigRefus
         place: b"domain",
         table,
     };
-    entry.domain()
+    entry.no_unknown(&["blocktime", "blocks"])?;
+    let block_time = entry.number("blocktime", 1, 2_147_483_647, 60)?;
+    let blocks = entry.number("blocks", 1, 4_096, 256)?;
+    Ok((block_time, blocks))
 }

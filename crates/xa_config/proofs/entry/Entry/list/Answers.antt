@@ -1,4 +1,4 @@
-use Rattle.std.proofs.Common.{[], map, sym, ap, ◌∙◌, arith}
+use Rattle.std.proofs.Common.{[], map, sym, ap, ◌∙◌}
 use Rattle.std.proofs.lemmas.Result.{err_from_is_err_and}
 use Rattle.toml.specs.View.{view}
 use Rattle.xa_config.specs.Faults.{dotted}
