@@ -6,6 +6,7 @@ pub mod GoodSetup
 pub mod Loops
 pub mod OneReading
 pub mod Reading
+pub mod Rows
 pub mod Tells
 pub mod Unknown
 pub mod Whole

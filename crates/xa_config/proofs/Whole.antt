@@ -1,5 +1,5 @@
 -- The faults of a whole table.
-use Rattle.std.proofs.Common.{◌≡◌, ℕ, ◌<◌, ◌≤◌, ◌&&◌, nat_le, Bool, true, false, List, [], ◌∷◌, ◌++◌, length, map, Some, None, unwrap_or, option_map, refl, sym, ap, ◌∙◌, subst, arith}
+use Rattle.std.proofs.Common.{◌≡◌, ℕ, ◌<◌, ◌≤◌, ◌&&◌, nat_le, Bool, true, false, List, [], ◌∷◌, ◌++◌, length, map, Some, None, Result, Ok, Err, IfOk, unwrap_or, option_map, refl, sym, ap, ◌∙◌, subst, arith}
 use Rattle.std.proofs.lemmas.Bool.Decides.{nat_tests}
 use Rattle.std.specs.List.{list_all}
 use Rattle.toml.specs.Data.{Data, get, as_array}
@@ -10,7 +10,7 @@ use Rattle.xa_config.specs.Faults.{Fault, fault, at_key, expects, in_order}
 use Rattle.xa_config.specs.Kinds.{list_in, is_table}
 use Rattle.xa_config.specs.Meaning.{list_at}
 use Rattle.xa_config.specs.Tables.{table_faults, at_entry, is_array_of_tables}
-use Rattle.xa_config.specs.Document.{TellsFirst}
+use Rattle.xa_config.specs.Document.{TellsFirst, Reads}
 use Rattle.xa_config.proofs.Arrays.{list_of_view, array_is, array_found}
 use Rattle.xa_config.proofs.Entries.{list_there}
 use Rattle.xa_config.proofs.Loops.{length_map}
@@ -84,3 +84,15 @@ paired a b = (a, b)
 
 pub both_kept : {A B : Type 0} {a b : A} {m n : B} → a ≡ b → m ≡ n → paired a m ≡ paired b n
 both_kept {b = b} {m = m} e f = ap (λ x. paired x m) e ∙ ap (λ x. paired b x) f
+
+-- the rows of a table, where those of its values are read
+pub rows_read : {A B : Type 0} (f : Data → A) (g : Data → B) (all faults : List Fault) (values ds : List Data) (result : Result (List A × List B) ConfigRefused)
+    → all ≡ faults → values ≡ ds → Reads faults (paired (map f ds) (map g ds)) result → Reads all (paired (map f values) (map g values)) result
+rows_read f g all faults values ds result left found read =
+    subst (λ xs. Reads all (paired (map f xs) (map g xs)) result) (sym found) (subst (λ some. Reads some (paired (map f ds) (map g ds)) result) (sym left) read)
+
+pub few_rows : {A B : Type 0} (f : Data → A) (g : Data → B) (faults : List Fault) (vs : List Value) (most : ℕ) (result : Result (List A × List B) ConfigRefused)
+    → length vs ≤ most → Reads faults (paired (map f (map view vs)) (map g (map view vs))) result → IfOk result (λ found. length found.1 ≤ most)
+few_rows f g faults vs most (Ok found) few read =
+    subst (λ n. n ≤ most) (sym (ap (λ both. length both.1) read.1 ∙ length_map g (map view vs) ∙ length_map view vs)) few
+few_rows f g faults vs most (Err refusal) few read = tt
