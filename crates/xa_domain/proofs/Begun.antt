@@ -585,6 +585,14 @@ module _ {L : Type 0} (server : ℕ) (old d1 : Domain L) (on : StartsOn server o
   pub attempts_room : attempts d1 ≡ attempts old
   attempts_room = attempts_kept old d1 room_keeps
 
+  -- what came of its starts so far is what did before
+  pub starter_room : (P : List ℕ × Attempt → Type 0) → IsSomeAnd (slice_get (attempts old) server) P → IsSomeAnd (slice_get (attempts d1) server) P
+  starter_room P = subst (λ (all : List (List ℕ × Attempt)). IsSomeAnd (slice_get all server) P) (sym attempts_room)
+
+  -- of the others it is so behind its start too
+  pub others_room : (new : Domain L) (How : List ℕ × Attempt → List ℕ × Attempt → Type 0) → Changed server (attempts d1) (attempts new) How → (i : ℕ) → (i ≡ server → ⊥) → slice_get (attempts new) i ≡ slice_get (attempts old) i
+  others_room new How changed i other = other_stands server (attempts d1) (attempts new) changed i other ∙ ap (λ (all : List (List ℕ × Attempt)). slice_get all i) attempts_room
+
   room_stamps : last_stamp step.servers.after.home.first step.servers.after.home.entries ≡ last_stamp step.servers.before.home.first step.servers.before.home.entries
   room_stamps = ap (λ first. last_stamp first step.servers.after.home.entries) step.servers.how.1 ∙ ap (last_stamp step.servers.before.home.first) step.servers.how.2
 

@@ -25,6 +25,9 @@ module _ {X : Type 0} (home : X → Notes) (before : List Notes) (all : List X) 
   pub adds_all : (rest : List X) (homes : List Notes) → AddsOn home before all rest homes → rest ≡ [] → homes ≡ before ++ map home all
   adds_all rest homes adds none = sym (append-nil homes) ∙ (ap (λ (xs : List X). homes ++ map home xs) (sym none) ∙ adds)
 
+pub adds_length : (a b c : List Notes) → b ≡ a ++ c → length b ≡ length a + length c
+adds_length a b c is = ap length is ∙ length-append a c
+
 put_on : (a b c rest : List Notes) → b ≡ a ++ c → b ++ rest ≡ a ++ (c ++ rest)
 put_on a b c rest is = ap (λ (hs : List Notes). hs ++ rest) is ∙ append_assoc a c rest
 

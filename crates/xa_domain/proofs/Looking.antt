@@ -56,12 +56,16 @@ module _ {L : Type 0} (client op version : ℕ) (service : List ℕ) (old seen :
   abbrev pub its_found : FoundRows
   its_found = looks.clients.after.reader.found
 
-  pub clients_kept : length seen.clients.items ≡ length old.clients.items
+  clients_kept : length seen.clients.items ≡ length old.clients.items
   clients_kept = changed_length client old.clients.items seen.clients.items looks.clients
 
+  pub client_kept : (P : Client → Type 0) → IsSomeAnd (slice_get old.clients.items client) P → client < length seen.clients.items
+  client_kept P there = subst (λ n. client < n) (sym clients_kept) (client_there old client P there)
+
   -- the rows that the client's reader gives are those that were found
-  pub rows_read : (x : Client) (found : FoundRows) (rows : List Row) → x ≡ get_or seen.clients.items client x → client < length seen.clients.items → found ≡ x.reader.found → rows ≡ found.rows → its_found.rows ≡ rows
-  rows_read x found rows is within read same =
+  pub rows_read : (x : Client) (found : FoundRows) (rows : List Row) (P : Client → Type 0) → IsSomeAnd (slice_get old.clients.items client) P → x ≡ get_or seen.clients.items client x → found ≡ x.reader.found → rows ≡ found.rows → its_found.rows ≡ rows
+  rows_read x found rows P there is read same =
+      let within = client_kept P there in
       ap (λ (z : Client). z.reader.found.rows) (same_after client old.clients.items seen.clients.items looks.clients x (stood_here seen.clients.items client x within is)) ∙ (ap (λ (f : FoundRows). f.rows) (sym read) ∙ sym same)
 
   -- a row that was found stands on the board

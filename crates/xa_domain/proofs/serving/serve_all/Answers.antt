@@ -36,3 +36,6 @@ returns-clause-dense g c = c.serve_by.ensures.dense
 
 pub returns-clause-asked : goal.returns-clause-asked
 returns-clause-asked g c = c.serve_by.ensures.asked
+
+pub overflow_cast-clients : goal.overflow_cast-clients
+overflow_cast-clients g c = omega (arith, c.requires.built.few)

@@ -1,11 +1,10 @@
-use Rattle.std.proofs.Common.{◌∙◌, List, ℕ, Err, ap, sym, subst, arith}
-use Rattle.std.specs.Prelude.{slice_get, IsSomeAnd}
+use Rattle.std.proofs.Common.{◌∙◌, List, ℕ, Err, ap, arith}
+use Rattle.std.specs.Prelude.{slice_get}
 use Rattle.std.proofs.lemmas.Result.{on_ok_weaker, IfErr-weaker}
 use Rattle.xa_tables.specs.declared.server.Attempt.{Attempt}
-use Rattle.xa_domain.specs.Serving.{IsStarterBy}
 use Rattle.xa_tables.specs.Resting.{attempts}
-use Rattle.xa_tables.proofs.Lists.{other_stands, changed_length}
-use Rattle.xa_domain.proofs.Begun.{numbered_room, attempts_room, on_room, room_stood, may_begin, stands_room, room_halts, shows_started, shows_failed, shows_same}
+use Rattle.xa_tables.proofs.Lists.{changed_length}
+use Rattle.xa_domain.proofs.Begun.{numbered_room, attempts_room, on_room, room_stood, may_begin, stands_room, room_halts, shows_started, shows_failed, shows_same, starter_room, others_room}
 use Rattle.xa_tables.proofs.Failing.{none_done}
 use Rattle.xa_domain.proofs.Halted.{halts}
 use Rattle.xa_tables.proofs.Kept.{passed_on}
@@ -15,17 +14,12 @@ use Rattle.xa_domain.proofs.starting.start.Goals as goal
 
 pub begin-requires : goal.begin-requires
 begin-requires g c =
+    let old = c.args.domain.now in
+    let d1 = c.make_room.new.self in
+    let step = c.in_ok-make_room.ensures.done in
     record {
-      on = let old = c.args.domain.now in
-          let d1 = c.make_room.new.self in
-          let step = c.in_ok-make_room.ensures.done in
-          let x = c.index-at.result.now in
-          on_room c.args.server old d1 c.requires.on step;
-      may = let old = c.args.domain.now in
-          let d1 = c.make_room.new.self in
-          let step = c.in_ok-make_room.ensures.done in
-          let x = c.index-at.result.now in
-          may_begin c.args.server old d1 c.requires.on step x c.index-at.ensures;
+      on = on_room c.args.server old d1 c.requires.on step;
+      may = may_begin c.args.server old d1 c.requires.on step c.index-at.result.now c.index-at.ensures;
       counts = c.in-Ok.ensures.counts;
       fresh = c.in-Ok.ensures.fresh;
     }
@@ -38,8 +32,8 @@ returns-in-Ok g c =
     let x = c.index-at.result.now in
     record {
       numbered = c.begin.ensures.numbered;
-      starter = shows_started c.args.server d1 c.begin.new.domain (on_room c.args.server old d1 c.requires.on step) x (room_stood c.args.server old d1 c.requires.on step x c.index-at.ensures) (g.S.Starter.start_faults c.args.starter.now) (g.S.Starter.start_faults c.start.new.self) (g.S.Starter.asked c.args.starter.now) (g.S.Starter.asked c.start.new.self) (subst (λ (all : List (List ℕ × Attempt)). IsSomeAnd (slice_get all c.args.server) (λ a. IsStarterBy a.0 a.1 (record { faults = g.S.Starter.start_faults c.args.starter.now; asked = g.S.Starter.asked c.args.starter.now }))) (sym (attempts_room c.args.server old d1 c.requires.on step)) c.requires.fresh) (c.in-Ok.ensures.quiet (λ e. cc e)) c.in-Ok.ensures.started c.begin.ensures.tried;
-      attempts = λ i other. other_stands c.args.server (attempts d1) (attempts c.begin.new.domain) c.begin.ensures.tried i other ∙ ap (λ (all : List (List ℕ × Attempt)). slice_get all i) (attempts_room c.args.server old d1 c.requires.on step);
+      starter = shows_started c.args.server d1 c.begin.new.domain (on_room c.args.server old d1 c.requires.on step) x (room_stood c.args.server old d1 c.requires.on step x c.index-at.ensures) (g.S.Starter.start_faults c.args.starter.now) (g.S.Starter.start_faults c.start.new.self) (g.S.Starter.asked c.args.starter.now) (g.S.Starter.asked c.start.new.self) (starter_room c.args.server old d1 c.requires.on step _ c.requires.fresh) (c.in-Ok.ensures.quiet (λ e. cc e)) c.in-Ok.ensures.started c.begin.ensures.tried;
+      attempts = others_room c.args.server old d1 c.requires.on step c.begin.new.domain _ c.begin.ensures.tried;
       on = c.begin.ensures.on;
       clients = on_ok_weaker c.begin.result (λ same. same ∙ step.others.3) c.begin.ensures.clients;
       goes = on_ok_weaker c.begin.result (λ said setup script past configured never stands. said setup script past configured never (stands_room c.args.server old d1 c.requires.on step setup script past stands)) c.begin.ensures.goes;
@@ -67,8 +61,8 @@ returns-in-Err-Failed g c =
     let x = c.index-at.result.now in
     record {
       numbered = c.fail.ensures.numbered;
-      starter = shows_failed c.args.server d1 c.fail.new.domain (on_room c.args.server old d1 c.requires.on step) x (room_stood c.args.server old d1 c.requires.on step x c.index-at.ensures) (g.S.Starter.start_faults c.args.starter.now) (g.S.Starter.start_faults c.start.new.self) (g.S.Starter.asked c.args.starter.now) (g.S.Starter.asked c.start.new.self) (subst (λ (all : List (List ℕ × Attempt)). IsSomeAnd (slice_get all c.args.server) (λ a. IsStarterBy a.0 a.1 (record { faults = g.S.Starter.start_faults c.args.starter.now; asked = g.S.Starter.asked c.args.starter.now }))) (sym (attempts_room c.args.server old d1 c.requires.on step)) c.requires.fresh) (c.in-Err-Failed.ensures.cause (ap (λ e. Err e) c.in-Err-Failed.field-0-is)) (c.in-Err-Failed.ensures.failed (ap (λ e. Err e) c.in-Err-Failed.field-0-is)) c.fail.ensures.tried;
-      attempts = λ i other. other_stands c.args.server (attempts d1) (attempts c.fail.new.domain) c.fail.ensures.tried i other ∙ ap (λ (all : List (List ℕ × Attempt)). slice_get all i) (attempts_room c.args.server old d1 c.requires.on step);
+      starter = shows_failed c.args.server d1 c.fail.new.domain (on_room c.args.server old d1 c.requires.on step) x (room_stood c.args.server old d1 c.requires.on step x c.index-at.ensures) (g.S.Starter.start_faults c.args.starter.now) (g.S.Starter.start_faults c.start.new.self) (g.S.Starter.asked c.args.starter.now) (g.S.Starter.asked c.start.new.self) (starter_room c.args.server old d1 c.requires.on step _ c.requires.fresh) (c.in-Err-Failed.ensures.cause (ap (λ e. Err e) c.in-Err-Failed.field-0-is)) (c.in-Err-Failed.ensures.failed (ap (λ e. Err e) c.in-Err-Failed.field-0-is)) c.fail.ensures.tried;
+      attempts = others_room c.args.server old d1 c.requires.on step c.fail.new.domain _ c.fail.ensures.tried;
       on = c.fail.ensures.on;
       clients = on_ok_weaker c.fail.result (λ same. same ∙ step.others.3) c.fail.ensures.clients;
       goes = on_ok_weaker c.fail.result (λ said setup script past configured never stands. said setup script past configured never (stands_room c.args.server old d1 c.requires.on step setup script past stands)) c.fail.ensures.goes;
@@ -85,7 +79,7 @@ returns-in-Err-NoMemory g c =
     let x = c.index-at.result.now in
     record {
       numbered = numbered_room c.args.server old d1 c.requires.on step;
-      starter = shows_same (attempts d1) c.args.server (g.S.Starter.start_faults c.args.starter.now) (g.S.Starter.start_faults c.start.new.self) (g.S.Starter.asked c.args.starter.now) (g.S.Starter.asked c.start.new.self) (c.in-Err-NoMemory.ensures.quiet (λ failed. let none = c.in-Err-NoMemory.field-0-is in cc (failed, none))) (c.in-Err-NoMemory.ensures.starved (ap (λ e. Err e) c.in-Err-NoMemory.field-0-is)) (subst (λ (all : List (List ℕ × Attempt)). IsSomeAnd (slice_get all c.args.server) (λ a. IsStarterBy a.0 a.1 (record { faults = g.S.Starter.start_faults c.args.starter.now; asked = g.S.Starter.asked c.args.starter.now }))) (sym (attempts_room c.args.server old d1 c.requires.on step)) c.requires.fresh);
+      starter = shows_same (attempts d1) c.args.server (g.S.Starter.start_faults c.args.starter.now) (g.S.Starter.start_faults c.start.new.self) (g.S.Starter.asked c.args.starter.now) (g.S.Starter.asked c.start.new.self) (c.in-Err-NoMemory.ensures.quiet (λ failed. let none = c.in-Err-NoMemory.field-0-is in cc (failed, none))) (c.in-Err-NoMemory.ensures.starved (ap (λ e. Err e) c.in-Err-NoMemory.field-0-is)) (starter_room c.args.server old d1 c.requires.on step _ c.requires.fresh);
       attempts = λ i other. ap (λ (all : List (List ℕ × Attempt)). slice_get all i) (attempts_room c.args.server old d1 c.requires.on step);
       on = tt;
       clients = tt;
