@@ -1,10 +1,9 @@
 // The kinds of data that a service accepts.
-ghost use Rattle.std.specs.Prelude.{◌≡◌, ◌++◌, ◌^◌, ◌<◌, ◌≤◌, [], Some, MatchResult, List, ℕ, length, map, codes};
+ghost use Rattle.std.specs.Prelude.{◌≡◌, ◌++◌, ◌^◌, ◌<◌, ◌≤◌, [], Some, MatchResult, length, map, codes};
 ghost use Rattle.std.specs.List.{list_any};
 ghost use Rattle.std.specs.Str.{bytes_eq};
 ghost use Rattle.toml.specs.Data.{get};
 ghost use Rattle.toml.specs.View.{view};
-ghost use Rattle.xa_types.specs.Configured.{is_among};
 ghost use Rattle.xa_config.specs.Document.{Reads, TellsFirst, first};
 ghost use Rattle.xa_config.specs.Faults.{dotted};
 ghost use Rattle.xa_config.specs.Keys.{elements, optional_array};

@@ -3,7 +3,7 @@ ghost use Rattle.std.specs.Prelude.{◌≡◌, ◌≤◌, ◌++◌, [], true, no
 ghost use Rattle.std.specs.List.{list_all, list_any, sum_by};
 ghost use Rattle.std.specs.Str.{bytes_eq};
 ghost use Rattle.toml.specs.View.{view};
-ghost use Rattle.xa_types.specs.Configured.{is_among, is_configured};
+ghost use Rattle.xa_types.specs.Configured.{is_configured};
 ghost use Rattle.xa_config.specs.Document.{TellsFirst, Reads, IsConfiguration, NamesFirstFault};
 ghost use Rattle.xa_config.specs.Faults.{expects, at_key};
 ghost use Rattle.xa_config.specs.Meaning.{text_at, list_at, server_of, service_of, setup_of};

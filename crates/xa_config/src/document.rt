@@ -1,7 +1,7 @@
 // The values of a TOML document.
-ghost use Rattle.std.specs.List.{find, list_any};
+ghost use Rattle.std.specs.List.{list_any};
 ghost use Rattle.std.specs.BTreeMap.{keys};
-ghost use Rattle.std.specs.Prelude.{MatchOption, not, string_bytes, ◌≡◌, List, ℕ, map, option_map, IfOk, IfErr, MatchResult, Some, None, ◌∷◌, []};
+ghost use Rattle.std.specs.Prelude.{MatchOption, string_bytes, ◌≡◌, List, ℕ, map, option_map, IfOk, IfErr, Some, None, ◌∷◌, []};
 ghost use Rattle.toml.specs.Data.{get, string, as_array};
 ghost use Rattle.toml.specs.View.{view, items_view};
 ghost use Rattle.std.specs.Str.{bytes_eq};

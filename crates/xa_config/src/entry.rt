@@ -6,7 +6,7 @@ ghost use Rattle.xa_types.specs.Configured.{is_within};
 ghost use Rattle.xa_types.specs.Name.{is_name, is_identifier};
 ghost use Rattle.xa_config.specs.Document.{TellsFirst, Reads};
 ghost use Rattle.xa_config.specs.Faults.{fault, dotted, indexed};
-ghost use Rattle.xa_config.specs.Keys.{optional, needed, unknown, array_of, elements, needed_array, optional_array};
+ghost use Rattle.xa_config.specs.Keys.{optional, needed, unknown, array_of, elements, needed_array};
 ghost use Rattle.xa_config.specs.Kinds.{number, truth, restarts, name, new_name, name_among, program, text_in, list_in};
 ghost use Rattle.xa_config.specs.Meaning.{number_at, truth_at, text_at, list_at};
 

@@ -2,8 +2,7 @@
 ghost use Rattle.std.specs.Prelude.{◌≡◌, ◌||◌, ◌==◌, min, true, false, MatchOption, decimal};
 ghost use Rattle.std.specs.List.{list_all};
 ghost use Rattle.std.specs.Str.{bytes_eq};
-ghost use Rattle.xa_types.specs.Name.{is_name, is_letter, is_digit, begins_with_letter, is_identifier};
-ghost use Rattle.xa_types.specs.Configured.{is_within};
+ghost use Rattle.xa_types.specs.Name.{is_letter, is_digit, begins_with_letter, is_identifier};
 ghost use Rattle.xa_config.specs.Field.{name_part, kind_part, number_of_digits, sized, kind_of, is_field, field_of};
 
 use itoa::Buffer;

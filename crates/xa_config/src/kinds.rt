@@ -1,14 +1,14 @@
 // The kinds of value that a key may have. An `Err` is the number of the value's first fault.
-ghost use Rattle.std.specs.Prelude.{◌≡◌, ◌≤◌, ℕ, List, [], ◌++◌, Some, IfOk, IfErr, map, codes};
+ghost use Rattle.std.specs.Prelude.{◌≡◌, ◌≤◌, ℕ, List, [], Some, IfOk, IfErr, map};
 ghost use Rattle.std.specs.List.{list_any};
 ghost use Rattle.std.specs.Str.{bytes_eq};
 ghost use Rattle.toml.specs.Data.{Data};
 ghost use Rattle.toml.specs.View.{view};
-ghost use Rattle.xa_types.specs.Configured.{is_within, is_among};
+ghost use Rattle.xa_types.specs.Configured.{is_among};
 ghost use Rattle.xa_types.specs.Name.{is_name, is_identifier};
 ghost use Rattle.xa_config.specs.Document.{Judges, first};
 ghost use Rattle.xa_config.specs.Field.{field_of};
-ghost use Rattle.xa_config.specs.Kinds.{number, truth, restarts, program, name, new_name, name_among, field, queue, is_kind, kind, text_in, number_in, truth_in};
+ghost use Rattle.xa_config.specs.Kinds.{number, truth, restarts, program, name, new_name, name_among, field, queue, text_in, number_in, truth_in};
 
 use crate::document::{Value, text};
 use crate::field::{field_of, identifier};

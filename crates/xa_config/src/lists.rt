@@ -1,5 +1,5 @@
 // The arrays of tables of a configuration, and what they come to together.
-ghost use Rattle.std.specs.Prelude.{◌≡◌, ◌≤◌, [], ℕ, List, map, IfOk, IfErr, MatchResult, MatchOption, length, vec_capacity, true, false, codes};
+ghost use Rattle.std.specs.Prelude.{◌≡◌, ◌≤◌, [], ℕ, List, map, IfOk, IfErr, MatchOption, length, vec_capacity, true, false};
 ghost use Rattle.std.specs.List.{list_all};
 ghost use Rattle.toml.specs.Data.{Data, get};
 ghost use Rattle.toml.specs.View.{view};
