@@ -23,6 +23,7 @@ pub mod ClosedDown
 pub mod Final
 pub mod Handed
 pub mod Begun
+pub mod Starters
 pub mod Booted
 pub mod Carrying
 pub mod Ends

@@ -3,7 +3,8 @@ use Rattle.xa_tables.specs.Resting.{attempts}
 use Rattle.xa_tables.proofs.Kept.{passed_on}
 use Rattle.xa_tables.proofs.Lists.{set_length}
 use Rattle.xa_domain.proofs.ClosedDown.{leads_on, leads_to_halt}
-use Rattle.xa_domain.proofs.Begun.{match_long, match_at, match_set, starts_none, ready_all}
+use Rattle.xa_domain.proofs.Begun.{starts_none, ready_all}
+use Rattle.xa_domain.proofs.Starters.{match_long, match_at, match_set}
 use Rattle.xa_tables.proofs.Failing.{none_done}
 use Rattle.xa_domain.proofs.starting.start_all.Goals as goal
 
