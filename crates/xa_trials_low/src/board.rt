@@ -99,8 +99,8 @@ fn has_found(rows: &[Row], told: Told) -> bool {
     let Told::Found(queues) = told else {
         return false;
     };
-    for (row, queue) in rows.iter().zip(queues) {
-        if row.queue.0 != *queue {
+    for (place, row) in rows.iter().enumerate() {
+        if queues.get(place) != Some(&row.queue.0) {
             return false;
         }
     }

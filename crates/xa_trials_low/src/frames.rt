@@ -1,5 +1,6 @@
 //! Frames written out by hand: they are read, and written again as they were, and others are refused. Changed at one
 //! octet and cut, they are told as by a decoder that is written by the documentation of `xa_frame`.
+ghost use Rattle.std.specs.Prelude.{IfOk, IfSome};
 ghost use Rattle.xa_frame.specs.Spelling.{HasSpelling};
 
 use crate::rows::none_fails;
@@ -43,57 +44,70 @@ fn is_name(octets: &[u8]) -> bool {
     octets.len() <= 31 && !octets.is_empty() && !octets.starts_with(b".")
 }
 
+// What a frame is made of: a name, an octet of at most so much, a number of four octets, or data.
+enum Field {
+    Name,
+    Choice(u8),
+    Number,
+    Data,
+}
+
+// What follows the header of a frame of that kind.
+fn fields_of(kind: u8) -> Option<&'static [Field]> {
+    match kind {
+        0x01 => Some(&[Field::Name]),
+        0x02 | 0x13 => Some(&[]),
+        0x04 => Some(&[Field::Choice(2), Field::Number, Field::Data]),
+        0x11 => Some(&[Field::Name, Field::Name, Field::Choice(3), Field::Data]),
+        _ => None,
+    }
+}
+
 // The readers of a field answer what stands behind it.
 
 fn after_name(body: &[u8]) -> Option<&[u8]> {
-    let (len, rest) = body.split_first()?;
-    let (name, rest) = rest.split_at_checked(usize::from(*len))?;
-    if is_name(name) { Some(rest) } else { None }
+    let [len, rest @ ..] = body else {
+        return None;
+    };
+    match rest.split_at_checked(usize::from(*len)) {
+        Some((name, rest)) if is_name(name) => Some(rest),
+        _ => None,
+    }
 }
 
 fn after_octets(body: &[u8]) -> Option<&[u8]> {
-    let (len, rest) = body.split_at_checked(4)?;
-    let len = number(len);
-    if len <= 65_536 {
-        rest.get(len as usize..)
-    } else {
-        None
+    match body.split_at_checked(4) {
+        Some((len, rest)) if number(len) <= 65_536 => rest.get(number(len) as usize..),
+        _ => None,
     }
 }
 
 fn after_data(body: &[u8]) -> Option<&[u8]> {
-    let (kind, rest) = body.split_first()?;
-    match kind {
-        0 => Some(rest),
-        1 => after_octets(rest),
-        2 => after_octets(after_name(rest)?),
+    match body {
+        [0, rest @ ..] => Some(rest),
+        [1, rest @ ..] => after_octets(rest),
+        [2, rest @ ..] => after_octets(after_name(rest)?),
         _ => None,
     }
 }
 
-// What stands behind an octet of at most so much.
-fn after_choice(body: &[u8], most: u8) -> Option<&[u8]> {
-    let (choice, rest) = body.split_first()?;
-    if *choice <= most { Some(rest) } else { None }
+fn after_field<'a>(field: &Field, body: &'a [u8]) -> Option<&'a [u8]> {
+    match (field, body) {
+        (Field::Name, _) => after_name(body),
+        (Field::Choice(most), [choice, rest @ ..]) if *choice <= *most => Some(rest),
+        (Field::Choice(_), _) => None,
+        (Field::Number, _) => body.get(4..),
+        (Field::Data, _) => after_data(body),
+    }
 }
 
-fn after_return(body: &[u8]) -> Option<&[u8]> {
-    after_data(after_choice(body, 2)?.get(4..)?)
-}
-
-fn after_invoke(body: &[u8]) -> Option<&[u8]> {
-    let mode = after_name(after_name(body)?)?;
-    after_data(after_choice(mode, 3)?)
-}
-
+// What stands behind the fields of a frame of that kind.
 fn after_fields(kind: u8, body: &[u8]) -> Option<&[u8]> {
-    match kind {
-        0x01 => after_name(body),
-        0x04 => after_return(body),
-        0x11 => after_invoke(body),
-        0x02 | 0x13 => Some(body),
-        _ => None,
+    let mut rest = body;
+    for field in fields_of(kind)? {
+        rest = after_field(field, rest)?;
     }
+    Some(rest)
 }
 
 fn decode_body(kind: u8, tag: u64, body: &[u8]) -> Said {
@@ -147,13 +161,20 @@ fn written_as(alloc: Global, frame: &Frame, octets: &[u8]) -> Option<Said>
     }
 }
 
-// What the reader says of the octets, where that is without a fault and the frame is written again as they stand.
-fn read(alloc: Global, octets: &[u8]) -> Option<Said> {
+// What the reader answers at these octets.
+fn next_of(alloc: Global, octets: &[u8]) -> Result<Option<Frame>, NextRefused>
+    ensures { IfOk result (λ found. IfSome found HasSpelling) }
+{
     let mut reader = Reader::new(alloc);
     if octets.len() > 1000 || reader.feed(octets).is_err() {
-        return None;
+        return Err(NextRefused::NoMemory);
     }
-    match reader.next() {
+    reader.next()
+}
+
+// What the reader says of the octets, where that is without a fault and the frame is written again as they stand.
+fn read(alloc: Global, octets: &[u8]) -> Option<Said> {
+    match next_of(alloc, octets) {
         Ok(None) => Some(Said::Partial),
         Err(NextRefused::BadFrame(0)) => Some(Said::Malformed),
         Ok(Some(frame)) => written_as(alloc, &frame, octets),
@@ -251,11 +272,7 @@ fn is_said(frame: &Frame) -> bool {
 }
 
 fn is_read(alloc: Global, spelling: &[u8]) -> bool {
-    let mut reader = Reader::new(alloc);
-    if spelling.len() > 1000 || reader.feed(spelling).is_err() {
-        return false;
-    }
-    match reader.next() {
+    match next_of(alloc, spelling) {
         Ok(Some(frame)) => is_said(&frame),
         Ok(None) | Err(_) => false,
     }

@@ -67,19 +67,22 @@ fn data_of(alloc: Global, payload: Payload) -> Option<Data> {
     let Some((subtype, octets)) = payload else {
         return Some(Data::Absent);
     };
-    let subtype = match subtype {
-        Some(subtype) => Some(Name::read(subtype).ok()?),
-        None => None,
-    };
-    let octets = Octets::of(alloc, octets).ok()?;
-    Some(match subtype {
-        Some(subtype) => Data::Struct(subtype, octets),
-        None => Data::Octet(octets),
-    })
+    match (Octets::of(alloc, octets), subtype) {
+        (Ok(octets), None) => Some(Data::Octet(octets)),
+        (Ok(octets), Some(subtype)) => struct_of(subtype, octets),
+        (Err(_), _) => None,
+    }
 }
 
-fn reply_of(told: Told, descriptor: u64, data: Data) -> Reply {
-    match told {
+fn struct_of(subtype: &[u8], octets: Octets) -> Option<Data> {
+    match Name::read(subtype) {
+        Ok(subtype) => Some(Data::Struct(subtype, octets)),
+        Err(_) => None,
+    }
+}
+
+fn reply_of(told: &Told, descriptor: u64, data: Data) -> Reply {
+    match *told {
         Told::Success(code) => Reply::Answered(descriptor, Answer::Success(code, data)),
         Told::Failed(code) => Reply::Answered(descriptor, Answer::Failed(code, data)),
         Told::Error(fault) => Reply::Answered(descriptor, Answer::Error(fault)),
@@ -97,9 +100,9 @@ fn prints(alloc: Global, reply: &Reply, want: &[u8]) -> bool {
     push_line(&mut out, &client, 1, reply).is_ok() && out.as_slice() == want
 }
 
-fn reads(alloc: Global, (told, descriptor, payload, want): &Line) -> bool {
-    match data_of(alloc, *payload) {
-        Some(data) => prints(alloc, &reply_of(*told, *descriptor, data), want),
+fn reads(alloc: Global, line: &Line) -> bool {
+    match data_of(alloc, line.2) {
+        Some(data) => prints(alloc, &reply_of(&line.0, line.1, data), line.3),
         None => false,
     }
 }

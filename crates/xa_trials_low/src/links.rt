@@ -6,24 +6,26 @@ use std::io;
 use std::io::{ErrorKind, Read, Write};
 use xa_link::{ReadSource, WriteSink, put};
 
-static GIVEN: [Option<&str>; 6] = [
-    Some("abc"),
+static GIVEN: [Option<&[u8]>; 6] = [
+    Some(b"abc"),
     None,
-    Some("def"),
-    Some("g"),
-    Some(""),
-    Some(""),
+    Some(b"def"),
+    Some(b"g"),
+    Some(b""),
+    Some(b""),
 ];
 
-// The write that fails, the one that takes nothing, and what is taken of `hello`.
-static TAKEN: [(u64, u64, &str); 3] = [(9, 9, "hello"), (3, 9, "hell"), (9, 2, "he")];
+// The write that fails, the one that takes nothing, or 0, and what is taken of `hello`.
+type Taken = (u64, u64, &'static [u8]);
+
+static TAKEN: [Taken; 3] = [(0, 0, b"hello"), (3, 0, b"hell"), (0, 2, b"he")];
 
 // Whether a sink that takes two octets at a time takes this of five.
-fn takes(alloc: Global, (fails, idle, want): &(u64, u64, &str)) -> bool {
-    match sink_of(alloc, &[*fails], &[*idle], 2) {
+fn takes(alloc: Global, (fails, idle, want): Taken) -> bool {
+    match sink_of(alloc, fails, idle, 2) {
         Some(mut sink) => {
-            let whole = put(&mut sink, b"hello").is_ok();
-            sink.taken() == want.as_bytes() && whole == (*want == "hello")
+            let is_whole = put(&mut sink, b"hello").is_ok();
+            (sink.taken() == want) & (is_whole == (want.len() == 5))
         }
         None => false,
     }
@@ -31,7 +33,7 @@ fn takes(alloc: Global, (fails, idle, want): &(u64, u64, &str)) -> bool {
 
 fn first_not_taken(alloc: Global) -> Option<usize> {
     for (place, row) in TAKEN.iter().enumerate() {
-        if !takes(alloc, row) {
+        if !takes(alloc, *row) {
             return Some(place);
         }
     }
@@ -40,7 +42,7 @@ fn first_not_taken(alloc: Global) -> Option<usize> {
 
 // Whether a link that gives three octets at a time cuts, and fails at its second read.
 fn cuts(alloc: Global) -> bool {
-    match link_of(alloc, b"abcdefg", [&[2], &[], &[]], 3) {
+    match link_of(alloc, b"abcdefg", [2, 0, 0], 3) {
         Some(mut link) => gives(&mut link, &GIVEN),
         None => false,
     }
@@ -85,7 +87,7 @@ impl Write for Unsteady {
     }
 }
 
-fn reads_so(first: ErrorKind, want: &[Option<&str>]) -> bool {
+fn reads_so(first: ErrorKind, want: &[Option<&[u8]>]) -> bool {
     gives(&mut ReadSource::new(Unsteady { first: Some(first) }), want)
 }
 
@@ -94,8 +96,8 @@ fn is_written(first: ErrorKind) -> bool {
 }
 
 fn is_tried_again() -> bool {
-    reads_so(ErrorKind::Other, &[None, Some("")])
-        && reads_so(ErrorKind::Interrupted, &[Some("")])
+    reads_so(ErrorKind::Other, &[None, Some(b"")])
+        && reads_so(ErrorKind::Interrupted, &[Some(b"")])
         && !is_written(ErrorKind::Other)
         && is_written(ErrorKind::Interrupted)
 }
@@ -106,7 +108,7 @@ fn an_interrupted_stream_is_tried_again(rt: HostRuntime) {
 }
 
 fn ends<R: Read + Drop>(reader: R) -> bool {
-    gives(&mut ReadSource::new(reader), &[Some(""), Some("")])
+    gives(&mut ReadSource::new(reader), &[Some(b""), Some(b"")])
 }
 
 fn takes_line<W: Write + Drop>(writer: W) -> bool {

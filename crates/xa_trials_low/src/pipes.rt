@@ -1,5 +1,5 @@
 //! Talks over a link in memory, and why they end.
-use crate::memory::link_of;
+use crate::memory::{joined, link_of};
 use crate::rows::none_fails;
 use std::alloc::Global;
 use xa_events::StopCause;
@@ -16,58 +16,50 @@ const RETURN: &[u8] = b"XA\x01\x04\0\0\0\x0f\0\0\0\x01\0\0\0\0\x07\x01\0\0\0\x05
 
 const SHORT: &[u8] = b"XA\x01\x04\0\0\0\x0f\0\0\0\x01\0\0\0\0\x07\x01\0\0\0\x05";
 
-// What the program says, the read of five octets that fails, and the code that is returned or why the life ends.
-type Said = (
-    &'static [&'static [u8]],
-    &'static [u64],
-    Result<i32, StopCause>,
-);
+// What the program says, the read of five octets that fails, or 0, and the code that is returned or why the life ends.
+type Said = (&'static [&'static [u8]], u64, Result<i32, StopCause>);
 
 static SAID: [Said; 14] = [
-    (&[READY, NEXT, RETURN, NEXT], &[], Ok(7)),
-    (&[], &[], Err(StopCause::EndOfInput)),
-    (&[READY, NEXT, SHORT], &[], Err(StopCause::EndOfInput)),
-    (&[READY, NEXT, RETURN], &[], Err(StopCause::EndOfInput)),
-    (&[READY, NEXT, RETURN], &[1], Err(StopCause::ReadFault)),
-    (&[READY, NEXT, RETURN], &[9], Err(StopCause::ReadFault)),
+    (&[READY, NEXT, RETURN, NEXT], 0, Ok(7)),
+    (&[], 0, Err(StopCause::EndOfInput)),
+    (&[READY, NEXT, SHORT], 0, Err(StopCause::EndOfInput)),
+    (&[READY, NEXT, RETURN], 0, Err(StopCause::EndOfInput)),
+    (&[READY, NEXT, RETURN], 1, Err(StopCause::ReadFault)),
+    (&[READY, NEXT, RETURN], 9, Err(StopCause::ReadFault)),
     (
         &[b"XA\x02\x01\0\0\0\x02\0\0\0\0\x01S"],
-        &[],
+        0,
         Err(StopCause::BadBytes(0)),
     ),
     (
         &[READY, NEXT, b"XA\x02\x04\0\0\0\x0f\0\0\0\x01"],
-        &[],
+        0,
         Err(StopCause::BadBytes(26)),
     ),
     (
         &[READY, NEXT, RETURN, b"XA\x02\x02\0\0\0\0\0\0\0\0"],
-        &[],
+        0,
         Err(StopCause::BadBytes(53)),
     ),
     (
         &[b"XA\x01\x01\0\0\0\x02\0\0\0\0\x01T"],
-        &[],
+        0,
         Err(StopCause::OutOfTurn(0x01, 0)),
     ),
     (
         &[READY, b"XA\x01\x02\0\0\0\0\0\0\0\x01"],
-        &[],
+        0,
         Err(StopCause::OutOfTurn(0x02, 1)),
     ),
     (
         &[READY, NEXT, b"XA\x01\x04\0\0\0\x06\0\0\0\x02\0\0\0\0\x07\0"],
-        &[],
+        0,
         Err(StopCause::OutOfTurn(0x04, 2)),
     ),
-    (
-        &[READY, NEXT, NEXT],
-        &[],
-        Err(StopCause::OutOfTurn(0x02, 0)),
-    ),
+    (&[READY, NEXT, NEXT], 0, Err(StopCause::OutOfTurn(0x02, 0))),
     (
         &[READY, NEXT, RETURN, RETURN],
-        &[],
+        0,
         Err(StopCause::OutOfTurn(0x04, 1)),
     ),
 ];
@@ -79,18 +71,10 @@ fn talk<L: Link>(pipe: &mut Pipe<L>, server: &Name) -> Result<i32, StopCause> {
     Ok(code)
 }
 
-fn octets_of(alloc: Global, said: &[&[u8]]) -> Option<Vec<u8>> {
-    let mut octets = Vec::new(alloc);
-    for frame in said {
-        octets.extend_from_slice(frame).ok()?;
-    }
-    Some(octets)
-}
-
 // The link of a program that says these.
-fn saying(alloc: Global, said: &[&[u8]], fails: &[u64]) -> Option<Pipe<MemoryLink>> {
-    let octets = octets_of(alloc, said)?;
-    Some(Pipe::new(alloc, link_of(alloc, &octets, [fails, &[], &[]], 5)?))
+fn saying(alloc: Global, said: &[&[u8]], fails: u64) -> Option<Pipe<MemoryLink>> {
+    let octets = joined(alloc, said)?;
+    Some(Pipe::new(alloc, link_of(alloc, &octets, [fails, 0, 0], 5)?))
 }
 
 fn hears(pipe: &mut Pipe<MemoryLink>, want: Result<i32, StopCause>) -> bool {
@@ -100,10 +84,10 @@ fn hears(pipe: &mut Pipe<MemoryLink>, want: Result<i32, StopCause>) -> bool {
     }
 }
 
-fn ends_so(alloc: Global, (said, fails, want): &Said) -> bool {
+fn ends_so(alloc: Global, (said, fails, want): Said) -> bool {
     match saying(alloc, said, fails) {
         Some(mut pipe) => {
-            let heard = hears(&mut pipe, *want);
+            let heard = hears(&mut pipe, want);
             drop(pipe.into_link());
             heard
         }
@@ -113,7 +97,7 @@ fn ends_so(alloc: Global, (said, fails, want): &Said) -> bool {
 
 fn first_not_told(alloc: Global) -> Option<usize> {
     for (place, row) in SAID.iter().enumerate() {
-        if !ends_so(alloc, row) {
+        if !ends_so(alloc, *row) {
             return Some(place);
         }
     }
@@ -129,15 +113,10 @@ fn each_end_is_told_by_its_cause(rt: HostRuntime) {
 const BOTH: &[u8] = b"XA\x01\x11\0\0\0\x0c\0\0\0\x01\x04ECHO\x04ECHO\0\0\
     XA\x01\x13\0\0\0\0\0\0\0\0";
 
-// The writes of five octets that fail and that take nothing, and how many octets are taken.
-type Taken = (&'static [u64], &'static [u64], usize);
+// The write of five octets that fails, the one that takes nothing, or 0, and how many octets are taken.
+type Taken = (u64, u64, usize);
 
-static TAKEN: [Taken; 4] = [
-    (&[], &[], 36),
-    (&[1], &[], 0),
-    (&[], &[2], 5),
-    (&[6], &[], 24),
-];
+static TAKEN: [Taken; 4] = [(0, 0, 36), (1, 0, 0), (0, 2, 5), (6, 0, 24)];
 
 fn write<L: Link>(pipe: &mut Pipe<L>, service: &Name) -> Result<(), StopCause> {
     pipe.send(service, service, 1, &Data::Absent)?;
@@ -154,13 +133,13 @@ fn writes(pipe: &mut Pipe<MemoryLink>, whole: bool) -> bool {
 }
 
 // Whether so many octets are taken, and the rest fails.
-fn takes(alloc: Global, (fails, idle, want): &Taken) -> bool {
-    match link_of(alloc, b"", [&[], fails, idle], 5) {
+fn takes(alloc: Global, (fails, idle, want): Taken) -> bool {
+    match link_of(alloc, b"", [0, fails, idle], 5) {
         Some(link) => {
             let mut pipe = Pipe::new(alloc, link);
-            let is_done = writes(&mut pipe, *want == BOTH.len());
+            let is_done = writes(&mut pipe, want == BOTH.len());
             let link = pipe.into_link();
-            is_done && link.taken().len() == *want && BOTH.starts_with(link.taken())
+            is_done && link.taken().len() == want && BOTH.starts_with(link.taken())
         }
         None => false,
     }
@@ -168,7 +147,7 @@ fn takes(alloc: Global, (fails, idle, want): &Taken) -> bool {
 
 fn first_not_taken(alloc: Global) -> Option<usize> {
     for (place, row) in TAKEN.iter().enumerate() {
-        if !takes(alloc, row) {
+        if !takes(alloc, *row) {
             return Some(place);
         }
     }

@@ -1,20 +1,10 @@
 //! A server's program, as octets and frame by frame.
-use crate::memory::{sink_of, source_of};
+use crate::memory::{ASKED, SAID, sink_of, source_of};
 use std::alloc::Global;
 use xa_child::{Child, ChildRefused, child_step, work};
 use xa_frame::{Body, Frame};
 use xa_link::{MemorySink, MemorySource};
 use xa_types::{Data, Mode, Name};
-
-// INVOKE of the service and the routine ECHO with hello, and SHUTDOWN.
-const ASKED: &[u8] = b"XA\x01\x11\0\0\0\x15\0\0\0\x01\x04ECHO\x04ECHO\0\x01\0\0\0\x05hello\
-    XA\x01\x13\0\0\0\0\0\0\0\0";
-
-// READY of the server S, NEXT, RETURN of success with code 0 and hello, and NEXT.
-const SAID: &[u8] = b"XA\x01\x01\0\0\0\x02\0\0\0\0\x01S\
-    XA\x01\x02\0\0\0\0\0\0\0\0\
-    XA\x01\x04\0\0\0\x0f\0\0\0\x01\0\0\0\0\0\x01\0\0\0\x05hello\
-    XA\x01\x02\0\0\0\0\0\0\0\0";
 
 fn says(alloc: Global, input: &mut MemorySource, out: &mut MemorySink) -> bool {
     match Name::read(b"S") {
@@ -23,17 +13,10 @@ fn says(alloc: Global, input: &mut MemorySource, out: &mut MemorySink) -> bool {
     }
 }
 
-fn echoes(alloc: Global, input: &mut MemorySource) -> bool {
-    match sink_of(alloc, &[], &[], 7) {
-        Some(mut out) => says(alloc, input, &mut out),
-        None => false,
-    }
-}
-
 fn echoes_octets(alloc: Global) -> bool {
-    match source_of(alloc, ASKED, &[], 1) {
-        Some(mut input) => echoes(alloc, &mut input),
-        None => false,
+    match (source_of(alloc, ASKED, 0, 1), sink_of(alloc, 0, 0, 7)) {
+        (Some(mut input), Some(mut out)) => says(alloc, &mut input, &mut out),
+        _ => false,
     }
 }
 

@@ -2,6 +2,7 @@
 ghost use Rattle.std.specs.Prelude.{◌≡◌, true};
 ghost use Rattle.xa_types.specs.Configured.{is_configured};
 
+use crate::memory::setup_of;
 use crate::rows::none_fails;
 use std::alloc::Global;
 use xa_route::{admits, priority, row_for};
@@ -88,9 +89,9 @@ fn first_not_taken(setup: &Setup) -> Option<usize>
 
 // The place of the first that isn't taken as it should be; without a setup, of the first.
 fn first_not_sent(alloc: Global) -> Option<usize> {
-    match xa_config::read(alloc, SETUP) {
-        Ok(setup) => first_not_taken(&setup),
-        Err(_) => Some(0),
+    match setup_of(alloc, SETUP) {
+        Some(setup) => first_not_taken(&setup),
+        None => Some(0),
     }
 }
 

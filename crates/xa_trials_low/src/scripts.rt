@@ -1,8 +1,12 @@
 //! Scripts that are read, and lines at fault.
+ghost use Rattle.std.specs.Prelude.{◌≡◌, true};
+ghost use Rattle.xa_types.specs.Configured.{is_configured};
+
+use crate::memory::setup_of;
 use crate::rows::none_fails;
 use std::alloc::Global;
 use xa_script::{Script, ScriptRefused, read, read_upto};
-use xa_types::{Ask, Data, Op};
+use xa_types::{Data, Op, Setup};
 
 const SETUP: &[u8] = b"queue = [{ name = 'Q' }]\nserver = [{ name = 'S', queue = 'Q' }]";
 
@@ -49,27 +53,37 @@ static SCRIPTS: [(&[u8], u16, Told<'static>); 23] = [
 ];
 
 // What is read of a script of at most so many clients; too long a one isn't tried.
-fn tried(alloc: Global, octets: &[u8], most: u16) -> Result<Script, ScriptRefused> {
+fn tried(alloc: Global, setup: &Setup, octets: &[u8], most: u16) -> Result<Script, ScriptRefused>
+    requires { is_configured setup.now ≡ true }
+{
     if octets.len() > 100_000 || most == 0 || most > 64 {
-        return Err(ScriptRefused::NoMemory);
+        Err(ScriptRefused::NoMemory)
+    } else if most == 64 {
+        read(alloc, octets, setup)
+    } else {
+        read_upto(alloc, octets, setup, most)
     }
-    match xa_config::read(alloc, SETUP) {
-        Ok(setup) if most == 64 => read(alloc, octets, &setup),
-        Ok(setup) => read_upto(alloc, octets, &setup, most),
-        Err(_) => Err(ScriptRefused::NoMemory),
+}
+
+// The text of a call.
+fn text_of(op: &Op) -> Option<&[u8]> {
+    match op {
+        Op::Call(ask) => match &ask.payload {
+            Data::Octet(octets) => Some(octets.slice()),
+            _ => None,
+        },
+        _ => None,
     }
 }
 
 // The text of the last call of the last client.
 fn text(script: &Script) -> Option<&[u8]> {
-    match script.clients.slice().last()?.ops.slice().last()? {
-        Op::Call(
-            Ask {
-                payload: Data::Octet(octets),
-                ..
-            },
-        ) => Some(octets.slice()),
-        _ => None,
+    match script.clients.slice() {
+        [.., client] => match client.ops.slice() {
+            [.., op] => text_of(op),
+            [] => None,
+        },
+        [] => None,
     }
 }
 
@@ -87,25 +101,37 @@ fn is_fault(refused: ScriptRefused, told: Told) -> bool {
     }
 }
 
-fn is_told(alloc: Global, octets: &[u8], most: u16, told: Told) -> bool {
-    match tried(alloc, octets, most) {
+fn is_told(alloc: Global, setup: &Setup, octets: &[u8], most: u16, told: Told) -> bool
+    requires { is_configured setup.now ≡ true }
+{
+    match tried(alloc, setup, octets, most) {
         Ok(script) => has(&script, told),
         Err(refused) => is_fault(refused, told),
     }
 }
 
-fn first_not_told(alloc: Global) -> Option<usize> {
+fn first_not_told(alloc: Global, setup: &Setup) -> Option<usize>
+    requires { is_configured setup.now ≡ true }
+{
     for (place, (octets, most, told)) in SCRIPTS.iter().enumerate() {
-        if !is_told(alloc, octets, *most, *told) {
+        if !is_told(alloc, setup, octets, *most, *told) {
             return Some(place);
         }
     }
     None
 }
 
+// The place of the first that isn't told as it should be; without a setup, of the first.
+fn first_not_tried(alloc: Global) -> Option<usize> {
+    match setup_of(alloc, SETUP) {
+        Some(setup) => first_not_told(alloc, &setup),
+        None => Some(0),
+    }
+}
+
 #[test]
 fn scripts_are_read_or_their_first_fault_is_told(rt: HostRuntime) {
-    none_fails(&rt, first_not_told(rt.alloc()));
+    none_fails(&rt, first_not_tried(rt.alloc()));
 }
 
 // The lines of 65 clients, of nine octets each.
@@ -118,42 +144,55 @@ const CLIENTS: &[u8] =
     client y\nclient z\nclient 0\nclient 1\nclient 2\nclient 3\nclient 4\nclient 5\nclient 6\nclient 7\n\
     client 8\nclient 9\nclient +\nclient -\nclient _\n";
 
-fn push_many(octets: &mut Vec<u8>, octet: u8, count: usize) -> Option<()> {
+fn push_many(octets: &mut Vec<u8>, octet: u8, count: usize) -> bool {
     octets
         .resize(octets.len().saturating_add(count), octet)
-        .ok()
+        .is_ok()
 }
 
 // A script of one call, whose service and text have so many octets.
-fn call_of(alloc: Global, service: usize, text: usize) -> Option<Vec<u8>> {
-    let mut octets = Vec::from_slice(alloc, b"client a\ncall ").ok()?;
-    push_many(&mut octets, b'S', service)?;
-    octets.extend_from_slice(b" text \"").ok()?;
-    push_many(&mut octets, b'x', text)?;
-    octets.push(b'"').ok()?;
-    Some(octets)
+fn push_call(octets: &mut Vec<u8>, service: usize, text: usize) -> bool {
+    octets.extend_from_slice(b"client a\ncall ").is_ok()
+        && push_many(octets, b'S', service)
+        && octets.extend_from_slice(b" text \"").is_ok()
+        && push_many(octets, b'x', text)
+        && octets.push(b'"').is_ok()
 }
 
-fn is_longest(alloc: Global) -> bool {
-    match call_of(alloc, 255, 65_537) {
-        Some(script) => is_told(alloc, &script, 1, Ok((1, script.get(276..65_813)))),
+fn is_longest(alloc: Global, setup: &Setup) -> bool
+    requires { is_configured setup.now ≡ true }
+{
+    let mut script = Vec::new(alloc);
+    push_call(&mut script, 255, 65_537)
+        && is_told(alloc, setup, &script, 1, Ok((1, script.get(276..65_813))))
+}
+
+fn is_too_long(alloc: Global, setup: &Setup) -> bool
+    requires { is_configured setup.now ≡ true }
+{
+    let mut script = Vec::new(alloc);
+    push_call(&mut script, 256, 0) && is_told(alloc, setup, &script, 1, Err((2, 9)))
+}
+
+fn clients_have_an_end(alloc: Global, setup: &Setup) -> bool
+    requires { is_configured setup.now ≡ true }
+{
+    is_told(alloc, setup, &CLIENTS[..576], 64, Ok((64, None)))
+        && is_told(alloc, setup, CLIENTS, 64, Err((65, 7)))
+}
+
+fn all_has_an_end(alloc: Global) -> bool {
+    match setup_of(alloc, SETUP) {
+        Some(setup) => {
+            clients_have_an_end(alloc, &setup)
+                && is_longest(alloc, &setup)
+                && is_too_long(alloc, &setup)
+        }
         None => false,
     }
-}
-
-fn is_too_long(alloc: Global) -> bool {
-    match call_of(alloc, 256, 0) {
-        Some(script) => is_told(alloc, &script, 1, Err((2, 9))),
-        None => false,
-    }
-}
-
-fn clients_have_an_end(alloc: Global) -> bool {
-    is_told(alloc, &CLIENTS[..576], 64, Ok((64, None))) && is_told(alloc, CLIENTS, 64, Err((65, 7)))
 }
 
 #[test]
 fn scripts_have_64_clients_and_services_255_octets_at_most(rt: HostRuntime) {
-    assert!(rt; clients_have_an_end(rt.alloc()));
-    assert!(rt; is_longest(rt.alloc()) && is_too_long(rt.alloc()));
+    assert!(rt; all_has_an_end(rt.alloc()));
 }

@@ -28,10 +28,9 @@ static REAL: [Row; 3] = [
 ];
 
 fn is_read<S: Shelf>(shelf: &mut S, (name, limit, want): Row) -> bool {
-    match (shelf.read(name.as_bytes(), limit), want) {
-        (Ok(got), Ok(want)) => got.slice() == want,
-        (Err(got), Err(want)) => got == want,
-        (Ok(_), Err(_)) | (Err(_), Ok(_)) => false,
+    match shelf.read(name.as_bytes(), limit) {
+        Ok(got) => want == Ok(got.slice()),
+        Err(refused) => want == Err(refused),
     }
 }
 
@@ -44,27 +43,41 @@ fn reads<S: Shelf>(shelf: &mut S, rows: &[Row]) -> bool {
     true
 }
 
-fn file(alloc: Global, name: &[u8], text: &[u8]) -> Option<(Octets, Octets)> {
+// The names and the texts of the files in memory.
+static FILES: [(&[u8], &[u8]); 2] = [(b"a", b"xyz"), (b"empty", b"")];
+
+fn push_file(
+    alloc: Global,
+    files: &mut Vec<(Octets, Octets)>,
+    name: &[u8],
+    text: &[u8],
+) -> Option<()> {
     let name = Octets::of(alloc, name).ok()?;
-    Some((name, Octets::of(alloc, text).ok()?))
+    let text = Octets::of(alloc, text).ok()?;
+    files.push((name, text)).ok()
 }
 
-fn files(alloc: Global) -> Option<Vec<(Octets, Octets)>> {
-    let first = file(alloc, b"a", b"xyz")?;
-    let both = [first, file(alloc, b"empty", b"")?];
-    Vec::from_array(alloc, both).ok()
+fn push_files(alloc: Global, files: &mut Vec<(Octets, Octets)>) -> bool {
+    let mut are_pushed = true;
+    for (name, text) in &FILES {
+        are_pushed &= push_file(alloc, files, name, text).is_some();
+    }
+    are_pushed
 }
 
-fn shelf_of(alloc: Global) -> Option<MemoryShelf> {
-    let fails = Vec::from_slice(alloc, &[5]).ok()?;
-    Some(MemoryShelf::new(files(alloc)?, fails))
+fn gives_all(alloc: Global, files: Vec<(Octets, Octets)>) -> bool {
+    match Vec::from_slice(alloc, &[5]) {
+        Ok(fails) => {
+            let mut shelf = MemoryShelf::new(files, fails);
+            reads(&mut shelf, &WANT) && reads(&mut shelf, &FAILED)
+        }
+        Err(_) => false,
+    }
 }
 
 fn gives_whole_files(alloc: Global) -> bool {
-    match shelf_of(alloc) {
-        Some(mut shelf) => reads(&mut shelf, &WANT) && reads(&mut shelf, &FAILED),
-        None => false,
-    }
+    let mut files = Vec::new(alloc);
+    push_files(alloc, &mut files) && gives_all(alloc, files)
 }
 
 #[test]
@@ -72,21 +85,33 @@ fn shelves_in_memory_give_whole_files(rt: HostRuntime) {
     assert!(rt; gives_whole_files(rt.alloc()));
 }
 
+// The same on the disk, and a long one.
+static WRITTEN: [(&str, &[u8]); 3] = [("a", b"xyz"), ("empty", b""), ("long", &LONG)];
+
 fn are_written(rt: &HostRuntime) -> bool {
-    fs::write(rt, "a", b"xyz").is_ok()
-        && fs::write(rt, "empty", b"").is_ok()
-        && fs::write(rt, "long", &LONG).is_ok()
+    let mut are_written = true;
+    for (name, text) in &WRITTEN {
+        are_written &= fs::write(rt, *name, *text).is_ok();
+    }
+    are_written
 }
 
 fn are_removed(rt: &HostRuntime) -> bool {
-    fs::remove_file(rt, "a").is_ok()
-        && fs::remove_file(rt, "empty").is_ok()
-        && fs::remove_file(rt, "long").is_ok()
+    let mut are_removed = true;
+    for (name, _) in &WRITTEN {
+        are_removed &= fs::remove_file(rt, *name).is_ok();
+    }
+    are_removed
 }
 
 fn are_read(rt: &HostRuntime) -> bool {
-    let mut shelf = FileShelf::new(rt, rt.alloc());
-    reads(&mut shelf, &WANT) && reads(&mut shelf, &REAL)
+    match rt.clone() {
+        Ok(own) => {
+            let mut shelf = FileShelf::new(own, rt.alloc());
+            reads(&mut shelf, &WANT) && reads(&mut shelf, &REAL)
+        }
+        Err(_) => false,
+    }
 }
 
 #[test]

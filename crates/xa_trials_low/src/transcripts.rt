@@ -53,11 +53,18 @@ static ROWS: [(&[Step], Option<&[u8]>); 4] = [
     ),
 ];
 
-fn accepted(by: CallerId, op: u32, request: RequestId, service: Name) -> Event {
+fn request_of(client: u16, op: u32) -> RequestId {
+    RequestId {
+        caller: CallerId(client),
+        number: u64::from(op),
+    }
+}
+
+fn accepted(client: u16, op: u32, service: Name) -> Event {
     Event::Accept(Accepted {
-        by,
+        by: CallerId(client),
         op,
-        request,
+        request: request_of(client, op),
         version: 1,
         service,
         queue: QueueId(1),
@@ -68,12 +75,21 @@ fn accepted(by: CallerId, op: u32, request: RequestId, service: Name) -> Event {
     })
 }
 
-fn refused(by: CallerId, op: u32, fault: Fault) -> Event {
+fn refused(client: u16, op: u32, fault: Fault) -> Event {
     Event::Refuse(Refused {
-        by,
+        by: CallerId(client),
         op,
         fault,
         evidence: Evidence::Version(1),
+    })
+}
+
+fn answered(client: u16, op: u32, answer: Answer) -> Event {
+    Event::Answer(Replied {
+        by: CallerId(client),
+        op,
+        request: request_of(client, op),
+        answer,
     })
 }
 
@@ -82,28 +98,19 @@ fn success(alloc: Global, code: i32, text: &[u8]) -> Option<Answer> {
     Some(Answer::Success(code, Data::Octet(octets)))
 }
 
-fn answered(by: CallerId, op: u32, request: RequestId, answer: Answer) -> Event {
-    Event::Answer(Replied {
-        by,
-        op,
-        request,
-        answer,
-    })
-}
-
-fn event_of(alloc: Global, service: Name, step: Step) -> Option<Event> {
-    let (client, op, what) = step;
-    let by = CallerId(client);
-    let number = u64::from(op);
-    let request = RequestId { caller: by, number };
+fn event_of(alloc: Global, service: Name, (client, op, what): Step) -> Option<Event> {
     let answer = match what {
-        What::Accept => return Some(accepted(by, op, request, service)),
-        What::Refuse(fault) => return Some(refused(by, op, fault)),
+        What::Accept => return Some(accepted(client, op, service)),
+        What::Refuse(fault) => return Some(refused(client, op, fault)),
         What::Success(code, text) => success(alloc, code, text)?,
         What::Failed(code) => Answer::Failed(code, Data::Absent),
         What::Error(fault) => Answer::Error(fault),
     };
-    Some(answered(by, op, request, answer))
+    Some(answered(client, op, answer))
+}
+
+fn push_event(alloc: Global, history: &mut Vec<Event>, service: Name, step: Step) -> Option<()> {
+    history.push(event_of(alloc, service, step)?).ok()
 }
 
 fn prints(alloc: Global, history: &[Event], names: &[Name], want: Option<&[u8]>) -> bool {
@@ -116,27 +123,26 @@ fn prints(alloc: Global, history: &[Event], names: &[Name], want: Option<&[u8]>)
     }
 }
 
-fn history_of(alloc: Global, service: Name, steps: &[Step]) -> Option<Vec<Event>> {
-    let mut history = Vec::new(alloc);
+fn push_all(alloc: Global, history: &mut Vec<Event>, service: Name, steps: &[Step]) -> bool {
+    let mut are_pushed = true;
     for step in steps {
-        history.push(event_of(alloc, service, *step)?).ok()?;
+        are_pushed &= push_event(alloc, history, service, *step).is_some();
     }
-    Some(history)
+    are_pushed
 }
 
-fn is_read(alloc: Global, steps: &[Step], want: Option<&[u8]>) -> bool {
-    let (Ok(first), Ok(second)) = (Name::read(b"first"), Name::read(b"second")) else {
-        return false;
-    };
-    match history_of(alloc, first, steps) {
-        Some(history) => prints(alloc, &history, &[first, second], want),
-        None => false,
-    }
+fn is_read(alloc: Global, names: &[Name; 2], steps: &[Step], want: Option<&[u8]>) -> bool {
+    let mut history = Vec::new(alloc);
+    push_all(alloc, &mut history, names[0], steps) && prints(alloc, &history, names, want)
 }
 
+// The place of the first row that isn't read so; without the names, of the first.
 fn first_not_read(alloc: Global) -> Option<usize> {
+    let (Ok(first), Ok(second)) = (Name::read(b"first"), Name::read(b"second")) else {
+        return Some(0);
+    };
     for (place, (steps, want)) in ROWS.iter().enumerate() {
-        if !is_read(alloc, steps, *want) {
+        if !is_read(alloc, &[first, second], steps, *want) {
             return Some(place);
         }
     }
