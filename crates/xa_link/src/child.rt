@@ -1,13 +1,15 @@
 // Servers as processes.
 ghost use Rattle.std.specs.Prelude.{◌≡◌, ◌≤◌, ◌<◌, ◌⊎◌, [], ◌∷◌, ◌++◌, codes, length, None, IfOk, OnOk, IsErr, IsSome, MatchResult, unwrap_or};
+ghost use Rattle.xa_link.specs.declared.child.Failure.TheVariants.{NoText};
 ghost use Rattle.std.specs.Str.{IsUtf8};
 ghost use Rattle.std.specs.Process.{child_status, command_args, command_program, SameEnv, SameDir};
 ghost use Rattle.std.specs.Io.KnownBytes.{ReadConsumes, WriteAppends};
 ghost use Rattle.xa_link.specs.Told.{Rose};
-ghost use Rattle.xa_link.specs.declared.starter.StartRefused.TheVariants.{Failed as NotStarted};
+ghost use Rattle.xa_link.specs.declared.starter.StartRefused.TheVariants.{Failed as NotStarted, NoMemory as Starved};
 ghost use Rattle.xa_link.specs.Processes.{StartsServer, IsChosen};
 
 use crate::count::raise;
+use crate::escaped::Escaped;
 use crate::{Failed, Link, ReadSource, Sink, Source, StartRefused, Starter, WriteSink, Yard};
 use std::alloc::{AllocError, Global};
 use std::io::{PipeReader, PipeWriter, Write};
@@ -16,6 +18,7 @@ use std::path::AsPath;
 use std::process::{Child, Command, OpenProcess, Processes, Stdio};
 use std::rt::Files;
 use std::{env, io};
+use thiserror::Error;
 use xa_types::{Generation, Name, NoMemory, Octets, ServerSetup, Setup};
 
 /// A process and its two pipes. Where it is dropped, both pipes are closed, and then the process is waited for, unless
@@ -116,6 +119,45 @@ impl<P: OpenProcess + Drop> Link for ChildLink<P> {
     }
 }
 
+// Why a process wasn't started.
+#[derive(Debug, Drop, Error)]
+enum Failure {
+    #[error("not text")]
+    NoText,
+    #[error("no memory")]
+    NoMemory,
+    #[error("{0}")]
+    System(io::Error),
+}
+
+impl Failure {
+    // What its starter answers.
+    fn refusal(&self) -> StartRefused
+        ensures { self.now ≡ NoText → result ≡ NotStarted }
+    {
+        match self {
+            Failure::NoText => StartRefused::Failed,
+            Failure::NoMemory => StartRefused::NoMemory,
+            Failure::System(error) => match error.kind() {
+                io::ErrorKind::OutOfMemory => StartRefused::NoMemory,
+                _ => StartRefused::Failed,
+            },
+        }
+    }
+}
+
+impl From<io::Error> for Failure {
+    fn from(error: io::Error) -> Failure {
+        Failure::System(error)
+    }
+}
+
+impl From<AllocError> for Failure {
+    fn from(_error: AllocError) -> Failure {
+        Failure::NoMemory
+    }
+}
+
 // A server's configured program, and the word by which the monitor was started.
 #[derive(Drop)]
 struct Programs {
@@ -125,81 +167,117 @@ struct Programs {
 
 impl Programs {
     // The program that serves: the configured one, and where there is none the monitor's.
-    fn chosen(&self) -> Result<&str, StartRefused>
+    fn chosen(&self) -> Result<&str, Failure>
         ensures { MatchResult result (λ program. program.now ≡ unwrap_or self.now.configured self.now.monitor)
-            (λ why. (why ≡ NotStarted) × (IsUtf8 (unwrap_or self.now.configured self.now.monitor) → ⊥)) }
+            (λ why. (why ≡ NoText) × (IsUtf8 (unwrap_or self.now.configured self.now.monitor) → ⊥)) }
+    {
+        text(self.named())
+    }
+
+    // Its octets.
+    fn named(&self) -> &[u8]
+        ensures { result.now ≡ unwrap_or self.now.configured self.now.monitor }
     {
         match &self.configured {
-            Some(program) => text(program.slice()),
-            None => text(self.monitor.slice()),
+            Some(program) => program.slice(),
+            None => self.monitor.slice(),
         }
     }
 }
 
-/// Starts a server as a process, with the words `server` and the server's name.
+/// Starts a server as a process, with the words `server` and the server's name. A start that fails is said on standard
+/// error, with the system's words.
 #[derive(Drop)]
-pub struct ChildStarter<R: Processes + Files + AllocGlobal> {
+pub struct ChildStarter<R: Processes + Files + AllocGlobal + Eprint> {
     rt: R,
+    server: Name,
     programs: Programs,
     faults: u64,
 }
 
-impl<R: Processes + Files + AllocGlobal> ChildStarter<R> {
+impl<R: Processes + Files + AllocGlobal + Eprint> ChildStarter<R> {
+    /// The server that it starts, as the setup names it.
+    pub fn server(&self) -> Name
+        ensures { result ≡ self.now.server }
+    {
+        self.server
+    }
+
     // A word of the monitor that can't be started is no failure, since the system knows where its program is.
-    fn launch(&self, server: &Name) -> Result<ChildLink<R::Started>, StartRefused>
+    fn launch(&self, server: &Name) -> Result<ChildLink<R::Started>, Failure>
         ensures { IfOk result (λ l. (l.from.faults ≡ 0) × (l.to.faults ≡ 0)) }
     {
         let started = match self.programs.chosen() {
             Ok(program) => self.run(program, server),
-            Err(refused) => Err(refused),
+            Err(failure) => Err(failure),
         };
         match (&self.programs.configured, started) {
-            (None, Err(StartRefused::Failed)) => self.run_found(server),
+            (None, Err(failure)) if failure.refusal() == StartRefused::Failed => {
+                self.run_found(server)
+            }
             (_, started) => started,
         }
     }
 
     // By the path that the system gives of the monitor's program.
-    fn run_found(&self, server: &Name) -> Result<ChildLink<R::Started>, StartRefused>
+    fn run_found(&self, server: &Name) -> Result<ChildLink<R::Started>, Failure>
         requires { self.now.programs.configured ≡ None }
         ensures { IfOk result (λ l. (l.from.faults ≡ 0) × (l.to.faults ≡ 0)) }
     {
-        let Ok(monitor) = env::current_exe(&self.rt) else {
-            return Err(StartRefused::Failed);
-        };
+        let monitor = env::current_exe(&self.rt)?;
         self.run(monitor.as_str(), server)
     }
 
-    fn run(&self, program: &str, server: &Name) -> Result<ChildLink<R::Started>, StartRefused>
+    fn run(&self, program: &str, server: &Name) -> Result<ChildLink<R::Started>, Failure>
         requires { IsChosen self.now.programs.configured program.now }
         ensures { IfOk result (λ l. (l.from.faults ≡ 0) × (l.to.faults ≡ 0)) }
     {
-        let Ok(name) = text(server.octets()) else {
-            return Err(StartRefused::Failed);
-        };
-        let Ok(mut command) = command(self.rt.alloc(), program, name) else {
-            return Err(StartRefused::NoMemory);
-        };
+        let name = text(server.octets())?;
+        let mut command = command(self.rt.alloc(), program, name)?;
         let started = spawn(&self.rt, &mut command, program, server);
         // The command has our copy of the end that the process reads.
         drop(command);
-        started.map_err(why_refused)
+        Ok(started?)
+    }
+
+    // Counts a start that failed, and says it. One that memory ran out for is none.
+    fn refuse(&mut self, server: &Name, failure: &Failure) -> StartRefused
+        ensures counted { result ≡ NotStarted → Rose self.old.faults self.new.faults }
+        ensures starved { result ≡ Starved → self.new.faults ≡ self.old.faults }
+        ensures later { self.old.faults ≤ self.new.faults }
+    {
+        let refused = failure.refusal();
+        if refused == StartRefused::Failed {
+            raise(&mut self.faults);
+            let _ = self.tell(server, failure);
+        }
+        refused
+    }
+
+    // Says that a start failed: the server, the program, and why.
+    fn tell(&self, server: &Name, failure: &Failure) -> io::Result<()> {
+        let server = Escaped(server.octets());
+        let program = Escaped(self.programs.named());
+        let told = format!(in self.rt.alloc(); "{failure}")?;
+        let why = Escaped(without_number(told.as_str()).as_bytes());
+        eprintln!(self.rt; "server {server}: {program}: {why}")
     }
 }
 
-fn why_refused(error: io::Error) -> StartRefused {
-    match error.kind() {
-        io::ErrorKind::OutOfMemory => StartRefused::NoMemory,
-        _ => StartRefused::Failed,
+// What the system says of an error; the library puts the error's number behind it.
+fn without_number(told: &str) -> &str {
+    match told.split_once(" (os error ") {
+        Some((words, _)) => words,
+        None => told,
     }
 }
 
-fn text(octets: &[u8]) -> Result<&str, StartRefused>
-    ensures { MatchResult result (λ text. text.now ≡ octets.now) (λ why. (why ≡ NotStarted) × (IsUtf8 octets.now → ⊥)) }
+fn text(octets: &[u8]) -> Result<&str, Failure>
+    ensures { MatchResult result (λ text. text.now ≡ octets.now) (λ why. (why ≡ NoText) × (IsUtf8 octets.now → ⊥)) }
 {
     match str::from_utf8(octets) {
         Ok(text) => Ok(text),
-        Err(_) => Err(StartRefused::Failed),
+        Err(_) => Err(Failure::NoText),
     }
 }
 
@@ -274,7 +352,8 @@ fn spawn<R: Processes + Files>(
     link_to(child, to)
 }
 
-impl<R: Processes + Files + AllocGlobal> Starter<ChildLink<R::Started>> for ChildStarter<R> {
+impl<R: Processes + Files + AllocGlobal + Eprint> Starter<ChildLink<R::Started>>
+    for ChildStarter<R> {
     ghost start_faults = { λ s. s.faults };
 
     ghost asked = { λ _. None };
@@ -284,23 +363,22 @@ impl<R: Processes + Files + AllocGlobal> Starter<ChildLink<R::Started>> for Chil
         server: &Name,
         _generation: Generation,
     ) -> Result<ChildLink<R::Started>, StartRefused> {
-        let started = self.launch(server);
-        if let Err(StartRefused::Failed) = started {
-            raise(&mut self.faults);
+        match self.launch(server) {
+            Ok(link) => Ok(link),
+            Err(failure) => Err(self.refuse(server, &failure)),
         }
-        started
     }
 }
 
 /// Starts each server as a process: its configured program, or where it has none the monitor's own. It is seen as the
 /// word by which the monitor was started.
 #[derive(Drop)]
-pub struct ChildYard<R: Processes + Files + AllocGlobal> {
+pub struct ChildYard<R: Processes + Files + AllocGlobal + Eprint> {
     rt: R,
     monitor: Octets,
 }
 
-impl<R: Processes + Files + AllocGlobal> Model for ChildYard<R> {
+impl<R: Processes + Files + AllocGlobal + Eprint> Model for ChildYard<R> {
     ghost use Rattle.std.specs.Prelude.{ℕ, List};
 
     ghost Value = { List ℕ };
@@ -308,7 +386,7 @@ impl<R: Processes + Files + AllocGlobal> Model for ChildYard<R> {
     ghost view = { λ y. y.monitor };
 }
 
-impl<R: Processes + Files + AllocGlobal> ChildYard<R> {
+impl<R: Processes + Files + AllocGlobal + Eprint> ChildYard<R> {
     /// `monitor` is the word by which the monitor was itself started. Where that can't be started, as where it isn't
     /// text, the system is asked for the path of the monitor's program.
     pub fn new(rt: R, monitor: Octets) -> ChildYard<R>
@@ -318,8 +396,9 @@ impl<R: Processes + Files + AllocGlobal> ChildYard<R> {
     }
 }
 
-impl<R: Processes + Files + AllocGlobal + Clone + Drop> ChildYard<R> {
+impl<R: Processes + Files + AllocGlobal + Eprint + Clone + Drop> ChildYard<R> {
     fn starter(&self, server: &ServerSetup) -> Result<ChildStarter<R>, NoMemory>
+        ensures server { IfOk result (λ s. s.server ≡ server.now.name) }
         ensures program { IfOk result (λ s. s.programs.configured ≡ server.now.program) }
         ensures monitor { IfOk result (λ s. s.programs.monitor ≡ self.now) }
         ensures count { IfOk result (λ s. s.faults ≡ 0) }
@@ -332,6 +411,7 @@ impl<R: Processes + Files + AllocGlobal + Clone + Drop> ChildYard<R> {
         };
         Ok(ChildStarter {
             rt,
+            server: server.name,
             programs,
             faults: 0,
         })
@@ -363,7 +443,7 @@ fn copy_program(alloc: Global, program: &Option<Octets>) -> Result<Option<Octets
     }
 }
 
-impl<R: Processes + Files + AllocGlobal + Clone + Drop + Send> Yard for ChildYard<R>
+impl<R: Processes + Files + AllocGlobal + Eprint + Clone + Drop + Send> Yard for ChildYard<R>
 where
     R::Started: Send,
     <R::Started as OpenProcess>::Stdin: Send,

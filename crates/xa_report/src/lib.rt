@@ -1,7 +1,11 @@
-//! What the program says on standard error as a command ends.
+//! What the program says on standard error as a command ends: why it ended, and which lives of servers ended by a failure.
 #![tactic(auto)]
 
+mod lives;
+
+pub use lives::report_lives;
 use std::io;
+use xa_link::Escaped;
 use xa_program::{Input, Status};
 use xa_types::Octets;
 
@@ -21,12 +25,13 @@ fn line_of(status: &Status) -> Option<&'static str> {
     }
 }
 
-// Says the fault of a configuration and its key, which is text; that it is no document has none.
+// Says the fault of a configuration and its key; that it is no document has none.
 fn report_fault<R: Eprint>(rt: &R, number: u8, key: &Octets) -> io::Result<()> {
-    match str::from_utf8(key.slice()) {
-        Ok(key) if number != 1 => eprintln!(rt; "config {number} {key}"),
-        _ => eprintln!(rt; "config {number}"),
+    if number == 1 {
+        return eprintln!(rt; "config {number}");
     }
+    let key = Escaped(key.slice());
+    eprintln!(rt; "config {number} {key}")
 }
 
 /// Says on standard error how a command ended, but nothing of one that is done.

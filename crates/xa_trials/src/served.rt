@@ -1,11 +1,13 @@
 //! Whole runs with real processes: what each call is told where servers end, fail or can't be started, and what is left.
 use crate::rows::none_fails;
 use crate::running::{source_of, words_of};
+use crate::statuses::are_lives_told;
 use std::alloc::Global;
 use std::fs;
+use xa_events::Event;
 use xa_link::{ChildYard, FileShelf, MemorySink, MemorySource, OpenGate};
 use xa_program::{Outcome, run};
-use xa_types::Octets;
+use xa_types::{Name, Octets};
 
 // The shell's words for a server. One is started with the words `server` and its name, so `sh` reads its script from the
 // file `server`, and has the name, of one octet, as `$1`. It greets with READY and NEXT, takes an INVOKE of `ECHO`
@@ -55,12 +57,29 @@ fn set_up(rt: &HostRuntime, words: &[&str], script: &str) -> Option<Stage> {
     })
 }
 
-// Whether the command is done by so many processes, and prints that.
-fn prints(rt: &HostRuntime, stage: &mut Stage, wrote: &str, count: usize) -> bool {
+// What a run by so many processes is to print, and the line of a life that failed; without one, any may be said.
+#[derive(Clone, Copy)]
+struct Want {
+    wrote: &'static str,
+    count: usize,
+    ended: Option<&'static str>,
+}
+
+// Whether that line is said of the lives of the server `S`.
+fn is_told(alloc: Global, history: &[Event], ended: Option<&str>) -> bool {
+    match (ended, Name::read(b"S")) {
+        (Some(line), Ok(name)) => are_lives_told(alloc, &[name], history, line),
+        (None, _) => true,
+        _ => false,
+    }
+}
+
+// Whether the command is done so.
+fn prints(rt: &HostRuntime, stage: &mut Stage, want: Want) -> bool {
     let Outcome {
         status,
         homes: _,
-        history: _,
+        history,
         lives,
         starters: _,
     } = run(
@@ -73,7 +92,9 @@ fn prints(rt: &HostRuntime, stage: &mut Stage, wrote: &str, count: usize) -> boo
         &mut stage.yard,
         &OpenGate,
     );
-    stage.out.taken() == wrote.as_bytes() && status.number() == 0 && lives.len() == count
+    let printed = stage.out.taken() == want.wrote.as_bytes();
+    let done = status.number() == 0 && lives.len() == want.count;
+    printed && done && is_told(rt.alloc(), history.as_slice(), want.ended)
 }
 
 /// Whether the file has that text.
@@ -84,10 +105,10 @@ pub fn has(rt: &HostRuntime, name: &str, text: &str) -> bool {
     }
 }
 
-// Whether the command serves the script by so many processes, prints that, and leaves none of them.
-fn serves(rt: &HostRuntime, words: [&str; 2], script: &str, wrote: &str, count: usize) -> bool {
+// Whether the command serves the script so, and leaves none of its processes.
+fn serves(rt: &HostRuntime, words: [&str; 2], script: &str, want: Want) -> bool {
     let served = match set_up(rt, &words, script) {
-        Some(mut stage) => prints(rt, &mut stage, wrote, count),
+        Some(mut stage) => prints(rt, &mut stage, want),
         None => false,
     };
     served && has(rt, "/proc/thread-self/children", "")
@@ -119,58 +140,84 @@ const ONE: &str = "[[queue]]\nname = \"Q\"\n\
 
 static COMMANDS: [[&str; 2]; 2] = [["play", "ECHO"], ["run", "config"]];
 
-// What the server does, what is printed, and whether it comes to its own end behind its closed pipes and notes that in
+// What the server does, what is printed, what is said of its life, and whether it comes to its own end behind its closed pipes and notes that in
 // the file `ended`. The others that would go on are ended by force: else the test would last longer than it may.
-type Row = (&'static str, &'static str, bool);
+type Row = (&'static str, &'static str, Option<&'static str>, bool);
 
 static ROWS: [Row; 10] = [
     // It ends, or is ended by another, while the call waits.
-    ("greet $1; take", DIED, false),
+    (
+        "greet $1; take",
+        DIED,
+        Some("server S: life 1: ended by EndOfInput"),
+        false,
+    ),
     (
         "greet $1; take; kill -9 $$ >/dev/null & wait; exec sleep 600",
         DIED,
+        Some("server S: life 1: ended by EndOfInput"),
         false,
     ),
     // It goes on behind its closed pipes.
-    ("greet $1; exec 0<&- 1>&- sleep 600", DIED, false),
+    ("greet $1; exec 0<&- 1>&- sleep 600", DIED, None, false),
     // It goes on behind octets that are no frame, before it greets and behind its call, and no signal but one ends it.
-    ("echo no frame but text; exec sleep 600", NEVER, false),
+    (
+        "echo no frame but text; exec sleep 600",
+        NEVER,
+        Some("server S: life 1: ended by BadBytes at 0"),
+        false,
+    ),
     (
         "trap '' HUP INT PIPE TERM; greet $1; take; echo no frame but text; exec sleep 600",
         DIED,
+        Some("server S: life 1: ended by BadBytes at 26"),
         false,
     ),
     // It goes on behind a RETURN to another call, and behind its answer.
-    ("greet $1; take; give 2; exec sleep 600", DIED, false),
+    (
+        "greet $1; take; give 2; exec sleep 600",
+        DIED,
+        Some("server S: life 1: ended by OutOfTurn kind 4 tag 2"),
+        false,
+    ),
     (
         "greet $1; take; give 1; echo no frame but text; exec sleep 600",
         ONCE,
+        Some("server S: life 1: ended by BadBytes at 44"),
         false,
     ),
     (
         "greet $1; take; give 1; next; take; echo no frame but text; exec sleep 600",
         "a 1 OK 0 none\na 2 TPESVCERR\n",
+        Some("server S: life 1: ended by BadBytes at 56"),
         false,
     ),
     // It is shut down, or returned TPEXIT.
     (
         "greet $1; take; give 1; next; take; give 2; next; cat >/dev/null; sleep 0.1; echo x >ended",
         "a 1 OK 0 none\na 2 OK 0 none\n",
+        Some(""),
         true,
     ),
     (
         "greet $1; take; leave; cat >/dev/null; sleep 0.1; echo x >ended",
         "a 1 TPESVCFAIL 1 none\na 2 TPENOENT\n",
+        Some(""),
         true,
     ),
 ];
 
-fn fails_so(rt: &HostRuntime, (server, wrote, ends): Row) -> bool {
+fn fails_so(rt: &HostRuntime, (server, wrote, ended, ends): Row) -> bool {
     if !write_server(rt, server) {
         return false;
     }
+    let want = Want {
+        wrote,
+        count: 1,
+        ended,
+    };
     for command in COMMANDS {
-        if !serves(rt, command, TWICE, wrote, 1) || remove(rt, &["ended"]) != ends {
+        if !serves(rt, command, TWICE, want) || remove(rt, &["ended"]) != ends {
             return false;
         }
     }
@@ -228,8 +275,13 @@ fn write_pair(rt: &HostRuntime, end: &str) -> bool {
 
 fn first_not_outlived(rt: &HostRuntime) -> Option<usize> {
     let script = "client a\ncall ECHO none\ncall ECHO none\nclient b\ncall ECHO none\n";
+    let want = Want {
+        wrote: PAIRED,
+        count: 2,
+        ended: None,
+    };
     for (place, end) in ENDS.iter().enumerate() {
-        if !write_pair(rt, end) || !serves(rt, ["run", "config"], script, PAIRED, 2) {
+        if !write_pair(rt, end) || !serves(rt, ["run", "config"], script, want) {
             return Some(place);
         }
     }
@@ -255,10 +307,14 @@ const THREE: &str = "[[queue]]\nname = \"P\"\n[[queue]]\nname = \"Q\"\n[[queue]]
 
 fn serves_one_of_three(rt: &HostRuntime) -> bool {
     let script = "client a\ncall ONE none\ncall TWO none\ncall ECHO none\n";
-    let wrote = "a 1 TPENOENT\na 2 TPENOENT\na 3 OK 0 none\n";
+    let want = Want {
+        wrote: "a 1 TPENOENT\na 2 TPENOENT\na 3 OK 0 none\n",
+        count: 1,
+        ended: None,
+    };
     fs::write(rt, "config", THREE).is_ok()
         && write_server(rt, "greet $1; take; give 1; next; cat >/dev/null")
-        && serves(rt, ["run", "config"], script, wrote, 1)
+        && serves(rt, ["run", "config"], script, want)
 }
 
 #[test]

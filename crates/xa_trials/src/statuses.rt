@@ -3,10 +3,11 @@ use crate::rows::none_fails;
 use std::alloc::Global;
 use std::fmt::Display;
 use std::io;
+use xa_events::{Event, StopCause, Stopped};
 use xa_link::MemoryArguments;
 use xa_program::{Input, Status, all_words, words_behind};
-use xa_report::report;
-use xa_types::{Octets, Stamp};
+use xa_report::{report, report_lives};
+use xa_types::{Generation, Name, Octets, ServerId, Stamp};
 
 const LINES: [(Status, u8, &str); 11] = [
     (Status::Done, 0, ""),
@@ -35,9 +36,10 @@ const LINES: [(Status, u8, &str); 11] = [
 ];
 
 // The number of a configuration's fault, its key and its line.
-static FAULTS: [(u8, &str, &str); 3] = [
+static FAULTS: [(u8, &str, &str); 4] = [
     (1, "", "config 1"),
     (2, "", "config 2 "),
+    (2, "~\n\u{7f} é\\", "config 2 ~\\x0a\\x7f \\xc3\\xa9\\"),
     (8, "server[0].queue", "config 8 server[0].queue"),
 ];
 
@@ -97,6 +99,63 @@ fn first_fault_not_said(alloc: Global) -> Option<usize> {
 fn each_status_has_its_line(rt: HostRuntime) {
     none_fails(&rt, first_not_said(rt.alloc()));
     none_fails(&rt, first_fault_not_said(rt.alloc()));
+}
+
+// Why a life of the second server ended, and its line, if any.
+static CAUSES: [(StopCause, &str); 8] = [
+    (StopCause::Shutdown, ""),
+    (StopCause::Exit, ""),
+    (
+        StopCause::EndOfInput,
+        "server B: life 3: ended by EndOfInput",
+    ),
+    (StopCause::ReadFault, "server B: life 3: ended by ReadFault"),
+    (
+        StopCause::WriteFault,
+        "server B: life 3: ended by WriteFault",
+    ),
+    (
+        StopCause::BadBytes(27),
+        "server B: life 3: ended by BadBytes at 27",
+    ),
+    (
+        StopCause::OutOfTurn(2, 0),
+        "server B: life 3: ended by OutOfTurn kind 2 tag 0",
+    ),
+    (StopCause::Starved, "server B: life 3: ended by Starved"),
+];
+
+/// Whether of the lives of these servers that line is said, and no other; of the empty one, whether nothing is.
+pub fn are_lives_told(alloc: Global, names: &[Name], history: &[Event], line: &str) -> bool {
+    let says = report_lives(&Taking { alloc, line }, names, history).is_ok();
+    let silent = report_lives(&Taking { alloc, line: "" }, names, history).is_ok();
+    says && silent == line.is_empty()
+}
+
+fn is_end_told(alloc: Global, cause: StopCause, line: &str) -> bool {
+    let (Ok(first), Ok(second)) = (Name::read(b"A"), Name::read(b"B")) else {
+        return false;
+    };
+    let stopped = Stopped {
+        server: ServerId(2),
+        generation: Generation(3),
+        cause,
+    };
+    are_lives_told(alloc, &[first, second], &[Event::Stop(stopped)], line)
+}
+
+fn first_end_not_said(alloc: Global) -> Option<usize> {
+    for (place, (cause, line)) in CAUSES.iter().enumerate() {
+        if !is_end_told(alloc, *cause, line) {
+            return Some(place);
+        }
+    }
+    None
+}
+
+#[test]
+fn each_life_that_failed_has_its_line(rt: HostRuntime) {
+    none_fails(&rt, first_end_not_said(rt.alloc()));
 }
 
 // What a command line gives: its words, and what they are behind the first, or the number of the status.

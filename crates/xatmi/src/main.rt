@@ -9,10 +9,12 @@ use std::alloc::Global;
 use std::mem::forget;
 use std::process::ExitCode;
 use std::rt::Env;
-use xa_link::{ChildYard, FileShelf, OpenGate, ReadSource, SystemArguments, WriteSink};
+use xa_link::{
+    ChildStarter, ChildYard, FileShelf, OpenGate, ReadSource, SystemArguments, WriteSink,
+};
 use xa_program::{Outcome, Status, all_words, own_word, run, words_behind};
-use xa_report::report;
-use xa_types::Octets;
+use xa_report::{report, report_lives};
+use xa_types::{Name, NoMemory, Octets};
 
 // The first of all words, by which this program was started, and the words behind it.
 fn split_words(alloc: Global, all: &[Octets]) -> Result<(Octets, Vec<String>), Status> {
@@ -26,6 +28,15 @@ fn words<R: Env + AllocGlobal + Drop>(rt: R) -> Result<(Octets, Vec<String>), St
     split_words(alloc, all.as_slice())
 }
 
+// The names of the servers that these start, in the order of the setup.
+fn names_of(alloc: Global, starters: &[ChildStarter<HostRuntime>]) -> Result<Vec<Name>, NoMemory> {
+    let mut names = Vec::new(alloc);
+    for starter in starters {
+        names.push(starter.server())?;
+    }
+    Ok(names)
+}
+
 // Runs the command of these words, as the program of that name. The processes that it started are waited for before it
 // answers.
 fn run_words(rt: HostRuntime, own: Octets, words: &[String]) -> Status {
@@ -34,7 +45,7 @@ fn run_words(rt: HostRuntime, own: Octets, words: &[String]) -> Status {
         homes,
         history,
         lives,
-        starters: _,
+        starters,
     } = run(
         &rt,
         rt.alloc(),
@@ -46,6 +57,9 @@ fn run_words(rt: HostRuntime, own: Octets, words: &[String]) -> Status {
         &OpenGate,
     );
     drop(lives);
+    if let Ok(names) = names_of(rt.alloc(), starters.as_slice()) {
+        let _ = report_lives(&rt, names.as_slice(), history.as_slice());
+    }
     // The system takes back all memory at once as the program ends.
     forget(homes);
     forget(history);
