@@ -1,5 +1,5 @@
 // Servers' programs in memory.
-ghost use Rattle.std.specs.Prelude.{◌≡◌, ◌≤◌, ◌<◌, ◌-◌, ◌+◌, ◌++◌, [], ◌∷◌, ℕ, List, take, drop, length, true, false, Some, All, OnOk, OnErr, IfOk};
+ghost use Rattle.std.specs.Prelude.{◌≡◌, ◌≤◌, ◌<◌, ◌-◌, ◌+◌, ◌++◌, [], ◌∷◌, ℕ, List, take, drop, length, map, true, false, Some, All, OnOk, OnErr, IfOk};
 ghost use Rattle.xa_child.specs.Child.{greeting};
 ghost use Rattle.xa_frame.specs.Spelling.{all_spelled};
 ghost use Rattle.xa_frame.specs.Stream.{IsPartial};
@@ -13,7 +13,7 @@ use std::alloc::Global;
 use std::marker::Model;
 use xa_frame::{Frame, Reader};
 use xa_link::{Failed, Link, Sink, Source, StartRefused, Starter, Yard};
-use xa_types::{Generation, Name, NoMemory, Setup};
+use xa_types::{Generation, Name, NoMemory, ServerSetup, Setup};
 
 /// How many octets a write takes at most.
 const PIECE: usize = 8192;
@@ -24,6 +24,7 @@ const PIECE: usize = 8192;
 #[derive(Drop)]
 pub struct LocalLink {
     name: Name,
+    generation: Generation,
     serving: Serving,
     takes: bool,
     taken: Vec<u8>,
@@ -38,7 +39,7 @@ impl Model for LocalLink {
 
     ghost Value = { LocalTold };
 
-    ghost view = { λ l. record { name = l.name; took = l.taken.items; gave = take l.at l.given.items; left = drop l.at l.given.items; faults = l.faults } };
+    ghost view = { λ l. record { name = l.name; generation = l.generation; took = l.taken.items; gave = take l.at l.given.items; left = drop l.at l.given.items; faults = l.faults } };
 
     ghost invariant = { IsLocal };
 }
@@ -125,11 +126,12 @@ fn raise(count: &mut u64)
 
 impl LocalLink {
     /// The program of that server as it begins.
-    fn start(alloc: Global, name: &Name) -> Result<LocalLink, NoMemory>
+    fn start(alloc: Global, name: &Name, generation: Generation) -> Result<LocalLink, NoMemory>
         ensures took { IfOk result (λ link. link.took ≡ []) }
         ensures gave { IfOk result (λ link. link.gave ≡ []) }
         ensures faults { IfOk result (λ link. link.faults ≡ 0) }
         ensures name { IfOk result (λ link. link.name ≡ name.now) }
+        ensures generation { IfOk result (λ link. link.generation ≡ generation) }
     {
         let (child, frames) = Child::start(alloc, name)?;
         let given = greet(alloc, name, frames.as_slice())?;
@@ -140,6 +142,7 @@ impl LocalLink {
         };
         Ok(LocalLink {
             name: *name,
+            generation,
             serving,
             takes: true,
             taken: Vec::new(alloc),
@@ -166,6 +169,7 @@ impl LocalLink {
         ensures end { result ≡ 0 → 0 < length into.new → self.old.left ≡ [] }
         ensures took { self.new.took ≡ self.old.took }
         ensures faults { self.new.faults ≡ self.old.faults }
+        ensures whose { (self.new.name ≡ self.old.name) × (self.new.generation ≡ self.old.generation) }
     {
         let n = give(self.given.as_slice(), self.at, into);
         self.at += n;
@@ -177,6 +181,7 @@ impl LocalLink {
         ensures took { OnOk result (self.new.took ≡ self.old.took ++ octets.now) }
         ensures same { OnErr result (self.new.took ≡ self.old.took) }
         ensures gave { self.new.gave ≡ self.old.gave }
+        ensures whose { (self.new.name ≡ self.old.name) × (self.new.generation ≡ self.old.generation) }
         ensures quiet { OnOk result (self.new.faults ≡ self.old.faults) }
         ensures rose { OnErr result (Rose self.old.faults self.new.faults) }
         ensures later { self.old.faults ≤ self.new.faults }
@@ -202,7 +207,7 @@ impl Source for LocalLink {
 
     ghost read_faults = { λ _. 0 };
 
-    ghost beside_reads = { λ l. (Some l.took, l.faults) };
+    ghost beside_reads = { λ l. (Some l.took, l.faults, Some (l.name, l.generation)) };
 
     fn read(&mut self, into: &mut [u8]) -> Result<usize, Failed> {
         Ok(self.copy(into))
@@ -216,7 +221,7 @@ impl Sink for LocalLink {
 
     ghost write_faults = { λ l. l.faults };
 
-    ghost beside_writes = { λ l. (Some l.gave, 0) };
+    ghost beside_writes = { λ l. (Some l.gave, 0, Some (l.name, l.generation)) };
 
     fn write(&mut self, from: &[u8]) -> Result<usize, Failed> {
         let n = from.len().min(PIECE);
@@ -226,7 +231,9 @@ impl Sink for LocalLink {
 }
 
 impl Link for LocalLink {
-    ghost use Rattle.std.specs.Prelude.{refl};
+    ghost use Rattle.std.specs.Prelude.{refl, Some};
+
+    ghost whose = { λ l. Some (l.name, l.generation) };
 
     ghost reads_alone = { λ _. refl };
 
@@ -240,21 +247,28 @@ impl Link for LocalLink {
 #[derive(Drop)]
 pub struct LocalStarter {
     alloc: Global,
+    server: Name,
     asked: Vec<(Name, Generation)>,
 }
 
 impl Starter<LocalLink> for LocalStarter {
     ghost use Rattle.std.specs.Prelude.{Some};
 
+    ghost server_name = { λ s. s.server };
+
     ghost start_faults = { λ _. 0 };
 
     ghost asked = { λ s. Some s.asked.items };
+
+    fn server(&self) -> Name {
+        self.server
+    }
 
     fn start(&mut self, server: &Name, generation: Generation) -> Result<LocalLink, StartRefused> {
         if self.asked.reserve(1).is_err() {
             return Err(StartRefused::NoMemory);
         }
-        let Ok(link) = LocalLink::start(self.alloc, server) else {
+        let Ok(link) = LocalLink::start(self.alloc, server, generation) else {
             return Err(StartRefused::NoMemory);
         };
         self.asked.push_reserved((*server, generation));
@@ -282,15 +296,17 @@ impl LocalYard {
         }
     }
 
-    // The starters of so many servers.
-    fn starters_of(&self, servers: usize) -> Result<Vec<LocalStarter>, NoMemory>
-        ensures each { IfOk result (λ all. length all.items ≡ servers) }
+    // The starters of these servers.
+    fn starters_of(&self, servers: &[ServerSetup]) -> Result<Vec<LocalStarter>, NoMemory>
+        ensures each { IfOk result (λ all. length all.items ≡ length servers.now) }
+        ensures names { IfOk result (λ all. map (λ s. s.server) all.items ≡ map (λ server. server.name) servers.now) }
         ensures none { IfOk result (λ all. All (λ s. s.asked.items ≡ []) all.items) }
     {
-        let mut all = Vec::with_capacity(self.alloc, servers)?;
-        for _ in 0..servers {
+        let mut all = Vec::with_capacity(self.alloc, servers.len())?;
+        for server in servers {
             all.push_reserved(LocalStarter {
                 alloc: self.alloc,
+                server: server.name,
                 asked: Vec::new(self.alloc),
             });
         }
@@ -318,7 +334,7 @@ impl Yard for LocalYard {
     ghost asked = { λ y. Some y.asked.items };
 
     fn starters(&mut self, setup: &Setup) -> Result<Vec<LocalStarter>, NoMemory> {
-        let all = self.starters_of(setup.servers.slice().len())?;
+        let all = self.starters_of(setup.servers.slice())?;
         self.keep_asked(setup)?;
         Ok(all)
     }

@@ -133,19 +133,21 @@ starts_on_retired server table old mid new beside queues clients servers lives r
 
 -- ---- a program that greets
 
--- nothing went through the pipes of the life
-pub record FreshLife {L : Type 0} (y : Lived L) : Type 0 where
+-- nothing went through the pipes of the life, which is of the server of that name
+pub record FreshLife {L : Type 0} (name : List ℕ) (y : Lived L) : Type 0 where
   pub first : y.invocation ≡ 0
   pub wrote : Wrote y.pipe []
   pub read : HasRead y.pipe []
   pub well : (y.pipe.reads ≡ 0) × (y.pipe.writes ≡ 0)
+  pub whose : y.pipe.whose ≡ Some (name, record { 0 = 1 })
 
-pub fresh_life : {L : Type 0} (server : ℕ) (old : Domain L) → HasNewLife server old → (x : Server) → slice_get old.servers.items server ≡ Some x → (y : Lived L) → slice_get old.lives.items x.life ≡ Some y → FreshLife y
+pub fresh_life : {L : Type 0} (server : ℕ) (old : Domain L) → HasNewLife server old → (x : Server) → slice_get old.servers.items server ≡ Some x → (y : Lived L) → slice_get old.lives.items x.life ≡ Some y → FreshLife x.name y
 fresh_life server old t x stood y lived =
     let its : t.its ≡ x = same_Some t.its x (sym t.stands ∙ stood) in
     let at : slice_get old.lives.items x.life ≡ Some t.life = subst (λ (z : Server). slice_get old.lives.items z.life ≡ Some t.life) its t.lives in
     let same : t.life ≡ y = same_Some t.life y (sym at ∙ lived) in
-    subst FreshLife same (record { first = t.first; wrote = t.wrote; read = t.read; well = t.well })
+    subst (FreshLife x.name) same
+    (record { first = t.first; wrote = t.wrote; read = t.read; well = t.well; whose = subst (λ (z : Server). t.life.pipe.whose ≡ Some (z.name, record { 0 = 1 })) its t.whose })
 
 pub life_there : {L : Type 0} (server : ℕ) (old : Domain L) → HasNewLife server old → (x : Server) → slice_get old.servers.items server ≡ Some x → x.life < length old.lives.items
 life_there server old t x stood =
@@ -172,7 +174,7 @@ quiet_stop : (server : ℕ) (cause : StopCause) → IsQuiet (stop_of server caus
 quiet_stop server cause = record { take = refl; call = λ caller. refl; accept = λ request. refl; settle = λ request. refl }
 
 module _ {L : Type 0} (server : ℕ) (old : Domain L) (numbered : IsNumbered old) (served : IsServed old) (beside : StartsBeside server old) (x : Server) (stood : slice_get old.servers.items server ≡ Some x) (up : IsUp x)
-    (y y' : Lived L) (lived : slice_get old.lives.items x.life ≡ Some y) (same : y' ≡ record y { pipe = y'.pipe }) (fresh : FreshLife y) where
+    (y y' : Lived L) (lived : slice_get old.lives.items x.life ≡ Some y) (same : y' ≡ record y { pipe = y'.pipe }) (fresh : FreshLife x.name y) where
   abbrev mid : Domain L
   mid = told server old numbered x stood up y y' lived same
 
@@ -203,7 +205,7 @@ module _ {L : Type 0} (server : ℕ) (old : Domain L) (numbered : IsNumbered old
     its_life said =
         let es = Start b ∷ past in
         let now : slice_get mid.lives.items x.life ≡ Some y' = set_here old.lives.items x.life y' y lived in
-        let is_at = greeted setup x.name x.id.0 b past y.pipe y'.pipe unborn fresh.wrote fresh.read fresh.well.0 fresh.well.1 said in
+        let is_at = greeted setup x.name x.id.0 b past y.pipe y'.pipe unborn fresh.wrote fresh.read fresh.well.0 fresh.well.1 fresh.whose said in
         let none : y'.invocation ≡ 0 = ap (λ (w : Lived L). w.invocation) same ∙ fresh.first in
         let numbered_at : IsAt setup x.name x.id.0 AwaitsInvoke y'.invocation es y'.pipe = subst (λ (n : ℕ). IsAt setup x.name x.id.0 AwaitsInvoke n es y'.pipe) (sym none) is_at in
         let shows : LifeShows setup x.name x.id.0 x.doing y'.invocation es y'.pipe = subst (λ (doing : Doing). LifeShows setup x.name x.id.0 doing y'.invocation es y'.pipe) (sym up.idle) numbered_at in
@@ -239,7 +241,7 @@ module _ {L : Type 0} (server : ℕ) (old : Domain L) (numbered : IsNumbered old
               let at : tables.servers.after ≡ z = same_Some tables.servers.after z (sym (set_here mid.servers.items server tables.servers.after tables.servers.before tables.servers.stood) ∙ (sym (ap (λ xs. slice_get xs server) tables.servers.now) ∙ is)) in
               (sym (ap server_place at) ∙ (ap server_place tables.servers.how ∙ ap server_place before), sym (ap (λ (s : Server). s.doing) at) ∙ ap (λ (s : Server). s.doing) tables.servers.how))
               (λ i z other is. sym (ap (λ xs. slice_get xs i) tables.servers.now ∙ set_other mid.servers.items server i tables.servers.after other) ∙ is)
-              (cut_off setup x.name x.id.0 b past y.pipe y'.pipe unborn fresh.wrote fresh.read fresh.well.0 fresh.well.1 (stopped_by (record { 0 = server + 1 }) cause) (of_first x.id.0 (server + 1) 1 (sym number) refl) failed)
+              (cut_off setup x.name x.id.0 b past y.pipe y'.pipe unborn fresh.wrote fresh.read fresh.well.0 fresh.well.1 fresh.whose (stopped_by (record { 0 = server + 1 }) cause) (of_first x.id.0 (server + 1) 1 (sym number) refl) failed)
               others_begun);
         }
 
@@ -262,13 +264,13 @@ module _ {L : Type 0} (server : ℕ) (old : Domain L) (numbered : IsNumbered old
 -- ---- a life that begins
 
 -- its pipes are kept
-pub keeps_life : {L : Type 0} (server place : ℕ) (d : Domain L) (x : Server) → slice_get d.servers.items server ≡ Some x → place ≡ length d.lives.items → (life : Lived L) → life.server ≡ x.id → FreshLife life → (lives : Vec (Lived L) Global)
+pub keeps_life : {L : Type 0} (server place : ℕ) (d : Domain L) (x : Server) → slice_get d.servers.items server ≡ Some x → place ≡ length d.lives.items → (life : Lived L) → life.server ≡ x.id → FreshLife x.name life → (lives : Vec (Lived L) Global)
     → lives.items ≡ d.lives.items ++ life ∷ [] → vec_capacity lives ≡ vec_capacity d.lives → KeepsLife server place d (record d { lives = lives })
 keeps_life server place d x stood at life its fresh lives last room = record {
   life = life;
   last = last;
   at = at;
-  its = some_of (slice_get d.servers.items server) (λ (y : Server). life.server ≡ y.id) x stood its;
+  its = some_of (slice_get d.servers.items server) (λ (y : Server). (life.server ≡ y.id) × (life.pipe.whose ≡ Some (y.name, record { 0 = 1 }))) x stood (its, fresh.whose);
   first = fresh.first;
   wrote = fresh.wrote;
   read = fresh.read;
@@ -410,6 +412,7 @@ holds_of_lives setup count past old new same holds = subst (Holds setup count pa
   bound = holds.bound;
   booted = holds.booted;
   placed = holds.placed;
+  made = holds.made;
   board = holds.board;
   queues = holds.queues;
   clients = holds.clients;
@@ -440,8 +443,11 @@ module _ {L : Type 0} (server place : ℕ) (b : StartedBy) (old d1 d2 : Domain L
   fresh_before : IsFresh begins.before
   fresh_before = was_fresh server old d2 on begins queues_kept clients_begun
 
+  its_name : (keeps.life.server ≡ begins.before.id) × (keeps.life.pipe.whose ≡ Some (begins.before.name, record { 0 = 1 }))
+  its_name = subst (λ (o : Option Server). IsSomeAnd o (λ (x : Server). (keeps.life.server ≡ x.id) × (keeps.life.pipe.whose ≡ Some (x.name, record { 0 = 1 })))) begins.stood keeps.its
+
   its_own : keeps.life.server ≡ begins.before.id
-  its_own = subst (λ (o : Option Server). IsSomeAnd o (λ (x : Server). keeps.life.server ≡ x.id)) begins.stood keeps.its
+  its_own = its_name.0
 
   life_at_place : slice_get d2.lives.items place ≡ Some keeps.life
   life_at_place = ap (λ ys. slice_get ys place) lives_longer ∙ (ap (slice_get (old.lives.items ++ keeps.life ∷ [])) keeps.at ∙ append_last old.lives.items keeps.life)
@@ -473,6 +479,7 @@ module _ {L : Type 0} (server place : ℕ) (b : StartedBy) (old d1 d2 : Domain L
     wrote = keeps.wrote;
     read = keeps.read;
     well = keeps.well;
+    whose = subst (λ (name : List ℕ). keeps.life.pipe.whose ≡ Some (name, record { 0 = 1 })) (ap (λ (x : Server). x.name) (sym begins.how.1)) its_name.1;
   }
 
   pub up_begun : IsSomeAnd (slice_get d2.servers.items server) IsUp
@@ -647,7 +654,7 @@ module _ {L : Type 0} (server : ℕ) (old d1 : Domain L) (on : StartsOn server o
         queue = its.queue;
         name = its.name;
         home = record { all = step.servers.how.2 ∙ its.home.all; behind = subst (λ first. first.0 ≤ length past) (sym step.servers.how.1) its.home.behind };
-        reads = record { does = r.does; ended = r.ended; made = r.made; given_up = r.given_up; shuts = r.shuts; none = r.none; tick = r.tick; lived = r.lived; fails = r.fails };
+        reads = record { does = r.does; ended = r.ended; made = r.made; given_up = r.given_up; shuts = r.shuts; none = r.none; unconnected = r.unconnected; tick = r.tick; lived = r.lived; fails = r.fails };
       } in
       record {
         locally = holds.locally;
@@ -655,6 +662,7 @@ module _ {L : Type 0} (server : ℕ) (old d1 : Domain L) (on : StartsOn server o
         bound = holds.bound;
         booted = holds.booted;
         placed = holds.placed;
+        made = holds.made;
         board = subst (BoardHolds setup count past) (sym step.others.1) holds.board;
         queues = λ i q is. holds.queues i q (sym (ap (λ v. slice_get v.items i) step.others.2) ∙ is);
         clients = λ i y is. holds.clients i y (sym (ap (λ v. slice_get v.items i) step.others.3) ∙ is);
@@ -687,45 +695,50 @@ module _ {L : Type 0} (server : ℕ) (old d1 : Domain L) (on : StartsOn server o
 
 -- ---- what the starter shows
 
-module _ {L : Type 0} (server : ℕ) (d new : Domain L) (on : StartsOn server d) (x : Server) (stood : slice_get d.servers.items server ≡ Some x) (faults faults' : ℕ) (asked asked' : Option (List (List ℕ × Generation)))
-    (fresh : IsSomeAnd (slice_get (attempts d) server) (λ a. IsStarterBy a.0 a.1 (record { faults = faults; asked = asked }))) where
+module _ {L : Type 0} (server : ℕ) (d new : Domain L) (on : StartsOn server d) (x : Server) (stood : slice_get d.servers.items server ≡ Some x) (own own' : List ℕ) (faults faults' : ℕ) (asked asked' : Option (List (List ℕ × Generation)))
+    (kept : own' ≡ own) (fresh : IsSomeAnd (slice_get (attempts d) server) (λ a. IsStarterBy a.0 a.1 (record { server = own; faults = faults; asked = asked }))) where
   abbrev read : Server → List ℕ × Attempt
   read z = (z.name, z.attempt)
 
   tried_stands : slice_get (attempts d) server ≡ Some (read x)
   tried_stands = slice_get-map read d.servers.items server ∙ ap (option_map read) stood
 
-  not_yet : IsStarterBy x.name NotYet (record { faults = faults; asked = asked })
+  not_yet : IsStarterBy x.name NotYet (record { server = own; faults = faults; asked = asked })
   not_yet =
-      let its : IsStarterBy x.name x.attempt (record { faults = faults; asked = asked }) = subst (λ (o : Option (List ℕ × Attempt)). IsSomeAnd o (λ a. IsStarterBy a.0 a.1 (record { faults = faults; asked = asked }))) tried_stands fresh in
-      subst (λ (a : Attempt). IsStarterBy x.name a (record { faults = faults; asked = asked })) (on.fresh server x stood (omega arith)).first its
+      let its : IsStarterBy x.name x.attempt (record { server = own; faults = faults; asked = asked }) = subst (λ (o : Option (List ℕ × Attempt)). IsSomeAnd o (λ a. IsStarterBy a.0 a.1 (record { server = own; faults = faults; asked = asked }))) tried_stands fresh in
+      subst (λ (a : Attempt). IsStarterBy x.name a (record { server = own; faults = faults; asked = asked })) (on.fresh server x stood (omega arith)).first its
+
+  -- it is that server's own
+  pub own_name : x.name ≡ own
+  own_name = sym not_yet.named
 
   asked_once : (before : Option (List (List ℕ × Generation))) → IfSome before (λ all. all ≡ []) → AsksFor before asked' x.name (record { 0 = 1 }) → IfSome asked' (λ all. all ≡ (x.name, record { 0 = 1 }) ∷ [])
   asked_once None none asks = subst (λ (o : Option (List (List ℕ × Generation))). IfSome o (λ all. all ≡ (x.name, record { 0 = 1 }) ∷ [])) (sym asks) tt
   asked_once (Some all) none asks = subst (λ (o : Option (List (List ℕ × Generation))). IfSome o (λ all. all ≡ (x.name, record { 0 = 1 }) ∷ [])) (sym asks) (ap (λ others. others ++ (x.name, record { 0 = 1 }) ∷ []) none)
 
-  shows_of : (attempt : Attempt) → IsStarterBy x.name attempt (record { faults = faults'; asked = asked' }) → Changed server (attempts d) (attempts new) (λ a a'. a' ≡ (a.0, attempt))
-      → IsSomeAnd (slice_get (attempts new) server) (λ a. IsStarterBy a.0 a.1 (record { faults = faults'; asked = asked' }))
+  shows_of : (attempt : Attempt) → IsStarterBy x.name attempt (record { server = own'; faults = faults'; asked = asked' }) → Changed server (attempts d) (attempts new) (λ a a'. a' ≡ (a.0, attempt))
+      → IsSomeAnd (slice_get (attempts new) server) (λ a. IsStarterBy a.0 a.1 (record { server = own'; faults = faults'; asked = asked' }))
   shows_of attempt shows t =
       let before : t.before ≡ read x = same_Some t.before (read x) (sym t.stood ∙ tried_stands) in
       let after : t.after ≡ (x.name, attempt) = t.how ∙ ap (λ (a : List ℕ × Attempt). (a.0, attempt)) before in
-      subst (λ (o : Option (List ℕ × Attempt)). IsSomeAnd o (λ a. IsStarterBy a.0 a.1 (record { faults = faults'; asked = asked' }))) (sym (after_stands server (attempts d) (attempts new) t))
-      (subst (λ (a : List ℕ × Attempt). IsStarterBy a.0 a.1 (record { faults = faults'; asked = asked' })) (sym after) shows)
+      subst (λ (o : Option (List ℕ × Attempt)). IsSomeAnd o (λ a. IsStarterBy a.0 a.1 (record { server = own'; faults = faults'; asked = asked' }))) (sym (after_stands server (attempts d) (attempts new) t))
+      (subst (λ (a : List ℕ × Attempt). IsStarterBy a.0 a.1 (record { server = own'; faults = faults'; asked = asked' })) (sym after) shows)
 
   pub shows_started : faults' ≡ faults → AsksFor asked asked' x.name (record { 0 = 1 }) → Changed server (attempts d) (attempts new) (λ a a'. a' ≡ (a.0, Started))
-      → IsSomeAnd (slice_get (attempts new) server) (λ a. IsStarterBy a.0 a.1 (record { faults = faults'; asked = asked' }))
-  shows_started same asks t = shows_of Started (record { counts = same ∙ not_yet.counts; each = asked_once asked not_yet.each asks }) t
+      → IsSomeAnd (slice_get (attempts new) server) (λ a. IsStarterBy a.0 a.1 (record { server = own'; faults = faults'; asked = asked' }))
+  shows_started same asks t = shows_of Started (record { named = kept ∙ not_yet.named; counts = same ∙ not_yet.counts; each = asked_once asked not_yet.each asks }) t
 
   pub shows_failed : Rose faults faults' → AsksFor asked asked' x.name (record { 0 = 1 }) → Changed server (attempts d) (attempts new) (λ a a'. a' ≡ (a.0, Failed))
-      → IsSomeAnd (slice_get (attempts new) server) (λ a. IsStarterBy a.0 a.1 (record { faults = faults'; asked = asked' }))
-  shows_failed rose asks t = shows_of Failed (record { counts = subst (λ (n : ℕ). faults' ≡ min (n + 1) (2 ^ 64 - 1)) not_yet.counts rose; each = asked_once asked not_yet.each asks }) t
+      → IsSomeAnd (slice_get (attempts new) server) (λ a. IsStarterBy a.0 a.1 (record { server = own'; faults = faults'; asked = asked' }))
+  shows_failed rose asks t = shows_of Failed (record { named = kept ∙ not_yet.named; counts = subst (λ (n : ℕ). faults' ≡ min (n + 1) (2 ^ 64 - 1)) not_yet.counts rose; each = asked_once asked not_yet.each asks }) t
 
 -- a starter that shows the same
-pub shows_same : (all : List (List ℕ × Attempt)) (server faults faults' : ℕ) (asked asked' : Option (List (List ℕ × Generation))) → faults' ≡ faults → asked' ≡ asked
-    → IsSomeAnd (slice_get all server) (λ a. IsStarterBy a.0 a.1 (record { faults = faults; asked = asked })) → IsSomeAnd (slice_get all server) (λ a. IsStarterBy a.0 a.1 (record { faults = faults'; asked = asked' }))
-shows_same all server faults faults' asked asked' same_faults same_asked shows =
-    subst (λ (f : ℕ). IsSomeAnd (slice_get all server) (λ a. IsStarterBy a.0 a.1 (record { faults = f; asked = asked' }))) (sym same_faults)
-    (subst (λ (o : Option (List (List ℕ × Generation))). IsSomeAnd (slice_get all server) (λ a. IsStarterBy a.0 a.1 (record { faults = faults; asked = o }))) (sym same_asked) shows)
+pub shows_same : (all : List (List ℕ × Attempt)) (server : ℕ) (own own' : List ℕ) (faults faults' : ℕ) (asked asked' : Option (List (List ℕ × Generation))) → own' ≡ own → faults' ≡ faults → asked' ≡ asked
+    → IsSomeAnd (slice_get all server) (λ a. IsStarterBy a.0 a.1 (record { server = own; faults = faults; asked = asked })) → IsSomeAnd (slice_get all server) (λ a. IsStarterBy a.0 a.1 (record { server = own'; faults = faults'; asked = asked' }))
+shows_same all server own own' faults faults' asked asked' same_own same_faults same_asked shows =
+    subst (λ (f : ℕ). IsSomeAnd (slice_get all server) (λ a. IsStarterBy a.0 a.1 (record { server = own'; faults = f; asked = asked' }))) (sym same_faults)
+    (subst (λ (o : Option (List (List ℕ × Generation))). IsSomeAnd (slice_get all server) (λ a. IsStarterBy a.0 a.1 (record { server = own'; faults = faults; asked = o }))) (sym same_asked)
+    (subst (λ (n : List ℕ). IsSomeAnd (slice_get all server) (λ a. IsStarterBy a.0 a.1 (record { server = n; faults = faults; asked = asked }))) (sym same_own) shows))
 
 -- ---- all servers
 

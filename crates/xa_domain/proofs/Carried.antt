@@ -25,7 +25,6 @@ use Rattle.xa_events.specs.declared.event.StopCause.TheVariants.{Exit}
 use Rattle.xa_events.specs.Answers.{IsAnswerTo, reply_of, answer_to}
 use Rattle.xa_events.specs.Caller.{is_call_of}
 use Rattle.xa_events.specs.Calls.{FitsCall}
-use Rattle.xa_events.specs.Cases.{may_end_so}
 use Rattle.xa_events.specs.Request.{Settlement, WasSettled, is_accept_of, is_settled_by}
 use Rattle.xa_events.specs.Request.Settlement.{EndedBy}
 use Rattle.xa_events.specs.Server.{after_end}
@@ -45,7 +44,7 @@ use Rattle.xa_tables.specs.declared.life.Lived.{Lived}
 use Rattle.xa_domain.specs.Calling.{FallsOr, NextOr, Settles, Tells, Frees, cause_by, cause_heard, stop_events, ended_of, replied_of}
 use Rattle.xa_tables.specs.Holding.{Holds}
 use Rattle.xa_domain.specs.Living.{IsAt, LifeShows, is_of_first_life}
-use Rattle.xa_tables.specs.May.{AnswerMay}
+use Rattle.xa_tables.specs.May.{may_end_here, AnswerMay}
 use Rattle.xa_tables.specs.Resting.{IsNumbered}
 use Rattle.xa_domain.specs.Standing.{IsCallAt, NoneRestarts, ServerLives, GoesOn, Retires, is_retiring, stop_of}
 use Rattle.xa_tables.specs.Steps.{Ends}
@@ -205,7 +204,7 @@ module _ {L : Type 0} (setup : Setup) (script : List ScriptClient) (server : ℕ
   -- ---- the end of the request
 
   module _ (request : RequestId) (outcome : Outcome) (past : List Event) (old new : Domain L) (holds : Holds setup (length script) past old) (under : Under setup script server (one_open request) past old)
-      (configured : is_configured setup ≡ true) (none : NoneRestarts setup) (may : may_end_so setup outcome ≡ true) where
+      (configured : is_configured setup ≡ true) (none : NoneRestarts setup) (may : may_end_here setup outcome ≡ true) where
     module _ (cause : Option StopCause) (settles : Settles server request outcome cause old new) (numbered : IsNumbered old) (numbered_new : IsNumbered new) where
       abbrev pub its_end : Ended
       its_end = ended_of settles.by request outcome
@@ -282,7 +281,7 @@ module _ {L : Type 0} (setup : Setup) (script : List ScriptClient) (server : ℕ
         (subst (AnswerMay past (replied_of tells.by op request answer)) (sym by) tell_may)
 
     module _ (ask : Ask) (plain : ask.expect ≡ None) (called : IsCallAt script client op ask) where
-      answer_fits : Holds setup (length script) past old → (j : ℕ) (c : ScriptClient) → slice_get script j ≡ Some c → is_call_of (j + 1) its_answer ≡ true → FitsCall setup (j + 1) c.ops its_answer past
+      answer_fits : Holds setup (length script) past old → (j : ℕ) (c : ScriptClient) → slice_get script j ≡ Some c → is_call_of (j + 1) its_answer ≡ true → FitsCall setup (length script) (j + 1) c.ops its_answer past
       answer_fits holds j c is call = elim (cases_eq j client) [
         | inl here ↦
             let by : slice_get old.clients.items j ≡ Some tells.by = ap (slice_get old.clients.items) here ∙ tells.stood in

@@ -163,6 +163,7 @@ starter_told setup past server x shows told by =
     let same = asked_starts x.name x.attempt
     ∙ (ap (λ (made : List ℕ). starts_of x.name (length made)) (sym told.made) ∙ ap (λ (name : List ℕ). starts_of name (length (starts server past))) told.name) in
     record {
+      named = by.named ∙ told.name;
       counts = by.counts ∙ (few_fails x.attempt ∙ ap (λ (n : ℕ). min n (2 ^ 64 - 1)) (sym told.fails));
       each = some_more shows.asked (λ all. all ≡ asked_by x.name x.attempt) (λ all. all ≡ starts_of (server_name_in (numbered server setup.servers)) (length (starts server past))) (λ all is. is ∙ same) by.each;
     }
@@ -185,15 +186,30 @@ starters_long shows [] (s ∷ starters) match = absurd match
 starters_long shows (x ∷ servers) [] match = absurd match
 starters_long shows ((name, attempt) ∷ servers) (s ∷ starters) match = ap suc (starters_long shows servers starters match.1)
 
+-- the tables' names are the configured ones
+names_told : (servers : List ServerSetup) (xs : List Server) → length xs ≡ length servers → ((i : ℕ) (x : Server) → slice_get xs i ≡ Some x → x.name ≡ server_name_in (slice_get servers i))
+    → map (λ (x : Server). x.name) xs ≡ map (λ (s : ServerSetup). s.name) servers
+names_told [] [] long each = refl
+names_told [] (x ∷ xs) long each = absurd (omega (arith, long))
+names_told (s ∷ servers) [] long each = absurd (omega (arith, long))
+names_told (s ∷ servers) (x ∷ xs) long each =
+    ap (λ (n : List ℕ). n ∷ map (λ (z : Server). z.name) xs) (each zero x refl) ∙ ap (λ (ns : List (List ℕ)). s.name ∷ ns) (names_told servers xs (omega (arith, long)) (λ i y is. each (suc i) y is))
+
+pub names_held : {L : Type 0} (setup : Setup) (clients : ℕ) (past : List Event) (d : Domain L) → Holds setup clients past d → map (λ (x : Server). x.name) d.servers.items ≡ map (λ (s : ServerSetup). s.name) setup.servers
+names_held setup clients past d holds =
+    names_told setup.servers d.servers.items holds.all_servers
+    (λ i x is. let on : i + 1 ≡ suc i = omega arith in subst (λ (n : ℕ). x.name ≡ server_name_in (numbered n setup.servers)) on (holds.servers i x is).name)
+
 -- starters that were asked for no start are those of servers that weren't started
-pub starters_fresh : {S : Type 0} (shows : S → StarterShows) (xs : List Server) (starters : List S) → length starters ≡ length xs → ((i : ℕ) (x : Server) → slice_get xs i ≡ Some x → x.attempt ≡ NotYet)
+pub starters_fresh : {S : Type 0} (shows : S → StarterShows) (xs : List Server) (starters : List S) → map (λ s. (shows s).server) starters ≡ map (λ (x : Server). x.name) xs → ((i : ℕ) (x : Server) → slice_get xs i ≡ Some x → x.attempt ≡ NotYet)
     → All (λ s. (shows s).faults ≡ 0) starters → All (λ s. IfSome (shows s).asked (λ all. all ≡ [])) starters → StartersMatch shows (map (λ (x : Server). (x.name, x.attempt)) xs) starters
-starters_fresh shows [] [] long fresh counts none = tt
-starters_fresh shows [] (s ∷ starters) long fresh counts none = absurd (omega (arith, long))
-starters_fresh shows (x ∷ xs) [] long fresh counts none = absurd (omega (arith, long))
-starters_fresh shows (x ∷ xs) (s ∷ starters) long fresh counts none = (
-  subst (λ (a : Attempt). IsStarterBy x.name a (shows s)) (sym (fresh zero x refl)) (record { counts = All-head (λ z. (shows z).faults ≡ 0) s starters counts; each = All-head (λ z. IfSome (shows z).asked (λ all. all ≡ [])) s starters none }),
-  starters_fresh shows xs starters (omega (arith, long)) (λ i y is. fresh (suc i) y is) (All-tail (λ z. (shows z).faults ≡ 0) s starters counts) (All-tail (λ z. IfSome (shows z).asked (λ all. all ≡ [])) s starters none),
+starters_fresh shows [] [] named fresh counts none = tt
+starters_fresh shows [] (s ∷ starters) named fresh counts none = absurd (cc named)
+starters_fresh shows (x ∷ xs) [] named fresh counts none = absurd (cc named)
+starters_fresh shows (x ∷ xs) (s ∷ starters) named fresh counts none = (
+  subst (λ (a : Attempt). IsStarterBy x.name a (shows s)) (sym (fresh zero x refl))
+      (record { named = cc named; counts = All-head (λ z. (shows z).faults ≡ 0) s starters counts; each = All-head (λ z. IfSome (shows z).asked (λ all. all ≡ [])) s starters none }),
+  starters_fresh shows xs starters (cc named) (λ i y is. fresh (suc i) y is) (All-tail (λ z. (shows z).faults ≡ 0) s starters counts) (All-tail (λ z. IfSome (shows z).asked (λ all. all ≡ [])) s starters none),
 )
 
 -- no more lives are kept than there are servers
@@ -331,8 +347,8 @@ life_handed tells setup past y life handed is =
     let of : ◌≡◌ {A = LifeId} (record { name = server_name_in (numbered y.server.0 setup.servers); server = y.server.0; generation = 1 })
     (record { name = server_name_in (numbered life.server.0 setup.servers); server = life.server.0; generation = life.generation.0 })
     = λ i. record { name = server_name_in (numbered (id i) setup.servers); server = id i; generation = sym handed.generation i } in
-    let link : shown y.pipe ≡ record { took = tells.took life.link; gave = tells.gave life.link; left = tells.left life.link; reads = tells.reads life.link; writes = tells.writes life.link }
-    = λ i. record { took = sym handed.took i; gave = sym handed.gave i; left = sym handed.left i; reads = sym handed.reads i; writes = sym handed.writes i } in
+    let link : shown y.pipe ≡ record { took = tells.took life.link; gave = tells.gave life.link; left = tells.left life.link; reads = tells.reads life.link; writes = tells.writes life.link; whose = tells.whose life.link }
+    = λ i. record { took = sym handed.took i; gave = sym handed.gave i; left = sym handed.left i; reads = sym handed.reads i; writes = sym handed.writes i; whose = sym handed.whose i } in
     subst (λ (l : LinkShows). IsLife setup (record { name = server_name_in (numbered life.server.0 setup.servers); server = life.server.0; generation = life.generation.0 }) past l) link
     (subst (λ (l : LifeId). IsLife setup l past (shown y.pipe)) of is)
 

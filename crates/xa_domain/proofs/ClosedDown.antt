@@ -168,6 +168,7 @@ module _ {L : Type 0} (server : ℕ) (old : Domain L) (numbered : IsNumbered old
     bound = holds.bound;
     booted = holds.booted;
     placed = holds.placed;
+    made = holds.made;
     board = holds.board;
     queues = holds.queues;
     clients = holds.clients;

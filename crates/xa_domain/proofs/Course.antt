@@ -15,7 +15,6 @@ use Rattle.xa_events.specs.declared.event.Doing.TheVariants.{Idle, Busy}
 use Rattle.xa_events.specs.declared.event.Outcome.{Outcome}
 use Rattle.xa_events.specs.declared.event.StopCause.{StopCause}
 use Rattle.xa_events.specs.Answers.{reply_of}
-use Rattle.xa_events.specs.Cases.{may_end_so}
 use Rattle.xa_events.specs.Request.{Settlement, WasSettled}
 use Rattle.xa_events.specs.Request.Settlement.{EndedBy}
 use Rattle.xa_events.specs.Server.{after_end}
@@ -25,6 +24,7 @@ use Rattle.xa_tables.specs.declared.client.Client.{Client}
 use Rattle.xa_tables.specs.declared.server.Server.{Server}
 use Rattle.xa_tables.specs.declared.domain.Domain.{Domain}
 use Rattle.xa_domain.specs.Calling.{Exchanges, IsBusy, MayEndWith, Settles, Tells, Frees, cause_heard, outcome_heard, is_lost, ended_of, replied_of}
+use Rattle.xa_tables.specs.May.{may_end_here}
 use Rattle.xa_tables.specs.Holding.{Holds}
 use Rattle.xa_tables.specs.Resting.{IsNumbered, IsServed, IsUp}
 use Rattle.xa_domain.specs.Standing.{IsReady, IsCallAt, HasCalled, NoneRestarts, RowServes, Stands, GoesOn}
@@ -60,8 +60,8 @@ module _ {L : Type 0} (setup : Setup) (client op version : ℕ) (ask : Ask) (row
   pub course_fits : MayEndWith outcome cause
   course_fits = subst (λ (o : Outcome). MayEndWith o cause) (sym by_outcome) (subst (MayEndWith (outcome_heard setup back)) (sym by_cause) (heard_ends setup back lost))
 
-  pub course_may : may_end_so setup outcome ≡ true
-  course_may = ap (may_end_so setup) by_outcome ∙ heard_may setup back
+  pub course_may : may_end_here setup outcome ≡ true
+  course_may = ap (may_end_here setup) by_outcome ∙ heard_may setup back
 
   course_idle : cause ≡ None → after_end outcome (record { 0 = 1 }) ≡ Idle (record { 0 = 1 })
   course_idle none = subst (MayEndWith outcome) none course_fits

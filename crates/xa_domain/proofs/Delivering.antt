@@ -25,6 +25,7 @@ use Rattle.xa_events.specs.Caller.{accepted, accepts_for}
 use Rattle.xa_events.specs.Cases.{RowAdmits}
 use Rattle.xa_events.specs.Homes.{of_worker}
 use Rattle.xa_events.specs.Local.{worker_events}
+use Rattle.xa_board.specs.Board.{IsAsConfigured}
 use Rattle.xa_tables.specs.declared.queue.Queue.{Queue}
 use Rattle.xa_tables.specs.declared.client.Client.{Client}
 use Rattle.xa_tables.specs.declared.server.Server.{Server}
@@ -40,7 +41,7 @@ use Rattle.xa_tables.specs.Steps.{server_place}
 use Rattle.xa_tables.proofs.Lists.{each_changed, after_stands, before_is, changed_length}
 use Rattle.xa_tables.proofs.Calls.{accept_holds}
 use Rattle.xa_domain.proofs.Configured.{has_capacity}
-use Rattle.xa_tables.proofs.Finding.{rows_are}
+use Rattle.xa_tables.proofs.Finding.{rows_are, priority_is}
 use Rattle.xa_tables.proofs.Places.{map-changed, numbered_kept}
 use Rattle.xa_domain.proofs.Rests.{some_is, some_of, KeepsRest, state_of_queue, state_of_server, some_there}
 use Rattle.xa_tables.proofs.Servers.{take_holds, takes_bound, counted_within}
@@ -150,13 +151,14 @@ pub record IsServedBy {L : Type 0} (setup : Setup) (count : ℕ) (past : List Ev
   pub turn : IsSomeAnd (slice_get d.clients.items client) (λ (x : Client). (op ≡ x.op + 1) × (x.left ≡ false))
 
 module _ {L : Type 0} (setup : Setup) (count : ℕ) (past : List Event) (client op version : ℕ) (ask : Ask) (row : Row) (old : Domain L) (call : IsServedBy setup count past client op version ask row old) where
+  row_stands : row_of row.service row.queue.0 old.board.rows ≡ Some row
+  row_stands = ap (row_of row.service row.queue.0) (rows_are setup count past old call.holds ∙ ap (rows_of_version setup past) (sym call.serves.version_is)) ∙ call.serves.stands
+
   -- the queue of the row is up
   up_queue : (i : ℕ) (q : Queue) → slice_get old.queues.items i ≡ Some q → i + 1 ≡ row.queue.0 → q.down ≡ false
   up_queue i q is at =
       let P : Row → Type 0 = λ r. (k : ℕ) × (r.queue.0 ≡ k + 1) × IsSomeAnd (slice_get old.queues.items k) (λ (z : Queue). z.down ≡ false) in
-      let stands : row_of row.service row.queue.0 old.board.rows ≡ Some row =
-      ap (row_of row.service row.queue.0) (rows_are setup count past old call.holds ∙ ap (rows_of_version setup past) (sym call.serves.version_is)) ∙ call.serves.stands in
-      let its = found_has P (is_row_of row.service row.queue.0) old.board.rows row call.ready.served.rows stands in
+      let its = found_has P (is_row_of row.service row.queue.0) old.board.rows row call.ready.served.rows row_stands in
       let same : its.0 ≡ i = omega (arith, its.1, at) in
       some_is (slice_get old.queues.items i) (λ (z : Queue). z.down ≡ false) q is (subst (λ (k : ℕ). IsSomeAnd (slice_get old.queues.items k) (λ (z : Queue). z.down ≡ false)) same its.2)
 
@@ -172,11 +174,10 @@ module _ {L : Type 0} (setup : Setup) (count : ℕ) (past : List Event) (client 
       let seen : x.reader.least ≡ version = some_is (slice_get old.clients.items client) (λ (z : Client). z.reader.least ≡ version) x is call.serves.seen in
       let number : min (x.sent + 1) (2 ^ 64 - 1) ≡ x.sent + 1 = omega (arith, sent, call.holds.bound) in
       let valid : is_sound setup ask.payload ≡ true = sound_of (is_name ask.service) (is_sound setup ask.payload) ask.flags.no_reply call.serves.valid in
-      let admits : RowAdmits setup (accepted_of x op version row payload) row = record {
-        routine = refl;
-        replies = call.serves.replies;
+      let admits : RowAdmits setup false row.routine payload row = record {
+        its_routine = refl;
+        its_kind = call.serves.replies;
         kind = ap (λ (d : Data). is_accepted setup row.accepts (kind_of d)) same ∙ call.serves.kind;
-        priority = refl;
       } in
       record {
         to = ap (λ (n : ℕ). let id : QueueId = record { 0 = n } in id) to;
@@ -194,7 +195,8 @@ module _ {L : Type 0} (setup : Setup) (count : ℕ) (past : List Event) (client 
         sound = ap (is_sound setup) same ∙ valid;
         floor = omega (arith, seen);
         version = omega (arith, call.serves.version_is);
-        row = some_of (row_of row.service row.queue.0 (rows_of_version setup past version)) (RowAdmits setup (accepted_of x op version row payload)) row call.serves.stands admits;
+        row = some_of (row_of row.service row.queue.0 (rows_of_version setup past version)) (RowAdmits setup false row.routine payload) row call.serves.stands admits;
+        priority = priority_is setup row (found_has (IsAsConfigured setup) (is_row_of row.service row.queue.0) old.board.rows row call.holds.board.rows row_stands);
       }
     where
       sound_of : (named sound no_reply : Bool) → ((not named || not sound) || no_reply) ≡ false → sound ≡ true

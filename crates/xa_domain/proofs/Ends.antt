@@ -3,7 +3,10 @@ use Rattle.std.proofs.Common.{◌≡◌, ℕ, zero, suc, ◌+◌, ◌<◌, List,
 use Rattle.std.specs.Prelude.{slice_get, IsSomeAnd}
 use Rattle.std.specs.Result.{result_err}
 use Rattle.std.proofs.lemmas.Option.{slice_get_cases, slice_get_within}
+use Rattle.std.specs.List.{All}
 use Rattle.std.proofs.lemmas.List.{length-map, reverse-reverse}
+use Rattle.std.proofs.lemmas.List.Elements.{All-nil}
+use Rattle.xa_tables.specs.Made.{IsMade}
 use Rattle.std.proofs.lemmas.List.Sorted.{IsPermutation-refl}
 use Rattle.xa_types.specs.declared.setup.Setup.{Setup}
 use Rattle.xa_types.specs.declared.setup.ServerSetup.{ServerSetup}
@@ -33,7 +36,9 @@ use Rattle.xa_domain.specs.declared.handing.Room.{Room}
 use Rattle.xa_domain.specs.Handing.{HasRoomFor, AreHomesOf, AreHanded}
 use Rattle.xa_domain.specs.Serving.{StarterShows, LinkTells, StartersMatch, EachMadeCalls, EachStarter, AreLives, IsCarried, IsServedWhole, IsServedSoFar, HasStarters, IsWorn, ServeEnds}
 use Rattle.xa_tables.proofs.Calls.{turn, last_op_now}
+use Rattle.xa_domain.specs.Recording.{IsRecorded}
 use Rattle.xa_domain.proofs.Merging.{are_homes, dense, merged_is, newest_there}
+use Rattle.xa_domain.proofs.Recorded.{recorded}
 use Rattle.xa_domain.proofs.Carrying.{lives_are, each_starter, starters_long, lives_within, each_shown, pipes_handed}
 use Rattle.xa_domain.proofs.Final.{is_final}
 
@@ -47,20 +52,20 @@ run_so_far setup clients past d holds =
 
 -- ---- the calls of each client
 
-each_made : (setup : Setup) (past : List Event) (number : ℕ) (script : List ScriptClient) → ((j : ℕ) (client : ScriptClient) → slice_get script j ≡ Some client → MadeCalls setup (number + j) client.ops past)
-    → EachMadeCalls setup number script past
-each_made setup past number [] made = tt
-each_made setup past number (client ∷ script) made =
+each_made : (setup : Setup) (count : ℕ) (past : List Event) (number : ℕ) (script : List ScriptClient) → ((j : ℕ) (client : ScriptClient) → slice_get script j ≡ Some client → MadeCalls setup count (number + j) client.ops past)
+    → EachMadeCalls setup count number script past
+each_made setup count past number [] made = tt
+each_made setup count past number (client ∷ script) made =
     let here : number + zero ≡ number = omega arith in (
-      subst (λ (n : ℕ). MadeCalls setup n client.ops past) here (made zero client refl),
-      each_made setup past (number + 1) script (λ j c is. let on : number + suc j ≡ number + 1 + j = omega arith in subst (λ (n : ℕ). MadeCalls setup n c.ops past) on (made (suc j) c is)),
+      subst (λ (n : ℕ). MadeCalls setup count n client.ops past) here (made zero client refl),
+      each_made setup count past (number + 1) script (λ j c is. let on : number + suc j ≡ number + 1 + j = omega arith in subst (λ (n : ℕ). MadeCalls setup count n c.ops past) on (made (suc j) c is)),
     )
 
 made_calls : {L : Type 0} (setup : Setup) (script : List ScriptClient) (past : List Event) (d : Domain L) → Stands setup script past d → ((i : ℕ) (x : Client) → slice_get d.clients.items i ≡ Some x → x.pending ≡ None) → HaveGone script d
-    → (j : ℕ) (client : ScriptClient) → slice_get script j ≡ Some client → MadeCalls setup (1 + j) client.ops past
+    → (j : ℕ) (client : ScriptClient) → slice_get script j ≡ Some client → MadeCalls setup (length script) (1 + j) client.ops past
 made_calls setup script past d stands idle gone j client is =
     let on : j + 1 ≡ 1 + j = omega arith in
-    subst (λ (n : ℕ). MadeCalls setup n client.ops past) on
+    subst (λ (n : ℕ). MadeCalls setup (length script) n client.ops past) on
     (elim (slice_get_cases d.clients.items j).1 [
       | inl here ↦
           let its : here.0.op ≡ length client.ops = subst (λ (o : Option ScriptClient). IsSomeAnd o (λ (c : ScriptClient). here.0.op ≡ length c.ops)) is (gone j here.0 here.2).1 in
@@ -101,7 +106,8 @@ module _ {L S : Type 0} (tells : LinkTells L) (shows : S → StarterShows) (setu
           run = run_so_far setup (length script) past d stands.holds;
           final = subst (λ (events : List Event). IsFinal (record { setup = setup; clients = length script; past = events })) same (is_final setup script past d stands closed gone);
           ordered = subst (λ (events : List Event). TakesInOrder setup events) same stands.ordered;
-          calls = subst (λ (events : List Event). EachMadeCalls setup 1 script events) same (each_made setup past 1 script (made_calls setup script past d stands closed.still.none_open gone));
+          calls = subst (λ (events : List Event). EachMadeCalls setup (length script) 1 script events) same (each_made setup (length script) past 1 script (made_calls setup script past d stands closed.still.none_open gone));
+          made = subst (All IsMade) same stands.holds.made;
         };
         carried = subst (λ (events : List Event). IsCarried tells shows setup events lives starters) same (record {
           all = each_there past stands.holds;
@@ -122,6 +128,7 @@ module _ {L S : Type 0} (tells : LinkTells L) (shows : S → StarterShows) (setu
       let same = sym (reverse-reverse past) in
       record {
         run = run_so_far setup (length script) past d holds;
+        made = subst (All IsMade) same holds.made;
         all = has_starters past halt holds;
         lives_are = subst (λ (events : List Event). AreLives setup events lives) same (lives_are tells setup (length script) past d lives holds numbered_ handed);
         each = subst (λ (events : List Event). EachStarter setup shows 1 starters events) same (each_starter setup (length script) past d shows starters holds shown_by);
@@ -154,7 +161,7 @@ pub ends_with_none : {L S : Type 0} (tells : LinkTells L) (shows : S → Starter
 ends_with_none {L = L} tells shows setup script = (
   tt,
   λ events merged. subst (λ (es : List Event). IsServedSoFar {L = L} shows NoMemory setup script es [] []) (sym (one_merge [] events [] merged none_merged))
-      (record { run = refl; all = inr refl; lives_are = sym (no_lives 1 setup.servers); each = tt }),
+      (record { run = refl; made = All-nil IsMade; all = inr refl; lives_are = sym (no_lives 1 setup.servers); each = tt }),
 )
 
 pub ends_none : {L S : Type 0} (tells : LinkTells L) (shows : S → StarterShows) (setup : Setup) (script : List ScriptClient) (halt : Option Halt) (homes : List Notes) (lives : List (Life L)) (starters : List S)
@@ -202,6 +209,7 @@ ends_booted {L = L} tells shows setup script past d homes lives kept handed numb
       λ events merged. subst (λ (es : List Event). IsServedSoFar {L = L} shows NoMemory setup script es lives []) (sym (merged_is setup (length script) past homes holds.placed are events merged))
           (record {
             run = run_so_far setup (length script) past d holds;
+            made = subst (All IsMade) same holds.made;
             all = inr refl;
             lives_are = subst (λ (es : List Event). AreLives setup es lives) same (lives_are tells setup (length script) past d lives holds number handed);
             each = tt;
@@ -211,6 +219,11 @@ ends_booted {L = L} tells shows setup script past d homes lives kept handed numb
 pub dense_after : {L : Type 0} (setup : Setup) (clients : ℕ) (past : List Event) (d : Domain L) (homes : List Notes) → AreHomesOf d homes → Holds setup clients past d → IsDense (record { 0 = 0 }) homes
 dense_after setup clients past d homes kept holds =
     dense setup clients past homes holds.placed (subst (λ (all : List Notes). AreHomes setup clients past all) (sym kept.all) (are_homes setup clients past d holds kept.board kept.clock kept.changes kept.none))
+
+-- each event stands at its own home
+pub recorded_after : {L : Type 0} (setup : Setup) (clients : ℕ) (past : List Event) (d : Domain L) (homes : List Notes) → AreHomesOf d homes → Holds setup clients past d → IsRecorded setup clients homes
+recorded_after setup clients past d homes kept holds =
+    recorded setup clients past homes holds.placed holds.bound (subst (λ (all : List Notes). AreHomes setup clients past all) (sym kept.all) (are_homes setup clients past d holds kept.board kept.clock kept.changes kept.none))
 
 take_front : {X : Type 0} (xs rest : List X) → take (length xs) (xs ++ rest) ≡ xs
 take_front [] rest = refl

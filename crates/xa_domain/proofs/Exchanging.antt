@@ -23,7 +23,7 @@ use Rattle.xa_events.specs.declared.event.Doing.{Doing}
 use Rattle.xa_events.specs.declared.event.Doing.TheVariants.{Idle}
 use Rattle.xa_events.specs.declared.event.StopCause.{StopCause}
 use Rattle.xa_events.specs.Caller.{is_call_of}
-use Rattle.xa_events.specs.Calls.{CallSent, FitsCall}
+use Rattle.xa_events.specs.Calls.{is_invalid_call, AskSent, FitsCall}
 use Rattle.xa_events.specs.Request.{SentAs, sent_as, is_accept_of, is_settled_by}
 use Rattle.xa_events.specs.Words.{count as counted}
 use Rattle.xa_events.proofs.WordsLemmas.{same_request_of}
@@ -205,13 +205,13 @@ module _ {L : Type 0} (client op version : ℕ) (row : Row) (payload : Data) (se
 
     module _ (script : List ScriptClient) (stands : Stands setup script past old) (called : IsCallAt script client op ask) where
       -- the request that is accepted is that of the call
-      accept_fits : Holds setup (length script) past x.asked → (j : ℕ) (c : ScriptClient) → slice_get script j ≡ Some c → is_call_of (j + 1) (Accept its_accept) ≡ true → FitsCall setup (j + 1) c.ops (Accept its_accept) past
+      accept_fits : Holds setup (length script) past x.asked → (j : ℕ) (c : ScriptClient) → slice_get script j ≡ Some c → is_call_of (j + 1) (Accept its_accept) ≡ true → FitsCall setup (length script) (j + 1) c.ops (Accept its_accept) past
       accept_fits holds j c is call = elim (cases_eq j client) [
         | inl here ↦
             let by : slice_get x.asked.clients.items j ≡ Some x.delivers.sends.by = ap (slice_get x.asked.clients.items) here ∙ x.delivers.sends.stood in
             let asked : numbered op c.ops ≡ Some (Call ask) = some_is (slice_get script client) (λ (z : ScriptClient). numbered op z.ops ≡ Some (Call ask)) c (sym (ap (slice_get script) here) ∙ is) called in
             let idle : x.delivers.sends.by.pending ≡ None = asked_ready.still.none_open client x.delivers.sends.by x.delivers.sends.stood in
-            let sent : CallSent setup ask its_accept = record { valid = serves.valid; service = serves.service; payload = same; mode = refl } in
+            let sent : AskSent (is_invalid_call setup ask) Reply ask its_accept = record { valid = serves.valid; service = serves.service; payload = same; mode = refl } in
             fits_accept setup (length script) past x.asked holds j x.delivers.sends.by by c.ops ask its_accept idle asked sent
         | inr differ ↦
             let id : x.delivers.sends.by.id.0 ≡ client + 1 = (holds.clients client x.delivers.sends.by x.delivers.sends.stood).id in

@@ -10,13 +10,13 @@ use Rattle.xa_events.specs.declared.event.Doing.TheVariants.{Idle}
 use Rattle.xa_events.specs.declared.event.Outcome.TheVariants.{BadReturn}
 use Rattle.xa_events.specs.declared.event.StopCause.{StopCause}
 use Rattle.xa_events.specs.declared.event.StopCause.TheVariants.{Shutdown, Exit, EndOfInput, ReadFault, WriteFault, BadBytes, OutOfTurn, Starved}
-use Rattle.xa_events.specs.Cases.{may_end_so}
 use Rattle.xa_events.specs.Server.{after_end}
 use Rattle.xa_pipe.specs.declared.hearing.Return.{Return}
 use Rattle.xa_pipe.specs.Life.{outcome_of, lost_by}
 use Rattle.xa_pipe.specs.Pipe.{CountsReads, CountsWrites, Piped}
 use Rattle.xa_domain.specs.Calling.{MayEndWith, cause_by, cause_heard, outcome_heard, is_lost}
 use Rattle.xa_frame.specs.declared.frame.Frame.{Frame}
+use Rattle.xa_tables.specs.May.{may_end_here}
 use Rattle.xa_tables.specs.Piping.{NotSent, HearsBack}
 
 -- ---- a cause that a read or a write gives
@@ -67,13 +67,13 @@ pub heard_ends : (setup : Setup) (back : Result Return StopCause) → IfErr back
 heard_ends setup (Ok back) lost = returned_ends (is_sound setup back.payload) back.value back.code back.payload
 heard_ends setup (Err cause) lost = lost_ends cause lost
 
-returned_may : (setup : Setup) (sound : Bool) (value : Rval) (code : ℤ) (payload : Data) → is_sound setup payload ≡ sound → may_end_so setup (if sound then outcome_of value code payload else BadReturn) ≡ true
+returned_may : (setup : Setup) (sound : Bool) (value : Rval) (code : ℤ) (payload : Data) → is_sound setup payload ≡ sound → may_end_here setup (if sound then outcome_of value code payload else BadReturn) ≡ true
 returned_may setup true Success code payload sound = sound
 returned_may setup true Fail code payload sound = sound
 returned_may setup true ExitValue code payload sound = sound
 returned_may setup false value code payload sound = refl
 
-lost_may : (setup : Setup) (cause : StopCause) → may_end_so setup (lost_by cause) ≡ true
+lost_may : (setup : Setup) (cause : StopCause) → may_end_here setup (lost_by cause) ≡ true
 lost_may setup Starved = refl
 lost_may setup Shutdown = refl
 lost_may setup Exit = refl
@@ -83,7 +83,7 @@ lost_may setup WriteFault = refl
 lost_may setup (BadBytes place) = refl
 lost_may setup (OutOfTurn kind tag) = refl
 
-pub heard_may : (setup : Setup) (back : Result Return StopCause) → may_end_so setup (outcome_heard setup back) ≡ true
+pub heard_may : (setup : Setup) (back : Result Return StopCause) → may_end_here setup (outcome_heard setup back) ≡ true
 heard_may setup (Ok back) = returned_may setup (is_sound setup back.payload) back.value back.code back.payload refl
 heard_may setup (Err cause) = lost_may setup cause
 

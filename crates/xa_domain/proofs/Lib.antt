@@ -1,4 +1,5 @@
 pub mod Merging
+pub mod Recorded
 pub mod Lives
 pub mod Retired
 pub mod Halted

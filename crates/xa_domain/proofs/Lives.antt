@@ -25,7 +25,7 @@ use Rattle.xa_events.specs.Request.{SentAs, sent_as}
 use Rattle.xa_events.specs.Server.{is_shutdown}
 use Rattle.xa_pipe.specs.declared.hearing.Return.{Return}
 use Rattle.xa_pipe.specs.Frames.{is_of_life, is_take_in, invocation, farewell, written_at, frames_out, ready_frame, next_frame, shutdown_frame, return_frame}
-use Rattle.xa_pipe.specs.Life.{Says, Turn, Written, LifeId, LinkShows, Occurrence, EachCame, AllCame, StopsClosed, IsLife, IsCounted, Took, Gave, due, stops_life, cause_of, came_at, came_in, returns_in, outcome_by, lost_by, tag_after, turn_behind, may_end}
+use Rattle.xa_pipe.specs.Life.{Says, Turn, Written, LifeId, LinkShows, Occurrence, EachCame, AllCame, StopsClosed, IsLife, IsCounted, IsOf, Took, Gave, due, stops_life, cause_of, came_at, came_in, returns_in, outcome_by, lost_by, tag_after, turn_behind, may_end}
 use Rattle.xa_pipe.specs.Life.Says.{Named, Free, Invoked, Answers}
 use Rattle.xa_pipe.specs.Life.Turn.{AwaitsReady, AwaitsNext, AwaitsInvoke, Serving, Exited}
 use Rattle.xa_pipe.specs.Life.Written.{Whole, Cut, Missing}
@@ -111,6 +111,7 @@ module _ (setup : Setup) (server : ℕ) (e : Event) (past : List Event) (other :
       stops = stops_idle old.stops;
       reads = old.reads;
       writes = old.writes;
+      whose = old.whose;
     }
 
     pub life_idle : (link : LinkShows) → IsLife setup (first_life name server) past link → IsLife setup (first_life name server) (e ∷ past) link
@@ -202,11 +203,11 @@ module _ (setup : Setup) (name : List ℕ) (server : ℕ) (x : Stopped) (cause :
   -- the life that ends there, in that turn
   life_at : (turn : Turn) (returned : ℕ) (frames out : List Frame) (written : Written) (link : LinkShows)
       → Says name returned frames turn → AllCame setup cause turn (returns_in frames) (came_in server 1 past) → may_end cause turn written ≡ true
-      → (turn ≡ AwaitsInvoke → AtEach (StopsClosed setup server 1) (Stop x ∷ past)) → IsCounted cause link.reads link.writes
+      → (turn ≡ AwaitsInvoke → AtEach (StopsClosed setup server 1) (Stop x ∷ past)) → IsCounted cause link.reads link.writes → IsOf (first_life name server) link.whose
       → frames_out server 1 (Stop x ∷ past) ≡ out → IfSome link.took (Took written (due written turn out))
       → Gave (record { name = name; tag = tag_after returned; frames = frames; turn = turn; written = written }) cause link.gave link.left
       → IsLife setup (first_life name server) (Stop x ∷ past) link
-  life_at turn returned frames out written link says came may closed counted writes took gave = record {
+  life_at turn returned frames out written link says came may closed counted whose writes took gave = record {
     cause = cause;
     turn = turn;
     returned = returned;
@@ -218,6 +219,7 @@ module _ (setup : Setup) (name : List ℕ) (server : ℕ) (x : Stopped) (cause :
     may = may;
     closed = closed;
     counted = counted;
+    whose = whose;
     took_frames = subst (λ (fs : List Frame). IfSome link.took (Took written (due written turn fs))) (sym writes) took;
     gave_frames = gave;
   }
@@ -225,7 +227,7 @@ module _ (setup : Setup) (name : List ℕ) (server : ℕ) (x : Stopped) (cause :
 -- ---- the greeting
 
 module _ (setup : Setup) (name : List ℕ) (server : ℕ) (b : Started) (past : List Event) (before after : Piped)
-    (old : IsUnborn setup server past) (wrote : Wrote before []) (read : HasRead before []) (reads : before.reads ≡ 0) (writes : before.writes ≡ 0) where
+    (old : IsUnborn setup server past) (wrote : Wrote before []) (read : HasRead before []) (reads : before.reads ≡ 0) (writes : before.writes ≡ 0) (whose : IsOf (first_life name server) before.whose) where
   begun : IsUnborn setup server (Start b ∷ past)
   begun = unborn_idle setup server (Start b) past refl old
 
@@ -246,6 +248,7 @@ module _ (setup : Setup) (name : List ℕ) (server : ℕ) (b : Started) (past : 
     stops = begun.stops;
     reads = said.well ∙ reads;
     writes = said.writes ∙ writes;
+    whose = said.whose ∙ whose;
   }
 
   not_idle : (turn : Turn) → (turn ≡ AwaitsReady) ⊎ (turn ≡ AwaitsNext) → turn ≡ AwaitsInvoke → ⊥
@@ -259,7 +262,7 @@ module _ (setup : Setup) (name : List ℕ) (server : ℕ) (b : Started) (past : 
       let other = not_shut x.cause cut.turn Whole cut.ceases.may (not_idle cut.turn cut.greets) in
       life_at setup name server x x.cause here refl (Start b ∷ past) cut.turn 0 cut.frames [] Whole (shown after) cut.says
       (subst (λ (os : List Occurrence). AllCame setup x.cause cut.turn (returns_in cut.frames) os) (sym begun.came) (came_cut_off setup name after x.cause cut)) cut.ceases.may
-      (λ idle. absurd (not_idle cut.turn cut.greets idle)) (counted_reading x.cause before.reads after.reads before.writes after.writes failed.counts failed.writes reads writes)
+      (λ idle. absurd (not_idle cut.turn cut.greets idle)) (counted_reading x.cause before.reads after.reads before.writes after.writes failed.counts failed.writes reads writes) (failed.whose ∙ whose)
       (out_failed setup name server x x.cause here refl (Start b ∷ past) other ∙ begun.wrote) (wrote_none failed.took) cut.ceases.gave
 
 -- ---- NEXT, and a life that ends where it was to come, or behind TPEXIT
@@ -279,6 +282,7 @@ module _ (setup : Setup) (name : List ℕ) (server number : ℕ) (past : List Ev
     stops = old.stops;
     reads = next.well ∙ old.reads;
     writes = next.writes ∙ old.writes;
+    whose = next.whose ∙ old.whose;
   }
 
   module _ (x : Stopped) (here : is_of_first_life server (Stop x) ≡ true) where
@@ -287,14 +291,14 @@ module _ (setup : Setup) (name : List ℕ) (server number : ℕ) (past : List Ev
         let ends = none.why name (tag_after old.returned) old.frames old.read in
         let other = not_shut x.cause AwaitsNext Whole ends.may (λ e. cc e) in
         life_at setup name server x x.cause here refl past AwaitsNext old.returned old.frames (frames_out server 1 past) Whole (shown after) old.says old.came ends.may
-        (λ idle. absurd (cc idle)) (counted_reading x.cause before.reads after.reads before.writes after.writes none.counts none.writes old.reads old.writes)
+        (λ idle. absurd (cc idle)) (counted_reading x.cause before.reads after.reads before.writes after.writes none.counts none.writes old.reads old.writes) (none.whose ∙ old.whose)
         (out_failed setup name server x x.cause here refl past other)
         (subst (λ (told : Option (List ℕ)). IfSome told (Took Whole (frames_out server 1 past))) (sym none.took) old.wrote) ends.gave
 
     pub exited : (pipe : Piped) → x.cause ≡ Exit → IsAt setup name server Exited number past pipe → IsLife setup (first_life name server) (Stop x ∷ past) (shown pipe)
     exited pipe why old =
         life_at setup name server x Exit here why past Exited old.returned old.frames (frames_out server 1 past) Whole (shown pipe) old.says old.came refl
-        (λ idle. absurd (cc idle)) (old.reads, old.writes) (out_failed setup name server x Exit here why past refl) old.wrote
+        (λ idle. absurd (cc idle)) (old.reads, old.writes) old.whose (out_failed setup name server x Exit here why past refl) old.wrote
         (told_more pipe.gave _ _ (λ octets e. (pipe.rest, e, tt)) old.read.told)
 
 -- ---- a request
@@ -344,6 +348,7 @@ module _ (setup : Setup) (name : List ℕ) (server before_it number : ℕ) (past
         stops = ((λ h. cc h), ((λ h. cc h), old.stops));
         reads = heard.well ∙ (sent.reads ∙ old.reads);
         writes = heard.writes ∙ (sent.well ∙ old.writes);
+        whose = heard.whose ∙ (sent.whose ∙ old.whose);
       }
 
   module _ (x : Stopped) (here : is_of_first_life server (Stop x) ≡ true) where
@@ -352,14 +357,14 @@ module _ (setup : Setup) (name : List ℕ) (server before_it number : ℕ) (past
     due_serving Cut took frames is = is
     due_serving Missing took frames is = is
 
-    lost_so : (cause : StopCause) (written : Written) → x.cause ≡ cause → e.outcome ≡ lost_by cause → may_end cause Serving written ≡ true → IsCounted cause after.reads after.writes
+    lost_so : (cause : StopCause) (written : Written) → x.cause ≡ cause → e.outcome ≡ lost_by cause → may_end cause Serving written ≡ true → IsCounted cause after.reads after.writes → after.whose ≡ before.whose
         → IfSome after.took (Took written (frames_out server 1 past ++ invoke ∷ []))
         → Gave (record { name = name; tag = number; frames = old.frames; turn = Serving; written = written }) cause after.gave after.left
         → IsLife setup (first_life name server) (Stop x ∷ End e ∷ Take t ∷ past) (shown after)
-    lost_so cause written why outcome may counted took gave =
+    lost_so cause written why outcome may counted same took gave =
         let other = not_shut cause Serving written may (λ h. cc h) in
         life_at setup name server x cause here why (End e ∷ Take t ∷ past) Serving old.returned old.frames (frames_out server 1 past ++ invoke ∷ []) written (shown after) (Invoked old.says)
-        (came_in server 1 past, ended, came_ended, old.came, outcome) may (λ idle. absurd (cc idle)) counted
+        (came_in server 1 past, ended, came_ended, old.came, outcome) may (λ idle. absurd (cc idle)) counted (same ∙ old.whose)
         (out_failed setup name server x cause here why (End e ∷ Take t ∷ past) other ∙ out_taken) (due_serving written after.took _ took)
         (subst (λ (tag : ℕ). Gave (record { name = name; tag = tag; frames = old.frames; turn = Serving; written = written }) cause after.gave after.left) number_is gave)
 
@@ -367,14 +372,14 @@ module _ (setup : Setup) (name : List ℕ) (server before_it number : ℕ) (past
     lost_by_cause cause why outcome (inr (mid, sent, none)) =
         let failed = none.why name old.frames (read_same before mid old.frames sent.gave sent.rest sent.place old.read) in
         lost_so cause Whole why outcome failed.may
-        (counted_reading cause mid.reads after.reads mid.writes after.writes none.counts none.writes (sent.reads ∙ old.reads) (sent.well ∙ old.writes))
+        (counted_reading cause mid.reads after.reads mid.writes after.writes none.counts none.writes (sent.reads ∙ old.reads) (sent.well ∙ old.writes)) (none.whose ∙ sent.whose)
         (took_more before.took after.took (frames_out server 1 past) invoke old.wrote (none.took ∙ sent.took)) failed.gave
     lost_by_cause WriteFault why outcome (inl none) =
-        lost_so WriteFault Cut why outcome refl (none.reads ∙ old.reads, once before.writes after.writes none.why old.writes)
+        lost_so WriteFault Cut why outcome refl (none.reads ∙ old.reads, once before.writes after.writes none.why old.writes) none.whose
         (took_cut before.took after.took (frames_out server 1 past) invoke old.wrote (none.part refl))
         (told_more after.gave _ _ (λ octets told. (after.rest, told, tt)) (read_same before after old.frames none.gave none.rest none.place old.read).told)
     lost_by_cause Starved why outcome (inl none) =
-        lost_so Starved Missing why outcome refl (none.reads ∙ old.reads, none.why ∙ old.writes)
+        lost_so Starved Missing why outcome refl (none.reads ∙ old.reads, none.why ∙ old.writes) none.whose
         (took_missing before.took after.took (frames_out server 1 past) invoke old.wrote (none.starved refl))
         (told_more after.gave _ _ (λ octets told. (after.rest, told, λ whole. cc whole)) (read_same before after old.frames none.gave none.rest none.place old.read).told)
     lost_by_cause cause why outcome (inl none) = absurd none.why
@@ -391,25 +396,25 @@ module _ (setup : Setup) (name : List ℕ) (server number : ℕ) (past : List Ev
   pub shut : x.cause ≡ Shutdown → Sent shutdown_frame before after → IsLife setup (first_life name server) (Stop x ∷ past) (shown after)
   shut why sent =
       life_at setup name server x Shutdown here why past AwaitsInvoke old.returned old.frames (frames_out server 1 past ++ shutdown_frame ∷ []) Whole (shown after) old.says old.came refl
-      (λ idle. ((λ h. closed), old.stops)) (sent.reads ∙ old.reads, sent.well ∙ old.writes) (out_stopped setup name server x Shutdown here why past)
+      (λ idle. ((λ h. closed), old.stops)) (sent.reads ∙ old.reads, sent.well ∙ old.writes) (sent.whose ∙ old.whose) (out_stopped setup name server x Shutdown here why past)
       (took_more before.took after.took (frames_out server 1 past) shutdown_frame old.wrote sent.took)
       (told_more after.gave _ _ (λ octets told. (after.rest, told, tt)) (read_same before after old.frames sent.gave sent.rest sent.place old.read).told)
 
-  dropped_so : (cause : StopCause) (written : Written) → x.cause ≡ cause → is_shutdown cause ≡ false → may_end cause AwaitsInvoke written ≡ true → IsCounted cause after.reads after.writes
+  dropped_so : (cause : StopCause) (written : Written) → x.cause ≡ cause → is_shutdown cause ≡ false → may_end cause AwaitsInvoke written ≡ true → IsCounted cause after.reads after.writes → after.whose ≡ before.whose
       → IfSome after.took (Took written (due written AwaitsInvoke (frames_out server 1 past)))
       → Gave (record { name = name; tag = tag_after old.returned; frames = old.frames; turn = AwaitsInvoke; written = written }) cause after.gave after.left
       → IsLife setup (first_life name server) (Stop x ∷ past) (shown after)
-  dropped_so cause written why other may counted took gave =
+  dropped_so cause written why other may counted same took gave =
       life_at setup name server x cause here why past AwaitsInvoke old.returned old.frames (frames_out server 1 past) written (shown after) old.says old.came may
-      (λ idle. ((λ h. closed), old.stops)) counted (out_failed setup name server x cause here why past other) took gave
+      (λ idle. ((λ h. closed), old.stops)) counted (same ∙ old.whose) (out_failed setup name server x cause here why past other) took gave
 
   dropped_by : (cause : StopCause) → x.cause ≡ cause → NotSent shutdown_frame cause before after → IsLife setup (first_life name server) (Stop x ∷ past) (shown after)
   dropped_by WriteFault why none =
-      dropped_so WriteFault Cut why refl refl (none.reads ∙ old.reads, once before.writes after.writes none.why old.writes)
+      dropped_so WriteFault Cut why refl refl (none.reads ∙ old.reads, once before.writes after.writes none.why old.writes) none.whose
       (took_cut before.took after.took (frames_out server 1 past) shutdown_frame old.wrote (none.part refl))
       (told_more after.gave _ _ (λ octets told. (after.rest, told, tt)) (read_same before after old.frames none.gave none.rest none.place old.read).told)
   dropped_by Starved why none =
-      dropped_so Starved Missing why refl refl (none.reads ∙ old.reads, none.why ∙ old.writes)
+      dropped_so Starved Missing why refl refl (none.reads ∙ old.reads, none.why ∙ old.writes) none.whose
       (took_missing before.took after.took (frames_out server 1 past) shutdown_frame old.wrote (none.starved refl))
       (told_more after.gave _ _ (λ octets told. (after.rest, told, λ whole. cc whole)) (read_same before after old.frames none.gave none.rest none.place old.read).told)
   dropped_by cause why none = absurd none.why

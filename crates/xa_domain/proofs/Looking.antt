@@ -18,13 +18,13 @@ use Rattle.xa_events.specs.declared.event.Event.{Event}
 use Rattle.xa_events.specs.declared.event.Evidence.TheVariants.{Version}
 use Rattle.xa_events.specs.Board.{published, rows_of_version, listed_in}
 use Rattle.xa_events.specs.Calls.{CallRefused, is_invalid_call, is_accepted_by}
-use Rattle.xa_events.specs.Cases.{IsEvidenceFor}
 use Rattle.xa_domain.specs.declared.calling.Choice.TheVariants.{NoKind, ByRow}
 use Rattle.xa_tables.specs.declared.client.Client.{Client}
 use Rattle.xa_tables.specs.declared.domain.Domain.{Domain}
 use Rattle.xa_tables.specs.Boot.{LooksUp}
 use Rattle.xa_domain.specs.Calling.{ChoiceIs}
 use Rattle.xa_tables.specs.Holding.{Holds}
+use Rattle.xa_tables.specs.May.{IsEvidenceFor}
 use Rattle.xa_domain.specs.Standing.{HasCalled, RowServes}
 use Rattle.xa_tables.proofs.Lists.{changed_length, changed_twice}
 use Rattle.xa_tables.proofs.Calls.{looked_up}
@@ -111,12 +111,12 @@ module _ {L : Type 0} (client op version : ℕ) (service : List ℕ) (old seen :
         }
 
     -- no row was found
-    pub no_row : its_found.rows ≡ [] → CallRefused setup ask NoEnt (Version version) past
-    no_row none = (valid, sym listed ∙ none)
+    pub no_row : its_found.rows ≡ [] → (caller : ℕ) → CallRefused setup count caller ask NoEnt (Version version) past
+    no_row none caller = (valid, sym listed ∙ none)
 
     -- none takes the data
-    pub no_kind : (row : Row) (rest : List Row) → its_found.rows ≡ row ∷ rest → is_accepted setup row.accepts (kind_of ask.payload) ≡ false → CallRefused setup ask IType (Version version) past
-    no_kind row rest is refused =
+    pub no_kind : (row : Row) (rest : List Row) → its_found.rows ≡ row ∷ rest → is_accepted setup row.accepts (kind_of ask.payload) ≡ false → (caller : ℕ) → CallRefused setup count caller ask IType (Version version) past
+    no_kind row rest is refused caller =
         let others = same_kinds setup count past old holds service its_found looks.clients.how.1 ask.payload row rest is refused in (
           valid,
           λ none. let empty = listed ∙ none in cc (is, empty),

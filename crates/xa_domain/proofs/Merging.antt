@@ -10,11 +10,8 @@ use Rattle.std.proofs.lemmas.Simd.{map-map}
 use Rattle.std.proofs.lemmas.List.Sorted.{IsPermutation-refl, IsPermutation-trans, IsPermutation-sym, IsPermutation-cons, IsPermutation-middle, IsPermutation-to_front, IsPermutation-append_right, IsPermutation-map, All-permutation, Contains-permutation}
 use Rattle.xa_types.specs.declared.setup.Setup.{Setup}
 use Rattle.xa_events.specs.declared.event.Event.{Event}
-use Rattle.xa_events.specs.declared.event.Event.TheVariants.{Tick}
-use Rattle.xa_events.specs.Words.{count, AtEach}
+use Rattle.xa_events.specs.Words.{count}
 use Rattle.xa_events.specs.State.{caller_of}
-use Rattle.xa_events.specs.Cases.{HomePart}
-use Rattle.xa_events.specs.Local.{home_events}
 use Rattle.xa_events.specs.Homes.{Home, same_home, home_of}
 use Rattle.xa_events.specs.Homes.Home.{BoardHome, QueueHome, ClockHome, CallerHome}
 use Rattle.xa_events.proofs.WordsLemmas.{count_yes, count_no}
@@ -29,13 +26,14 @@ use Rattle.xa_tables.specs.declared.server.Server.{Server}
 use Rattle.xa_tables.specs.declared.domain.Domain.{Domain}
 use Rattle.xa_tables.specs.Holding.{Holds, is_home_in}
 use Rattle.xa_tables.specs.Stamps.{entries_of}
-use Rattle.xa_domain.specs.Merging.{numbers_from, all_homes, AreHomes, homes_kept}
-use Rattle.xa_tables.proofs.Growing.{next_entry, entries_here, entries_elsewhere, home_here, home_idle}
+use Rattle.xa_events.specs.Homes.{numbers_from, all_homes}
+use Rattle.xa_domain.specs.Merging.{AreHomes, homes_kept}
+use Rattle.xa_tables.proofs.Growing.{next_entry, entries_here, entries_elsewhere}
 
 -- ---- entries, home by home
 
 -- what the homes hold
-abbrev entries_in : List Notes → List (List Stamped)
+abbrev pub entries_in : List Notes → List (List Stamped)
 entries_in homes = map (λ (notes : Notes). notes.entries) homes
 
 -- the places of the entries; the first list has the number
@@ -72,7 +70,7 @@ stamps_from number (h ∷ homes) =
 -- ---- one entry more, at the end of the list with that number
 
 -- the lists, with one entry more
-abbrev pushed : Stamped → ℕ → List (List Stamped) → List (List Stamped)
+abbrev pub pushed : Stamped → ℕ → List (List Stamped) → List (List Stamped)
 pushed x k [] = []
 pushed x zero (entries ∷ rest) = (entries ++ x ∷ []) ∷ rest
 pushed x (suc k) (entries ∷ rest) = entries ∷ pushed x k rest
@@ -171,7 +169,7 @@ in_order_push x k entries events within next old =
 
 module _ (setup : Setup) (clients : ℕ) where
   -- the entries of these homes
-  abbrev noted_at : List Home → List Event → List (List Stamped)
+  abbrev pub noted_at : List Home → List Event → List (List Stamped)
   noted_at homes past = map (λ (home : Home). entries_of setup clients home past) homes
 
   -- where the event's home doesn't stand among these, they hold what they held
@@ -186,7 +184,7 @@ module _ (setup : Setup) (clients : ℕ) where
       ]
 
   -- where the event's home stands once, its entry stands at the end of that home
-  one_pushed : (e : Event) (past : List Event) (homes : List Home) → count (same_home (home_of setup clients e)) homes ≡ 1
+  pub one_pushed : (e : Event) (past : List Event) (homes : List Home) → count (same_home (home_of setup clients e)) homes ≡ 1
       → (k : ℕ) × (k < length homes) × (noted_at homes (e ∷ past) ≡ pushed (next_entry past e) k (noted_at homes past))
   one_pushed e past [] once = absurd (omega (arith, once))
   one_pushed e past (h ∷ homes) once =
@@ -230,7 +228,7 @@ module _ (setup : Setup) (clients : ℕ) where
 
 -- ---- all homes of a domain
 
-count_append : (p : Home → Bool) (xs ys : List Home) → count p (xs ++ ys) ≡ count p xs + count p ys
+pub count_append : {X : Type 0} (p : X → Bool) (xs ys : List X) → count p (xs ++ ys) ≡ count p xs + count p ys
 count_append p [] ys = omega arith
 count_append p (x ∷ xs) ys =
     elim (cases_Bool (p x)) [
@@ -289,7 +287,7 @@ module _ (setup : Setup) (clients : ℕ) where
   split home = count_append (same_home home) queue_homes (ClockHome ∷ caller_homes)
 
   -- each home of the domain stands once among all
-  once_home : (home : Home) → is_home_in setup clients home ≡ true → count (same_home home) (all_homes setup clients) ≡ 1
+  pub once_home : (home : Home) → is_home_in setup clients home ≡ true → count (same_home home) (all_homes setup clients) ≡ 1
   once_home BoardHome is = omega (arith, split BoardHome, no_queue (same_home BoardHome) (λ k. refl), no_caller (same_home BoardHome) (λ k. refl))
   once_home (QueueHome queue) is = omega (arith, split (QueueHome queue), one_queue queue is, no_caller (same_home (QueueHome queue)) (λ k. refl))
   once_home ClockHome is = omega (arith, split ClockHome, no_queue (same_home ClockHome) (λ k. refl), no_caller (same_home ClockHome) (λ k. refl))
@@ -372,19 +370,17 @@ module _ (setup : Setup) (count : ℕ) (past : List Event) (homes : List Notes) 
 
 -- ---- the homes that a domain keeps
 
--- no event stands at the clock: a tick isn't built yet
-no_tick : (setup : Setup) (count : ℕ) (e : Event) (own : List Event) → same_home (home_of setup count e) ClockHome ≡ true → HomePart setup e own → ⊥
-no_tick setup count (Tick t) own here part = part
-no_tick setup count _ own here part = cc here
+-- nothing happens at the clock
+no_clock : (setup : Setup) (count : ℕ) (home : Home) → is_home_in setup count home ≡ true → same_home home ClockHome ≡ false
+no_clock setup count ClockHome is = sym is
+no_clock setup count _ is = refl
 
 -- the clock's home is empty
-pub clock_empty : (setup : Setup) (count : ℕ) (past : List Event) → AtEach (HomePart setup) (home_events setup count ClockHome past) → entries_of setup count ClockHome past ≡ []
-clock_empty setup count [] each = refl
-clock_empty setup count (e ∷ past) each =
-    elim (cases_Bool (same_home (home_of setup count e) ClockHome)) [
-      | inl here ↦ let its : AtEach (HomePart setup) (e ∷ home_events setup count ClockHome past) = subst (AtEach (HomePart setup)) (home_here setup count past ClockHome e here) each in absurd (no_tick setup count e _ here its.0)
-      | inr other ↦ entries_elsewhere setup count ClockHome e past other ∙ clock_empty setup count past (subst (AtEach (HomePart setup)) (home_idle setup count past ClockHome e other) each)
-    ]
+pub clock_empty : (setup : Setup) (count : ℕ) (past : List Event) → list_all (λ e. is_home_in setup count (home_of setup count e)) past ≡ true → entries_of setup count ClockHome past ≡ []
+clock_empty setup count [] placed = refl
+clock_empty setup count (e ∷ past) placed =
+    let parts = and_parts (is_home_in setup count (home_of setup count e)) (list_all (λ x. is_home_in setup count (home_of setup count x)) past) placed in
+    entries_elsewhere setup count ClockHome e past (no_clock setup count (home_of setup count e) parts.0) ∙ clock_empty setup count past parts.1
 
 -- numbers, cut in two
 numbers_split : (first a b : ℕ) → numbers_from first (a + b) ≡ numbers_from first a ++ numbers_from (first + a) b
@@ -446,7 +442,7 @@ module _ {L : Type 0} (setup : Setup) (count : ℕ) (past : List Event) (d : Dom
       let callers = map (λ (x : Client). x.home) d.clients.items ++ map (λ (x : Server). x.home) d.servers.items in
       let numbers = map QueueHome (numbers_from 1 (length setup.queues)) in
       let rest = ClockHome ∷ map CallerHome (numbers_from 1 (count + length setup.servers)) in
-      let clock_is : clock.entries ≡ entries_at ClockHome = none ∙ sym (clock_empty setup count past (holds.locally.homes ClockHome)) in
+      let clock_is : clock.entries ≡ entries_at ClockHome = none ∙ sym (clock_empty setup count past holds.placed) in
       ap (λ entries. entries ∷ entries_in (queues ++ clock ∷ callers)) (same ∙ holds.board.home.all)
       ∙ ap (λ all. entries_at BoardHome ∷ all)
       (map-append (λ (notes : Notes). notes.entries) queues (clock ∷ callers)

@@ -12,7 +12,6 @@ use Rattle.xa_events.specs.declared.event.Event.TheVariants.{Refuse}
 use Rattle.xa_events.specs.declared.event.Evidence.{Evidence}
 use Rattle.xa_events.specs.Caller.{is_call_of, version_in}
 use Rattle.xa_events.specs.Calls.{CallRefused, FitsCall}
-use Rattle.xa_events.specs.Cases.{IsEvidenceFor}
 use Rattle.xa_script.specs.declared.script.Client.{Client as ScriptClient}
 use Rattle.xa_tables.specs.declared.queue.Queue.{Queue}
 use Rattle.xa_tables.specs.declared.client.Client.{Client}
@@ -21,7 +20,7 @@ use Rattle.xa_tables.specs.declared.domain.Domain.{Domain}
 use Rattle.xa_tables.specs.declared.life.Lived.{Lived}
 use Rattle.xa_tables.specs.Boot.{LooksUp}
 use Rattle.xa_domain.specs.Calling.{refused_of}
-use Rattle.xa_tables.specs.May.{RefuseMay}
+use Rattle.xa_tables.specs.May.{IsEvidenceFor, RefuseMay}
 use Rattle.xa_tables.specs.Resting.{IsFresh, IsUp, IsOver}
 use Rattle.xa_domain.specs.Standing.{IsReady, IsCallAt, HasCalled, Stands, GoesOn}
 use Rattle.xa_tables.specs.Steps.{Changed, Refuses, server_place}
@@ -106,7 +105,7 @@ module _ {L : Type 0} (client op : ℕ) (fault : Fault) (evidence : Evidence) (x
       (λ z z' how. (ap (λ (w : Client). w.op) how.1, ap (λ (w : Client). w.left) how.1)) step.clients
 
   module _ (setup : Setup) (script : List ScriptClient) (past : List Event) (ask : Ask) (stands : Stands setup script past old) (ready : IsReady old) (turn : (op ≡ x.op + 1) × (x.left ≡ false)) (called : IsCallAt script client op ask)
-      (why : CallRefused setup ask fault evidence past) (shown : IsEvidenceFor fault evidence past) (seen : (version : ℕ) → version_in evidence ≡ Some version → x.reader.least ≡ version) where
+      (why : CallRefused setup (length script) x.id.0 ask fault evidence past) (shown : IsEvidenceFor fault evidence past) (seen : (version : ℕ) → version_in evidence ≡ Some version → x.reader.least ≡ version) where
     abbrev its_refusal : Event
     its_refusal = Refuse (refused_of x op fault evidence)
 
@@ -123,7 +122,7 @@ module _ {L : Type 0} (client op : ℕ) (fault : Fault) (evidence : Evidence) (x
       shown = shown;
     }
 
-    refusal_fits : (j : ℕ) (c : ScriptClient) → slice_get script j ≡ Some c → is_call_of (j + 1) its_refusal ≡ true → FitsCall setup (j + 1) c.ops its_refusal past
+    refusal_fits : (j : ℕ) (c : ScriptClient) → slice_get script j ≡ Some c → is_call_of (j + 1) its_refusal ≡ true → FitsCall setup (length script) (j + 1) c.ops its_refusal past
     refusal_fits j c is call = elim (cases_eq j client) [
       | inl here ↦
           let by : slice_get old.clients.items j ≡ Some x = ap (slice_get old.clients.items) here ∙ stood in
@@ -167,8 +166,8 @@ module _ {L : Type 0} (client op : ℕ) (fault : Fault) (evidence : Evidence) (o
   turned_made = record { clients = refuses_called client op fault evidence its_client.0 old new its_client.1 its_client.2 }
 
   pub turned_goes : (setup : Setup) (script : List ScriptClient) (past : List Event) (ask : Ask) → Stands setup script past old → IsReady old → IsSomeAnd (slice_get old.clients.items client) (λ (x : Client). (op ≡ x.op + 1) × (x.left ≡ false))
-      → IsCallAt script client op ask → CallRefused setup ask fault evidence past → IsEvidenceFor fault evidence past
+      → IsCallAt script client op ask → ((caller : ℕ) → CallRefused setup (length script) caller ask fault evidence past) → IsEvidenceFor fault evidence past
       → ((version : ℕ) → version_in evidence ≡ Some version → IsSomeAnd (slice_get old.clients.items client) (λ (x : Client). x.reader.least ≡ version)) → GoesOn setup script new
   turned_goes setup script past ask stands ready turn called why shown seen = refuses_go client op fault evidence its_client.0 old new its_client.1 its_client.2 setup script past ask stands ready
-      (some_is (slice_get old.clients.items client) (λ (x : Client). (op ≡ x.op + 1) × (x.left ≡ false)) its_client.0 its_client.1 turn) called why shown
+      (some_is (slice_get old.clients.items client) (λ (x : Client). (op ≡ x.op + 1) × (x.left ≡ false)) its_client.0 its_client.1 turn) called (why its_client.0.id.0) shown
       (λ version is. some_is (slice_get old.clients.items client) (λ (x : Client). x.reader.least ≡ version) its_client.0 its_client.1 (seen version is))

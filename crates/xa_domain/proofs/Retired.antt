@@ -1,5 +1,5 @@
 -- A server that is given up: what its events leave as it was beside the tables.
-use Rattle.std.proofs.Common.{◌≡◌, ℕ, ◌+◌, true, false, List, [], ◌∷◌, ◌++◌, length, Option, Some, None, inl, inr, refl, sym, ◌∙◌, ap, subst}
+use Rattle.std.proofs.Common.{◌≡◌, ℕ, ◌+◌, true, false, List, [], ◌∷◌, ◌++◌, length, Option, Some, None, inl, inr, refl, sym, ◌∙◌, ap, subst, arith, eqb-true}
 use Rattle.std.specs.Prelude.{slice_get, IsSomeAnd, ◌==◌, nat_lt}
 use Rattle.std.specs.List.{list_all}
 use Rattle.std.proofs.lemmas.Bool.{cases_eq, and_parts, and_right}
@@ -39,7 +39,7 @@ some_weaker (Some x) P Q f is = f x is
 -- the events so far, as the order of the queues, the script and the requests have them
 pub record StandsBeside (setup : Setup) (script : List ScriptClient) (past : List Event) : Type 0 where
   pub ordered : TakesInOrder setup past
-  pub fits : (j : ℕ) (client : ScriptClient) → slice_get script j ≡ Some client → FitsCalls setup (j + 1) client.ops past
+  pub fits : (j : ℕ) (client : ScriptClient) → slice_get script j ≡ Some client → FitsCalls setup (length script) (j + 1) client.ops past
   pub settled : (request : RequestId) → count (is_settled_by request) past ≡ count (is_accept_of request) past
 
 pub beside_of : (setup : Setup) (script : List ScriptClient) (past : List Event) {L : Type 0} (d : Domain L) → Stands setup script past d → StandsBeside setup script past
@@ -56,7 +56,7 @@ pub record IsQuiet (e : Event) : Type 0 where
 pub beside_quiet : (setup : Setup) (script : List ScriptClient) (e : Event) (past : List Event) → IsQuiet e → StandsBeside setup script past → StandsBeside setup script (e ∷ past)
 beside_quiet setup script e past quiet before = record {
   ordered = order_other setup e past quiet.take before.ordered;
-  fits = λ j client is. fits_other setup (j + 1) client.ops e past (quiet.call (j + 1)) (before.fits j client is);
+  fits = λ j client is. fits_other setup (length script) (j + 1) client.ops e past (quiet.call (j + 1)) (before.fits j client is);
   settled = λ request. count_no (is_settled_by request) e past (quiet.settle request) ∙ (before.settled request ∙ sym (count_no (is_accept_of request) e past (quiet.accept request)));
 }
 
@@ -83,7 +83,7 @@ quiet_retiring setup clients (Gone server) own is part = record { take = refl; c
 quiet_retiring setup clients (Down queue) own is part = record { take = refl; call = λ caller. refl; accept = λ request. refl; settle = λ request. refl }
 quiet_retiring setup clients (Withdraw w) own is part = record {
   take = refl;
-  call = λ caller. and_right (w.by.0 == caller) (nat_lt 0 w.op) (ap (nat_lt 0) part.op);
+  call = λ caller. and_right (w.by.0 == caller) (nat_lt 0 w.op) (ap (nat_lt 0) (elim part [ inl domain ↦ domain.none | inr server ↦ absurd (omega (arith, eqb-true w.by.0 0 is, server.server)) ]));
   accept = λ request. refl;
   settle = λ request. refl;
 }

@@ -11,7 +11,6 @@ use Rattle.xa_events.specs.declared.event.Event.TheVariants.{End}
 use Rattle.xa_events.specs.declared.event.Doing.TheVariants.{Off, Idle}
 use Rattle.xa_events.specs.declared.event.Outcome.{Outcome}
 use Rattle.xa_events.specs.declared.event.StopCause.{StopCause}
-use Rattle.xa_events.specs.Cases.{may_end_so}
 use Rattle.xa_events.specs.Server.{after_end, is_shutdown}
 use Rattle.xa_frame.specs.declared.frame.Frame.{Frame}
 use Rattle.xa_pipe.specs.declared.hearing.Return.{Return}
@@ -22,7 +21,7 @@ use Rattle.xa_tables.specs.declared.domain.Domain.{Domain}
 use Rattle.xa_tables.specs.declared.life.Lived.{Lived}
 use Rattle.xa_domain.specs.Calling.{OnlyLife, IsBusy, MayEndWith, NextOr, Settles, Frees, ended_of}
 use Rattle.xa_tables.specs.Holding.{Holds}
-use Rattle.xa_tables.specs.May.{MayStop}
+use Rattle.xa_tables.specs.May.{may_end_here, MayStop}
 use Rattle.xa_tables.specs.Resting.{IsNumbered, IsUp}
 use Rattle.xa_domain.specs.Standing.{IsReady, MayFall, NoneRestarts, Retires, RetiresTables, stop_of}
 use Rattle.xa_tables.specs.Steps.{Ends}
@@ -93,7 +92,7 @@ module _ {L : Type 0} (server : ℕ) (request : RequestId) (outcome : Outcome) (
   was_busy = some_is (slice_get old.servers.items server) (IsBusy request) ends.servers.before ends.servers.stood busy
 
   -- the request ended
-  pub ended_holds : (setup : Setup) (count : ℕ) (past : List Event) → Holds setup count past old → may_end_so setup outcome ≡ true → Holds setup count (End (ended_of x request outcome) ∷ past) ended
+  pub ended_holds : (setup : Setup) (count : ℕ) (past : List Event) → Holds setup count past old → may_end_here setup outcome ≡ true → Holds setup count (End (ended_of x request outcome) ∷ past) ended
   ended_holds setup count past holds may = end_holds setup count past old ended holds server (ended_of x request outcome) ends
       (record { here = ap (λ (z : Server). z.id) (sym its_before); life = refl; busy = was_busy.busy; may = may })
 

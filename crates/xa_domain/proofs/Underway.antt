@@ -40,7 +40,7 @@ one_open sent request = cond (same_request sent request) 1 0
 
 pub record Under {L : Type 0} (setup : Setup) (script : List ScriptClient) (server : ℕ) (open_yet : RequestId → ℕ) (past : List Event) (d : Domain L) : Type 0 where
   pub ordered : TakesInOrder setup past
-  pub fits : (j : ℕ) (client : ScriptClient) → slice_get script j ≡ Some client → FitsCalls setup (j + 1) client.ops past
+  pub fits : (j : ℕ) (client : ScriptClient) → slice_get script j ≡ Some client → FitsCalls setup (length script) (j + 1) client.ops past
   pub settled : (request : RequestId) → count (is_settled_by request) past + open_yet request ≡ count (is_accept_of request) past
   pub numbers : (i : ℕ) (x : Server) → slice_get d.servers.items i ≡ Some x → x.id.0 ≡ i + 1
   pub others : (i : ℕ) (x : Server) → slice_get d.servers.items i ≡ Some x → (i ≡ server → ⊥) → ServerLives setup past d x.attempt x
@@ -67,6 +67,7 @@ holds_beside setup count past old new life only holds =
       bound = holds.bound;
       booted = holds.booted;
       placed = holds.placed;
+      made = holds.made;
       board = subst (BoardHolds setup count past) (sym only.others.0) holds.board;
       queues = subst (λ (items : List Queue). (i : ℕ) (q : Queue) → slice_get items i ≡ Some q → QueueHolds setup count (i + 1) past q) (sym queues) holds.queues;
       clients = subst (λ (items : List Client). (i : ℕ) (x : Client) → slice_get items i ≡ Some x → ClientHolds setup count (i + 1) past x) (sym clients) holds.clients;
@@ -102,7 +103,7 @@ module _ {L : Type 0} (setup : Setup) (script : List ScriptClient) (server : ℕ
 
   -- an event, with what it is to each of them
   pub under_more : (was now : RequestId → ℕ) (past : List Event) (e : Event) (old new : Domain L) → Under setup script server was past old → TakesNext setup e past
-      → ((j : ℕ) (client : ScriptClient) → slice_get script j ≡ Some client → is_call_of (j + 1) e ≡ true → FitsCall setup (j + 1) client.ops e past)
+      → ((j : ℕ) (client : ScriptClient) → slice_get script j ≡ Some client → is_call_of (j + 1) e ≡ true → FitsCall setup (length script) (j + 1) client.ops e past)
       → ((request : RequestId) → count (is_settled_by request) past + was request ≡ count (is_accept_of request) past → count (is_settled_by request) (e ∷ past) + now request ≡ count (is_accept_of request) (e ∷ past))
       → ((n : ℕ) → (n ≡ server + 1 → ⊥) → is_of_first_life n e ≡ false)
       → ((i : ℕ) (x : Server) → slice_get new.servers.items i ≡ Some x → x.id.0 ≡ i + 1)

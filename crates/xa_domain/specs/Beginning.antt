@@ -25,7 +25,7 @@ pub record KeepsLife {L : Type 0} (server place : ℕ) (old new : Domain L) : Ty
   pub life : Lived L
   pub last : new.lives.items ≡ old.lives.items ++ life ∷ []
   pub at : place ≡ length old.lives.items
-  pub its : IsSomeAnd (slice_get old.servers.items server) (λ (x : Server). life.server ≡ x.id)
+  pub its : IsSomeAnd (slice_get old.servers.items server) (λ (x : Server). (life.server ≡ x.id) × (life.pipe.whose ≡ Some (x.name, record { 0 = 1 })))
   pub first : life.invocation ≡ 0
   pub wrote : Wrote life.pipe []
   pub read : HasRead life.pipe []
@@ -78,6 +78,7 @@ pub record HasNewLife {L : Type 0} (server : ℕ) (d : Domain L) : Type 0 where
   pub wrote : Wrote life.pipe []
   pub read : HasRead life.pipe []
   pub well : (life.pipe.reads ≡ 0) × (life.pipe.writes ≡ 0)
+  pub whose : life.pipe.whose ≡ Some (its.name, record { 0 = 1 })
 
 -- the servers below that place were started, or their starts failed
 pub record IsStarting {L : Type 0} (place : ℕ) (old d : Domain L) : Type 0 where

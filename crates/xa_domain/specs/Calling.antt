@@ -27,7 +27,7 @@ use Rattle.xa_events.specs.declared.event.StopCause.{StopCause}
 use Rattle.xa_events.specs.declared.event.StopCause.TheVariants.{Exit}
 use Rattle.xa_events.specs.Answers.{reply_of}
 use Rattle.xa_events.specs.Request.Settlement.{EndedBy}
-use Rattle.xa_events.specs.Cases.{is_failure, is_starved, may_end_so}
+use Rattle.xa_events.specs.Cases.{is_failure, is_starved}
 use Rattle.xa_events.specs.Server.{after_end, is_shutdown}
 use Rattle.xa_pipe.specs.declared.hearing.Return.{Return}
 use Rattle.xa_pipe.specs.Life.{outcome_by, lost_by}
@@ -41,7 +41,7 @@ use Rattle.xa_tables.specs.declared.server.Attempt.TheVariants.{Started}
 use Rattle.xa_tables.specs.declared.server.Last.TheVariants.{Nothing, Badly}
 use Rattle.xa_tables.specs.declared.domain.Domain.{Domain}
 use Rattle.xa_tables.specs.declared.life.Lived.{Lived}
-use Rattle.xa_tables.specs.May.{MayStop}
+use Rattle.xa_tables.specs.May.{may_end_here, MayStop}
 use Rattle.xa_tables.specs.Holding.{Holds}
 use Rattle.xa_tables.specs.Resting.{IsNumbered, IsServed}
 use Rattle.xa_tables.specs.Piping.{NextRead, NoNext, Exchanged}
@@ -178,7 +178,7 @@ pub record Settles {L : Type 0} (server : ℕ) (request : RequestId) (outcome : 
   pub ended : Domain L
   pub ends : Ends server (ended_of by request outcome) old ended
   pub falls : FallsOr server cause ended new
-  pub holds : (setup : Setup) (count : ℕ) (past : List Event) → is_configured setup ≡ true → NoneRestarts setup → Holds setup count past old → may_end_so setup outcome ≡ true
+  pub holds : (setup : Setup) (count : ℕ) (past : List Event) → is_configured setup ≡ true → NoneRestarts setup → Holds setup count past old → may_end_here setup outcome ≡ true
       → Retires setup count (stop_events server cause (End (ended_of by request outcome) ∷ past)) new
 
 -- ---- behind a request

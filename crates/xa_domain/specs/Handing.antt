@@ -43,6 +43,7 @@ pub record IsHanded {L : Type 0} (tells : LinkTells L) (y : Lived L) (life : Lif
   pub left : tells.left life.link ≡ y.pipe.left
   pub reads : tells.reads life.link ≡ y.pipe.reads
   pub writes : tells.writes life.link ≡ y.pipe.writes
+  pub whose : tells.whose life.link ≡ y.pipe.whose
 
 -- each life is handed back, in order
 abbrev pub AreHanded : {L : Type 0} → LinkTells L → List (Lived L) → List (Life L) → Type 0

@@ -1,6 +1,7 @@
 pub mod Living
 pub mod Standing
 pub mod Calling
+pub mod Recording
 pub mod Serving
 pub mod Handing
 pub mod Making

@@ -9,7 +9,7 @@ use Rattle.xa_events.specs.declared.event.Doing.TheVariants.{Off, Idle, Busy, Dy
 use Rattle.xa_events.specs.Words.{count, AtEach}
 use Rattle.xa_frame.specs.declared.frame.Frame.{Frame}
 use Rattle.xa_pipe.specs.Frames.{is_of_life, is_take_in, frames_out}
-use Rattle.xa_pipe.specs.Life.{Says, Turn, EachCame, StopsClosed, IsLife, came_in, returns_in}
+use Rattle.xa_pipe.specs.Life.{Says, Turn, EachCame, StopsClosed, IsLife, IsOf, came_in, returns_in}
 use Rattle.xa_pipe.specs.Life.Turn.{AwaitsInvoke}
 use Rattle.xa_pipe.specs.Pipe.{Piped, Wrote, HasRead, shown}
 
@@ -28,7 +28,7 @@ pub record IsUnborn (setup : Setup) (server : ℕ) (past : List Event) : Type 0 
   pub taken : count (is_take_in server 1) past ≡ 0
   pub stops : AtEach (StopsClosed setup server 1) past
 
--- the server's program has said this, and this comes next; all was written that was due, and nothing failed
+-- the server's program has said this, and this comes next; all was written that was due, nothing failed, and the pipe is that of its life
 pub record IsAt (setup : Setup) (name : List ℕ) (server : ℕ) (turn : Turn) (invocation : ℕ) (past : List Event) (pipe : Piped) : Type 0 where
   pub returned : ℕ
   pub frames : List Frame
@@ -41,6 +41,7 @@ pub record IsAt (setup : Setup) (name : List ℕ) (server : ℕ) (turn : Turn) (
   pub stops : AtEach (StopsClosed setup server 1) past
   pub reads : pipe.reads ≡ 0
   pub writes : pipe.writes ≡ 0
+  pub whose : IsOf (record { name = name; server = server; generation = 1 }) pipe.whose
 
 -- a life by what its server does: it waits for a request, or it is over; of a server that has a request in hand nothing is said
 abbrev pub LifeShows : Setup → List ℕ → ℕ → Doing → ℕ → List Event → Piped → Type 0

@@ -1,24 +1,14 @@
 -- The homes of a domain in the order of their merge (this project's own). No public contract rests on this file.
-use Rattle.std.specs.Prelude.{◌≡◌, ℕ, zero, suc, ◌+◌, List, [], ◌∷◌, ◌++◌, length, map}
+use Rattle.std.specs.Prelude.{◌≡◌, ℕ, List, ◌∷◌, ◌++◌, map}
 use Rattle.xa_types.specs.declared.setup.Setup.{Setup}
 use Rattle.xa_events.specs.declared.event.Event.{Event}
-use Rattle.xa_events.specs.Homes.{Home}
-use Rattle.xa_events.specs.Homes.Home.{BoardHome, QueueHome, ClockHome, CallerHome}
 use Rattle.xa_stamp.specs.Home.{Notes}
 use Rattle.xa_tables.specs.declared.queue.Queue.{Queue}
 use Rattle.xa_tables.specs.declared.client.Client.{Client}
 use Rattle.xa_tables.specs.declared.server.Server.{Server}
 use Rattle.xa_tables.specs.declared.domain.Domain.{Domain}
 use Rattle.xa_tables.specs.Stamps.{entries_of}
-
--- so many numbers, from the first one on
-abbrev pub numbers_from : ℕ → ℕ → List ℕ
-numbers_from first zero = []
-numbers_from first (suc n) = first ∷ numbers_from (first + 1) n
-
--- all homes of the domain: the board, the queues, the clock, and the callers, which are the clients and then the servers
-abbrev pub all_homes : Setup → ℕ → List Home
-all_homes setup count = BoardHome ∷ (map QueueHome (numbers_from 1 (length setup.queues)) ++ ClockHome ∷ map CallerHome (numbers_from 1 (count + length setup.servers)))
+use Rattle.xa_events.specs.Homes.{all_homes}
 
 -- these hold, home by home, the entries of the events
 abbrev pub AreHomes : Setup → ℕ → List Event → List Notes → Type 0

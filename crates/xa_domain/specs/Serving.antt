@@ -24,30 +24,33 @@ use Rattle.xa_tables.specs.declared.halt.Halt.TheVariants.{NoMemory, Worn}
 use Rattle.xa_tables.specs.declared.server.Attempt.{Attempt}
 use Rattle.xa_tables.specs.declared.server.Attempt.TheVariants.{NotYet}
 use Rattle.xa_tables.specs.Holding.{failed_by}
+use Rattle.xa_tables.specs.Made.{IsMade}
 use Rattle.xa_tables.specs.Lives.{server_name_in, lives_of, failed_starts}
 
 -- ---- the machine
 
--- each client, of which the first has that number, made exactly its calls
-abbrev pub EachMadeCalls : Setup → ℕ → List Client → List Event → Type 0
-EachMadeCalls setup number clients past = EachNumbered (λ k (client : Client). MadeCalls setup k client.ops past) number clients
+-- each of these clients, of so many, made exactly its calls; the first has that number
+abbrev pub EachMadeCalls : Setup → ℕ → ℕ → List Client → List Event → Type 0
+EachMadeCalls setup count number clients past = EachNumbered (λ k (client : Client). MadeCalls setup count k client.ops past) number clients
 
--- the events are one history of the machine, from its opening to its end: each queue was taken in order, and each client made exactly its
--- calls; past is the same events, the newest first. By the laws of every run each request is settled once and answered once, and what
+-- the events are one history of the machine, from its opening to its end: each queue was taken in order, each client made exactly its
+-- calls, and the domain made no other kind of event than its own; past is the same events, the newest first. By the laws of every run each request is settled once and answered once, and what
 -- a caller reads of the board is never older than what it read before.
 pub record IsHistoryAt (setup : Setup) (clients : List Client) (history past : List Event) : Type 0 where
   pub run : Run (opening setup (length clients)) history (record { setup = setup; clients = length clients; past = past })
   pub final : IsFinal (record { setup = setup; clients = length clients; past = past })
   pub ordered : TakesInOrder setup past
-  pub calls : EachMadeCalls setup 1 clients past
+  pub calls : EachMadeCalls setup (length clients) 1 clients past
+  pub made : All IsMade past
 
 abbrev pub IsHistory : Setup → List Client → List Event → Type 0
 IsHistory setup clients history = IsHistoryAt setup clients history (reverse history)
 
 -- ---- the pipes
 
--- what a starter shows: how often a start failed, and the starts that it was asked for, where it tells them
+-- what a starter shows: its server's name, how often a start failed, and the starts that it was asked for, where it tells them
 pub record StarterShows : Type 0 where
+  pub server : List ℕ
   pub faults : ℕ
   pub asked : Option (List (List ℕ × Generation))
 
@@ -56,8 +59,10 @@ abbrev pub starts_of : List ℕ → ℕ → List (List ℕ × Generation)
 starts_of name zero = []
 starts_of name (suc n) = starts_of name n ++ (name, record { 0 = suc n }) ∷ []
 
--- the starter of the server with that number counts the server's failed starts, up to 2^64 - 1, and was asked for its starts, and for no others
+-- the starter is that of the server with that number, counts the server's failed starts, up to 2^64 - 1, and was asked for its starts, and for no
+-- others
 pub record IsStarterOf (setup : Setup) (server : ℕ) (shown : StarterShows) (past : List Event) : Type 0 where
+  pub named : shown.server ≡ server_name_in (numbered server setup.servers)
   pub counts : shown.faults ≡ min (failed_starts server past) (2 ^ 64 - 1)
   pub each : IfSome shown.asked (λ all. all ≡ starts_of (server_name_in (numbered server setup.servers)) (length (starts server past)))
 
@@ -65,19 +70,20 @@ pub record IsStarterOf (setup : Setup) (server : ℕ) (shown : StarterShows) (pa
 abbrev pub EachStarter : {S : Type 0} → Setup → (S → StarterShows) → ℕ → List S → List Event → Type 0
 EachStarter setup shows server starters past = EachNumbered (λ k starter. IsStarterOf setup k (shows starter) past) server starters
 
--- what a link tells, and how often its reads and writes failed
+-- what a link tells, how often its reads and writes failed, and whose it is
 pub record LinkTells (L : Type 0) : Type 0 where
   pub took : L → Option (List ℕ)
   pub gave : L → Option (List ℕ)
   pub left : L → Option (List ℕ)
   pub reads : L → ℕ
   pub writes : L → ℕ
+  pub whose : L → Option (List ℕ × Generation)
 
--- the link of the life shows what the events say of it
+-- the link is that of the life, and shows what the events say of it
 abbrev pub IsLifeOf : {L : Type 0} → LinkTells L → Setup → List Event → Life L → Type 0
 IsLifeOf tells setup past life =
     IsLife setup (record { name = server_name_in (numbered life.server.0 setup.servers); server = life.server.0; generation = life.generation.0 }) past
-    (record { took = tells.took life.link; gave = tells.gave life.link; left = tells.left life.link; reads = tells.reads life.link; writes = tells.writes life.link })
+    (record { took = tells.took life.link; gave = tells.gave life.link; left = tells.left life.link; reads = tells.reads life.link; writes = tells.writes life.link; whose = tells.whose life.link })
 
 -- the lives are the starts that succeeded, by server and then by generation
 abbrev pub AreLives : {L : Type 0} → Setup → List Event → List (Life L) → Type 0
@@ -122,6 +128,7 @@ HasStarters (Worn stamp) setup starters = length starters ≡ length setup.serve
 -- number counts, and of the links nothing is said
 pub record IsServedSoFar {L S : Type 0} (shows : S → StarterShows) (halt : Halt) (setup : Setup) (clients : List Client) (events : List Event) (lives : List (Life L)) (starters : List S) : Type 0 where
   pub run : Run (opening setup (length clients)) events (record { setup = setup; clients = length clients; past = reverse events })
+  pub made : All IsMade (reverse events)
   pub all : HasStarters halt setup starters
   pub lives_are : AreLives setup (reverse events) lives
   pub each : EachStarter setup shows 1 starters (reverse events)
@@ -143,6 +150,7 @@ asked_by name NotYet = []
 asked_by name attempt = (name, record { 0 = 1 }) ∷ []
 
 pub record IsStarterBy (name : List ℕ) (attempt : Attempt) (shown : StarterShows) : Type 0 where
+  pub named : shown.server ≡ name
   pub counts : shown.faults ≡ failed_by attempt
   pub each : IfSome shown.asked (λ all. all ≡ asked_by name attempt)
 

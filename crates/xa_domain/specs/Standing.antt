@@ -1,5 +1,5 @@
 -- What a domain is between two calls (this project's own). No public contract rests on this file.
-use Rattle.std.specs.Prelude.{◌≡◌, ◌⊎◌, ℕ, ◌+◌, ◌<◌, ◌≤◌, ◌^◌, Bool, true, false, List, ◌++◌, length, Some, IsSomeAnd, slice_get, vec_capacity}
+use Rattle.std.specs.Prelude.{◌≡◌, ◌⊎◌, ℕ, ◌+◌, ◌==◌, ◌<◌, ◌≤◌, ◌^◌, Bool, true, false, List, ◌++◌, length, Some, IsSomeAnd, slice_get, vec_capacity}
 use Rattle.std.specs.List.{list_all}
 use Rattle.xa_types.specs.declared.setup.Setup.{Setup}
 use Rattle.xa_types.specs.declared.row.Row.{Row}
@@ -48,7 +48,7 @@ ServerLives setup past d attempt x = IsUnborn setup x.id.0 past
 pub record Stands {L : Type 0} (setup : Setup) (script : List ScriptClient) (past : List Event) (d : Domain L) : Type 0 where
   pub holds : Holds setup (length script) past d
   pub ordered : TakesInOrder setup past
-  pub fits : (j : ℕ) (client : ScriptClient) → slice_get script j ≡ Some client → FitsCalls setup (j + 1) client.ops past
+  pub fits : (j : ℕ) (client : ScriptClient) → slice_get script j ≡ Some client → FitsCalls setup (length script) (j + 1) client.ops past
   pub settled : (request : RequestId) → count (is_settled_by request) past ≡ count (is_accept_of request) past
   pub lives : (i : ℕ) (x : Server) → slice_get d.servers.items i ≡ Some x → ServerLives setup past d x.attempt x
 
@@ -60,10 +60,10 @@ pub record IsHalted {L : Type 0} (setup : Setup) (count : ℕ) (halt : Halt) (d 
 
 -- ---- the end of a server
 
--- the events of a server that is given up: Gone, and of the last of its queue each Withdraw, and Down
+-- the events of a server that is given up: Gone, and of the last of its queue each Withdraw by the domain, and Down
 abbrev pub is_retiring : Event → Bool
 is_retiring (Gone server) = true
-is_retiring (Withdraw w) = true
+is_retiring (Withdraw w) = w.by.0 == 0
 is_retiring (Down queue) = true
 is_retiring e = false
 

@@ -8,12 +8,12 @@ ghost use Rattle.xa_types.specs.declared.call.Ask.{Ask};
 ghost use Rattle.xa_frame.specs.Spelling.{IsData};
 ghost use Rattle.xa_events.specs.Answers.{reply_of};
 ghost use Rattle.xa_events.specs.Calls.{is_invalid_call};
-ghost use Rattle.xa_events.specs.Cases.{may_end_so};
 ghost use Rattle.xa_events.specs.Request.Settlement.{EndedBy};
 ghost use Rattle.xa_pipe.specs.Life.{outcome_by};
 ghost use Rattle.xa_events.specs.declared.event.Event.{Event};
 ghost use Rattle.xa_events.specs.declared.event.Doing.TheVariants.{Idle};
 ghost use Rattle.xa_script.specs.declared.script.Client.{Client as ScriptClient};
+ghost use Rattle.xa_tables.specs.May.{may_end_here};
 ghost use Rattle.xa_tables.specs.Holding.{Holds};
 ghost use Rattle.xa_tables.specs.Steps.{Refuses, KeepsPlaces};
 ghost use Rattle.xa_tables.specs.Resting.{IsNumbered, IsServed, IsUp, attempts};
@@ -310,7 +310,7 @@ fn settle<L: Link>(
     ensures served { OnOk result (IsServed domain.new) }
     ensures done { OnOk result (Settles server request outcome cause domain.old domain.new) }
     ensures failed { IfErr result (λ halt. (setup : Setup) (count : ℕ) (past : List Event) → is_configured setup ≡ true → NoneRestarts setup → Holds setup count past domain.old
-        → may_end_so setup outcome ≡ true → IsHalted setup count halt domain.new) }
+        → may_end_here setup outcome ≡ true → IsHalted setup count halt domain.new) }
 {
     let ended = Ended {
         request,
@@ -408,7 +408,7 @@ fn conclude<L: Link>(
     ensures attempts { attempts domain.new ≡ attempts domain.old }
     ensures done { OnOk result (Concludes client op server request outcome cause domain.old domain.new) }
     ensures failed { IfErr result (λ halt. (setup : Setup) (count : ℕ) (past : List Event) → is_configured setup ≡ true → NoneRestarts setup → Holds setup count past domain.old
-        → may_end_so setup outcome ≡ true → IsHalted setup count halt domain.new) }
+        → may_end_here setup outcome ≡ true → IsHalted setup count halt domain.new) }
 {
     let Ok(answer) = reply_to(alloc, &outcome) else {
         // By a call, as below: at the exit of a `?` each kind of outcome would be proved anew.

@@ -104,7 +104,7 @@ fn homes_of(
 fn lives_of<L: Link>(mut lives: Vec<Life<L>>, all: Vec<Lived<L>>) -> Vec<Life<L>>
     requires none { lives.items ≡ [] }
     requires room { length all.items ≤ vec_capacity lives }
-    ensures { AreHanded (record { took = L.took; gave = L.gave; left = L.left; reads = L.read_faults; writes = L.write_faults }) all.items result.items }
+    ensures { AreHanded (record { took = L.took; gave = L.gave; left = L.left; reads = L.read_faults; writes = L.write_faults; whose = L.whose }) all.items result.items }
 {
     let mut rest = all.into_iter();
     while let Some(lived) = rest.next() {
@@ -127,7 +127,7 @@ fn lives_of<L: Link>(mut lives: Vec<Life<L>>, all: Vec<Lived<L>>) -> Vec<Life<L>
 pub fn hand_back<L: Link>(alloc: Global, domain: Domain<L>, room: Room<L>) -> Handed<L>
     requires { HasRoomFor (2 + length domain.queues.items + length domain.clients.items + length domain.servers.items) (length domain.lives.items) room }
     ensures homes { AreHomesOf domain result.homes.homes }
-    ensures lives { AreHanded (record { took = L.took; gave = L.gave; left = L.left; reads = L.read_faults; writes = L.write_faults }) domain.lives.items result.lives.items }
+    ensures lives { AreHanded (record { took = L.took; gave = L.gave; left = L.left; reads = L.read_faults; writes = L.write_faults; whose = L.whose }) domain.lives.items result.lives.items }
 {
     let Domain {
         latest: _,

@@ -13,6 +13,7 @@ ghost use Rattle.xa_tables.specs.Resting.{IsNumbered, IsBooted, attempts};
 ghost use Rattle.xa_domain.specs.Standing.{IsReady, IsClosedDown, HasGone, HaveGone, Stands, GoesOn, IsHalted};
 ghost use Rattle.xa_domain.specs.Beginning.{HaveStamps};
 ghost use Rattle.xa_domain.specs.Handing.{HasRoomFor};
+ghost use Rattle.xa_domain.specs.Recording.{HasHomes};
 ghost use Rattle.xa_domain.specs.Serving.{IsBuiltOp, IsBuilt, NoneRestarts, ServeEnds, StarterShows, StartersMatch};
 
 use crate::calling::call;
@@ -92,9 +93,9 @@ fn run<L: Link, S: Starter<L>>(
     requires stamps { HaveStamps domain.old }
     requires all { length starters.old ≡ length domain.old.servers.items }
     requires each { length clients.now ≡ length domain.old.clients.items }
-    requires fresh { StartersMatch (λ s. record { faults = S.start_faults s; asked = S.asked s }) (attempts domain.old) starters.old }
+    requires fresh { StartersMatch (λ s. record { server = S.server_name s; faults = S.start_faults s; asked = S.asked s }) (attempts domain.old) starters.old }
     ensures numbered { IsNumbered domain.new }
-    ensures starters { StartersMatch (λ s. record { faults = S.start_faults s; asked = S.asked s }) (attempts domain.new) starters.new }
+    ensures starters { StartersMatch (λ s. record { server = S.server_name s; faults = S.start_faults s; asked = S.asked s }) (attempts domain.new) starters.new }
     ensures over { OnOk result (IsClosedDown domain.new × HaveGone clients.now domain.new) }
     ensures goes { OnOk result ((past : List Event) → NoneRestarts setup.now → Stands setup.now clients.now past domain.old → GoesOn setup.now clients.now domain.new) }
     ensures failed { IfErr result (λ halt. (past : List Event) → NoneRestarts setup.now → Stands setup.now clients.now past domain.old → IsHalted setup.now (length clients.now) halt domain.new) }
@@ -140,7 +141,8 @@ fn serve_by<Y: Yard>(
     requires holds { Holds setup.now (length clients.now) (boot_past setup.now) domain }
     requires booted { IsBooted domain }
     requires room { HasRoomFor (2 + length setup.now.queues + length clients.now + length setup.now.servers) (length setup.now.servers) room }
-    ensures ends { ServeEnds (record { took = Y.Line.took; gave = Y.Line.gave; left = Y.Line.left; reads = Y.Line.read_faults; writes = Y.Line.write_faults }) (λ s. record { faults = Y.Start.start_faults s; asked = Y.Start.asked s }) setup.now clients.now result.halt result.homes.homes result.lives.items result.starters.items }
+    ensures ends { ServeEnds (record { took = Y.Line.took; gave = Y.Line.gave; left = Y.Line.left; reads = Y.Line.read_faults; writes = Y.Line.write_faults; whose = Y.Line.whose }) (λ s. record { server = Y.Start.server_name s; faults = Y.Start.start_faults s; asked = Y.Start.asked s }) setup.now clients.now result.halt result.homes.homes result.lives.items result.starters.items }
+    ensures homes { HasHomes result.halt setup.now (length clients.now) result.homes.homes }
     ensures dense { IsDense (record { 0 = 0 }) result.homes.homes }
     ensures asked { AsksStarters (Y.asked yard.old) (Y.asked yard.new) setup.now ⊎ ((result.halt ≡ Some Halt.NoMemory) × (Y.asked yard.new ≡ Y.asked yard.old)) }
 {
@@ -168,7 +170,8 @@ fn serve_all<Y: Yard>(alloc: Global, setup: &Setup, clients: &[Client], yard: &m
     requires configured { is_configured setup.now ≡ true }
     requires restarts { NoneRestarts setup.now }
     requires built { IsBuilt clients.now }
-    ensures ends { ServeEnds (record { took = Y.Line.took; gave = Y.Line.gave; left = Y.Line.left; reads = Y.Line.read_faults; writes = Y.Line.write_faults }) (λ s. record { faults = Y.Start.start_faults s; asked = Y.Start.asked s }) setup.now clients.now result.halt result.homes.homes result.lives.items result.starters.items }
+    ensures ends { ServeEnds (record { took = Y.Line.took; gave = Y.Line.gave; left = Y.Line.left; reads = Y.Line.read_faults; writes = Y.Line.write_faults; whose = Y.Line.whose }) (λ s. record { server = Y.Start.server_name s; faults = Y.Start.start_faults s; asked = Y.Start.asked s }) setup.now clients.now result.halt result.homes.homes result.lives.items result.starters.items }
+    ensures homes { HasHomes result.halt setup.now (length clients.now) result.homes.homes }
     ensures dense { IsDense (record { 0 = 0 }) result.homes.homes }
     ensures asked { AsksStarters (Y.asked yard.old) (Y.asked yard.new) setup.now ⊎ ((result.halt ≡ Some Halt.NoMemory) × (Y.asked yard.new ≡ Y.asked yard.old)) }
 {
@@ -198,7 +201,8 @@ pub fn serve<R, Y: Yard, G: Gate>(
     requires configured { is_configured setup ≡ true }
     requires restarts { NoneRestarts setup }
     requires built { IsBuilt script.now.clients }
-    ensures ends { ServeEnds (record { took = Y.Line.took; gave = Y.Line.gave; left = Y.Line.left; reads = Y.Line.read_faults; writes = Y.Line.write_faults }) (λ s. record { faults = Y.Start.start_faults s; asked = Y.Start.asked s }) setup script.now.clients result.halt result.homes.homes result.lives.items result.starters.items }
+    ensures ends { ServeEnds (record { took = Y.Line.took; gave = Y.Line.gave; left = Y.Line.left; reads = Y.Line.read_faults; writes = Y.Line.write_faults; whose = Y.Line.whose }) (λ s. record { server = Y.Start.server_name s; faults = Y.Start.start_faults s; asked = Y.Start.asked s }) setup script.now.clients result.halt result.homes.homes result.lives.items result.starters.items }
+    ensures homes { HasHomes result.halt setup (length script.now.clients) result.homes.homes }
     ensures dense { IsDense (record { 0 = 0 }) result.homes.homes }
     ensures asked { AsksStarters (Y.asked yard.old) (Y.asked yard.new) setup ⊎ ((result.halt ≡ Some Halt.NoMemory) × (Y.asked yard.new ≡ Y.asked yard.old)) }
 {

@@ -1,5 +1,5 @@
 // The servers are started, and their programs greet.
-ghost use Rattle.std.specs.Prelude.{◌≡◌, ◌+◌, ◌<◌, ◌≤◌, ◌^◌, ℕ, true, List, [], length, map, OnOk, IfErr, IsSomeAnd, slice_get};
+ghost use Rattle.std.specs.Prelude.{◌≡◌, ◌+◌, ◌<◌, ◌≤◌, ◌^◌, ℕ, true, Some, List, [], length, map, OnOk, IfErr, IsSomeAnd, slice_get};
 ghost use Rattle.xa_types.specs.Configured.{is_configured};
 ghost use Rattle.xa_types.specs.declared.setup.Setup.{Setup};
 ghost use Rattle.xa_link.specs.Told.{Empty};
@@ -57,6 +57,7 @@ fn begin<L: Link>(
     requires may { MayBegin server started domain.old }
     requires counts { (L.read_faults link ≡ 0) × (L.write_faults link ≡ 0) }
     requires fresh { Empty (L.took link) × Empty (L.gave link) }
+    requires own { IsSomeAnd (slice_get domain.old.servers.items server) (λ x. L.whose link ≡ Some (x.name, record { 0 = 1 })) }
     ensures numbered { IsNumbered domain.new }
     ensures tried { Changed server (attempts domain.old) (attempts domain.new) (λ a a'. a' ≡ (a.0, tries.Started)) }
     ensures on { OnOk result (StartsOn (server + 1) domain.new) }
@@ -103,9 +104,9 @@ fn start<L: Link, S: Starter<L>>(
 ) -> Result<(), Halt>
     requires on { StartsOn server domain.old }
     requires within { server < length domain.old.servers.items }
-    requires fresh { IsSomeAnd (slice_get (attempts domain.old) server) (λ x. IsStarterBy x.0 x.1 (record { faults = S.start_faults starter.old; asked = S.asked starter.old })) }
+    requires fresh { IsSomeAnd (slice_get (attempts domain.old) server) (λ x. IsStarterBy x.0 x.1 (record { server = S.server_name starter.old; faults = S.start_faults starter.old; asked = S.asked starter.old })) }
     ensures numbered { IsNumbered domain.new }
-    ensures starter { IsSomeAnd (slice_get (attempts domain.new) server) (λ x. IsStarterBy x.0 x.1 (record { faults = S.start_faults starter.new; asked = S.asked starter.new })) }
+    ensures starter { IsSomeAnd (slice_get (attempts domain.new) server) (λ x. IsStarterBy x.0 x.1 (record { server = S.server_name starter.new; faults = S.start_faults starter.new; asked = S.asked starter.new })) }
     ensures attempts { (i : ℕ) → (i ≡ server → ⊥) → slice_get (attempts domain.new) i ≡ slice_get (attempts domain.old) i }
     ensures on { OnOk result (StartsOn (server + 1) domain.new) }
     ensures clients { OnOk result (domain.new.clients ≡ domain.old.clients) }
@@ -138,9 +139,9 @@ pub fn start_all<L: Link, S: Starter<L>>(
     requires booted { IsBooted domain.old }
     requires stamps { HaveStamps domain.old }
     requires all { length starters.old ≡ length domain.old.servers.items }
-    requires fresh { StartersMatch (λ s. record { faults = S.start_faults s; asked = S.asked s }) (attempts domain.old) starters.old }
+    requires fresh { StartersMatch (λ s. record { server = S.server_name s; faults = S.start_faults s; asked = S.asked s }) (attempts domain.old) starters.old }
     ensures numbered { IsNumbered domain.new }
-    ensures starters { StartersMatch (λ s. record { faults = S.start_faults s; asked = S.asked s }) (attempts domain.new) starters.new }
+    ensures starters { StartersMatch (λ s. record { server = S.server_name s; faults = S.start_faults s; asked = S.asked s }) (attempts domain.new) starters.new }
     ensures ready { OnOk result (IsReady domain.new) }
     ensures clients { OnOk result (domain.new.clients ≡ domain.old.clients) }
     ensures goes { OnOk result ((setup : Setup) (script : List ScriptClient) (past : List Event) → is_configured setup ≡ true → NoneRestarts setup

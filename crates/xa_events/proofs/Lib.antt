@@ -2,6 +2,14 @@ pub mod WordsLemmas
 pub mod Stages
 pub mod AnswersOnce
 pub mod Versions
+pub mod Times
 pub mod Servers
 pub mod Owns
+pub mod OwnPriority
+pub mod LastEntry
+pub mod Localities
 pub mod Merge
+pub mod There
+pub mod Talks
+pub mod Turns
+pub mod Ends

@@ -8,13 +8,15 @@ use Rattle.xa_events.specs.declared.event.Event.TheVariants.{Advertise, Withdraw
 use Rattle.xa_events.specs.Words.{added, without}
 use Rattle.xa_events.specs.State.{caller_of}
 use Rattle.xa_events.specs.Homes.{at_home, of_worker}
-use Rattle.xa_events.specs.Homes.Home.{BoardHome, QueueHome}
+use Rattle.xa_events.specs.Homes.Home.{BoardHome, QueueHome, ClockHome, CallerHome}
 use Rattle.xa_events.specs.Board.{changes}
 use Rattle.xa_events.specs.Queue.{waiting, takes, is_down, is_closed}
 use Rattle.xa_events.specs.Server.{starts, is_gone}
-use Rattle.xa_events.specs.Caller.{newest_call, accepted, open_descriptors, versions, ticks, has_left, is_leaving}
+use Rattle.xa_events.specs.Caller.{newest_call, accepted, open_descriptors, unanswered, versions, ticks, has_left, is_leaving}
+use Rattle.xa_types.specs.declared.ids.RequestId.{RequestId}
+use Rattle.xa_events.specs.Conversation.{Side, connections, broken, is_hand_closed, end_done}
 use Rattle.xa_events.specs.Local.{home_events, worker_events}
-use Rattle.xa_events.specs.Views.{newer, BoardView, board_view, board_after, QueueView, queue_view, queue_after, ServerView, server_view, server_after, CallerView, caller_view, caller_after}
+use Rattle.xa_events.specs.Views.{newer, BoardView, board_view, board_after, ClockView, clock_view, clock_after, QueueView, queue_view, queue_after, ServerView, server_view, server_after, CallerView, caller_view, caller_after, EndView, end_view, end_after}
 
 -- ---- one more event, in each table
 
@@ -31,10 +33,17 @@ unfolding starts is_gone
 server_more server e past = refl
 
 pub caller_more : (clients caller : ℕ) (e : Event) (past : List Event) → caller_view clients caller (e ∷ past) ≡ caller_after clients caller e (caller_view clients caller past)
-unfolding newest_call accepted open_descriptors versions ticks has_left is_leaving
+unfolding newest_call accepted open_descriptors unanswered versions ticks has_left is_leaving connections broken is_hand_closed
 caller_more clients caller e past = refl
 
+pub clock_more : (e : Event) (past : List Event) → clock_view (e ∷ past) ≡ clock_after e (clock_view past)
+clock_more e past = refl
+
 -- ---- an event of another home, or of another worker, changes nothing
+
+pub clock_idle : (setup : Setup) (clients : ℕ) (e : Event) (view : ClockView) → at_home setup clients ClockHome e ≡ false → clock_after e view ≡ view
+clock_idle setup clients (Tick t) view h = cc h
+clock_idle setup clients _ view h = refl
 
 pub board_idle : (setup : Setup) (clients : ℕ) (e : Event) (view : BoardView) → at_home setup clients BoardHome e ≡ false → board_after e view ≡ view
 board_idle setup clients (Advertise a) view h = cc h
@@ -72,6 +81,7 @@ pub caller_idle : (clients caller : ℕ) (e : Event) (view : CallerView) → of_
 caller_idle clients caller (Advertise a) view h = rw h refl
 caller_idle clients caller (Withdraw w) view h = rw h refl
 caller_idle clients caller (Accept a) view h = rw h refl
+caller_idle clients caller (Take t) view h = rw h refl
 caller_idle clients caller (Forward f) view h = rw h refl
 caller_idle clients caller (Tick t) view h = rw h refl
 caller_idle clients caller (Start s) view h = rw h refl
@@ -89,6 +99,23 @@ caller_idle clients caller (Break b) view h = rw h refl
 caller_idle clients caller (Priority p) view h = rw h refl
 caller_idle clients caller _ view h = refl
 
+pub end_more : (caller : ℕ) (side : Side) (request : RequestId) (e : Event) (past : List Event) → end_view caller side request (e ∷ past) ≡ end_after caller side request e (end_view caller side request past)
+unfolding end_done broken
+end_more caller side request e past = refl
+
+pub end_idle : (clients caller : ℕ) (side : Side) (request : RequestId) (e : Event) (view : EndView) → of_worker clients caller e ≡ false → end_after caller side request e view ≡ view
+end_idle clients caller side request (Send s) view h = rw h refl
+end_idle clients caller side request (Receive r) view h = rw h refl
+end_idle clients caller side request (Break b) view h = rw h refl
+end_idle clients caller side request _ view h = refl
+
+-- what an end did stands at its caller's home
+pub end_apart : (setup : Setup) (clients caller : ℕ) (side : Side) (request : RequestId) (e : Event) (view : EndView) → at_home setup clients (CallerHome caller) e ≡ false → end_after caller side request e view ≡ view
+end_apart setup clients caller side request (Send s) view h = rw h refl
+end_apart setup clients caller side request (Receive r) view h = rw h refl
+end_apart setup clients caller side request (Break b) view h = rw h refl
+end_apart setup clients caller side request _ view h = refl
+
 -- ---- so each table reads the same off its own events
 
 own_view : {V : Type 0} (view : List Event → V) (after : Event → V → V) (own : Event → Bool) → ((e : Event) (past : List Event) → view (e ∷ past) ≡ after e (view past))
@@ -103,6 +130,9 @@ own_view view after own more idle (e ∷ past) =
 pub board_own : (setup : Setup) (clients : ℕ) (past : List Event) → board_view (home_events setup clients BoardHome past) ≡ board_view past
 board_own setup clients past = own_view board_view board_after (at_home setup clients BoardHome) board_more (board_idle setup clients) past
 
+pub clock_own : (setup : Setup) (clients : ℕ) (past : List Event) → clock_view (home_events setup clients ClockHome past) ≡ clock_view past
+clock_own setup clients past = own_view clock_view clock_after (at_home setup clients ClockHome) clock_more (clock_idle setup clients) past
+
 pub queue_own : (setup : Setup) (clients queue : ℕ) (past : List Event) → queue_view setup queue (home_events setup clients (QueueHome queue) past) ≡ queue_view setup queue past
 queue_own setup clients queue past = own_view (queue_view setup queue) (queue_after setup queue) (at_home setup clients (QueueHome queue)) (queue_more setup queue) (queue_idle setup clients queue) past
 
@@ -111,3 +141,11 @@ server_own clients server past = own_view (server_view server) (server_after ser
 
 pub caller_own : (clients caller : ℕ) (past : List Event) → caller_view clients caller (worker_events clients caller past) ≡ caller_view clients caller past
 caller_own clients caller past = own_view (caller_view clients caller) (caller_after clients caller) (of_worker clients caller) (caller_more clients caller) (caller_idle clients caller) past
+
+pub end_own : (clients caller : ℕ) (side : Side) (request : RequestId) (past : List Event) → end_view caller side request (worker_events clients caller past) ≡ end_view caller side request past
+unfolding end_done broken
+end_own clients caller side request past = own_view (end_view caller side request) (end_after caller side request) (of_worker clients caller) (end_more caller side request) (end_idle clients caller side request) past
+
+pub end_here : (setup : Setup) (clients caller : ℕ) (side : Side) (request : RequestId) (past : List Event) → end_view caller side request (home_events setup clients (CallerHome caller) past) ≡ end_view caller side request past
+unfolding end_done broken
+end_here setup clients caller side request past = own_view (end_view caller side request) (end_after caller side request) (at_home setup clients (CallerHome caller)) (end_more caller side request) (end_apart setup clients caller side request) past

@@ -25,7 +25,7 @@ IsEnded server past = (was_shut_down server past ≡ true) ⊎ (is_gone server p
 moved : (s : State) (e : Event) (server : ℕ) → Case s e → LawOfServers s.past → moves_server server e ≡ true → IsEnded server (e ∷ s.past) → doing_after (Some e) ≡ Off
 unfolding was_shut_down is_gone
 moved s (Take t) server case law y h = cc (law server h, ap (λ n. doing n s.past) (eqb-true t.server.0 server y), case.worker.idle)
-moved s (Forward f) server case law y h = absurd case.worker
+moved s (Forward f) server case law y h = cc (law server h, ap (λ n. doing n s.past) (eqb-true f.server.0 server y), case.worker.busy)
 moved s (Start b) server case law y (inl h) = cc (h, ap (λ n. was_shut_down n s.past) (eqb-true b.server.0 server y), case.worker.not_shut_down)
 moved s (Start b) server case law y (inr h) = cc (h, ap (λ n. is_gone n s.past) (eqb-true b.server.0 server y), case.worker.not_gone)
 moved s (End e) server case law y h = cc (law server h, ap (λ n. doing n s.past) (eqb-true e.server.0 server y), case.worker.busy)

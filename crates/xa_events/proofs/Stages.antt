@@ -1,6 +1,7 @@
 -- Where a request is, and that its queue, its server and its counts agree on that.
 use Rattle.std.proofs.Common.{◌≡◌, ℕ, ◌+◌, ◌<◌, ◌≤◌, ◌||◌, ◌==◌, if◌then◌else◌, Bool, true, false, cond, List, [], ◌∷◌, Some, None, inl, inr, refl, sym, ◌∙◌, ap, subst, arith, eq-eqb, eqb-true, lt_of_le_of_lt}
-use Rattle.std.proofs.lemmas.Bool.{cond_both, cond-true}
+use Rattle.std.specs.Prelude.{slice_get}
+use Rattle.std.proofs.lemmas.Bool.{cond_both, cond-true, or_left}
 use Rattle.std.proofs.lemmas.Option.{cond_some}
 use Rattle.xa_types.specs.declared.ids.RequestId.{RequestId}
 use Rattle.xa_types.specs.declared.ids.Generation.{Generation}
@@ -50,7 +51,7 @@ stage_by (Forward f) = Waits f.queue.0
 stage_by _ = Over
 
 -- where the request is, by the last event that moves it
-pub stage : RequestId → List Event → Stage
+unfoldable pub stage : RequestId → List Event → Stage
 stage r [] = Unknown
 stage r (e ∷ past) = cond (moves r e) (stage_by e) (stage r past)
 
@@ -73,6 +74,11 @@ Counts Over accepts takes forwards settled = (accepts ≡ 1) × Unit {0} × (set
 abbrev pub Counted : RequestId → List Event → Stage → Type 0
 Counted r past stage = Counts stage (count (is_accept_of r) past) (count (is_take_of r) past) (count (is_forward_of r) past) (count (is_settled_by r) past)
 
+-- a request is accepted and settled once at most
+pub at_most_once : (r : RequestId) (past : List Event) (stage : Stage) → Counted r past stage → (count (is_accept_of r) past ≤ 1) × (count (is_settled_by r) past ≤ 1)
+at_most_once r past Over c = (omega (arith, c.0), omega (arith, c.2))
+at_most_once r past _ c = (omega (arith, c.0), omega (arith, c.2))
+
 -- what the queues, the servers, the callers and the counts say of a request is its stage
 pub record Agree (s : State) : Type 0 where
   pub waits : (queue : ℕ) (r : RequestId) → has r (waiting s.setup queue s.past) ≡ true → stage r s.past ≡ Waits queue
@@ -85,14 +91,20 @@ pub agree_none : (setup : Setup) (clients : ℕ) → Agree (opening setup client
 unfolding waiting doing stage
 agree_none setup clients = record { waits = λ queue r h. cc h; busy = λ server generation r h. cc h; fresh = λ r h. refl; counts = λ r. (refl, refl, refl) }
 
+-- the first of some requests is among them
+first_there : (rs : List RequestId) (r : RequestId) → slice_get rs 0 ≡ Some r → has r rs ≡ true
+first_there [] r h = absurd (cc h)
+first_there (q ∷ rs) r h = let same : r ≡ q = cc h in or_left (same_request r q) (has r rs) (same_request_of r q same)
+
 -- an event that may come next and moves a request finds its stage as it needs it
 pub found : (s : State) (e : Event) (r : RequestId) → Case s e → Agree s → moves r e ≡ true → Found s.setup e (stage r s.past)
 found s (Accept a) r case agree m =
     let count : accepted a.request.caller.0 s.past ≡ accepted a.by.0 s.past = ap (λ c. accepted c.0 s.past) case.worker.caller in
     rw (← same_request_is a.request r m, agree.fresh a.request (omega (arith, count, case.worker.number))) tt
 found s (Take t) r case agree m = rw (← same_request_is t.request r m, agree.waits (queue_of s.setup t.server.0) t.request case.home.waits) refl
-found s (Forward f) r case agree m = absurd case.worker
-found s (Sweep x) r case agree m = absurd case.worker
+found s (Forward f) r case agree m = rw (← same_request_is f.request r m, agree.busy f.server.0 f.generation f.request case.worker.busy) refl
+found s (Sweep x) r case agree m =
+    rw (← same_request_is x.request r m, agree.waits x.queue.0 x.request (first_there (waiting s.setup x.queue.0 s.past) x.request case.home.oldest)) refl
 found s (End e) r case agree m = rw (← same_request_is e.request r m, agree.busy e.server.0 e.generation e.request case.worker.busy) refl
 found s _ r case agree m = cc m
 
@@ -172,7 +184,7 @@ next s e r case agree =
     (λ n. still e r s.past (stage r s.past) n (agree.counts r))
 
 -- a request that the event doesn't move stays at its stage
-stays : (s : State) (e : Event) (r : RequestId) (old : Stage) → Case s e → Agree s → stage r s.past ≡ old → (moves r e ≡ true → Found s.setup e old → ⊥) → stage r (e ∷ s.past) ≡ old
+pub stays : (s : State) (e : Event) (r : RequestId) (old : Stage) → Case s e → Agree s → stage r s.past ≡ old → (moves r e ≡ true → Found s.setup e old → ⊥) → stage r (e ∷ s.past) ≡ old
 unfolding stage
 stays s e r old case agree is unmoved =
     cond_both (moves r e) (stage_by e) (stage r s.past) (λ x. x ≡ old) (λ m. absurd (unmoved m (subst (Found s.setup e) is (found s e r case agree m)))) (λ n. is)

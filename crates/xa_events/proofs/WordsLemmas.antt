@@ -1,12 +1,13 @@
 -- What the words that read a list of events say of one event more.
 use Rattle.std.proofs.Common.{if◌then◌else◌, ◌≡◌, ℕ, ◌+◌, ◌≤◌, ◌==◌, ◌||◌, ◌&&◌, Bool, true, false, cond, not, List, [], ◌∷◌, Option, Some, None, inl, inr, ◌⊎◌, refl, sym, ◌∙◌, ap, subst, arith, eq-eqb, eqb-true}
+use Rattle.std.specs.Prelude.{IsSomeAnd}
 use Rattle.std.specs.List.{filter_map, list_any, cons_option}
 use Rattle.std.proofs.Math.Bool.{or-false}
-use Rattle.std.proofs.lemmas.Bool.{cond_both, or_cases, or_left, and_parts, and_from}
+use Rattle.std.proofs.lemmas.Bool.{cases_Bool, cond_both, or_cases, or_left, and_parts, and_from}
 use Rattle.std.proofs.lemmas.List.Folds.{list_any-append}
 use Rattle.std.proofs.lemmas.Map.Views.{any-filter_same}
 use Rattle.xa_types.specs.declared.ids.RequestId.{RequestId}
-use Rattle.xa_events.specs.Words.{latest, count, greatest, same_request, added, without, has}
+use Rattle.xa_events.specs.Words.{latest, count, IsEarlier, Was, greatest, same_request, added, without, has}
 
 request_of : ℕ → ℕ → RequestId
 request_of caller number = record { caller = record { 0 = caller }; number = number }
@@ -42,6 +43,11 @@ count_no p e past h = ap (λ b. cond b (count p past + 1) (count p past)) h
 pub count_grows : {X : Type 0} (p : X → Bool) (e : X) (past : List X) → count p past ≤ count p (e ∷ past)
 count_grows p e past = cond_both (p e) (count p past + 1) (count p past) (λ n. count p past ≤ n) (λ y. omega arith) (λ n. omega arith)
 
+pub counts_earlier : {X : Type 0} (p : X → Bool) (moment now : List X) → IsEarlier moment now → count p moment ≤ count p now
+counts_earlier p moment [] is = let same = ap (count p) is in omega (arith, same)
+counts_earlier p moment (x ∷ now) (inl is) = let same = ap (count p) is in omega (arith, same)
+counts_earlier p moment (x ∷ now) (inr older) = omega (arith, counts_earlier p moment now older, count_grows p x now)
+
 pub list_any_yes : {X : Type 0} (p : X → Bool) (e : X) (past : List X) → p e ≡ true → list_any p (e ∷ past) ≡ true
 list_any_yes p e past h = or_left (p e) (list_any p past) h
 
@@ -53,6 +59,31 @@ filter_map_yes f e past y h = ap (λ o. cons_option o (filter_map f past)) h
 
 pub filter_map_no : {X Y : Type 0} (f : X → Option Y) (e : X) (past : List X) → f e ≡ None → filter_map f (e ∷ past) ≡ filter_map f past
 filter_map_no f e past h = ap (λ o. cons_option o (filter_map f past)) h
+
+-- where f gives something of what passes p alone, and none passes
+pub none_from : {X Y : Type 0} (f : X → Option Y) (p : X → Bool) → ((x : X) → p x ≡ false → f x ≡ None) → (past : List X) → count p past ≡ 0 → filter_map f past ≡ []
+none_from f p unless [] h = refl
+none_from f p unless (e ∷ past) h =
+    elim (cases_Bool (p e)) [
+      | inl y ↦ absurd (omega (arith, h, count_yes p e past y))
+      | inr n ↦ filter_map_no f e past (unless e n) ∙ none_from f p unless past (sym (count_no p e past n) ∙ h)
+    ]
+
+-- and where one passes at most, what f gave of it is all
+pub one_from : {X Y : Type 0} (f : X → Option Y) (p : X → Bool) (P : Y → Type 0) → ((x : X) → p x ≡ false → f x ≡ None) → (past : List X) → count p past ≤ 1
+    → Was (λ e before. (p e ≡ true) × IsSomeAnd (f e) P) past → (y : Y) × (filter_map f past ≡ y ∷ []) × P y
+one_from f p P unless [] most h = absurd h
+one_from {X} {Y} f p P unless (e ∷ past) most (inl h) = here (f e) refl h.1
+  where
+    here : (o : Option Y) → f e ≡ o → IsSomeAnd o P → (y : Y) × (filter_map f (e ∷ past) ≡ y ∷ []) × P y
+    here None is is_there = absurd is_there
+    here (Some y) is is_there = (y, filter_map_yes f e past y is ∙ ap (λ ys. y ∷ ys) (none_from f p unless past (omega (arith, most, count_yes p e past h.0))), is_there)
+one_from f p P unless (e ∷ past) most (inr h) =
+    let old = one_from f p P unless past (omega (arith, most, count_grows p e past)) h in
+    elim (cases_Bool (p e)) [
+      | inl y ↦ let none = none_from f p unless past (omega (arith, most, count_yes p e past y)) in absurd (cc (none, old.1))
+      | inr n ↦ (old.0, filter_map_no f e past (unless e n) ∙ old.1, old.2)
+    ]
 
 pub greatest_rises : (low high : ℕ) (ns : List ℕ) → low ≤ high → greatest low ns ≤ greatest high ns
 greatest_rises low high [] h = h
@@ -87,3 +118,9 @@ kept_before (Some a) out rs r h =
       | inl old ↦ inr (without_before out rs r old)
       | inr new ↦ inl (ap Some (sym (same_request_is r a new)))
     ]
+
+-- ---- what holds of a value that is there
+
+pub some_weaker : {X : Type 0} (P Q : X → Type 0) → ((x : X) → P x → Q x) → (o : Option X) → IsSomeAnd o P → IsSomeAnd o Q
+some_weaker P Q weaker None h = absurd h
+some_weaker P Q weaker (Some x) h = weaker x h

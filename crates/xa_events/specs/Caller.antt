@@ -1,11 +1,11 @@
 -- A caller, read off the events: its last call, its requests, its open descriptors, what it has read of the board and of the clock (XATMI, tpcall,
 -- tpacall and tpgetrply; that 50 and 16 descriptors may be open is this project's own).
-use Rattle.std.specs.Prelude.{◌≡◌, ℕ, ◌+◌, ◌==◌, ◌<◌, ◌&&◌, nat_le, nat_lt, Bool, true, false, List, Option, Some, None, if◌then◌else◌}
+use Rattle.std.specs.Prelude.{◌≡◌, ℕ, ℤ, ◌+◌, ◌-◌, ◌==◌, ◌<◌, ◌&&◌, not, nat_le, nat_lt, Bool, true, false, List, Option, Some, None, if◌then◌else◌}
 use Rattle.std.specs.List.{list_any, filter_map, slice_get}
 use Rattle.xa_types.specs.declared.ids.RequestId.{RequestId}
 use Rattle.xa_types.specs.declared.setup.Setup.{Setup}
 use Rattle.xa_types.specs.declared.call.Mode.{Mode}
-use Rattle.xa_types.specs.declared.call.Mode.TheVariants.{Reply}
+use Rattle.xa_types.specs.declared.call.Mode.TheVariants.{Reply, ConvReceives, ConvSends}
 use Rattle.xa_events.specs.declared.event.Event.{Event}
 use Rattle.xa_events.specs.declared.event.Event.TheVariants.{Advertise, Withdraw, Accept, Forward, Tick, Start, StartFailed, End, Answer, Cancel, Lapse, Refuse, NotYet, Leave, Send, Receive, Break, Priority}
 use Rattle.xa_events.specs.declared.event.Evidence.{Evidence}
@@ -15,6 +15,7 @@ use Rattle.xa_events.specs.declared.event.Outcome.TheVariants.{BadForward}
 use Rattle.xa_events.specs.Words.{latest, count, kept, greatest}
 use Rattle.xa_events.specs.State.{caller_of}
 use Rattle.xa_events.specs.Board.{boot}
+use Rattle.xa_events.specs.Server.{doing, is_busy}
 
 -- ---- calls
 
@@ -86,17 +87,52 @@ abbrev pub wants_reply : Mode → Bool
 wants_reply Reply = true
 wants_reply _ = false
 
+abbrev pub is_conversational : Mode → Bool
+is_conversational ConvReceives = true
+is_conversational ConvSends = true
+is_conversational _ = false
+
+-- the event sets the priority of the caller's next request, or uses it up: a request that begins a conversation leaves it for the next
+abbrev pub changes_priority : ℕ → ℕ → Event → Bool
+changes_priority clients caller (Accept a) = (a.by.0 == caller) && not (is_conversational a.mode)
+changes_priority clients caller (Forward f) = caller_of clients f.server.0 == caller
+changes_priority clients caller (Priority p) = p.by.0 == caller
+changes_priority clients caller _ = false
+
+abbrev pub priority_asked : Option Event → Option (Bool × ℤ)
+priority_asked (Some (Priority p)) = Some (p.absolute, p.amount)
+priority_asked _ = None
+
+-- the priority that the caller set for its next request, where it set one: absolute, or added to the service's own
+unfoldable pub next_priority : ℕ → ℕ → List Event → Option (Bool × ℤ)
+next_priority clients caller past = priority_asked (latest (changes_priority clients caller) past)
+
 -- the event makes a descriptor of the caller valid
 abbrev pub opens_descriptor : ℕ → Event → Option RequestId
 opens_descriptor caller (Accept a) = if (a.by.0 == caller) && wants_reply a.mode then Some a.request else None
 opens_descriptor caller _ = None
 
--- the event makes a descriptor of the caller invalid: its reply was taken, it was cancelled, or its tpcall lapsed
+-- the request whose descriptor the event makes invalid: its reply was taken, it was cancelled, or its tpcall lapsed
+abbrev pub closed_in : Event → Option RequestId
+closed_in (Answer a) = Some a.request
+closed_in (Cancel c) = Some c.request
+closed_in (Lapse l) = if l.of_call then slice_get l.requests 0 else None
+closed_in _ = None
+
+-- the event makes a descriptor of the caller invalid
 abbrev pub closes_descriptor : ℕ → Event → Option RequestId
-closes_descriptor caller (Answer a) = if a.by.0 == caller then Some a.request else None
-closes_descriptor caller (Cancel c) = if c.by.0 == caller then Some c.request else None
-closes_descriptor caller (Lapse l) = if (l.by.0 == caller) && l.of_call then slice_get l.requests 0 else None
+closes_descriptor caller (Answer a) = if a.by.0 == caller then closed_in (Answer a) else None
+closes_descriptor caller (Cancel c) = if c.by.0 == caller then closed_in (Cancel c) else None
+closes_descriptor caller (Lapse l) = if l.by.0 == caller then closed_in (Lapse l) else None
 closes_descriptor caller _ = None
+
+abbrev pub answers_request : ℕ → Event → Option RequestId
+answers_request caller (Answer a) = if a.by.0 == caller then Some a.request else None
+answers_request caller _ = None
+
+-- the requests to which no answer was given yet, the oldest first: each holds a reply cell, also one that was cancelled
+unfoldable pub unanswered : ℕ → List Event → List RequestId
+unanswered caller past = kept (opens_descriptor caller) (answers_request caller) past
 
 -- the requests whose descriptors are open, the oldest first
 unfoldable pub open_descriptors : ℕ → List Event → List RequestId
@@ -182,6 +218,18 @@ gives_up caller _ = false
 -- whether the client is leaving: it gives up what it still has open
 unfoldable pub is_leaving : ℕ → List Event → Bool
 is_leaving client past = list_any (gives_up client) past
+
+-- a caller above the clients is a server's, and that has a request in hand
+abbrev pub is_serving : ℕ → ℕ → List Event → Bool
+is_serving clients caller past = nat_lt clients caller && is_busy (doing (caller - clients) past)
+
+-- the caller may make a call: it is a client that hasn't left and isn't leaving, or its server has a request in hand
+abbrev pub is_active : ℕ → ℕ → List Event → Bool
+is_active clients caller past = if is_client clients caller then not (has_left caller past) && not (is_leaving caller past) else is_serving clients caller past
+
+-- the caller may give up what it has open, without a call: it is a client that hasn't left, or its server has no request in hand
+abbrev pub may_give_up : ℕ → ℕ → List Event → Bool
+may_give_up clients caller past = if is_client clients caller then not (has_left caller past) else nat_lt clients caller && not (is_busy (doing (caller - clients) past))
 
 -- each client has left
 abbrev pub AllLeft : ℕ → List Event → Type 0

@@ -1,9 +1,11 @@
 -- Where an event stands, and whose activity it is (this project's own). Each event is one step at one home: at the board, a queue or the clock,
 -- or in the record of a caller. It is made by one worker: the domain itself, a client or a server.
-use Rattle.std.specs.Prelude.{ℕ, ◌==◌, Bool, true, false}
+use Rattle.std.specs.Prelude.{◌≡◌, ℕ, zero, suc, ◌+◌, ◌==◌, ◌&&◌, Bool, true, false, List, [], ◌∷◌, ◌++◌, length, map}
+use Rattle.std.specs.List.{filter}
 use Rattle.xa_types.specs.declared.setup.Setup.{Setup}
 use Rattle.xa_types.specs.Setup.{queue_of}
 use Rattle.xa_events.specs.State.{caller_of}
+use Rattle.xa_events.specs.Words.{count, IsEarlier}
 use Rattle.xa_events.specs.declared.event.Event.{Event}
 use Rattle.xa_events.specs.declared.event.Event.TheVariants.{Advertise, Withdraw, Accept, Take, Forward, Sweep, Gone, Down, Close, Tick, Start, StartFailed, End, Stop, Answer, Cancel, Lapse, Refuse, NotYet, Leave, Send, Receive, Break, Priority}
 
@@ -12,6 +14,15 @@ pub data Home : Type 0 where
   QueueHome : (queue : ℕ) → Home
   ClockHome : Home
   CallerHome : (caller : ℕ) → Home
+
+-- so many numbers, from the first one on
+abbrev pub numbers_from : ℕ → ℕ → List ℕ
+numbers_from first zero = []
+numbers_from first (suc n) = first ∷ numbers_from (first + 1) n
+
+-- all homes of a domain with so many clients: the board, the queues, the clock, and the callers, which are the clients and then the servers
+abbrev pub all_homes : Setup → ℕ → List Home
+all_homes setup clients = BoardHome ∷ (map QueueHome (numbers_from 1 (length setup.queues)) ++ ClockHome ∷ map CallerHome (numbers_from 1 (clients + length setup.servers)))
 
 abbrev pub same_home : Home → Home → Bool
 same_home BoardHome BoardHome = true
@@ -81,3 +92,14 @@ at_home setup clients home e = same_home (home_of setup clients e) home
 -- whether the event is that worker's
 abbrev pub of_worker : ℕ → ℕ → Event → Bool
 of_worker clients worker e = worker_of clients e == worker
+
+-- the event is the worker's, and stands at that queue
+abbrev pub is_own_at : Setup → ℕ → ℕ → ℕ → Event → Bool
+is_own_at setup clients worker queue e = at_home setup clients (QueueHome queue) e && of_worker clients worker e
+
+-- P held of the queue's events at a moment not before the worker's last event there
+pub record HeldSince (setup : Setup) (clients worker queue : ℕ) (P : List Event → Type 0) (past : List Event) : Type 0 where
+  pub moment : List Event
+  pub stood : IsEarlier moment past
+  pub own : count (is_own_at setup clients worker queue) moment ≡ count (is_own_at setup clients worker queue) past
+  pub held : P (filter (at_home setup clients (QueueHome queue)) moment)

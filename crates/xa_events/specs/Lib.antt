@@ -8,11 +8,13 @@ pub mod Caller
 pub mod Request
 pub mod Clock
 pub mod Answers
+pub mod Conversation
 pub mod Cases
 pub mod Run
 pub mod Local
 pub mod Order
 pub mod Laws
 pub mod Calls
+pub mod Finishing
 pub mod Said
 pub mod Views

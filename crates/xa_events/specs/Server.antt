@@ -3,6 +3,7 @@
 use Rattle.std.specs.Prelude.{◌≡◌, ℕ, ◌+◌, ◌-◌, ◌==◌, ◌<◌, ◌&&◌, nat_lt, Bool, true, false, List, [], ◌∷◌, length, Option, Some, None, if◌then◌else◌}
 use Rattle.std.specs.List.{list_any, filter_map}
 use Rattle.xa_types.specs.declared.ids.Generation.{Generation}
+use Rattle.xa_types.specs.declared.ids.RequestId.{RequestId}
 use Rattle.xa_types.specs.declared.setup.Setup.{Setup}
 use Rattle.xa_types.specs.declared.setup.ServerSetup.{ServerSetup}
 use Rattle.xa_types.specs.Setup.{numbered, queue_of}
@@ -45,6 +46,18 @@ doing_after _ = Off
 -- what the server does
 unfoldable pub doing : ℕ → List Event → Doing
 doing server past = doing_after (latest (moves_server server) past)
+
+abbrev pub is_busy : Doing → Bool
+is_busy (Busy generation request) = true
+is_busy _ = false
+
+abbrev pub held_in : Doing → Option RequestId
+held_in (Busy generation request) = Some request
+held_in _ = None
+
+-- the request that the caller's server is busy with; callers behind the clients are the servers'
+abbrev pub in_hand : ℕ → ℕ → List Event → Option RequestId
+in_hand clients caller past = if nat_lt clients caller then held_in (doing (caller - clients) past) else None
 
 abbrev pub start_in : ℕ → Event → Option ℕ
 start_in server (Start s) = if s.server.0 == server then Some s.tick else None

@@ -58,3 +58,8 @@ AtEach P (e ∷ past) = P e past × AtEach P past
 abbrev pub IsEarlier : {X : Type 0} → List X → List X → Type 0
 IsEarlier earlier [] = earlier ≡ []
 IsEarlier earlier (e ∷ past) = (earlier ≡ e ∷ past) ⊎ IsEarlier earlier past
+
+-- P holds of one of these with those before it
+abbrev pub Was : {X : Type 0} → (X → List X → Type 0) → List X → Type 0
+Was P [] = ⊥
+Was P (e ∷ past) = P e past ⊎ Was P past

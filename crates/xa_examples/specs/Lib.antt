@@ -1,2 +1,12 @@
+pub mod Setting
 pub mod Histories
 pub mod Homes
+pub mod Crew
+pub mod Calling
+pub mod Forwards
+pub mod Conversations
+pub mod Advertising
+pub mod Talkers
+pub mod Restarts
+pub mod Faults
+pub mod Descriptors

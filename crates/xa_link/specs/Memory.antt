@@ -38,6 +38,10 @@ link_sink l = l.sink
 abbrev pub shelf_files : MemoryShelf → List (List ℕ × List ℕ)
 shelf_files s = s.files.items
 
+-- the names of the files that it was asked for
+abbrev pub shelf_asked : MemoryShelf → List (List ℕ)
+shelf_asked s = s.asked.items
+
 -- how often a read failed
 abbrev pub shelf_faults : MemoryShelf → ℕ
 shelf_faults s = s.faults

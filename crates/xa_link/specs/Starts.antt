@@ -1,7 +1,11 @@
--- What starters and yards were asked for.
+-- What shelves, starters and yards were asked for.
 use Rattle.std.specs.Prelude.{◌≡◌, ℕ, List, [], ◌∷◌, ◌++◌, Option, option_map}
 use Rattle.xa_types.specs.declared.ids.Generation.{Generation}
 use Rattle.xa_types.specs.declared.setup.Setup.{Setup}
+
+-- one file more was asked for, of that name; what isn't told stays so
+abbrev pub AsksFile : Option (List (List ℕ)) → Option (List (List ℕ)) → List ℕ → Type 0
+AsksFile before now name = now ≡ option_map (λ names. names ++ name ∷ []) before
 
 -- one start more was asked for, of that server and generation; what isn't told stays so
 abbrev pub AsksFor : Option (List (List ℕ × Generation)) → Option (List (List ℕ × Generation)) → List ℕ → Generation → Type 0

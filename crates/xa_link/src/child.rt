@@ -27,6 +27,7 @@ pub struct ChildLink<P: OpenProcess + Drop> {
     child: Child<P>,
     from: ReadSource<P::Stdout>,
     to: WriteSink<PipeWriter>,
+    whose: Option<(Name, Generation)>,
 }
 
 impl<P: OpenProcess + Drop> Drop for ChildLink<P> {
@@ -35,6 +36,7 @@ impl<P: OpenProcess + Drop> Drop for ChildLink<P> {
             mut child,
             from,
             to,
+            whose: _,
         } = self;
         let _ = finish(&mut child, from, to);
     }
@@ -71,12 +73,12 @@ impl<P: OpenProcess + Drop> Source for ChildLink<P> {
 
     ghost read_faults = { λ l. l.from.faults };
 
-    ghost beside_reads = { λ l. (None, l.to.faults) };
+    ghost beside_reads = { λ l. (None, l.to.faults, l.whose) };
 
     fn read(&mut self, into: &mut [u8]) -> Result<usize, Failed>
         ensures bound { IfOk result (λ n. n ≤ length into.new) }
         ensures bytes { ReadConsumes (P.Stdout.remaining self.old.from.reader) (P.Stdout.remaining self.new.from.reader) result into.new }
-        ensures alone { self.new.to.faults ≡ self.old.to.faults }
+        ensures alone { (self.new.to.faults ≡ self.old.to.faults) × (self.new.whose ≡ self.old.whose) }
         ensures later { self.old.from.faults ≤ self.new.from.faults }
         ensures cause { IsErr result → Rose self.old.from.faults self.new.from.faults }
         ensures quiet { OnOk result (self.new.from.faults ≡ self.old.from.faults) }
@@ -90,12 +92,12 @@ impl<P: OpenProcess + Drop> Sink for ChildLink<P> {
 
     ghost write_faults = { λ l. l.to.faults };
 
-    ghost beside_writes = { λ l. (None, l.from.faults) };
+    ghost beside_writes = { λ l. (None, l.from.faults, l.whose) };
 
     fn write(&mut self, from: &[u8]) -> Result<usize, Failed>
         ensures bound { IfOk result (λ n. n ≤ length from.now) }
         ensures bytes { WriteAppends (⟦<PipeWriter as Write>⟧.contents self.old.to.writer) (⟦<PipeWriter as Write>⟧.contents self.new.to.writer) result from.now }
-        ensures alone { self.new.from.faults ≡ self.old.from.faults }
+        ensures alone { (self.new.from.faults ≡ self.old.from.faults) × (self.new.whose ≡ self.old.whose) }
         ensures later { self.old.to.faults ≤ self.new.to.faults }
         ensures cause { IsErr result → Rose self.old.to.faults self.new.to.faults }
         ensures nothing { result ≡ Ok 0 → 0 < length from.now → Rose self.old.to.faults self.new.to.faults }
@@ -107,6 +109,8 @@ impl<P: OpenProcess + Drop> Sink for ChildLink<P> {
 
 impl<P: OpenProcess + Drop> Link for ChildLink<P> {
     ghost use Rattle.std.specs.Prelude.{refl};
+
+    ghost whose = { λ l. l.whose };
 
     ghost reads_alone = { λ _. refl };
 
@@ -196,13 +200,6 @@ pub struct ChildStarter<R: Processes + Files + AllocGlobal + Eprint> {
 }
 
 impl<R: Processes + Files + AllocGlobal + Eprint> ChildStarter<R> {
-    /// The server that it starts, as the setup names it.
-    pub fn server(&self) -> Name
-        ensures { result ≡ self.now.server }
-    {
-        self.server
-    }
-
     // A word of the monitor that can't be started is no failure, since the system knows where its program is.
     fn launch(&self, server: &Name) -> Result<ChildLink<R::Started>, Failure>
         ensures { IfOk result (λ l. (l.from.faults ≡ 0) × (l.to.faults ≡ 0)) }
@@ -245,6 +242,7 @@ impl<R: Processes + Files + AllocGlobal + Eprint> ChildStarter<R> {
         ensures counted { result ≡ NotStarted → Rose self.old.faults self.new.faults }
         ensures starved { result ≡ Starved → self.new.faults ≡ self.old.faults }
         ensures later { self.old.faults ≤ self.new.faults }
+        ensures whose { self.new.server ≡ self.old.server }
     {
         let refused = failure.refusal();
         if refused == StartRefused::Failed {
@@ -333,6 +331,7 @@ fn link_to<P: OpenProcess + Drop>(mut child: Child<P>, to: PipeWriter) -> io::Re
         child,
         from: ReadSource::new(from),
         to: WriteSink::new(to),
+        whose: None,
     })
 }
 
@@ -354,17 +353,26 @@ fn spawn<R: Processes + Files>(
 
 impl<R: Processes + Files + AllocGlobal + Eprint> Starter<ChildLink<R::Started>>
     for ChildStarter<R> {
+    ghost server_name = { λ s. s.server };
+
     ghost start_faults = { λ s. s.faults };
 
     ghost asked = { λ _. None };
 
+    fn server(&self) -> Name {
+        self.server
+    }
+
     fn start(
         &mut self,
         server: &Name,
-        _generation: Generation,
+        generation: Generation,
     ) -> Result<ChildLink<R::Started>, StartRefused> {
         match self.launch(server) {
-            Ok(link) => Ok(link),
+            Ok(mut link) => {
+                link.whose = Some((*server, generation));
+                Ok(link)
+            }
             Err(failure) => Err(self.refuse(server, &failure)),
         }
     }
@@ -398,7 +406,7 @@ impl<R: Processes + Files + AllocGlobal + Eprint> ChildYard<R> {
 
 impl<R: Processes + Files + AllocGlobal + Eprint + Clone + Drop> ChildYard<R> {
     fn starter(&self, server: &ServerSetup) -> Result<ChildStarter<R>, NoMemory>
-        ensures server { IfOk result (λ s. s.server ≡ server.now.name) }
+        ensures name { IfOk result (λ s. s.server ≡ server.now.name) }
         ensures program { IfOk result (λ s. s.programs.configured ≡ server.now.program) }
         ensures monitor { IfOk result (λ s. s.programs.monitor ≡ self.now) }
         ensures count { IfOk result (λ s. s.faults ≡ 0) }

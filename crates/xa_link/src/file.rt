@@ -88,6 +88,8 @@ pub fn read_all<S: Source>(
 impl<R: Files> Shelf for FileShelf<R> {
     ghost file = { λ _ _. None };
 
+    ghost asked = { λ _. None };
+
     ghost shelf_faults = { λ s. s.faults };
 
     fn read(&mut self, name: &[u8], limit: u32) -> Result<Octets, ShelfRefused> {

@@ -1,21 +1,26 @@
 // The pipes of a life.
-ghost use Rattle.std.specs.Prelude.{◌≡◌};
+ghost use Rattle.std.specs.Prelude.{◌≡◌, ℕ, List, Option};
+ghost use Rattle.xa_types.specs.declared.ids.Generation.{Generation};
 
 use crate::{Sink, Source};
 
 /// The two pipes of one life of a server: what the server writes is read from it, and what is written to it the server
 /// reads. Each direction leaves the other alone.
 pub trait Link: Source + Sink {
+    /// Whose it is, once its program was started: its server's name, and the generation.
+    ghost whose: { Self → Option (List ℕ × Generation) };
+
     /// Ends the server's program by force, and waits for it, where it hasn't ended yet. What went through the pipes and
-    /// what failed stays as it is.
+    /// what failed stays as it is, and so does whose it is.
     fn kill(&mut self)
         ensures took { Self.took self.new ≡ Self.took self.old }
         ensures gave { Self.gave self.new ≡ Self.gave self.old }
         ensures left { Self.left self.new ≡ Self.left self.old }
+        ensures whose { whose self.new ≡ whose self.old }
         ensures reads { Self.read_faults self.new ≡ Self.read_faults self.old }
         ensures writes { Self.write_faults self.new ≡ Self.write_faults self.old };
 
-    ghost reads_alone: { (link : Self) → Self.beside_reads link ≡ (Self.took link, Self.write_faults link) };
+    ghost reads_alone: { (link : Self) → Self.beside_reads link ≡ (Self.took link, Self.write_faults link, whose link) };
 
-    ghost writes_alone: { (link : Self) → Self.beside_writes link ≡ (Self.gave link, Self.read_faults link) };
+    ghost writes_alone: { (link : Self) → Self.beside_writes link ≡ (Self.gave link, Self.read_faults link, whose link) };
 }

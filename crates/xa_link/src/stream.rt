@@ -48,7 +48,7 @@ impl<R: Read> Source for ReadSource<R> {
 
     ghost read_faults = { λ s. s.faults };
 
-    ghost beside_reads = { λ _. (None, 0) };
+    ghost beside_reads = { λ _. (None, 0, None) };
 
     fn read(&mut self, into: &mut [u8]) -> Result<usize, Failed>
         ensures bound { IfOk result (λ n. n ≤ length into.new) }
@@ -100,7 +100,7 @@ impl<W: Write> Sink for WriteSink<W> {
 
     ghost write_faults = { λ s. s.faults };
 
-    ghost beside_writes = { λ _. (None, 0) };
+    ghost beside_writes = { λ _. (None, 0, None) };
 
     fn write(&mut self, from: &[u8]) -> Result<usize, Failed>
         ensures bound { IfOk result (λ n. n ≤ length from.now) }

@@ -120,6 +120,7 @@ life_kept setup id past now link out came cause stops life = record {
   may = life.may;
   closed = λ awaits. stops (life.closed awaits);
   counted = life.counted;
+  whose = life.whose;
   took_frames = subst (λ (fs : List Frame). IfSome link.took (Took life.written (due life.written life.turn fs))) (sym out) life.took_frames;
   gave_frames = life.gave_frames;
 }

@@ -3,6 +3,7 @@
 use Rattle.std.specs.Prelude.{◌≡◌, ℕ, ℤ, ◌+◌, ◌-◌, ◌<◌, ◌^◌, ◌%◌, min, Bool, true, false, List, [], ◌∷◌, ◌++◌, length, take, Option, Some, None, IfSome, if◌then◌else◌}
 use Rattle.xa_types.specs.declared.data.Data.{Data}
 use Rattle.xa_types.specs.declared.setup.Setup.{Setup}
+use Rattle.xa_types.specs.declared.ids.Generation.{Generation}
 use Rattle.xa_types.specs.declared.call.Rval.{Rval}
 use Rattle.xa_types.specs.declared.call.Rval.TheVariants.{Success, Exit as ExitValue}
 use Rattle.xa_types.specs.Kind.{is_sound}
@@ -242,13 +243,18 @@ pub record LifeId : Type 0 where
   pub server : ℕ
   pub generation : ℕ
 
--- what a link shows: what it took, gave and still holds, where it tells that, and how often its reads and writes failed
+-- what a link shows: what it took, gave and still holds, where it tells that, how often its reads and writes failed, and whose it is
 pub record LinkShows : Type 0 where
   pub took : Option (List ℕ)
   pub gave : Option (List ℕ)
   pub left : Option (List ℕ)
   pub reads : ℕ
   pub writes : ℕ
+  pub whose : Option (List ℕ × Generation)
+
+-- it is the link of that life
+abbrev pub IsOf : LifeId → Option (List ℕ × Generation) → Type 0
+IsOf life whose = whose ≡ Some (life.name, record { 0 = life.generation })
 
 -- how a life went and why it ended, by its events and by what its link shows
 pub record IsLife (setup : Setup) (life : LifeId) (past : List Event) (link : LinkShows) : Type 0 where
@@ -263,5 +269,6 @@ pub record IsLife (setup : Setup) (life : LifeId) (past : List Event) (link : Li
   pub may : may_end cause turn written ≡ true
   pub closed : turn ≡ AwaitsInvoke → AtEach (StopsClosed setup life.server life.generation) past
   pub counted : IsCounted cause link.reads link.writes
+  pub whose : IsOf life link.whose
   pub took_frames : IfSome link.took (Took written (due written turn (frames_out life.server life.generation past)))
   pub gave_frames : Gave (record { name = life.name; tag = tag_after returned; frames = frames; turn = turn; written = written }) cause link.gave link.left

@@ -36,6 +36,7 @@ impl<L: Link> Model for Pipe<L> {
       left = L.left p.link;
       reads = L.read_faults p.link;
       writes = L.write_faults p.link;
+      whose = L.whose p.link;
       rest = p.reader.rest;
       place = p.reader.place;
     } };
@@ -60,6 +61,7 @@ fn write<L: Link>(link: &mut L, octets: &[u8]) -> Result<(), StopCause>
     ensures part { OnErr result (GrewByPart (L.took link.old) (L.took link.new) octets.now) }
     ensures gave { L.gave link.new ≡ L.gave link.old }
     ensures reads { L.read_faults link.new ≡ L.read_faults link.old }
+    ensures whose { L.whose link.new ≡ L.whose link.old }
     ensures well { OnOk result (L.write_faults link.new ≡ L.write_faults link.old) }
     ensures why { IfErr result (λ cause. (cause ≡ StopCause.WriteFault) × Rose (L.write_faults link.old) (L.write_faults link.new)) }
 {
@@ -86,6 +88,7 @@ impl<L: Link> Pipe<L> {
         requires gave { Empty (L.gave link) }
         ensures reads { result.reads ≡ L.read_faults link }
         ensures writes { result.writes ≡ L.write_faults link }
+        ensures whose { result.whose ≡ L.whose link }
         ensures wrote { Wrote result [] }
         ensures read { HasRead result [] }
     {
@@ -104,6 +107,7 @@ impl<L: Link> Pipe<L> {
         ensures left { L.left result ≡ self.left }
         ensures reads { L.read_faults result ≡ self.reads }
         ensures writes { L.write_faults result ≡ self.writes }
+        ensures whose { L.whose result ≡ self.whose }
     {
         let Pipe {
             link,
@@ -132,6 +136,7 @@ impl<L: Link> Pipe<L> {
         ensures rest { self.new.rest ≡ self.old.rest }
         ensures place { self.new.place ≡ self.old.place }
         ensures reads { self.new.reads ≡ self.old.reads }
+        ensures whose { self.new.whose ≡ self.old.whose }
         ensures well { OnOk result (self.new.writes ≡ self.old.writes) }
         ensures why { IfErr result (λ cause. CountsWrites cause self.old.writes self.new.writes) }
     {
@@ -159,6 +164,7 @@ impl<L: Link> Pipe<L> {
         ensures rest { self.new.rest ≡ self.old.rest }
         ensures place { self.new.place ≡ self.old.place }
         ensures reads { self.new.reads ≡ self.old.reads }
+        ensures whose { self.new.whose ≡ self.old.whose }
         ensures well { OnOk result (self.new.writes ≡ self.old.writes) }
         ensures why { IfErr result (λ cause. CountsWrites cause self.old.writes self.new.writes) }
     {
@@ -182,6 +188,7 @@ impl<L: Link> Pipe<L> {
         ensures spelling { IfOk result (λ f. HasSpelling f) }
         ensures took { self.new.took ≡ self.old.took }
         ensures writes { self.new.writes ≡ self.old.writes }
+        ensures whose { self.new.whose ≡ self.old.whose }
         ensures well { OnOk result (self.new.reads ≡ self.old.reads) }
         ensures kept { IfErr result (λ cause. (frames : List Frame) → HasRead self.old frames → Keeps self.new frames cause) }
         ensures why { IfErr result (λ cause. (frames : List Frame) → HasRead self.old frames → ReadsNone self.new frames cause) }
@@ -203,6 +210,7 @@ impl<L: Link> Pipe<L> {
         requires partial { IsPartial self.old.rest }
         ensures took { self.new.took ≡ self.old.took }
         ensures writes { self.new.writes ≡ self.old.writes }
+        ensures whose { self.new.whose ≡ self.old.whose }
         ensures grew { OnOk result ((frames : List Frame) → HasRead self.old frames → HasRead self.new frames) }
         ensures more { OnOk result (length self.old.rest < length self.new.rest) }
         ensures within { OnOk result (length self.new.rest ≤ length self.old.rest + 8192) }

@@ -1,14 +1,15 @@
 -- The setup of a run: what a configuration says, or the setup of `play` (this project's own).
-use Rattle.std.specs.Prelude.{◌≡◌, ◌≤◌, ℕ, List, length, Option, Some, ⊤}
+use Rattle.std.specs.Prelude.{◌≡◌, ◌⊎◌, ◌≤◌, ℕ, List, length, Option, Some, None, ⊤}
 use Rattle.xa_types.specs.declared.setup.Setup.{Setup}
 use Rattle.xa_link.specs.Told.{Rose}
 use Rattle.xa_link.specs.Reads.{Holds, HoldsMore}
+use Rattle.xa_link.specs.Starts.{AsksFile}
 use Rattle.xa_config.specs.Faults.{fault}
 use Rattle.xa_config.specs.Document.{IsConfiguration, IsFirstFault}
 use Rattle.xa_program.specs.declared.words.Command.{Command}
 use Rattle.xa_program.specs.declared.words.Command.TheVariants.{Run, Play, Server}
 use Rattle.xa_program.specs.declared.status.Status.{Status}
-use Rattle.xa_program.specs.declared.status.Status.TheVariants.{ConfigRead, ConfigFault, TooLong}
+use Rattle.xa_program.specs.declared.status.Status.TheVariants.{ConfigRead, ConfigFault, TooLong, NoMemory}
 use Rattle.xa_program.specs.declared.status.Input.TheVariants as inputs
 use Rattle.xa_program.specs.PlaySetup.{play_setup}
 
@@ -45,6 +46,22 @@ LacksSetup shelf (Run name) (ConfigFault number key) = HasFault (shelf.file name
 LacksSetup shelf command status = ⊥
 
 -- how often a read of a file failed, before and after: once more where `run` couldn't read its configuration, and else as often
-abbrev pub KeepsShelf : Option Command → Status → ℕ → ℕ → Type 0
-KeepsShelf (Some (Run name)) ConfigRead before after = Rose before after
-KeepsShelf command status before after = after ≡ before
+abbrev pub CountsShelf : Option Command → Status → ℕ → ℕ → Type 0
+CountsShelf (Some (Run name)) ConfigRead before after = Rose before after
+CountsShelf command status before after = after ≡ before
+
+-- the files that the command asks for: `run CONFIG` its configuration, once, and any other none
+abbrev pub AsksFiles : Command → Option (List (List ℕ)) → Option (List (List ℕ)) → Type 0
+AsksFiles (Run name) before after = AsksFile before after name
+AsksFiles command before after = after ≡ before
+
+-- which files were asked for, before and after: those that the command asks for, or none where memory ran out, as where there is no command
+abbrev pub AsksShelf : Option Command → Status → Option (List (List ℕ)) → Option (List (List ℕ)) → Type 0
+AsksShelf (Some command) NoMemory before after = (after ≡ before) ⊎ AsksFiles command before after
+AsksShelf (Some command) status before after = AsksFiles command before after
+AsksShelf None status before after = after ≡ before
+
+-- what the shelf shows of a run: how often a read failed, and which files were asked for
+pub record KeepsShelf (command : Option Command) (status : Status) (faults faults_after : ℕ) (asked asked_after : Option (List (List ℕ))) : Type 0 where
+  pub counts : CountsShelf command status faults faults_after
+  pub asks : AsksShelf command status asked asked_after

@@ -1,5 +1,5 @@
 -- What a run of `run` or `play` comes to (this project's own).
-use Rattle.std.specs.Prelude.{◌≡◌, ◌⊎◌, ◌≤◌, ℕ, List, [], length, reverse, map, Option, ⊤}
+use Rattle.std.specs.Prelude.{◌≡◌, ◌⊎◌, ◌≤◌, ℕ, List, [], length, reverse, map, Option, Some, ⊤}
 use Rattle.xa_types.specs.declared.setup.Setup.{Setup}
 use Rattle.xa_link.specs.Told.{Rose, Grew, GrewByPart}
 use Rattle.xa_events.specs.declared.event.Event.{Event}
@@ -11,6 +11,7 @@ use Rattle.xa_text.specs.Transcript.{transcript}
 use Rattle.xa_domain.specs.declared.serving.Life.{Life}
 use Rattle.xa_tables.specs.declared.halt.Halt.{Halt}
 use Rattle.xa_tables.specs.declared.halt.Halt.TheVariants as halts
+use Rattle.xa_domain.specs.Recording.{IsRecorded, HasHomes}
 use Rattle.xa_domain.specs.Serving.{StarterShows, LinkTells, IsServedWhole, IsServedSoFar, IsWorn}
 use Rattle.xa_program.specs.declared.words.Command.{Command}
 use Rattle.xa_program.specs.declared.words.Command.TheVariants.{Play, Server}
@@ -79,18 +80,19 @@ HandsNothing homes history lives starters = (homes ≡ []) × (history ≡ []) �
 abbrev pub names_of : List Client → List (List ℕ)
 names_of clients = map (λ client. client.name) clients
 
--- what came from the input, to its end, is the script of these clients; the history is the merge of the homes, whose stamps are dense, and is the
--- whole run of the setup with these clients, and the pipes are its
+-- what came from the input, to its end, is the script of these clients; the history is the merge of the homes, each event of which stands at its own, with
+-- dense stamps that rise, and is the whole run of the setup with these clients, and the pipes are its
 pub record IsServedRun {L S : Type 0} (tells : LinkTells L) (shows : S → StarterShows) (streams : Streams) (setup : Setup) (most : ℕ) (clients : List Client)
     (homes : List Notes) (history : List Event) (lives : List (Life L)) (starters : List S) : Type 0 where
   pub script : IsTheScript most streams.input clients
   pub reads : ReadsWell streams
   pub merged : IsMerged homes history
+  pub recorded : IsRecorded setup (length clients) homes
   pub dense : IsDense (record { 0 = 0 }) homes
   pub whole : IsServedWhole tells shows setup clients history lives starters
 
--- what came from the input, to its end, is the script of these clients, and nothing was written; the merge of the homes, whose stamps are dense,
--- is the beginning of a run of the setup with so many clients, and the lives and the starters' starts are those of these events; the history is that
+-- what came from the input, to its end, is the script of these clients, and nothing was written; the merge of the homes, each event of which
+-- stands at its own, with dense stamps that rise, is the beginning of a run of the setup with so many clients, and the lives and the starters' starts are those of these events; the history is that
 -- merge, or there is none
 pub record IsHaltedRun {L S : Type 0} (shows : S → StarterShows) (streams : Streams) (halt : Halt) (setup : Setup) (most : ℕ) (clients : List Client)
     (homes : List Notes) (history : List Event) (lives : List (Life L)) (starters : List S) : Type 0 where
@@ -98,6 +100,7 @@ pub record IsHaltedRun {L S : Type 0} (shows : S → StarterShows) (streams : St
   pub reads : ReadsWell streams
   pub silent : IsSilent streams
   pub merged : (history ≡ []) ⊎ IsMerged homes history
+  pub recorded : HasHomes (Some halt) setup (length clients) homes
   pub dense : IsDense (record { 0 = 0 }) homes
   pub so_far : (events : List Event) → IsMerged homes events → IsServedSoFar shows halt setup clients events lives starters
 

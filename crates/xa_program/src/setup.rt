@@ -1,11 +1,12 @@
 // The setups of the commands: that of a configuration, and that of `play`.
-ghost use Rattle.std.specs.Prelude.{◌≡◌, true, IfOk, IfErr, OnOk};
+ghost use Rattle.std.specs.Prelude.{◌≡◌, true, Some, IfOk, IfErr, OnOk};
 ghost use Rattle.xa_types.specs.Configured.{is_configured};
 ghost use Rattle.xa_types.specs.Name.{IsName};
+ghost use Rattle.xa_link.specs.Starts.{AsksFile};
 ghost use Rattle.xa_domain.specs.Serving.{NoneRestarts};
 ghost use Rattle.xa_program.specs.declared.words.Command.TheVariants.{Run};
 ghost use Rattle.xa_program.specs.PlaySetup.{play_setup};
-ghost use Rattle.xa_program.specs.Configuration.{IsSetup};
+ghost use Rattle.xa_program.specs.Configuration.{IsSetup, AsksShelf};
 ghost use Rattle.xa_program.specs.Progress.{SetupRefusedAs};
 
 use crate::status::{Input, Status};
@@ -24,6 +25,8 @@ pub fn read_setup<S: Shelf>(alloc: Global, name: &[u8], shelf: &mut S) -> Result
     ensures restarts { IfOk result (λ setup. NoneRestarts setup) }
     ensures quiet { OnOk result (S.shelf_faults shelf.new ≡ S.shelf_faults shelf.old) }
     ensures refused { IfErr result (SetupRefusedAs (record { file = S.file shelf.old; faults = S.shelf_faults shelf.old; faults_after = S.shelf_faults shelf.new }) name.now) }
+    ensures asks { OnOk result (AsksFile (S.asked shelf.old) (S.asked shelf.new) name.now) }
+    ensures asked { IfErr result (λ status. AsksShelf (Some (Run name.now)) status (S.asked shelf.old) (S.asked shelf.new)) }
 {
     let octets = match shelf.read(name, LONGEST_CONFIGURATION) {
         Ok(octets) => octets,

@@ -7,7 +7,7 @@ ghost use Rattle.xa_script.specs.Script.{IsScript};
 ghost use Rattle.xa_domain.specs.Serving.{NoneRestarts};
 ghost use Rattle.xa_program.specs.declared.words.Command.{Command};
 ghost use Rattle.xa_program.specs.declared.words.Command.TheVariants.{Server};
-ghost use Rattle.xa_program.specs.Configuration.{IsSetup, TellsSetup, KeepsShelf};
+ghost use Rattle.xa_program.specs.Configuration.{IsSetup, TellsSetup, KeepsShelf, AsksFiles, AsksShelf};
 ghost use Rattle.xa_program.specs.Headline.{RunEnds, ScriptEnds, Serves, EndsEarly, EndsWithoutFault, HandsNothing, longest_script, most_clients};
 ghost use Rattle.xa_program.specs.Progress.{CommandRefusedAs, AsksBy};
 ghost use Rattle.xa_program.specs.Server.{ServerEnds};
@@ -54,12 +54,12 @@ pub fn run<R, S: Shelf, I: Source, O: Sink, Y: Yard, G: Gate>(
     ensures untouched { command_in (map string_bytes words.now) ≡ None → (I.left input.new ≡ I.left input.old) × (I.gave input.new ≡ I.gave input.old) × (I.read_faults input.new ≡ I.read_faults input.old)
         × (O.took out.new ≡ O.took out.old) × (O.write_faults out.new ≡ O.write_faults out.old) }
 
-    // How often a read of a file of the shelf failed.
-    ensures shelf { KeepsShelf (command_in (map string_bytes words.now)) result.status (S.shelf_faults shelf.old) (S.shelf_faults shelf.new) }
+    // How often a read of a file of the shelf failed, and which files were asked for.
+    ensures shelf { KeepsShelf (command_in (map string_bytes words.now)) result.status (S.shelf_faults shelf.old) (S.shelf_faults shelf.new) (S.asked shelf.old) (S.asked shelf.new) }
 
     // What `run` and `play` come to.
     ensures ends { (command : Command) → command_in (map string_bytes words.now) ≡ Some command → Serves command
-        → RunEnds (record { took = Y.Line.took; gave = Y.Line.gave; left = Y.Line.left; reads = Y.Line.read_faults; writes = Y.Line.write_faults }) (λ s. record { faults = Y.Start.start_faults s; asked = Y.Start.asked s })
+        → RunEnds (record { took = Y.Line.took; gave = Y.Line.gave; left = Y.Line.left; reads = Y.Line.read_faults; writes = Y.Line.write_faults; whose = Y.Line.whose }) (λ s. record { server = Y.Start.server_name s; faults = Y.Start.start_faults s; asked = Y.Start.asked s })
         (record { file = S.file shelf.old; faults = S.shelf_faults shelf.old; faults_after = S.shelf_faults shelf.new })
         (record {
           input = record { left = I.left input.old; left_after = I.left input.new; gave = I.gave input.old; gave_after = I.gave input.new };
@@ -110,9 +110,9 @@ fn obey<R, S: Shelf, I: Source, O: Sink, Y: Yard, G: Gate>(
     gate: &G,
 ) -> Outcome<Y>
     ensures known { result.status ≡ Status.Usage → ⊥ }
-    ensures shelf { KeepsShelf (Some command.now) result.status (S.shelf_faults shelf.old) (S.shelf_faults shelf.new) }
+    ensures shelf { KeepsShelf (Some command.now) result.status (S.shelf_faults shelf.old) (S.shelf_faults shelf.new) (S.asked shelf.old) (S.asked shelf.new) }
     ensures ends { Serves command.now
-        → RunEnds (record { took = Y.Line.took; gave = Y.Line.gave; left = Y.Line.left; reads = Y.Line.read_faults; writes = Y.Line.write_faults }) (λ s. record { faults = Y.Start.start_faults s; asked = Y.Start.asked s })
+        → RunEnds (record { took = Y.Line.took; gave = Y.Line.gave; left = Y.Line.left; reads = Y.Line.read_faults; writes = Y.Line.write_faults; whose = Y.Line.whose }) (λ s. record { server = Y.Start.server_name s; faults = Y.Start.start_faults s; asked = Y.Start.asked s })
         (record { file = S.file shelf.old; faults = S.shelf_faults shelf.old; faults_after = S.shelf_faults shelf.new })
         (record {
           input = record { left = I.left input.old; left_after = I.left input.new; gave = I.gave input.old; gave_after = I.gave input.new };
@@ -168,6 +168,8 @@ fn setup_of<S: Shelf>(
     ensures restarts { IfOk result (λ found. NoneRestarts found.0) }
     ensures quiet { OnOk result (S.shelf_faults shelf.new ≡ S.shelf_faults shelf.old) }
     ensures refused { IfErr result (CommandRefusedAs (record { file = S.file shelf.old; faults = S.shelf_faults shelf.old; faults_after = S.shelf_faults shelf.new }) command.now) }
+    ensures asks { OnOk result (AsksFiles command.now (S.asked shelf.old) (S.asked shelf.new)) }
+    ensures asked { IfErr result (λ status. AsksShelf (Some command.now) status (S.asked shelf.old) (S.asked shelf.new)) }
 {
     match command {
         Command::Run(name) => Ok((read_setup(alloc, name.slice(), shelf)?, 64)),
@@ -190,7 +192,7 @@ fn serve_script<R, I: Source, O: Sink, Y: Yard, G: Gate>(
     requires configured { is_configured setup ≡ true }
     requires restarts { NoneRestarts setup }
     requires most { (1 ≤ most) × (most ≤ 64) }
-    ensures ends { ScriptEnds (record { took = Y.Line.took; gave = Y.Line.gave; left = Y.Line.left; reads = Y.Line.read_faults; writes = Y.Line.write_faults }) (λ s. record { faults = Y.Start.start_faults s; asked = Y.Start.asked s })
+    ensures ends { ScriptEnds (record { took = Y.Line.took; gave = Y.Line.gave; left = Y.Line.left; reads = Y.Line.read_faults; writes = Y.Line.write_faults; whose = Y.Line.whose }) (λ s. record { server = Y.Start.server_name s; faults = Y.Start.start_faults s; asked = Y.Start.asked s })
         (record {
           input = record { left = I.left input.old; left_after = I.left input.new; gave = I.gave input.old; gave_after = I.gave input.new };
           reads_before = I.read_faults input.old;

@@ -21,15 +21,15 @@ abbrev pub IsThere : List Notes → Place → Type 0
 IsThere homes place = IsSome (event_at homes place)
 
 -- the rest of a list, from that number on
-abbrev From : {X : Type 0} → List X → ℕ → List X → Type 0
+abbrev pub From : {X : Type 0} → List X → ℕ → List X → Type 0
 From all n rest = (k : ℕ) → slice_get all (n + k) ≡ slice_get rest k
 
-From-next : {X : Type 0} (all : List X) (n : ℕ) (x : X) (rest : List X) → From all n (x ∷ rest) → From all (n + 1) rest
+pub From-next : {X : Type 0} (all : List X) (n : ℕ) (x : X) (rest : List X) → From all n (x ∷ rest) → From all (n + 1) rest
 From-next all n x rest at k =
     let moved : n + 1 + k ≡ n + suc k = omega arith in
     ap (slice_get all) moved ∙ at (suc k)
 
-From-here : {X : Type 0} (all : List X) (n : ℕ) (x : X) (rest : List X) → From all n (x ∷ rest) → slice_get all n ≡ Some x
+pub From-here : {X : Type 0} (all : List X) (n : ℕ) (x : X) (rest : List X) → From all n (x ∷ rest) → slice_get all n ≡ Some x
 From-here all n x rest at =
     let here : n ≡ n + 0 = omega arith in
     ap (slice_get all) here ∙ at 0

@@ -1,9 +1,11 @@
 -- Two lists with the same members that are both in one order are the same.
-use Rattle.std.proofs.Common.{◌≡◌, ℕ, ◌+◌, Bool, true, false, List, [], ◌∷◌, suc, zero-add, refl, sym, ◌∙◌, ap, subst, arith, slice_index_or, IsPermutation, IsSortedBy}
+use Rattle.std.proofs.Common.{◌≡◌, ℕ, ◌+◌, Bool, true, false, cond, List, [], ◌∷◌, suc, zero-add, refl, sym, ◌∙◌, ap, subst, arith, slice_index_or, IsPermutation, IsSortedBy}
 use Rattle.std.specs.Cmp.{IsStrictWeakOrder}
+use Rattle.std.specs.List.{filter}
 use Rattle.std.proofs.lemmas.Bool.{false≢true}
 use Rattle.std.proofs.lemmas.List.Recursion.{is_sum_by}
 use Rattle.std.proofs.lemmas.List.Sorted.{sum_by-IsPermutation}
+use Rattle.std.proofs.lemmas.List.Kept.{IsSortedBy-filter}
 
 abbrev neither : Bool → Bool → ℕ
 neither false false = 1
@@ -16,7 +18,7 @@ level before x [] = 0
 level before x (y ∷ ys) = neither (before x y) (before y x) + level before x ys
 
 -- none is before the one that stands before it
-abbrev Up : {X : Type 0} → (X → X → Bool) → List X → Type 0
+abbrev pub Up : {X : Type 0} → (X → X → Bool) → List X → Type 0
 Up before [] = Unit {0}
 Up before (x ∷ []) = Unit {0}
 Up before (x ∷ y ∷ ys) = (before y x ≡ false) × Up before (y ∷ ys)
@@ -31,7 +33,7 @@ sorted-rest {X} before x xs sorted k d low high =
     let at : suc k + 1 ≡ suc (k + 1) = omega arith in
     subst P at (sorted (suc k) d (omega arith) (omega (arith, high)))
 
-Up-sorted : {X : Type 0} (before : X → X → Bool) (xs : List X) → IsSortedBy before xs → Up before xs
+pub Up-sorted : {X : Type 0} (before : X → X → Bool) (xs : List X) → IsSortedBy before xs → Up before xs
 Up-sorted before [] sorted = tt
 Up-sorted before (x ∷ []) sorted = tt
 Up-sorted before (x ∷ y ∷ ys) sorted = (sorted 0 x (omega arith) (omega arith), Up-sorted before (y ∷ ys) (sorted-rest before x (y ∷ ys) sorted))
@@ -80,3 +82,18 @@ same_from_levels before order same (x ∷ xs) (y ∷ ys) up' up levels =
 pub same_from_permutations : {X : Type 0} (before : X → X → Bool) (order : IsStrictWeakOrder before) → ((x y : X) → before x y ≡ false → before y x ≡ false → x ≡ y) → (all xs ys : List X) → IsPermutation all xs → IsPermutation all ys → IsSortedBy before xs → IsSortedBy before ys → xs ≡ ys
 same_from_permutations before order same all xs ys moved moved' sorted sorted' =
     same_from_levels before order same xs ys (Up-sorted before xs sorted) (Up-sorted before ys sorted') (λ x. level-permutation before x all xs moved ∙ sym (level-permutation before x all ys moved'))
+
+level-kept : {X : Type 0} (before : X → X → Bool) (z y : X) (b : Bool) (rest : List X) → level before z (cond b (y ∷ rest) rest) ≡ cond b (neither (before z y) (before y z)) 0 + level before z rest
+level-kept before z y true rest = refl
+level-kept before z y false rest = sym (zero-add _)
+
+level-filtered : {X : Type 0} (before : X → X → Bool) (q : X → Bool) (z : X) (xs ys : List X) → IsPermutation xs ys → level before z (filter q ys) ≡ level before z (filter q xs)
+level-filtered {X} before q z xs ys moved =
+    let f : X → ℕ = λ y. cond (q y) (neither (before z y) (before y z)) 0 in
+    let step : (y : X) (rest : List X) → level before z (filter q (y ∷ rest)) ≡ f y + level before z (filter q rest) = λ y rest. level-kept before z y (q y) (filter q rest) in
+    is_sum_by (λ l. level before z (filter q l)) f refl step ys ∙ sum_by-IsPermutation f xs ys moved ∙ sym (is_sum_by (λ l. level before z (filter q l)) f refl step xs)
+
+-- what a test passes of a list in order is what it passes of another one with the same members, where that is in order too
+pub same_filtered : {X : Type 0} (before : X → X → Bool) (order : IsStrictWeakOrder before) → ((x y : X) → before x y ≡ false → before y x ≡ false → x ≡ y) → (q : X → Bool) (xs ys : List X) → IsPermutation xs ys → Up before (filter q xs) → IsSortedBy before ys → filter q ys ≡ filter q xs
+same_filtered before order same q xs ys moved up sorted =
+    same_from_levels before order same (filter q ys) (filter q xs) (Up-sorted before (filter q ys) (IsSortedBy-filter before order q ys sorted)) up (λ z. level-filtered before q z xs ys moved)

@@ -22,6 +22,7 @@ use Rattle.xa_types.specs.Rows.{Change, configured, changes_of, is_row_of, row_o
 use Rattle.xa_types.specs.Rows.Change.{Put, Remove}
 use Rattle.xa_events.specs.declared.event.Event.{Event}
 use Rattle.xa_events.specs.declared.event.Event.TheVariants.{Advertise}
+use Rattle.xa_tables.specs.Made.{IsMade}
 use Rattle.xa_events.specs.Board.{changes, published}
 use Rattle.xa_events.specs.Homes.{Home, same_home, home_of, worker_of, at_home, of_worker}
 use Rattle.xa_events.specs.Homes.Home.{BoardHome}
@@ -125,7 +126,7 @@ made_more setup count made rest service queue routine past whole has =
     sym (ap (λ cs. slice_get cs (published own)) whole) ∙ (ap (slice_get (made ++ change ∷ rest)) so_far ∙ slice_get_behind made rest change) in
     let longer = length_push made change in
     record {
-      locally = local_grows setup count past e has.locally (record { booting = next; version = ap (λ n. n + 1) (sym so_far) }) (record { domain = refl; op = refl }) (record { booted = tt; named = tt });
+      locally = local_grows setup count past e has.locally (inl (record { domain = refl; booting = next; version = ap (λ n. n + 1) (sym so_far) })) (inl (record { domain = refl; none = refl })) (record { booted = tt; named = tt });
       long = omega (arith, has.long, longer);
       noted = published_more (length made) service queue routine past ∙ (ap (λ n. n + 1) has.noted ∙ sym longer);
       boots = All-cons (λ e. is_boot e ≡ true) e past refl has.boots;
@@ -164,6 +165,13 @@ module _ (setup : Setup) (count : ℕ) (past : List Event) (boots : All (λ e. i
   placed p here =
       list_all-from_AllPass (λ e. p (home_of setup count e)) past
       (All-weaker (λ e. is_boot e ≡ true) (λ e. p (home_of setup count e) ≡ true) (λ e is. ap p (boot_home setup count e is) ∙ here) past boots)
+
+boot_made : (e : Event) → is_boot e ≡ true → IsMade e
+boot_made (Advertise a) is = eqb-true a.by.0 0 is
+boot_made _ is = absurd (cc is)
+
+pub made_by_boot : (past : List Event) → All (λ e. is_boot e ≡ true) past → All IsMade past
+made_by_boot past boots = All-weaker (λ e. is_boot e ≡ true) IsMade boot_made past boots
 
 All-stamped : (P : Event → Type 0) (past : List Event) → All P past → All (λ (noted : Stamped). P noted.event) (stamped past)
 All-stamped P [] all = All-nil (λ (noted : Stamped). P noted.event)

@@ -12,6 +12,8 @@ use Rattle.xa_types.specs.declared.call.Mode.TheVariants.{Reply}
 use Rattle.xa_types.specs.declared.call.Op.{Op}
 use Rattle.xa_types.specs.declared.call.Op.TheVariants.{Call}
 use Rattle.xa_types.specs.declared.call.Ask.{Ask}
+use Rattle.xa_types.specs.declared.fault.Fault.{Fault}
+use Rattle.xa_types.specs.declared.fault.Fault.TheVariants.{Inval, NoEnt, IType}
 use Rattle.xa_types.specs.Setup.{numbered, capacity_of, queue_of}
 use Rattle.xa_events.specs.declared.event.Event.{Event}
 use Rattle.xa_events.specs.declared.event.Event.TheVariants.{Advertise, Withdraw, Accept, Take, Close, Tick, Answer, Cancel, Lapse, Refuse, NotYet, Leave, Send, Receive, Break, Priority}
@@ -19,15 +21,18 @@ use Rattle.xa_events.specs.declared.event.Accepted.{Accepted}
 use Rattle.xa_events.specs.declared.event.Taken.{Taken}
 use Rattle.xa_events.specs.declared.event.Replied.{Replied}
 use Rattle.xa_events.specs.declared.event.Refused.{Refused}
+use Rattle.xa_events.specs.declared.event.Evidence.{Evidence}
+use Rattle.xa_events.specs.declared.event.Evidence.TheVariants.{Argument, Version}
 use Rattle.xa_events.specs.Words.{added, without, has}
 use Rattle.xa_events.specs.Homes.{Home, same_home, home_of, worker_of}
 use Rattle.xa_events.specs.Homes.Home.{BoardHome, QueueHome, ClockHome, CallerHome}
 use Rattle.xa_events.specs.Local.{home_events, worker_events}
-use Rattle.xa_events.specs.Cases.{IsActive, IsNextCall, EntryHome, AcceptWorker, AnswerWorker, RefuseWorker, LeaveWorker, CloseHome}
+use Rattle.xa_events.specs.Cases.{IsNextCall, EntryHome, HasRoom, asked_priority, priority_by, AcceptWorker, RowStands, RowAdmits, AcceptBefore, AnswerWorker, ShowsItself, WasSeen, IsToldEvidence, IsOwnEvidence, RefuseWorker, LeaveWorker, CloseHome}
+use Rattle.xa_events.specs.Conversation.{connections, closes_connection}
 use Rattle.xa_events.specs.Board.{boot, published}
 use Rattle.xa_events.specs.Queue.{waiting, takes, is_down, is_closed}
-use Rattle.xa_events.specs.Caller.{is_call_of, is_numbered_by, call_in, number_in, op_of, newest_call, last_op, just_accepted, accepted_in, accepted, open_descriptors, reads, versions, version_in, least_version, has_left, is_leaving, is_client, descriptor_limit, AllLeft}
-use Rattle.xa_events.specs.Calls.{CallSent, CallAnswered, CallRefused, FitsEvent, FitsCall, FitsCalls, awaits_answer}
+use Rattle.xa_events.specs.Caller.{is_call_of, is_numbered_by, call_in, number_in, op_of, newest_call, last_op, just_accepted, accepted_in, accepted, open_descriptors, reads, versions, version_in, least_version, next_priority, is_conversational, has_left, is_leaving, is_client, is_active, descriptor_limit, AllLeft}
+use Rattle.xa_events.specs.Calls.{is_invalid_call, AskSent, CallAnswered, CallRefused, FitsEvent, FitsCall, FitsCalls, awaits_answer}
 use Rattle.xa_events.specs.Order.{first_of_highest, next_of, TakesNext, TakesInOrder}
 use Rattle.xa_events.specs.Request.{WasSettled, priority_at}
 use Rattle.xa_events.specs.Answers.{reply_of, answer_to}
@@ -42,7 +47,8 @@ use Rattle.xa_tables.specs.declared.domain.Domain.{Domain}
 use Rattle.xa_tables.specs.Stamps.{IsNoted}
 use Rattle.xa_tables.specs.Holding.{list_of, IsHomeOf, QueueReads, QueueHolds, ClientReads, ClientHolds, ServerHolds, BoardHolds, Holds}
 use Rattle.xa_tables.specs.Steps.{Changed, Accepts, Closes, Answers, Refuses, Leaves}
-use Rattle.xa_tables.specs.May.{AcceptMay, TakeMay, AllAway, AnswerMay, RefuseMay}
+use Rattle.xa_tables.specs.May.{AcceptMay, TakeMay, AllAway, AnswerMay, IsEvidenceFor, RefuseMay}
+use Rattle.xa_tables.specs.Made.{IsRefusal}
 use Rattle.xa_tables.specs.Boot.{LooksUp}
 use Rattle.xa_tables.proofs.Lists.{each_changed, changed_length, set_here}
 use Rattle.xa_tables.proofs.Growing.{worker_here, noted_here, noted_stamp, noted_elsewhere, published_grows, Parts, at_queue_of_client, at_queue, of_client, queue_noted}
@@ -106,10 +112,19 @@ newest_is caller e own is = ap (λ b. cond b (Some e) (newest_call caller own)) 
 without_one : (r : RequestId) → without (Some r) (r ∷ []) ≡ []
 without_one r = rw (same_request_of r r refl) refl
 
+-- of no requests none is left
+without_none : (out : Option RequestId) → without out [] ≡ []
+without_none None = refl
+without_none (Some out) = refl
+
+-- a client that hasn't left and isn't leaving may make a call
+is_active_client : (count caller : ℕ) (own : List Event) → is_client count caller ≡ true → has_left caller own ≡ false → is_leaving caller own ≡ false → is_active count caller own ≡ true
+is_active_client count caller own known here stays = rw (known, here, stays) refl
+
 module _ (setup : Setup) (count caller : ℕ) (own : List Event) (x : Client) (home : Notes) (old : ClientReads setup count caller own x) where
   accepted_reads : (a : Accepted) → a.by.0 ≡ caller → a.op ≡ x.op + 1 → x.pending ≡ None → a.request.number ≡ x.sent + 1 → a.mode ≡ Reply → a.version ≤ x.reader.least
       → ClientReads setup count caller (Accept a ∷ own) (record x { op = a.op; sent = a.request.number; pending = Some a.request })
-  unfolding accepted open_descriptors versions has_left is_leaving
+  unfolding accepted open_descriptors versions has_left is_leaving connections next_priority
   accepted_reads a by op none number mode seen =
       let newest = newest_is caller (Accept a) own (is_numbered caller a.by.0 a.op by (omega (arith, op))) in
       let mine = eq-eqb a.by.0 caller by in
@@ -118,13 +133,15 @@ module _ (setup : Setup) (count caller : ℕ) (own : List Event) (x : Client) (h
         accepts = ap (λ b. cond b (accepted caller own + 1) (accepted caller own)) mine ∙ (ap (λ n. n + 1) old.accepts ∙ sym number);
         descriptors = rw (mine, mode) (ap (added (Some a.request)) (old.descriptors ∙ ap list_of none));
         newest = ap accepted_in newest;
+        unconnected = rw (mine, mode) old.unconnected;
+        unset = rw (mine, mode) refl;
         leaves = old.leaves;
         stays = old.stays;
         floor = greatest_one_more (versions count caller own) (reads count caller (Accept a)) (boot setup) x.reader.least (λ n is. subst (λ v. v ≤ x.reader.least) (cc (if_some (a.by.0 == caller) (Some a.version) n is).1) seen) old.floor;
       }
 
   answer_reads : (a : Replied) → a.by.0 ≡ caller → a.op ≡ x.op → x.pending ≡ Some a.request → ClientReads setup count caller (Answer a ∷ own) (record x { pending = None; home = home })
-  unfolding accepted open_descriptors versions has_left is_leaving
+  unfolding accepted open_descriptors versions has_left is_leaving connections next_priority
   answer_reads a by op waits =
       let last : x.op ≡ last_op caller own = sym old.calls in
       let above : 0 < last_op caller own = last_op_above caller own a.request (old.newest ∙ waits) in
@@ -134,6 +151,8 @@ module _ (setup : Setup) (count caller : ℕ) (own : List Event) (x : Client) (h
         accepts = old.accepts;
         descriptors = ap (λ b. without (if b then Some a.request else None) (open_descriptors caller own)) (eq-eqb a.by.0 caller by) ∙ (ap (without (Some a.request)) (old.descriptors ∙ ap list_of waits) ∙ without_one a.request);
         newest = ap accepted_in newest;
+        unconnected = old.unconnected;
+        unset = old.unset;
         leaves = old.leaves;
         stays = old.stays;
         floor = old.floor;
@@ -141,7 +160,7 @@ module _ (setup : Setup) (count caller : ℕ) (own : List Event) (x : Client) (h
 
   refuse_reads : (r : Refused) → r.by.0 ≡ caller → r.op ≡ x.op + 1 → x.pending ≡ None → ((version : ℕ) → version_in r.evidence ≡ Some version → version ≤ x.reader.least)
       → ClientReads setup count caller (Refuse r ∷ own) (record x { op = r.op; home = home })
-  unfolding accepted open_descriptors versions has_left is_leaving
+  unfolding accepted open_descriptors versions has_left is_leaving connections next_priority
   refuse_reads r by op none seen =
       let newest = newest_is caller (Refuse r) own (is_numbered caller r.by.0 r.op by (omega (arith, op))) in
       record {
@@ -149,18 +168,22 @@ module _ (setup : Setup) (count caller : ℕ) (own : List Event) (x : Client) (h
         accepts = old.accepts;
         descriptors = old.descriptors;
         newest = ap accepted_in newest ∙ sym none;
+        unconnected = ap (without (closes_connection caller (Refuse r))) old.unconnected ∙ without_none (closes_connection caller (Refuse r));
+        unset = old.unset;
         leaves = old.leaves;
         stays = old.stays;
         floor = greatest_one_more (versions count caller own) (reads count caller (Refuse r)) (boot setup) x.reader.least (λ n is. seen n (if_some (r.by.0 == caller) (version_in r.evidence) n is).1) old.floor;
       }
 
   leave_reads : (id : CallerId) → id.0 ≡ caller → ClientReads setup count caller (Leave id ∷ own) (record x { left = true; home = home })
-  unfolding newest_call accepted open_descriptors versions has_left is_leaving
+  unfolding newest_call accepted open_descriptors versions has_left is_leaving connections next_priority
   leave_reads id here = record {
     calls = old.calls;
     accepts = old.accepts;
     descriptors = old.descriptors;
     newest = old.newest;
+    unconnected = old.unconnected;
+    unset = old.unset;
     leaves = ap (λ b. b || has_left caller own) (eq-eqb id.0 caller here);
     stays = old.stays;
     floor = old.floor;
@@ -169,9 +192,34 @@ module _ (setup : Setup) (count caller : ℕ) (own : List Event) (x : Client) (h
   -- the client may make its next call
   next_call : is_client count caller ≡ true → x.left ≡ false → (op : ℕ) → op ≡ x.op + 1 → IsNextCall count caller op own
   next_call known here op next = record {
-    active = record { client = known; not_left = old.leaves ∙ here; not_leaving = old.stays };
+    active = is_active_client count caller own known (old.leaves ∙ here) old.stays;
     next = next ∙ ap (λ n. n + 1) (sym old.calls);
   }
+
+-- ---- what shows that a tpcall is refused rightly
+
+-- to the client itself
+shows_itself : (setup : Setup) (count caller : ℕ) (past own : List Event) (fault : Fault) (evidence : Evidence) → IsEvidenceFor fault evidence past
+    → ((version : ℕ) → version_in evidence ≡ Some version → least_version setup count caller own ≤ version) → ShowsItself setup count caller fault evidence own
+shows_itself setup count caller past own Inval Argument is floor = tt
+shows_itself setup count caller past own NoEnt (Version v) is floor = floor v refl
+shows_itself setup count caller past own IType (Version v) is floor = floor v refl
+shows_itself setup count caller past own _ _ is floor = absurd is
+
+-- the domain refuses a tpcall so
+refused_here : (fault : Fault) (evidence : Evidence) (past : List Event) → IsEvidenceFor fault evidence past → IsRefusal fault evidence
+refused_here Inval Argument past h = tt
+refused_here NoEnt (Version v) past h = tt
+refused_here IType (Version v) past h = tt
+refused_here _ _ past h = absurd h
+
+-- by the board; it is of no conversation and of no row
+shows_more : (setup : Setup) (count : ℕ) (by : CallerId) (past own : List Event) (fault : Fault) (evidence : Evidence) → IsEvidenceFor fault evidence past
+    → WasSeen setup count by.0 evidence past × IsToldEvidence setup count by evidence past × IsOwnEvidence count by evidence own
+shows_more setup count by past own Inval Argument is = (tt, tt, tt)
+shows_more setup count by past own NoEnt (Version v) is = (is, tt, tt)
+shows_more setup count by past own IType (Version v) is = (is, tt, tt)
+shows_more setup count by past own _ _ is = absurd is
 
 same_home_of : (a b : Home) → a ≡ b → same_home a b ≡ true
 same_home_of a b same = subst (λ home. same_home a home ≡ true) same (itself a)
@@ -242,6 +290,7 @@ module _ (setup : Setup) (count : ℕ) (past : List Event) where
           let x : ClientHolds setup count (j + 1) past step.clients.before = accept_client in
           let none : open_descriptors (j + 1) (worker_events count (j + 1) past) ≡ [] = x.reads.descriptors ∙ ap list_of may.idle in
           let limit : descriptor_limit count (j + 1) ≡ 50 = ap (λ b. if b then 50 else 16) x.known in
+          let unset : next_priority count a.by.0 (worker_events count a.by.0 past) ≡ None = subst (λ k. next_priority count k (worker_events count k past) ≡ None) (sym accept_by) x.reads.unset in
           let few : length (open_descriptors (j + 1) (worker_events count (j + 1) past)) < descriptor_limit count (j + 1) =
           subst (λ n. length (open_descriptors (j + 1) (worker_events count (j + 1) past)) < n) (sym limit) (subst (λ (rs : List RequestId). length rs < 50) (sym none) (omega arith)) in
           record {
@@ -249,11 +298,16 @@ module _ (setup : Setup) (count : ℕ) (past : List Event) where
                 (next_call setup count (j + 1) (worker_events count (j + 1) past) step.clients.before step.clients.before.home x.reads x.known may.here a.op may.next);
             caller = may.caller ∙ sym may.by;
             number = subst (λ k. a.request.number ≡ accepted k (worker_events count k past) + 1) (sym accept_by) (may.number ∙ ap (λ n. n + 1) (sym x.reads.accepts));
-            mode = may.mode;
-            few = subst (λ k. length (open_descriptors k (worker_events count k past)) < descriptor_limit count k) (sym accept_by) few;
+            room = subst (λ mode. HasRoom count a.by.0 mode (worker_events count a.by.0 past)) (sym may.mode) (subst (λ k. HasRoom count k Reply (worker_events count k past)) (sym accept_by) few);
             sound = may.sound;
             not_older = subst (λ k. least_version setup count k (worker_events count k past) ≤ a.version) (sym accept_by) (omega (arith, x.reads.floor, may.floor));
+            priority = may.priority ∙ ap (priority_by setup a.service) (sym (ap (λ mode. asked_priority count a.by.0 mode (worker_events count a.by.0 past)) may.mode ∙ unset));
           }
+
+      accept_before : AcceptBefore setup a past
+      accept_before =
+          let conversational : is_conversational a.mode ≡ false = ap is_conversational may.mode in
+          subst (λ kind. RowStands setup a.version a.service a.queue.0 (RowAdmits setup kind a.routine a.payload) past) (sym conversational) (record { version = may.version; row = may.row })
 
       -- the version of the request is the newest that the client's reader has seen
       pub accept_holds : step.clients.before.reader.least ≡ a.version → Holds setup count (Accept a ∷ past) new
@@ -264,7 +318,7 @@ module _ (setup : Setup) (count : ℕ) (past : List Event) where
           let xs : ClientHolds setup count (j + 1) past x = accept_client in
           let noted : IsNoted old.latest (Accept a) q.home step.queues.after.home new.latest = step.queues.how.0 in
           at_queue_of_client setup count past old new holds (Accept a)
-          (record { home = accept_home; worker = accept_worker; seen = record { booted = holds.booted; named = record { version = may.version; row = may.row } } })
+          (record { made = may.mode; home = accept_home; worker = accept_worker; seen = record { booted = holds.booted; named = accept_before } })
           i j step.queues step.clients (ap QueueHome accept_to) accept_by
           (queue_noted setup count past (Accept a) (i + 1) old.latest new.latest (λ z. record z { waiting = Some a.request }) q step.queues.after qs step.queues.how holds.latest (ap QueueHome accept_to) refl
           (accept_reads setup (i + 1) (home_events setup count (QueueHome (i + 1)) past) q step.queues.after.home qs.reads a accept_to may.empty))
@@ -293,16 +347,16 @@ module _ (setup : Setup) (count : ℕ) (past : List Event) where
         let x : Client = step.clients.before in
         let xs : ClientHolds setup count (j + 1) past x = holds.clients j x step.clients.stood in
         let by : a.by.0 ≡ j + 1 = ap (λ z. z.0) may.by ∙ xs.id in
-        let active : IsActive count (j + 1) (worker_events count (j + 1) past) = record { client = xs.known; not_left = xs.reads.leaves ∙ may.here; not_leaving = xs.reads.stays } in
+        let active : is_active count (j + 1) (worker_events count (j + 1) past) ≡ true = is_active_client count (j + 1) (worker_events count (j + 1) past) xs.known (xs.reads.leaves ∙ may.here) xs.reads.stays in
         let its : has a.request (open_descriptors (j + 1) (worker_events count (j + 1) past)) ≡ true = ap (has a.request) (xs.reads.descriptors ∙ ap list_of may.waits) ∙ rw (same_request_of a.request a.request refl) refl in
         let worker : AnswerWorker count a (worker_events count a.by.0 past) = record {
-          active = subst (λ k. IsActive count k (worker_events count k past)) (sym by) active;
+          active = subst (λ k. is_active count k (worker_events count k past) ≡ true) (sym by) active;
           op = inr (may.same ∙ subst (λ k. x.op ≡ last_op k (worker_events count k past)) (sym by) (sym xs.reads.calls), subst (λ k. just_accepted k (worker_events count k past) ≡ Some a.request) (sym by) (xs.reads.newest ∙ may.waits));
           caller = may.caller ∙ sym may.by;
           is_open = subst (λ k. has a.request (open_descriptors k (worker_events count k past)) ≡ true) (sym by) its;
         } in
         own_event j (Answer a) (λ y. record y { pending = None }) x step.clients.after step.clients.stood step.clients.now step.clients.how.0 step.clients.how.1 refl refl (ap CallerHome by) by
-        (record { home = tt; worker = worker; seen = record { booted = holds.booted; named = may.told } })
+        (record { made = tt; home = tt; worker = worker; seen = record { booted = holds.booted; named = may.told } })
         (answer_reads setup count (j + 1) (worker_events count (j + 1) past) x step.clients.after.home xs.reads a by may.same may.waits) step.others.0 step.others.1 step.others.2
 
     -- its call is refused; the client's reader has seen the version of the evidence
@@ -311,12 +365,15 @@ module _ (setup : Setup) (count : ℕ) (past : List Event) where
         let x : Client = step.clients.before in
         let xs : ClientHolds setup count (j + 1) past x = holds.clients j x step.clients.stood in
         let by : r.by.0 ≡ j + 1 = ap (λ z. z.0) may.by ∙ xs.id in
+        let shown = shows_more setup count r.by past (worker_events count r.by.0 past) r.fault r.evidence may.shown in
         let worker : RefuseWorker setup count r (worker_events count r.by.0 past) = record {
           call = subst (λ k. IsNextCall count k r.op (worker_events count k past)) (sym by) (next_call setup count (j + 1) (worker_events count (j + 1) past) x x.home xs.reads xs.known may.here r.op may.next);
-          not_older = λ version shown. subst (λ k. least_version setup count k (worker_events count k past) ≤ version) (sym by) (let least = may.floor version shown in omega (arith, xs.reads.floor, least));
+          shows = shows_itself setup count r.by.0 past (worker_events count r.by.0 past) r.fault r.evidence may.shown
+              (λ version shown. subst (λ k. least_version setup count k (worker_events count k past) ≤ version) (sym by) (let least = may.floor version shown in omega (arith, xs.reads.floor, least)));
+          own = shown.2;
         } in
         own_event j (Refuse r) (λ y. record y { op = r.op }) x step.clients.after step.clients.stood step.clients.now step.clients.how.0 step.clients.how.1 refl refl (ap CallerHome by) by
-        (record { home = tt; worker = worker; seen = record { booted = holds.booted; named = may.shown } })
+        (record { made = refused_here r.fault r.evidence past may.shown; home = tt; worker = worker; seen = record { booted = holds.booted; named = record { seen = shown.0; told = shown.1 } } })
         (refuse_reads setup count (j + 1) (worker_events count (j + 1) past) x step.clients.after.home xs.reads r by may.next may.idle read) step.others.0 step.others.1 step.others.2
 
     -- the client leaves
@@ -325,9 +382,9 @@ module _ (setup : Setup) (count : ℕ) (past : List Event) where
         let x : Client = step.clients.before in
         let xs : ClientHolds setup count (j + 1) past x = holds.clients j x step.clients.stood in
         let worker : LeaveWorker count x.id.0 (worker_events count x.id.0 past) =
-        subst (λ k. LeaveWorker count k (worker_events count k past)) (sym xs.id) (record { known = xs.known; not_left = xs.reads.leaves ∙ here; none = xs.reads.descriptors ∙ ap list_of idle }) in
+        subst (λ k. LeaveWorker count k (worker_events count k past)) (sym xs.id) (record { known = xs.known; not_left = xs.reads.leaves ∙ here; none = xs.reads.descriptors ∙ ap list_of idle; unconnected = xs.reads.unconnected }) in
         own_event j (Leave x.id) (λ y. record y { left = true }) x step.clients.after step.clients.stood step.clients.now step.clients.how.0 step.clients.how.1 refl refl (ap CallerHome xs.id) xs.id
-        (record { home = tt; worker = worker; seen = record { booted = holds.booted; named = tt } })
+        (record { made = tt; home = tt; worker = worker; seen = record { booted = holds.booted; named = tt } })
         (leave_reads setup count (j + 1) (worker_events count (j + 1) past) x step.clients.after.home xs.reads x.id xs.id) step.others.0 step.others.1 step.others.2
 
     -- ---- a queue closes
@@ -352,7 +409,7 @@ module _ (setup : Setup) (count : ℕ) (past : List Event) where
           known = known;
           not_closed = subst (λ k. is_closed k (home_events setup count (QueueHome k) past) ≡ false) (sym qs.id) (qs.reads.closes ∙ open_yet);
         } in
-        at_queue setup count past old new holds (Close q.id) (record { home = home; worker = tt; seen = record { booted = holds.booted; named = all_left away } })
+        at_queue setup count past old new holds (Close q.id) (record { made = tt; home = home; worker = tt; seen = record { booted = holds.booted; named = all_left away } })
         i step.queues (ap QueueHome qs.id) refl
         (queue_noted setup count past (Close q.id) (i + 1) old.latest new.latest (λ z. record z { closed = true }) q step.queues.after qs step.queues.how holds.latest (ap QueueHome qs.id) refl
         (close_reads setup (i + 1) (home_events setup count (QueueHome (i + 1)) past) q step.queues.after.home qs.reads q.id qs.id))
@@ -394,6 +451,8 @@ module _ (setup : Setup) (count : ℕ) (past : List Event) where
             accepts = xs.reads.accepts;
             descriptors = xs.reads.descriptors;
             newest = xs.reads.newest;
+            unconnected = xs.reads.unconnected;
+            unset = xs.reads.unset;
             leaves = xs.reads.leaves;
             stays = xs.reads.stays;
             floor = omega (arith, xs.reads.floor, step.clients.how.2);
@@ -406,6 +465,7 @@ module _ (setup : Setup) (count : ℕ) (past : List Event) where
           bound = holds.bound;
           booted = holds.booted;
           placed = holds.placed;
+          made = holds.made;
           board = subst (BoardHolds setup count past) (sym step.others.0) holds.board;
           queues = subst (λ (items : List Queue). (i : ℕ) (q : Queue) → slice_get items i ≡ Some q → QueueHolds setup count (i + 1) past q) (sym queues) holds.queues;
           clients = each_changed (λ i y. ClientHolds setup count (i + 1) past y) (λ i y. ClientHolds setup count (i + 1) past y) j old.clients.items new.clients.items step.clients holds.clients (λ i y other is. is)
@@ -419,8 +479,8 @@ module _ (setup : Setup) (count : ℕ) (past : List Event) where
 -- ---- what an event is to the script
 
 -- an event that is of no call of the caller adds nothing to them
-pub fits_other : (setup : Setup) (caller : ℕ) (ops : List Op) (e : Event) (past : List Event) → is_call_of caller e ≡ false → FitsCalls setup caller ops past → FitsCalls setup caller ops (e ∷ past)
-fits_other setup caller ops e past other fit = (λ is. cc (is, other), fit)
+pub fits_other : (setup : Setup) (count caller : ℕ) (ops : List Op) (e : Event) (past : List Event) → is_call_of caller e ≡ false → FitsCalls setup count caller ops past → FitsCalls setup count caller ops (e ∷ past)
+fits_other setup count caller ops e past other fit = (λ is. cc (is, other), fit)
 
 not_numbered : (caller by op : ℕ) → (by ≡ caller → ⊥) → is_numbered_by caller (Some (by, op)) ≡ false
 not_numbered caller by op differ = ap (λ b. b && nat_lt 0 op) (ne_eqb by caller differ)
@@ -466,14 +526,14 @@ module _ (setup : Setup) (count : ℕ) (past : List Event) {L : Type 0} (d : Dom
 
   module _ (ops : List Op) (ask : Ask) where
     -- the event is one of that call
-    pub fits_accept : (a : Accepted) → x.pending ≡ None → numbered a.op ops ≡ Some (Call ask) → CallSent setup ask a → FitsCall setup (j + 1) ops (Accept a) past
+    pub fits_accept : (a : Accepted) → x.pending ≡ None → numbered a.op ops ≡ Some (Call ask) → AskSent (is_invalid_call setup ask) Reply ask a → FitsCall setup count (j + 1) ops (Accept a) past
     fits_accept a idle asked sent = record {
-      fits = subst (λ op. IsSomeAnd op (λ o. FitsEvent setup o (Accept a) past)) (sym asked) sent;
+      fits = subst (λ op. IsSomeAnd op (λ o. FitsEvent setup count o (Accept a) past)) (sym asked) sent;
       turn = λ next. turn ops idle;
     }
 
     pub fits_answer : (a : Replied) → AnswerMay past a x → numbered a.op ops ≡ Some (Call ask) → WasSettled a.request (λ settlement. a.answer ≡ answer_to ask.expect (reply_of settlement)) past
-        → FitsCall setup (j + 1) ops (Answer a) past
+        → FitsCall setup count (j + 1) ops (Answer a) past
     fits_answer a may asked told =
         let by : a.by.0 ≡ j + 1 = ap (λ z. z.0) may.by ∙ client_stands.id in
         let same : a.op ≡ last_op (j + 1) past = may.same ∙ sym last_op_now in
@@ -484,13 +544,13 @@ module _ (setup : Setup) (count : ℕ) (past : List Event) {L : Type 0} (d : Dom
           told = told;
         } in
         record {
-          fits = subst (λ op. IsSomeAnd op (λ o. FitsEvent setup o (Answer a) past)) (sym asked) answered;
+          fits = subst (λ op. IsSomeAnd op (λ o. FitsEvent setup count o (Answer a) past)) (sym asked) answered;
           turn = λ next. absurd (omega (arith, next, same));
         }
 
-    pub fits_refuse : (r : Refused) → x.pending ≡ None → numbered r.op ops ≡ Some (Call ask) → CallRefused setup ask r.fault r.evidence past → FitsCall setup (j + 1) ops (Refuse r) past
+    pub fits_refuse : (r : Refused) → x.pending ≡ None → numbered r.op ops ≡ Some (Call ask) → CallRefused setup count r.by.0 ask r.fault r.evidence past → FitsCall setup count (j + 1) ops (Refuse r) past
     fits_refuse r idle asked refused = record {
-      fits = subst (λ op. IsSomeAnd op (λ o. FitsEvent setup o (Refuse r) past)) (sym asked) refused;
+      fits = subst (λ op. IsSomeAnd op (λ o. FitsEvent setup count o (Refuse r) past)) (sym asked) refused;
       turn = λ next. turn ops idle;
     }
 

@@ -22,6 +22,7 @@ use Rattle.xa_types.specs.Rows.Change.{Put, Remove}
 use Rattle.xa_events.specs.declared.event.Event.{Event}
 use Rattle.xa_events.specs.Board.{changes, published, rows_of_version, listed_in}
 use Rattle.xa_events.specs.Calls.{is_accepted_by}
+use Rattle.xa_events.specs.Cases.{priority_by}
 use Rattle.xa_events.specs.Homes.{Home, at_home}
 use Rattle.xa_events.specs.Homes.Home.{BoardHome}
 use Rattle.xa_events.specs.Local.{home_events}
@@ -169,6 +170,14 @@ accepts-row_with (Some configured) service queue routine = refl
 
 accepts_are : (setup : Setup) (row : Row) → IsAsConfigured setup row → row.accepts ≡ accepts_in (service_named setup row.service)
 accepts_are setup row is = ap (λ (r : Row). r.accepts) is ∙ accepts-row_with (service_named setup row.service) row.service row.queue.0 row.routine
+
+priority-row_with : (configured : Option ServiceSetup) (service : List ℕ) (queue other : ℕ) (routine another : List ℕ) → (row_with configured service queue routine).priority ≡ (row_with configured service other another).priority
+priority-row_with None service queue other routine another = refl
+priority-row_with (Some configured) service queue other routine another = refl
+
+-- the priority of a request by that row, where its caller set none
+pub priority_is : (setup : Setup) (row : Row) → IsAsConfigured setup row → row.priority ≡ priority_by setup row.service None
+priority_is setup row is = ap (λ (r : Row). r.priority) is ∙ priority-row_with (service_named setup row.service) row.service row.queue.0 0 row.routine []
 
 -- ---- the board, and a lookup
 

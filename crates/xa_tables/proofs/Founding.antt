@@ -22,7 +22,8 @@ use Rattle.xa_events.specs.declared.event.Event.{Event}
 use Rattle.xa_events.specs.Board.{boot}
 use Rattle.xa_events.specs.Queue.{waiting, takes, is_down, is_closed}
 use Rattle.xa_events.specs.Server.{doing, starts, is_gone, was_shut_down, last_outcome}
-use Rattle.xa_events.specs.Caller.{newest_call, accepted, open_descriptors, versions, ticks, has_left, is_leaving}
+use Rattle.xa_events.specs.Caller.{newest_call, accepted, open_descriptors, versions, ticks, next_priority, has_left, is_leaving}
+use Rattle.xa_events.specs.Conversation.{connections}
 use Rattle.xa_events.specs.State.{caller_of}
 use Rattle.xa_events.specs.Homes.Home.{QueueHome, CallerHome}
 use Rattle.xa_board.specs.Board.{IsAsConfigured, version_of}
@@ -37,7 +38,7 @@ use Rattle.xa_tables.specs.Boot.{boot_past}
 use Rattle.xa_tables.specs.Booting.{put_on, row_put, AreNew, IsNewQueue, IsNewClient, IsNewServer, IsFounded}
 use Rattle.xa_tables.proofs.Finding.{queue-row_with}
 use Rattle.xa_tables.proofs.Setups.{any_at, any_through, IsFirstAt, first_at, HasQueues, IsGood, HasQueue, has_queue, number_of_own}
-use Rattle.xa_tables.proofs.Booting.{All-flat_map, at_place, HasMade, boots, home_none, worker_none, placed, entries_none, boot_entries}
+use Rattle.xa_tables.proofs.Booting.{All-flat_map, at_place, HasMade, boots, home_none, worker_none, placed, made_by_boot, entries_none, boot_entries}
 
 -- ---- one entry more
 
@@ -82,19 +83,21 @@ unfolding waiting takes is_down is_closed
 queue_reads setup first queue q new = record { waits = sym (ap list_of new.waiting); taken = sym new.takes; goes_down = sym new.down; closes = sym new.closed }
 
 client_reads : (setup : Setup) (count : ℕ) (first : Stamp) (floor caller : ℕ) (x : Client) → boot setup ≤ floor → IsNewClient first floor caller x → ClientReads setup count caller [] x
-unfolding newest_call accepted open_descriptors versions has_left is_leaving
+unfolding newest_call accepted open_descriptors versions has_left is_leaving connections next_priority
 client_reads setup count first floor caller x booted new = record {
   calls = sym new.op;
   accepts = sym new.sent;
   descriptors = sym (ap list_of new.pending);
   newest = sym new.pending;
+  unconnected = refl;
+  unset = refl;
   leaves = sym new.left;
   stays = refl;
   floor = subst (λ (n : ℕ). boot setup ≤ n) (sym new.least) booted;
 }
 
 server_reads : (setup : Setup) (count : ℕ) (first : Stamp) (server : ℕ) (x : Server) → IsNewServer setup first server x → ServerReads count server [] x
-unfolding doing last_outcome starts is_gone was_shut_down open_descriptors ticks
+unfolding doing last_outcome starts is_gone was_shut_down open_descriptors ticks connections
 server_reads setup count first server x new = record {
   does = sym new.doing;
   ended = sym new.last;
@@ -102,6 +105,7 @@ server_reads setup count first server x new = record {
   given_up = sym new.gone;
   shuts = sym new.shut;
   none = refl;
+  unconnected = refl;
   tick = refl;
   lived = sym (ap (lives_by server) new.attempt);
   fails = sym (ap failed_by new.attempt);
@@ -185,6 +189,7 @@ module _ {L : Type 0} (setup : Setup) (count : ℕ) (first : Stamp) (d : Domain 
     bound = omega (arith, has.long, is.few_rows);
     booted = omega (arith, has.noted);
     placed = placed setup count past has.boots (is_home_in setup count) refl;
+    made = made_by_boot past has.boots;
     board = board_holds;
     queues = queue_holds;
     clients = client_holds;

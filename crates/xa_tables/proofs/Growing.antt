@@ -4,6 +4,8 @@ use Rattle.std.specs.Prelude.{slice_get}
 use Rattle.std.specs.List.{filter}
 use Rattle.std.proofs.lemmas.Bool.{cases_Bool, cases_eq, and_parts, and_from}
 use Rattle.std.proofs.lemmas.List.{reverse-append}
+use Rattle.std.proofs.lemmas.List.Elements.{All-cons}
+use Rattle.xa_tables.specs.Made.{IsMade}
 use Rattle.std.proofs.lemmas.Option.{slice_get_within}
 use Rattle.xa_types.specs.declared.setup.Setup.{Setup}
 use Rattle.xa_types.specs.declared.stamp.Stamp.{Stamp}
@@ -178,8 +180,9 @@ module _ (setup : Setup) (count : ℕ) (past : List Event) where
     before = (seen, locally.before);
   }
 
-  -- the three parts of an event
+  -- the domain makes the event, and it meets its three parts
   pub record Parts (e : Event) : Type 0 where
+    pub made : IsMade e
     pub home : HomePart setup e (home_events setup count (home_of setup count e) past)
     pub worker : WorkerPart setup count e (worker_events count (worker_of count e) past)
     pub seen : SeenPart setup count e past
@@ -268,6 +271,7 @@ module _ (setup : Setup) (count : ℕ) (past : List Event) where
           bound = subst (λ n. n ≤ 2 ^ 63) newest bound;
           booted = le_trans holds.booted (published_grows e past);
           placed = and_from _ _ place holds.placed;
+          made = All-cons IsMade e past parts.made holds.made;
           board = board;
           queues = queues;
           clients = clients;

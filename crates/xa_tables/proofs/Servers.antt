@@ -16,7 +16,7 @@ use Rattle.xa_events.specs.declared.event.Started.{Started}
 use Rattle.xa_events.specs.declared.event.Ended.{Ended}
 use Rattle.xa_events.specs.declared.event.Stopped.{Stopped}
 use Rattle.xa_events.specs.declared.event.Outcome.{Outcome}
-use Rattle.xa_events.specs.declared.event.Outcome.TheVariants.{Failed as FailedOutcome, BadReturn, Died, Starved}
+use Rattle.xa_events.specs.declared.event.Outcome.TheVariants.{Failed as FailedOutcome, BadReturn, BadForward, Died, Starved}
 use Rattle.xa_events.specs.declared.event.StopCause.{StopCause}
 use Rattle.xa_events.specs.declared.event.StopCause.TheVariants.{Shutdown, Exit}
 use Rattle.xa_events.specs.declared.event.Doing.TheVariants.{Off, Idle, Busy}
@@ -27,8 +27,9 @@ use Rattle.xa_events.specs.Homes.Home.{QueueHome, CallerHome}
 use Rattle.xa_events.specs.Clock.{is_shown}
 use Rattle.xa_events.specs.Queue.{waiting, takes, takes_from, is_down, is_closed}
 use Rattle.xa_events.specs.Server.{moves_server, doing, doing_after, after_end, starts, is_gone, is_gone_of, was_shut_down, stops_server, is_shutdown, is_shutdown_stop, last_outcome, outcome_in, may_start, may_start_as}
-use Rattle.xa_events.specs.Caller.{open_descriptors, ticks, tick_floor}
-use Rattle.xa_events.specs.Cases.{TakeHome, GoneHome, GoneWorker, StartWorker, StopWorker, idle_stops, dying_stops}
+use Rattle.xa_events.specs.Caller.{open_descriptors, version_of, ticks, tick_floor}
+use Rattle.xa_events.specs.Conversation.{connections}
+use Rattle.xa_events.specs.Cases.{TakeHome, GoneHome, GoneWorker, StartWorker, may_end_so, StopWorker, idle_stops, dying_stops}
 use Rattle.xa_events.specs.Local.{SawShut, home_events, worker_events}
 use Rattle.xa_events.proofs.Owns.{server_own}
 use Rattle.xa_events.proofs.WordsLemmas.{latest_yes, count_yes, list_any_yes, same_request_of}
@@ -43,7 +44,8 @@ use Rattle.xa_tables.specs.Lives.{life_in}
 use Rattle.xa_tables.specs.Tables.{last_by}
 use Rattle.xa_tables.specs.Holding.{IsHomeOf, QueueReads, QueueHolds, ServerReads, ServerHolds, Holds, list_of, last_in, starts_by, lives_by, failed_by}
 use Rattle.xa_tables.specs.Steps.{Changed, ServerNotes, Starts, FailsStart, Ends, Stops, Takes, GivesUp}
-use Rattle.xa_tables.specs.May.{StartMay, EndMay, MayStop, StopMay, TakeMay, GiveUpMay, IsShutAt}
+use Rattle.xa_tables.specs.May.{StartMay, may_end_here, EndMay, MayStop, StopMay, TakeMay, GiveUpMay, IsShutAt}
+use Rattle.xa_tables.specs.Made.{IsEnded}
 use Rattle.xa_tables.proofs.Growing.{noted_here, noted_stamp, noted_elsewhere, worker_here, Parts, at_queue_of_server, of_server, queue_noted}
 
 -- ---- what a server's events read once a start is among them
@@ -63,7 +65,7 @@ lives_more n generation earlier first none =
 
 start_reads : (count : ℕ) (own : List Event) (b : Started) (life : ℕ) (x : Server) → ServerReads count b.server.0 own x → x.attempt ≡ NotYet → b.generation.0 ≡ 1 → b.tick ≡ 0 → (home : Notes)
     → ServerReads count b.server.0 (Start b ∷ own) (record (record x { attempt = StartedOnce; doing = Idle b.generation; last = Nothing; life = life }) { home = home })
-unfolding doing last_outcome starts is_gone was_shut_down open_descriptors ticks
+unfolding doing last_outcome starts is_gone was_shut_down open_descriptors ticks connections
 start_reads count own b life x reads first generation tick home =
     let n = b.server.0 in
     let moved = latest_yes (moves_server n) (Start b) own (eq-eqb n n refl) in
@@ -74,6 +76,7 @@ start_reads count own b life x reads first generation tick home =
       given_up = reads.given_up;
       shuts = reads.shuts;
       none = reads.none;
+      unconnected = reads.unconnected;
       tick = ticks_more (caller_of count n) b.tick (ticks count (caller_of count n) own) tick reads.tick;
       lived = lives_more n b.generation.0 (filter_map (life_in n) own) generation (reads.lived ∙ ap (lives_by n) first);
       fails = reads.fails ∙ ap failed_by first;
@@ -81,7 +84,7 @@ start_reads count own b life x reads first generation tick home =
 
 fail_start_reads : (count : ℕ) (own : List Event) (b : Started) (x : Server) → ServerReads count b.server.0 own x → x.attempt ≡ NotYet → b.tick ≡ 0 → (home : Notes)
     → ServerReads count b.server.0 (StartFailed b ∷ own) (record (record x { attempt = Failed; doing = Off; last = Nothing }) { home = home })
-unfolding doing last_outcome starts is_gone was_shut_down open_descriptors ticks
+unfolding doing last_outcome starts is_gone was_shut_down open_descriptors ticks connections
 fail_start_reads count own b x reads first tick home =
     let n = b.server.0 in
     let moved = latest_yes (moves_server n) (StartFailed b) own (eq-eqb n n refl) in
@@ -92,6 +95,7 @@ fail_start_reads count own b x reads first tick home =
       given_up = reads.given_up;
       shuts = reads.shuts;
       none = reads.none;
+      unconnected = reads.unconnected;
       tick = ticks_more (caller_of count n) b.tick (ticks count (caller_of count n) own) tick reads.tick;
       lived = reads.lived ∙ ap (lives_by n) first;
       fails = count_yes _ (StartFailed b) own (eq-eqb n n refl) ∙ ap (λ k. k + 1) (reads.fails ∙ ap failed_by first);
@@ -100,7 +104,7 @@ fail_start_reads count own b x reads first tick home =
 -- ---- and once it does something else
 
 take_reads : (count : ℕ) (own : List Event) (t : Taken) (x : Server) → ServerReads count t.server.0 own x → ServerReads count t.server.0 (Take t ∷ own) (record x { doing = Busy t.generation t.request; last = Nothing })
-unfolding doing last_outcome starts is_gone was_shut_down open_descriptors ticks
+unfolding doing last_outcome starts is_gone was_shut_down open_descriptors ticks connections
 take_reads count own t x reads =
     let n = t.server.0 in
     let moved = latest_yes (moves_server n) (Take t) own (eq-eqb n n refl) in
@@ -111,6 +115,7 @@ take_reads count own t x reads =
       given_up = reads.given_up;
       shuts = reads.shuts;
       none = reads.none;
+      unconnected = reads.unconnected;
       tick = reads.tick;
       lived = reads.lived;
       fails = reads.fails;
@@ -118,7 +123,7 @@ take_reads count own t x reads =
 
 end_reads : (count : ℕ) (own : List Event) (e : Ended) (x : Server) → ServerReads count e.server.0 own x → (home : Notes)
     → ServerReads count e.server.0 (End e ∷ own) (record (record x { doing = after_end e.outcome e.generation; last = last_by e.outcome }) { home = home })
-unfolding doing last_outcome starts is_gone was_shut_down open_descriptors ticks
+unfolding doing last_outcome starts is_gone was_shut_down open_descriptors ticks connections
 end_reads count own e x reads home =
     let n = e.server.0 in
     let moved = latest_yes (moves_server n) (End e) own (eq-eqb n n refl) in
@@ -129,6 +134,7 @@ end_reads count own e x reads home =
       given_up = reads.given_up;
       shuts = reads.shuts;
       none = reads.none;
+      unconnected = reads.unconnected;
       tick = reads.tick;
       lived = reads.lived;
       fails = reads.fails;
@@ -136,7 +142,7 @@ end_reads count own e x reads home =
 
 stop_reads : (count : ℕ) (own : List Event) (s : Stopped) (x : Server) → ServerReads count s.server.0 own x → (home : Notes)
     → ServerReads count s.server.0 (Stop s ∷ own) (record (record x { doing = Off; last = Nothing; shut = is_shutdown s.cause }) { home = home })
-unfolding doing last_outcome starts is_gone was_shut_down open_descriptors ticks
+unfolding doing last_outcome starts is_gone was_shut_down open_descriptors ticks connections
 stop_reads count own s x reads home =
     let n = s.server.0 in
     let moved = latest_yes (moves_server n) (Stop s) own (eq-eqb n n refl) in
@@ -147,13 +153,14 @@ stop_reads count own s x reads home =
       given_up = reads.given_up;
       shuts = ap is_shutdown_stop (latest_yes (stops_server n) (Stop s) own (eq-eqb n n refl));
       none = reads.none;
+      unconnected = reads.unconnected;
       tick = reads.tick;
       lived = reads.lived;
       fails = reads.fails;
     }
 
 give_up_reads : (count : ℕ) (own : List Event) (id : ServerId) (x : Server) → ServerReads count id.0 own x → ServerReads count id.0 (Gone id ∷ own) (record x { gone = true })
-unfolding doing last_outcome starts is_gone was_shut_down open_descriptors ticks
+unfolding doing last_outcome starts is_gone was_shut_down open_descriptors ticks connections
 give_up_reads count own id x reads =
     record {
       does = reads.does;
@@ -162,6 +169,7 @@ give_up_reads count own id x reads =
       given_up = list_any_yes (is_gone_of id.0) (Gone id) own (eq-eqb id.0 id.0 refl);
       shuts = reads.shuts;
       none = reads.none;
+      unconnected = reads.unconnected;
       tick = reads.tick;
       lived = reads.lived;
       fails = reads.fails;
@@ -234,7 +242,21 @@ stop_part count own s x reads may =
         | inr dying ↦ inr (reads.does ∙ dying.0, dying_may s.cause o (subst (MayStop s.cause) (sym reads.ended) dying.1))
       ];
       none = reads.none;
+      unconnected = reads.unconnected;
     }
+
+-- a request that may end here may end so, and not as a forward that failed
+may_so : (setup : Setup) (outcome : Outcome) → may_end_here setup outcome ≡ true → may_end_so setup outcome ≡ true
+may_so setup (BadForward version) may = refl
+may_so setup _ may = may
+
+ended_here : (setup : Setup) (outcome : Outcome) → may_end_here setup outcome ≡ true → IsEnded outcome
+ended_here setup (BadForward v) may = absurd (cc may)
+ended_here setup _ may = tt
+
+no_version : (setup : Setup) (outcome : Outcome) (version : ℕ) → may_end_here setup outcome ≡ true → version_of outcome ≡ Some version → ⊥
+no_version setup (BadForward v) version may looked = cc may
+no_version setup _ version may looked = cc looked
 
 -- a server that isn't restarted starts once
 never_again : (o : Option ServerSetup) (now : ℕ) → IsSomeAnd o (λ (s : ServerSetup). s.restart ≡ false) → may_start_as o (0 ∷ []) now ≡ false
@@ -370,6 +392,7 @@ module _ (setup : Setup) (count : ℕ) (past : List Event) {L : Type 0} (old new
       let its = its_of j x step.servers.stood b.server.0 at in
       own_holds (Start b) j b.server.0 (λ y. record y { attempt = StartedOnce; doing = Idle b.generation; last = Nothing; life = life }) step.servers at refl refl (refl, refl, refl)
       (record {
+        made = tt;
         home = tt;
         worker = start_part setup count (worker_events count (caller_of count b.server.0) past) b x its.id its.reads may;
         seen = record { booted = holds.booted; named = shown_first b.tick past may.tick };
@@ -384,6 +407,7 @@ module _ (setup : Setup) (count : ℕ) (past : List Event) {L : Type 0} (old new
       let its = its_of j x step.servers.stood b.server.0 at in
       own_holds (StartFailed b) j b.server.0 (λ y. record y { attempt = Failed; doing = Off; last = Nothing }) step.servers at refl refl (refl, refl, refl)
       (record {
+        made = tt;
         home = tt;
         worker = start_part setup count (worker_events count (caller_of count b.server.0) past) b x its.id its.reads may;
         seen = record { booted = holds.booted; named = shown_first b.tick past may.tick };
@@ -397,7 +421,17 @@ module _ (setup : Setup) (count : ℕ) (past : List Event) {L : Type 0} (old new
       let at = its_number j x e.server step.servers.stood may.here in
       let its = its_of j x step.servers.stood e.server.0 at in
       own_holds (End e) j e.server.0 (λ y. record y { doing = after_end e.outcome e.generation; last = last_by e.outcome }) step.servers at refl refl (refl, refl, refl)
-      (record { home = tt; worker = record { busy = its.reads.does ∙ may.busy; may = may.may }; seen = record { booted = holds.booted; named = tt } })
+      (record {
+        made = ended_here setup e.outcome may.may;
+        home = tt;
+        worker = record {
+          busy = its.reads.does ∙ may.busy;
+          may = may_so setup e.outcome may.may;
+          unconnected = λ stands. its.reads.unconnected;
+          not_older = λ version looked. absurd (no_version setup e.outcome version may.may looked);
+        };
+        seen = record { booted = holds.booted; named = λ version looked. absurd (no_version setup e.outcome version may.may looked) };
+      })
       (end_reads count (worker_events count (caller_of count e.server.0) past) e x its.reads) step.others.0 step.others.1 step.others.2
 
   -- the queue is closed now, and nothing waits there
@@ -425,6 +459,7 @@ module _ (setup : Setup) (count : ℕ) (past : List Event) {L : Type 0} (old new
       let its = its_of j x step.servers.stood s.server.0 at in
       own_holds (Stop s) j s.server.0 (λ y. record y { doing = Off; last = Nothing; shut = is_shutdown s.cause }) step.servers at refl refl (refl, refl, refl)
       (record {
+        made = tt;
         home = tt;
         worker = stop_part count (worker_events count (caller_of count s.server.0) past) s x its.reads may;
         seen = record { booted = holds.booted; named = λ by. subst (λ (queue : ℕ). SawShut setup count queue past) its.queue (shut_now x.queue.0 (shut by) low high) };
@@ -461,7 +496,7 @@ module _ (setup : Setup) (count : ℕ) (past : List Event) {L : Type 0} (old new
       (queue_take_reads setup (home_events setup count (QueueHome queue) past) t q here.reads may.waits may.next q'.home) in
       let moved = server_moved setup count past (Take t) n x (record x { doing = Busy t.generation t.request; last = Nothing }) its refl refl (refl, refl, refl, refl) (take_reads count own t x its.reads) in
       at_queue_of_server setup count past old new holds (Take t)
-      (record { home = part; worker = record { idle = its.reads.does ∙ may.idle; none = its.reads.none }; seen = record { booted = holds.booted; named = tt } })
+      (record { made = tt; home = part; worker = record { idle = its.reads.does ∙ may.idle; none = its.reads.none; unconnected = its.reads.unconnected }; seen = record { booted = holds.booted; named = tt } })
       i j step.queues step.servers (ap QueueHome at) (ap (caller_of count) number)
       (subst (λ (k : ℕ). QueueHolds setup count k (Take t ∷ past) q') at after)
       (subst (λ (k : ℕ). ServerHolds setup count k (Take t ∷ past) x') number (subst (ServerHolds setup count n (Take t ∷ past)) (sym step.servers.how) moved))
@@ -488,7 +523,7 @@ module _ (setup : Setup) (count : ℕ) (past : List Event) {L : Type 0} (old new
       (gone_reads setup queue (home_events setup count (QueueHome queue) past) id q here.reads q'.home) in
       let moved = server_moved setup count past (Gone id) id.0 x (record x { gone = true }) its refl refl (refl, refl, refl, refl) (give_up_reads count own id x its.reads) in
       at_queue_of_server setup count past old new holds (Gone id)
-      (record { home = part; worker = give_up_part setup count own id q x its.id its.reads may; seen = record { booted = holds.booted; named = tt } })
+      (record { made = tt; home = part; worker = give_up_part setup count own id q x its.id its.reads may; seen = record { booted = holds.booted; named = tt } })
       i j step.queues step.servers (ap QueueHome at) (ap (caller_of count) number)
       (subst (λ (k : ℕ). QueueHolds setup count k (Gone id ∷ past) q') at after)
       (subst (λ (k : ℕ). ServerHolds setup count k (Gone id ∷ past) x') number (subst (ServerHolds setup count id.0 (Gone id ∷ past)) (sym step.servers.how) moved))

@@ -41,6 +41,7 @@ use Rattle.xa_tables.specs.Stamps.{entries_of}
 use Rattle.xa_tables.specs.Holding.{QueueReads, QueueHolds, ClientHolds, ServerHolds, BoardHolds, Holds, is_home_in}
 use Rattle.xa_tables.specs.Steps.{GoesDown}
 use Rattle.xa_tables.specs.May.{AllGivenUp}
+use Rattle.xa_tables.specs.Made.{IsMade}
 use Rattle.xa_tables.specs.Boot.{Withdraws, withdrawn_from}
 use Rattle.xa_tables.proofs.Growing.{in_time, entries_here, noted_stamp, queue_idle, client_idle, server_idle, local_grows, at_queue, queue_noted}
 use Rattle.xa_tables.proofs.Servers.{earlier_self, gone_here}
@@ -58,9 +59,11 @@ none_on service queue (row ∷ rest) none =
           ∙ none_on service queue rest (sym (ap (λ b. cond b (row ∷ kept) kept) n) ∙ none)
     ]
 
-no_rows : (setup : Setup) (count queue : ℕ) (past : List Event) (board : Standing) → BoardHolds setup count past board → rows_on queue board.rows ≡ [] → NoRows setup queue past
+-- as the board's own events have it
+no_rows : (setup : Setup) (count queue : ℕ) (past : List Event) (board : Standing) → BoardHolds setup count past board → rows_on queue board.rows ≡ [] → NoRows setup queue (home_events setup count BoardHome past)
 no_rows setup count queue past board holds none =
-    λ service. ap (row_of service queue) (rows_of_version-last setup past ∙ sym (rows_now setup count past board holds)) ∙ none_on service queue board.rows none
+    let own = home_events setup count BoardHome past in
+    λ service. ap (row_of service queue) (rows_of_version-last setup own ∙ (ap (rows setup) (changes_here setup count past) ∙ sym (rows_now setup count past board holds))) ∙ none_on service queue board.rows none
 
 -- ---- no server of the queue is left
 
@@ -105,9 +108,15 @@ down_holds setup count past old new holds i step up known given none =
     let its : QueueHolds setup count queue past q = subst (λ (k : ℕ). QueueHolds setup count k past q) (sym at) (holds.queues i q step.queues.stood) in
     let gone = all_gone setup count past old holds queue given in
     let part : DownHome setup queue own = record { known = known; not_down = its.reads.goes_down ∙ up; gone = all_gone_here setup count past old holds queue gone } in
-    let saw : SawNoRows setup queue past = record { seen = past; stood = earlier_self past; booted = holds.booted; gone = gone; none = no_rows setup count queue past old.board holds.board none } in
+    let saw : SawNoRows setup count queue past = record {
+      moment = past;
+      stood = earlier_self past;
+      gone = part.gone;
+      booted = omega (arith, holds.booted, published_here setup count past);
+      none = no_rows setup count queue past old.board holds.board none;
+    } in
     let after = queue_noted setup count past e queue old.latest new.latest (λ y. record y { down = true }) q q' its step.queues.how holds.latest refl refl (down_reads setup queue own q its.reads refl q'.home) in
-    at_queue setup count past old new holds e (record { home = part; worker = tt; seen = record { booted = holds.booted; named = saw } })
+    at_queue setup count past old new holds e (record { made = tt; home = part; worker = tt; seen = record { booted = holds.booted; named = saw } })
     i step.queues (ap QueueHome at) refl (subst (λ (k : ℕ). QueueHolds setup count k (e ∷ past) q') at after)
     (noted_stamp setup count past (QueueHome queue) e old.latest new.latest q.home q'.home its.home holds.latest step.queues.how.0) step.queues.how.0.bound step.others.0 step.others.1 step.others.2
 
@@ -201,6 +210,7 @@ pub record HoldsBeside {L : Type 0} (setup : Setup) (count : ℕ) (past : List E
   pub locally : Local setup count past
   pub booted : boot setup ≤ published past
   pub placed : list_all (λ e. is_home_in setup count (home_of setup count e)) past ≡ true
+  pub made : All IsMade past
   pub queues : (i : ℕ) (q : Queue) → slice_get d.queues.items i ≡ Some q → QueueHolds setup count (i + 1) past q
   pub clients : (i : ℕ) (x : Client) → slice_get d.clients.items i ≡ Some x → ClientHolds setup count (i + 1) past x
   pub servers : (i : ℕ) (x : Server) → slice_get d.servers.items i ≡ Some x → ServerHolds setup count (i + 1) past x
@@ -243,9 +253,10 @@ module _ (setup : Setup) (count : ℕ) {L : Type 0} (d : Domain L) where
       let e = Withdraw w in
       let none : (k : ℕ) → w.by.0 ≡ k + 1 → ⊥ = λ k is. omega (arith, by, is) in
       record {
-        locally = local_grows setup count past e holds.locally part (record { domain = by; op = op }) (record { booted = holds.booted; named = gone });
+        locally = local_grows setup count past e holds.locally part (inl (record { domain = by; none = op })) (record { booted = holds.booted; named = λ domain. gone });
         booted = omega (arith, holds.booted, published_more w past);
         placed = holds.placed;
+        made = All-cons IsMade e past by holds.made;
         queues = λ i q is. queue_idle setup count past e (i + 1) q refl (holds.queues i q is);
         clients = λ i x is. client_idle setup count past e (i + 1) x refl (none i) (holds.clients i x is);
         servers = λ i x is. server_idle setup count past e (i + 1) x refl (λ of. omega (arith, by, of)) (holds.servers i x is);
@@ -328,7 +339,7 @@ withdraw_holds setup count past old new holds queue step given =
     let latest : new.latest ≡ length now = omega (arith, step.latest, last, holds.latest, long) in
     let beside : HoldsBeside setup count now old = withdraw_each setup count old queue gone 0 version past (version_now setup count past old.board holds.board) (filter_passes (is_on queue) old.board.rows)
     (gone_stand setup count queue past old.board holds.board) (all_gone setup count past old holds queue given)
-    (record { locally = holds.locally; booted = holds.booted; placed = holds.placed; queues = holds.queues; clients = holds.clients; servers = holds.servers }) in
+    (record { locally = holds.locally; booted = holds.booted; placed = holds.placed; made = holds.made; queues = holds.queues; clients = holds.clients; servers = holds.servers }) in
     let queues = step.others.0 in
     let clients = step.others.1 in
     let servers = step.others.2 in
@@ -338,6 +349,7 @@ withdraw_holds setup count past old new holds queue step given =
       bound = omega (arith, latest, step.bound);
       booted = beside.booted;
       placed = beside.placed;
+      made = beside.made;
       board = subst (BoardHolds setup count now) (sym step.board) board;
       queues = λ i q is. beside.queues i q (sym (ap (λ v. slice_get v.items i) queues) ∙ is);
       clients = λ i x is. beside.clients i x (sym (ap (λ v. slice_get v.items i) clients) ∙ is);

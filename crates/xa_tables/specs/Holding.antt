@@ -14,9 +14,11 @@ use Rattle.xa_events.specs.Homes.Home.{BoardHome, QueueHome, ClockHome, CallerHo
 use Rattle.xa_events.specs.Local.{Local, home_events, worker_events}
 use Rattle.xa_events.specs.Queue.{waiting, takes, is_down, is_closed}
 use Rattle.xa_events.specs.Server.{doing, starts, is_gone, was_shut_down, last_outcome}
-use Rattle.xa_events.specs.Caller.{newest_call, last_op, accepted_in, accepted, open_descriptors, least_version, tick_floor, has_left, is_leaving, is_client}
+use Rattle.xa_events.specs.Caller.{newest_call, last_op, accepted_in, accepted, open_descriptors, least_version, tick_floor, next_priority, has_left, is_leaving, is_client}
+use Rattle.xa_events.specs.Conversation.{connections}
 use Rattle.xa_stamp.specs.declared.home.Stamped.{Stamped}
 use Rattle.xa_board.specs.Board.{Standing, ReadsAsNoted, IsAsConfigured}
+use Rattle.xa_tables.specs.Made.{IsMade}
 use Rattle.xa_tables.specs.declared.queue.Queue.{Queue}
 use Rattle.xa_tables.specs.declared.client.Client.{Client}
 use Rattle.xa_tables.specs.declared.server.Server.{Server}
@@ -58,6 +60,8 @@ pub record ClientReads (setup : Setup) (count caller : ℕ) (own : List Event) (
   pub accepts : accepted caller own ≡ x.sent
   pub descriptors : open_descriptors caller own ≡ list_of x.pending
   pub newest : accepted_in (newest_call caller own) ≡ x.pending
+  pub unconnected : connections caller own ≡ []
+  pub unset : next_priority count caller own ≡ None
   pub leaves : has_left caller own ≡ x.left
   pub stays : is_leaving caller own ≡ false
   pub floor : least_version setup count caller own ≤ x.reader.least
@@ -99,6 +103,7 @@ pub record ServerReads (count server : ℕ) (own : List Event) (x : Server) : Ty
   pub given_up : is_gone server own ≡ x.gone
   pub shuts : was_shut_down server own ≡ x.shut
   pub none : open_descriptors (caller_of count server) own ≡ []
+  pub unconnected : connections (caller_of count server) own ≡ []
   pub tick : tick_floor count (caller_of count server) own ≡ 0
   pub lived : filter_map (life_in server) own ≡ lives_by server x.attempt
   pub fails : failed_starts server own ≡ failed_by x.attempt
@@ -112,11 +117,11 @@ pub record ServerHolds (setup : Setup) (count server : ℕ) (past : List Event) 
 
 -- ---- the domain
 
--- the home is one of the domain's
+-- the home is one at which something may happen: the clock stands still
 abbrev pub is_home_in : Setup → ℕ → Home → Bool
 is_home_in setup count BoardHome = true
 is_home_in setup count (QueueHome queue) = nat_le 1 queue && nat_le queue (length setup.queues)
-is_home_in setup count ClockHome = true
+is_home_in setup count ClockHome = false
 is_home_in setup count (CallerHome caller) = nat_le 1 caller && nat_le caller (count + length setup.servers)
 
 pub record BoardHolds (setup : Setup) (count : ℕ) (past : List Event) (board : Standing) : Type 0 where
@@ -132,6 +137,7 @@ pub record Holds {L : Type 0} (setup : Setup) (count : ℕ) (past : List Event) 
   pub bound : length past ≤ 2 ^ 63
   pub booted : boot setup ≤ published past
   pub placed : list_all (λ e. is_home_in setup count (home_of setup count e)) past ≡ true
+  pub made : All IsMade past
   pub board : BoardHolds setup count past d.board
   pub queues : (i : ℕ) (q : Queue) → slice_get d.queues.items i ≡ Some q → QueueHolds setup count (i + 1) past q
   pub clients : (i : ℕ) (x : Client) → slice_get d.clients.items i ≡ Some x → ClientHolds setup count (i + 1) past x

@@ -1,6 +1,7 @@
 pub mod Stamps
 pub mod Tables
 pub mod Lives
+pub mod Made
 pub mod Holding
 pub mod Resting
 pub mod Steps

@@ -1,9 +1,11 @@
 -- When an event may come next, by what the tables keep (this project's own). What `serve` says doesn't rest on this file.
-use Rattle.std.specs.Prelude.{◌≡◌, ◌⊎◌, ℕ, ◌+◌, ◌<◌, ◌≤◌, true, false, List, Some, None, IsSome, IsSomeAnd, slice_get}
+use Rattle.std.specs.Prelude.{◌≡◌, ◌⊎◌, ℕ, ◌+◌, ◌<◌, ◌≤◌, Bool, true, false, List, Some, None, IsSome, IsSomeAnd, slice_get}
 use Rattle.xa_types.specs.declared.setup.Setup.{Setup}
 use Rattle.xa_types.specs.declared.setup.ServerSetup.{ServerSetup}
 use Rattle.xa_types.specs.declared.ids.ServerId.{ServerId}
 use Rattle.xa_types.specs.declared.call.Mode.TheVariants.{Reply}
+use Rattle.xa_types.specs.declared.fault.Fault.{Fault}
+use Rattle.xa_types.specs.declared.fault.Fault.TheVariants.{Inval, NoEnt, IType}
 use Rattle.xa_types.specs.Kind.{is_sound}
 use Rattle.xa_types.specs.Rows.{row_of}
 use Rattle.xa_types.specs.Setup.{numbered, capacity_of}
@@ -15,12 +17,16 @@ use Rattle.xa_events.specs.declared.event.Ended.{Ended}
 use Rattle.xa_events.specs.declared.event.Stopped.{Stopped}
 use Rattle.xa_events.specs.declared.event.Replied.{Replied}
 use Rattle.xa_events.specs.declared.event.Refused.{Refused}
+use Rattle.xa_events.specs.declared.event.Evidence.{Evidence}
+use Rattle.xa_events.specs.declared.event.Evidence.TheVariants.{Argument, Version}
+use Rattle.xa_events.specs.declared.event.Outcome.{Outcome}
+use Rattle.xa_events.specs.declared.event.Outcome.TheVariants.{BadForward}
 use Rattle.xa_events.specs.declared.event.StopCause.{StopCause}
 use Rattle.xa_events.specs.declared.event.StopCause.TheVariants.{Exit}
 use Rattle.xa_events.specs.declared.event.Doing.TheVariants.{Off, Idle, Busy, Dying as IsDying}
 use Rattle.xa_events.specs.Board.{published, rows_of_version}
 use Rattle.xa_events.specs.Caller.{version_in}
-use Rattle.xa_events.specs.Cases.{RowAdmits, may_end_so, is_failure, is_starved, IsEvidenceFor}
+use Rattle.xa_events.specs.Cases.{RowAdmits, priority_by, may_end_so, is_failure, is_starved}
 use Rattle.xa_events.specs.Answers.{IsAnswerTo}
 use Rattle.xa_events.specs.Request.{WasSettled}
 use Rattle.xa_tables.specs.declared.queue.Queue.{Queue}
@@ -49,7 +55,8 @@ pub record AcceptMay (setup : Setup) (past : List Event) (a : Accepted) (q : Que
   pub sound : is_sound setup a.payload ≡ true
   pub floor : x.reader.least ≤ a.version
   pub version : a.version ≤ published past
-  pub row : IsSomeAnd (row_of a.service a.queue.0 (rows_of_version setup past a.version)) (RowAdmits setup a)
+  pub row : IsSomeAnd (row_of a.service a.queue.0 (rows_of_version setup past a.version)) (RowAdmits setup false a.routine a.payload)
+  pub priority : a.priority ≡ priority_by setup a.service None
 
 pub record TakeMay (t : Taken) (q : Queue) (x : Server) : Type 0 where
   pub here : t.server ≡ x.id
@@ -88,6 +95,13 @@ pub record AnswerMay (past : List Event) (a : Replied) (x : Client) : Type 0 whe
   pub same : a.op ≡ x.op
   pub told : WasSettled a.request (IsAnswerTo a.answer) past
 
+-- what shows that a tpcall is refused rightly, before it is sent
+abbrev pub IsEvidenceFor : Fault → Evidence → List Event → Type 0
+IsEvidenceFor Inval Argument past = Unit {0}
+IsEvidenceFor NoEnt (Version v) past = v ≤ published past
+IsEvidenceFor IType (Version v) past = v ≤ published past
+IsEvidenceFor fault evidence past = ⊥
+
 pub record RefuseMay (past : List Event) (r : Refused) (x : Client) : Type 0 where
   pub by : r.by ≡ x.id
   pub here : x.left ≡ false
@@ -108,11 +122,16 @@ pub record StartMay (setup : Setup) (b : Started) (x : Server) : Type 0 where
   pub kept : x.shut ≡ false
   pub known : IsSome (numbered x.id.0 setup.servers)
 
+-- with which outcome a request may end here: as the machine has it, and none is forwarded
+abbrev pub may_end_here : Setup → Outcome → Bool
+may_end_here setup (BadForward version) = false
+may_end_here setup outcome = may_end_so setup outcome
+
 pub record EndMay (setup : Setup) (e : Ended) (x : Server) : Type 0 where
   pub here : e.server ≡ x.id
   pub life : e.generation.0 ≡ 1
   pub busy : x.doing ≡ Busy e.generation e.request
-  pub may : may_end_so setup e.outcome ≡ true
+  pub may : may_end_here setup e.outcome ≡ true
 
 -- with which cause a life may end, by how the last request ended
 abbrev pub MayStop : StopCause → Last → Type 0

@@ -20,6 +20,7 @@ pub record Sent (f : Frame) (before after : Piped) : Type 0 where
   pub rest : after.rest ≡ before.rest
   pub place : after.place ≡ before.place
   pub reads : after.reads ≡ before.reads
+  pub whose : after.whose ≡ before.whose
   pub well : after.writes ≡ before.writes
 
 -- the life ended by that cause as the frame was to be written
@@ -30,6 +31,7 @@ pub record NotSent (f : Frame) (cause : StopCause) (before after : Piped) : Type
   pub rest : after.rest ≡ before.rest
   pub place : after.place ≡ before.place
   pub reads : after.reads ≡ before.reads
+  pub whose : after.whose ≡ before.whose
   pub why : CountsWrites cause before.writes after.writes
 
 -- ---- reading: `greet`, `read_next` and `hear`
@@ -40,12 +42,14 @@ pub record Greeted (name : List ℕ) (before after : Piped) : Type 0 where
   pub spelling : HasSpelling (ready_frame name)
   pub took : after.took ≡ before.took
   pub writes : after.writes ≡ before.writes
+  pub whose : after.whose ≡ before.whose
   pub well : after.reads ≡ before.reads
 
 -- the life ended by that cause as the program was to greet
 pub record NotGreeted (name : List ℕ) (cause : StopCause) (before after : Piped) : Type 0 where
   pub took : after.took ≡ before.took
   pub writes : after.writes ≡ before.writes
+  pub whose : after.whose ≡ before.whose
   pub why : HasRead before [] → CutOff name after cause
   pub counts : CountsReads cause before.reads after.reads
 
@@ -54,12 +58,14 @@ pub record NextRead (before after : Piped) : Type 0 where
   pub read : (frames : List Frame) → HasRead before frames → HasRead after (frames ++ next_frame ∷ [])
   pub took : after.took ≡ before.took
   pub writes : after.writes ≡ before.writes
+  pub whose : after.whose ≡ before.whose
   pub well : after.reads ≡ before.reads
 
 -- the life ended by that cause as NEXT was to come
 pub record NoNext (cause : StopCause) (before after : Piped) : Type 0 where
   pub took : after.took ≡ before.took
   pub writes : after.writes ≡ before.writes
+  pub whose : after.whose ≡ before.whose
   pub why : (name : List ℕ) (tag : ℕ) (frames : List Frame) → HasRead before frames → Ceases (awaiting name tag frames AwaitsNext) after cause
   pub counts : CountsReads cause before.reads after.reads
 
@@ -69,12 +75,14 @@ pub record Heard (number : ℕ) (back : Return) (before after : Piped) : Type 0 
   pub spelling : HasSpelling (return_frame number back.value back.code back.payload)
   pub took : after.took ≡ before.took
   pub writes : after.writes ≡ before.writes
+  pub whose : after.whose ≡ before.whose
   pub well : after.reads ≡ before.reads
 
 -- the life ended by that cause as the RETURN to the invocation of that number was to come
 pub record NotHeard (number : ℕ) (cause : StopCause) (before after : Piped) : Type 0 where
   pub took : after.took ≡ before.took
   pub writes : after.writes ≡ before.writes
+  pub whose : after.whose ≡ before.whose
   pub why : (name : List ℕ) (frames : List Frame) → HasRead before frames → Ceases (awaiting name number frames Serving) after cause
   pub counts : CountsReads cause before.reads after.reads
 

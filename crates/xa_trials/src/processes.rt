@@ -136,12 +136,9 @@ fn does_all<L: Link>(link: &mut L, steps: &[Step]) -> bool {
 }
 
 // Whether what the starter starts does these in turn; without steps, whether it fails.
-fn runs<L: Link + Drop, S: Starter<L>>(
-    starter: &mut S,
-    name: &Name,
-    steps: Option<&[Step]>,
-) -> bool {
-    match (starter.start(name, Generation(1)), steps) {
+fn runs<L: Link + Drop, S: Starter<L>>(starter: &mut S, steps: Option<&[Step]>) -> bool {
+    let server = starter.server();
+    match (starter.start(&server, Generation(1)), steps) {
         (Ok(mut link), Some(steps)) => does_all(&mut link, steps),
         (Err(refused), None) => refused == StartRefused::Failed,
         _ => false,
@@ -155,12 +152,12 @@ fn starters_of(rt: &HostRuntime, setup: &Setup) -> Option<Vec<ChildStarter<HostR
     ChildYard::new(rt.clone().ok()?, own).starters(setup).ok()
 }
 
-fn starts_by(rt: &HostRuntime, name: &Name, setup: &Setup, steps: Option<&[Step]>) -> bool
+fn starts_by(rt: &HostRuntime, setup: &Setup, steps: Option<&[Step]>) -> bool
     requires { is_configured setup.now ≡ true }
 {
     match starters_of(rt, setup) {
         Some(mut starters) => match starters.as_mut_slice() {
-            [starter] => runs(starter, name, steps),
+            [starter] => runs(starter, steps),
             _ => false,
         },
         None => false,
@@ -172,7 +169,7 @@ fn starts(rt: &HostRuntime, program: Option<&str>, steps: Option<&[Step]>) -> bo
         return false;
     };
     match setup(rt.alloc(), name, program) {
-        Ok(setup) => starts_by(rt, &name, &setup, steps),
+        Ok(setup) => starts_by(rt, &setup, steps),
         Err(_) => false,
     }
 }

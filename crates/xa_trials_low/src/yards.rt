@@ -3,7 +3,7 @@ use crate::memory::{ASKED, SAID, gives, link_of, setup_of};
 use std::alloc::Global;
 use xa_child::LocalYard;
 use xa_link::{Link, MemoryLink, MemoryStarter, MemoryYard, StartRefused, Starter, Yard, put};
-use xa_types::{Generation, Name};
+use xa_types::Generation;
 
 // A starter's place, the generation, and what the life gives; where it can't be started, nothing.
 static STARTS: [(usize, u64, Option<&[u8]>); 7] = [
@@ -31,25 +31,21 @@ fn yard_of(alloc: Global) -> Option<MemoryYard> {
 }
 
 // Whether the starter starts what gives these octets; without octets, whether it fails.
-fn starts(
-    starter: &mut MemoryStarter,
-    server: &Name,
-    generation: u64,
-    want: Option<&[u8]>,
-) -> bool {
-    match starter.start(server, Generation(generation)) {
+fn starts(starter: &mut MemoryStarter, generation: u64, want: Option<&[u8]>) -> bool {
+    let server = starter.server();
+    match starter.start(&server, Generation(generation)) {
         Ok(mut link) => want.is_some() && gives(&mut link, &[want]),
         Err(refused) => want.is_none() && refused == StartRefused::Failed,
     }
 }
 
 // Whether there are two starters, which start what they should.
-fn start_each(starters: &mut [MemoryStarter], server: &Name) -> bool {
+fn start_each(starters: &mut [MemoryStarter]) -> bool {
     for (place, generation, want) in &STARTS {
         let Some(starter) = starters.get_mut(*place) else {
             return false;
         };
-        if !starts(starter, server, *generation, *want) {
+        if !starts(starter, *generation, *want) {
             return false;
         }
     }
@@ -62,9 +58,9 @@ fn starters_of<Y: Yard>(alloc: Global, yard: &mut Y) -> Option<Vec<Y::Start>> {
 }
 
 fn is_right(alloc: Global, yard: &mut MemoryYard) -> bool {
-    match (starters_of(alloc, yard), Name::read(b"S")) {
-        (Some(mut starters), Ok(server)) => start_each(&mut starters, &server),
-        _ => false,
+    match starters_of(alloc, yard) {
+        Some(mut starters) => start_each(&mut starters),
+        None => false,
     }
 }
 
@@ -85,20 +81,18 @@ fn echoes<L: Link>(link: &mut L) -> bool {
     put(link, ASKED).is_ok() && gives(link, &[Some(SAID), Some(b"")]) && put(link, b"x").is_err()
 }
 
-fn first_echoes<L: Link + Drop, S: Starter<L>>(starter: &mut S, server: &Name) -> bool {
-    match starter.start(server, Generation(1)) {
+fn first_echoes<L: Link + Drop, S: Starter<L>>(starter: &mut S) -> bool {
+    let server = starter.server();
+    match starter.start(&server, Generation(1)) {
         Ok(mut link) => echoes(&mut link),
         Err(_) => false,
     }
 }
 
 fn one_of_two_echoes(alloc: Global) -> bool {
-    let Ok(server) = Name::read(b"S") else {
-        return false;
-    };
     match starters_of(alloc, &mut LocalYard::new(alloc)) {
         Some(mut starters) => match starters.as_mut_slice() {
-            [starter, _] => first_echoes(starter, &server),
+            [starter, _] => first_echoes(starter),
             _ => false,
         },
         None => false,

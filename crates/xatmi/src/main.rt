@@ -10,7 +10,7 @@ use std::mem::forget;
 use std::process::ExitCode;
 use std::rt::Env;
 use xa_link::{
-    ChildStarter, ChildYard, FileShelf, OpenGate, ReadSource, SystemArguments, WriteSink,
+    ChildStarter, ChildYard, FileShelf, OpenGate, ReadSource, Starter, SystemArguments, WriteSink,
 };
 use xa_program::{Outcome, Status, all_words, own_word, run, words_behind};
 use xa_report::{report, report_lives};

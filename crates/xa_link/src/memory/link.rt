@@ -1,14 +1,16 @@
 // A link in memory.
-ghost use Rattle.std.specs.Prelude.{◌≡◌, ◌++◌, []};
+ghost use Rattle.std.specs.Prelude.{◌≡◌, ◌++◌, [], Some};
 
 use super::{MemorySink, MemorySource};
 use crate::{Failed, Link, Sink, Source};
+use xa_types::{Generation, Name};
 
 /// The two pipes of a life in memory. It tells all.
 #[derive(Drop)]
 pub struct MemoryLink {
     source: MemorySource,
     sink: MemorySink,
+    whose: Option<(Name, Generation)>,
 }
 
 impl MemoryLink {
@@ -19,7 +21,11 @@ impl MemoryLink {
         ensures source { link_source result ≡ source }
         ensures sink { link_sink result ≡ sink }
     {
-        MemoryLink { source, sink }
+        MemoryLink {
+            source,
+            sink,
+            whose: None,
+        }
     }
 
     /// The octets that it took.
@@ -29,16 +35,18 @@ impl MemoryLink {
         self.sink.taken()
     }
 
-    /// The same octets from the start, as if nothing had been read or written.
-    pub(super) fn rewind(&mut self)
+    /// The same octets from the start, as if nothing had been read or written, for that life of the server.
+    pub(super) fn begin(&mut self, server: Name, generation: Generation)
         ensures left { source_left (link_source self.new) ≡ source_gave (link_source self.old) ++ source_left (link_source self.old) }
         ensures gave { source_gave (link_source self.new) ≡ [] }
         ensures took { sink_took (link_sink self.new) ≡ [] }
         ensures reads { source_faults (link_source self.new) ≡ 0 }
         ensures writes { sink_faults (link_sink self.new) ≡ 0 }
+        ensures whose { self.new.whose ≡ Some (server, generation) }
     {
         self.source.rewind();
         self.sink.rewind();
+        self.whose = Some((server, generation));
     }
 }
 
@@ -52,7 +60,7 @@ impl Source for MemoryLink {
 
     ghost read_faults = { λ l. source_faults l.source };
 
-    ghost beside_reads = { λ l. (Some (sink_took l.sink), sink_faults l.sink) };
+    ghost beside_reads = { λ l. (Some (sink_took l.sink), sink_faults l.sink, l.whose) };
 
     fn read(&mut self, into: &mut [u8]) -> Result<usize, Failed> {
         self.source.read(into)
@@ -67,7 +75,7 @@ impl Sink for MemoryLink {
 
     ghost write_faults = { λ l. sink_faults l.sink };
 
-    ghost beside_writes = { λ l. (Some (source_gave l.source), source_faults l.source) };
+    ghost beside_writes = { λ l. (Some (source_gave l.source), source_faults l.source, l.whose) };
 
     fn write(&mut self, from: &[u8]) -> Result<usize, Failed> {
         self.sink.write(from)
@@ -76,6 +84,8 @@ impl Sink for MemoryLink {
 
 impl Link for MemoryLink {
     ghost use Rattle.std.specs.Prelude.{refl};
+
+    ghost whose = { λ l. l.whose };
 
     ghost reads_alone = { λ _. refl };
 

@@ -64,7 +64,7 @@ impl Sink for MemorySink {
 
     ghost write_faults = { sink_faults };
 
-    ghost beside_writes = { λ _. (None, 0) };
+    ghost beside_writes = { λ _. (None, 0, None) };
 
     fn write(&mut self, from: &[u8]) -> Result<usize, Failed> {
         self.calls = self.calls.saturating_add(1);

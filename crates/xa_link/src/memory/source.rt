@@ -92,7 +92,7 @@ impl Source for MemorySource {
 
     ghost read_faults = { source_faults };
 
-    ghost beside_reads = { λ _. (None, 0) };
+    ghost beside_reads = { λ _. (None, 0, None) };
 
     fn read(&mut self, into: &mut [u8]) -> Result<usize, Failed> {
         self.calls = self.calls.saturating_add(1);

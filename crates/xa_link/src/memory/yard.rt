@@ -7,11 +7,12 @@ use crate::count::raise;
 use crate::{StartRefused, Starter, Yard};
 use std::alloc::Global;
 use std::mem;
-use xa_types::{Generation, Name, NoMemory, Setup};
+use xa_types::{Generation, Name, NoMemory, ServerSetup, Setup};
 
 /// Gives the prepared lives of one server.
 #[derive(Drop)]
 pub struct MemoryStarter {
+    server: Name,
     lives: Vec<Option<MemoryLink>>,
     asked: Vec<(Name, Generation)>,
     faults: u64,
@@ -21,6 +22,7 @@ impl MemoryStarter {
     // The life of that generation, which is given once.
     fn take(&mut self, generation: Generation) -> Option<MemoryLink>
         ensures given { result ≡ life_of self.old.lives.items generation.0 }
+        ensures server { self.new.server ≡ self.old.server }
         ensures count { self.new.faults ≡ self.old.faults }
         ensures asked { self.new.asked.items ≡ self.old.asked.items }
     {
@@ -30,9 +32,15 @@ impl MemoryStarter {
 }
 
 impl Starter<MemoryLink> for MemoryStarter {
+    ghost server_name = { λ s. s.server };
+
     ghost start_faults = { λ s. s.faults };
 
     ghost asked = { λ s. Some s.asked.items };
+
+    fn server(&self) -> Name {
+        self.server
+    }
 
     fn start(&mut self, server: &Name, generation: Generation) -> Result<MemoryLink, StartRefused> {
         if self.asked.push((*server, generation)).is_err() {
@@ -42,7 +50,7 @@ impl Starter<MemoryLink> for MemoryStarter {
             raise(&mut self.faults);
             return Err(StartRefused::Failed);
         };
-        link.rewind();
+        link.begin(*server, generation);
         Ok(link)
     }
 }
@@ -92,18 +100,20 @@ impl MemoryYard {
         lives
     }
 
-    // Adds the starters of so many servers, each with its lives.
-    fn add_starters(&mut self, servers: usize, all: &mut Vec<MemoryStarter>)
+    // Adds the starters of these servers, each with its lives.
+    fn add_starters(&mut self, servers: &[ServerSetup], all: &mut Vec<MemoryStarter>)
         requires none { all.old.items ≡ [] }
-        requires room { servers ≤ vec_capacity all.old }
-        ensures each { length all.new.items ≡ servers }
+        requires room { length servers.now ≤ vec_capacity all.old }
+        ensures each { length all.new.items ≡ length servers.now }
+        ensures names { map (λ s. s.server) all.new.items ≡ map (λ server. server.name) servers.now }
         ensures counts { All (λ s. s.faults ≡ 0) all.new.items }
         ensures none { All (λ s. s.asked.items ≡ []) all.new.items }
         ensures asked { self.new.asked ≡ self.old.asked }
     {
-        for i in 0..servers {
+        for (i, server) in servers.iter().enumerate() {
             let lives = self.take_lives(i);
             all.push_reserved(MemoryStarter {
+                server: server.name,
                 lives,
                 asked: Vec::new(self.alloc),
                 faults: 0,
@@ -120,8 +130,8 @@ impl Yard for MemoryYard {
     ghost asked = { λ y. Some y.asked.items };
 
     fn starters(&mut self, setup: &Setup) -> Result<Vec<MemoryStarter>, NoMemory> {
-        let servers = setup.servers.slice().len();
-        let mut all = Vec::with_capacity(self.alloc, servers)?;
+        let servers = setup.servers.slice();
+        let mut all = Vec::with_capacity(self.alloc, servers.len())?;
         self.keep_asked(setup)?;
         self.add_starters(servers, &mut all);
         Ok(all)

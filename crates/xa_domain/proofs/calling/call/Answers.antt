@@ -18,7 +18,7 @@ returns-in_default g c =
       ready = c.turn_down.ensures.ready;
       called = c.turn_down.ensures.called;
       goes = on_ok_weaker c.turn_down.result
-          (λ done script past none stands called. turned_goes c.args.client c.args.op Inval Argument c.args.domain.now c.turn_down.new.domain done c.args.setup.now script past c.args.ask.now stands c.requires.ready c.requires.turn called c.in_default.ensures tt (λ version is. cc is)) c.turn_down.ensures.done;
+          (λ done script past none stands called. turned_goes c.args.client c.args.op Inval Argument c.args.domain.now c.turn_down.new.domain done c.args.setup.now script past c.args.ask.now stands c.requires.ready c.requires.turn called (λ caller. c.in_default.ensures) tt (λ version is. cc is)) c.turn_down.ensures.done;
       failed = IfErr-weaker c.turn_down.result _ _ (λ halt failed script past none stands called. failed c.args.setup.now (length script) past stands.holds) c.turn_down.ensures.failed;
     }
 

@@ -9,7 +9,7 @@ loop-lived-init g c = record { hands = hands_none _ _ _ _ c.into_iter-rest.ensur
 pub loop-lived-preserved : goal.loop-lived-preserved
 loop-lived-preserved g c = record {
   hands = hands_more _ _ c.loop-lived.rest.rest.items c.next.new.self.rest.items c.loop-lived.lives.items c.push_reserved.new.self.items c.in-Some.lived _ c.loop-lived.invariant.hands c.in-Some.ensures.items
-      (record { server = refl; generation = refl; took = c.into_link.ensures.took; gave = c.into_link.ensures.gave; left = c.into_link.ensures.left; reads = c.into_link.ensures.reads; writes = c.into_link.ensures.writes }) c.push_reserved.ensures.items;
+      (record { server = refl; generation = refl; took = c.into_link.ensures.took; gave = c.into_link.ensures.gave; left = c.into_link.ensures.left; reads = c.into_link.ensures.reads; writes = c.into_link.ensures.writes; whose = c.into_link.ensures.whose }) c.push_reserved.ensures.items;
   room = c.push_reserved.ensures.capacity ∙ c.loop-lived.invariant.room;
 }
 

@@ -6,8 +6,9 @@ use Rattle.xa_domain.specs.Standing.{GoesOn, IsHalted}
 use Rattle.xa_domain.specs.Serving.{StartersMatch}
 use Rattle.xa_tables.proofs.Setups.{good}
 use Rattle.xa_domain.proofs.Booted.{boot_stands, boot_stamps}
-use Rattle.xa_domain.proofs.Carrying.{starters_fresh}
-use Rattle.xa_domain.proofs.Ends.{ends_here, booted_here, dense_after, taken, holds_after, room_left}
+use Rattle.xa_domain.proofs.Carrying.{names_held, starters_fresh}
+use Rattle.xa_domain.proofs.Ends.{ends_here, booted_here, dense_after, recorded_after, taken, holds_after, room_left}
+use Rattle.xa_domain.proofs.Recorded.{has_homes}
 use Rattle.xa_domain.proofs.serving.serve_by.Goals as goal
 
 pub run-requires : goal.run-requires
@@ -24,8 +25,8 @@ run-requires g c =
       stamps = boot_stamps c.args.setup.now (length c.args.clients.now) domain (good c.args.setup.now c.requires.configured).few_rows c.requires.holds;
       all = ap length items ∙ long;
       each = sym c.requires.holds.all_clients;
-      fresh = subst (λ ss. StartersMatch (λ s. record { faults = g.Y.Start.Starter.start_faults s; asked = g.Y.Start.Starter.asked s }) (attempts domain) ss) (sym items)
-          (starters_fresh (λ s. record { faults = g.Y.Start.Starter.start_faults s; asked = g.Y.Start.Starter.asked s }) domain.servers.items c.in-Ok.starters.items long (λ i x is. (booted.fresh i x is).first) asked.counts asked.none);
+      fresh = subst (λ ss. StartersMatch (λ s. record { server = g.Y.Start.Starter.server_name s; faults = g.Y.Start.Starter.start_faults s; asked = g.Y.Start.Starter.asked s }) (attempts domain) ss) (sym items)
+          (starters_fresh (λ s. record { server = g.Y.Start.Starter.server_name s; faults = g.Y.Start.Starter.start_faults s; asked = g.Y.Start.Starter.asked s }) domain.servers.items c.in-Ok.starters.items (asked.names ∙ sym (names_held c.args.setup.now (length c.args.clients.now) (boot_past c.args.setup.now) domain c.requires.holds)) (λ i x is. (booted.fresh i x is).first) asked.counts asked.none);
     }
 
 pub returns : goal.returns
@@ -41,7 +42,8 @@ returns g c =
     let long : c.in-Ok.starters.len ≡ length c.run.new.starters = omega (arith, c.in-Ok.starters.ok.0, ap length c.as_mut_slice.ensures.value, c.run.auto.starters) in
     let after = holds_after setup clients d c.run.result goes halted in
     record {
-      ends = ends_here (record { took = g.Y.Line.Sink.took; gave = g.Y.Line.Source.gave; left = g.Y.Line.Source.left; reads = g.Y.Line.Source.read_faults; writes = g.Y.Line.Sink.write_faults }) (λ s. record { faults = g.Y.Start.Starter.start_faults s; asked = g.Y.Start.Starter.asked s }) setup clients clients d _ back.homes.homes back.lives.items _ c.run.new.starters refl its.homes its.lives (taken c.in-Ok.starters.len c.run.new.starters _ long) c.run.ensures.starters c.run.ensures.numbered c.run.result c.err-halt.ensures.value goes c.run.ensures.over halted;
+      ends = ends_here (record { took = g.Y.Line.Sink.took; gave = g.Y.Line.Source.gave; left = g.Y.Line.Source.left; reads = g.Y.Line.Source.read_faults; writes = g.Y.Line.Sink.write_faults; whose = g.Y.Line.Link.whose }) (λ s. record { server = g.Y.Start.Starter.server_name s; faults = g.Y.Start.Starter.start_faults s; asked = g.Y.Start.Starter.asked s }) setup clients clients d _ back.homes.homes back.lives.items _ c.run.new.starters refl its.homes its.lives (taken c.in-Ok.starters.len c.run.new.starters _ long) c.run.ensures.starters c.run.ensures.numbered c.run.result c.err-halt.ensures.value goes c.run.ensures.over halted;
+      homes = has_homes c.err-halt.result setup (length clients) back.homes.homes (recorded_after setup (length clients) after.0 d back.homes.homes its.homes after.1);
       dense = dense_after setup (length clients) after.0 d back.homes.homes its.homes after.1;
       asked = inl c.in-Ok.ensures.asked;
     }
@@ -68,7 +70,8 @@ returns-in_default g c =
     let back = c.hand_back-homes.result in
     let its = c.hand_back-homes.ensures in
     record {
-      ends = booted_here (record { took = g.Y.Line.Sink.took; gave = g.Y.Line.Source.gave; left = g.Y.Line.Source.left; reads = g.Y.Line.Source.read_faults; writes = g.Y.Line.Sink.write_faults }) (λ s. record { faults = g.Y.Start.Starter.start_faults s; asked = g.Y.Start.Starter.asked s }) setup clients clients (boot_past setup) d back.homes.homes back.lives.items _ refl c.new.ensures.items its.homes its.lives c.requires.booted.numbered c.requires.holds;
+      ends = booted_here (record { took = g.Y.Line.Sink.took; gave = g.Y.Line.Source.gave; left = g.Y.Line.Source.left; reads = g.Y.Line.Source.read_faults; writes = g.Y.Line.Sink.write_faults; whose = g.Y.Line.Link.whose }) (λ s. record { server = g.Y.Start.Starter.server_name s; faults = g.Y.Start.Starter.start_faults s; asked = g.Y.Start.Starter.asked s }) setup clients clients (boot_past setup) d back.homes.homes back.lives.items _ refl c.new.ensures.items its.homes its.lives c.requires.booted.numbered c.requires.holds;
+      homes = inl (recorded_after setup (length clients) (boot_past setup) d back.homes.homes its.homes c.requires.holds);
       dense = dense_after setup (length clients) (boot_past setup) d back.homes.homes its.homes c.requires.holds;
       asked = inr (refl, c.in_default.ensures.starved);
     }

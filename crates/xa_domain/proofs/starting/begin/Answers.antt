@@ -1,6 +1,7 @@
-use Rattle.std.proofs.Common.{◌≡◌, List, ℕ, sym, ◌∙◌, subst, length, arith, refl}
+use Rattle.std.proofs.Common.{◌≡◌, List, ℕ, Option, Some, IsSomeAnd, sym, ◌∙◌, subst, length, arith, refl}
 use Rattle.std.proofs.lemmas.Result.{on_ok_weaker, IfErr-weaker}
 use Rattle.xa_tables.specs.declared.server.Attempt.{Attempt}
+use Rattle.xa_tables.specs.declared.server.Server.{Server}
 use Rattle.xa_tables.specs.declared.server.Attempt.TheVariants as tries
 use Rattle.xa_tables.specs.Steps.{Changed}
 use Rattle.xa_tables.specs.Resting.{attempts}
@@ -17,8 +18,9 @@ greet-requires g c =
     let stood = stood_here old.servers.items c.args.server x (slice_get_within old.servers.items c.args.server c.requires.may.its c.requires.may.stands) c.index.ensures in
     let d1 = record old { lives = c.push_reserved.new.self } in
     let at : c.len-life.result ≡ length old.lives.items = omega (arith, c.len-life.ensures, old.lives.ok.0) in
+    let own : g.L.Link.whose c.args.link ≡ Some (x.name, record { 0 = 1 }) = subst (λ (o : Option Server). IsSomeAnd o (λ z. g.L.Link.whose c.args.link ≡ Some (z.name, record { 0 = 1 }))) stood c.requires.own in
     let kept = keeps_life c.args.server c.len-life.result old x stood at (record { server = x.id; invocation = 0; pipe = c.new.result }) refl
-    (record { first = refl; wrote = c.new.ensures.wrote; read = c.new.ensures.read; well = (c.new.ensures.reads ∙ c.requires.counts.0, c.new.ensures.writes ∙ c.requires.counts.1) })
+    (record { first = refl; wrote = c.new.ensures.wrote; read = c.new.ensures.read; well = (c.new.ensures.reads ∙ c.requires.counts.0, c.new.ensures.writes ∙ c.requires.counts.1); whose = c.new.ensures.whose ∙ own })
     c.push_reserved.new.self c.push_reserved.ensures.items c.push_reserved.ensures.capacity in
     let d2 = c.start.new.self in
     let step = c.in_ok-start.ensures.done in
@@ -37,8 +39,9 @@ returns g c =
     let stood = stood_here old.servers.items c.args.server x (slice_get_within old.servers.items c.args.server c.requires.may.its c.requires.may.stands) c.index.ensures in
     let d1 = record old { lives = c.push_reserved.new.self } in
     let at : c.len-life.result ≡ length old.lives.items = omega (arith, c.len-life.ensures, old.lives.ok.0) in
+    let own : g.L.Link.whose c.args.link ≡ Some (x.name, record { 0 = 1 }) = subst (λ (o : Option Server). IsSomeAnd o (λ z. g.L.Link.whose c.args.link ≡ Some (z.name, record { 0 = 1 }))) stood c.requires.own in
     let kept = keeps_life c.args.server c.len-life.result old x stood at (record { server = x.id; invocation = 0; pipe = c.new.result }) refl
-    (record { first = refl; wrote = c.new.ensures.wrote; read = c.new.ensures.read; well = (c.new.ensures.reads ∙ c.requires.counts.0, c.new.ensures.writes ∙ c.requires.counts.1) })
+    (record { first = refl; wrote = c.new.ensures.wrote; read = c.new.ensures.read; well = (c.new.ensures.reads ∙ c.requires.counts.0, c.new.ensures.writes ∙ c.requires.counts.1); whose = c.new.ensures.whose ∙ own })
     c.push_reserved.new.self c.push_reserved.ensures.items c.push_reserved.ensures.capacity in
     let d2 = c.start.new.self in
     let step = c.in_ok-start.ensures.done in

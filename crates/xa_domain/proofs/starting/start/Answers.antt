@@ -1,10 +1,11 @@
-use Rattle.std.proofs.Common.{◌∙◌, List, ℕ, Err, ap, arith}
+use Rattle.std.proofs.Common.{◌≡◌, ◌∙◌, List, ℕ, Option, Some, IsSomeAnd, Err, ap, subst, sym, refl, arith}
 use Rattle.std.specs.Prelude.{slice_get}
 use Rattle.std.proofs.lemmas.Result.{on_ok_weaker, IfErr-weaker}
 use Rattle.xa_tables.specs.declared.server.Attempt.{Attempt}
+use Rattle.xa_tables.specs.declared.server.Server.{Server}
 use Rattle.xa_tables.specs.Resting.{attempts}
 use Rattle.xa_tables.proofs.Lists.{changed_length}
-use Rattle.xa_domain.proofs.Begun.{numbered_room, attempts_room, on_room, room_stood, may_begin, stands_room, room_halts, shows_started, shows_failed, shows_same, starter_room, others_room}
+use Rattle.xa_domain.proofs.Begun.{numbered_room, attempts_room, on_room, room_stood, may_begin, stands_room, room_halts, shows_started, shows_failed, shows_same, own_name, starter_room, others_room}
 use Rattle.xa_tables.proofs.Failing.{none_done}
 use Rattle.xa_domain.proofs.Halted.{halts}
 use Rattle.xa_tables.proofs.Kept.{passed_on}
@@ -22,6 +23,7 @@ begin-requires g c =
       may = may_begin c.args.server old d1 c.requires.on step c.index-at.result.now c.index-at.ensures;
       counts = c.in-Ok.ensures.counts;
       fresh = c.in-Ok.ensures.fresh;
+      own = subst (λ (o : Option Server). IsSomeAnd o (λ x. g.L.Link.whose c.in-Ok.link ≡ Some (x.name, record { 0 = 1 }))) (sym (room_stood c.args.server old d1 c.requires.on step c.index-at.result.now c.index-at.ensures)) c.in-Ok.ensures.whose;
     }
 
 pub returns-in-Ok : goal.returns-in-Ok
@@ -32,7 +34,7 @@ returns-in-Ok g c =
     let x = c.index-at.result.now in
     record {
       numbered = c.begin.ensures.numbered;
-      starter = shows_started c.args.server d1 c.begin.new.domain (on_room c.args.server old d1 c.requires.on step) x (room_stood c.args.server old d1 c.requires.on step x c.index-at.ensures) (g.S.Starter.start_faults c.args.starter.now) (g.S.Starter.start_faults c.start.new.self) (g.S.Starter.asked c.args.starter.now) (g.S.Starter.asked c.start.new.self) (starter_room c.args.server old d1 c.requires.on step _ c.requires.fresh) (c.in-Ok.ensures.quiet (λ e. cc e)) c.in-Ok.ensures.started c.begin.ensures.tried;
+      starter = shows_started c.args.server d1 c.begin.new.domain (on_room c.args.server old d1 c.requires.on step) x (room_stood c.args.server old d1 c.requires.on step x c.index-at.ensures) (g.S.Starter.server_name c.args.starter.now) (g.S.Starter.server_name c.start.new.self) (g.S.Starter.start_faults c.args.starter.now) (g.S.Starter.start_faults c.start.new.self) (g.S.Starter.asked c.args.starter.now) (g.S.Starter.asked c.start.new.self) c.start.ensures.same (starter_room c.args.server old d1 c.requires.on step _ c.requires.fresh) (c.in-Ok.ensures.quiet (λ e. cc e)) c.in-Ok.ensures.started c.begin.ensures.tried;
       attempts = others_room c.args.server old d1 c.requires.on step c.begin.new.domain _ c.begin.ensures.tried;
       on = c.begin.ensures.on;
       clients = on_ok_weaker c.begin.result (λ same. same ∙ step.others.3) c.begin.ensures.clients;
@@ -61,7 +63,7 @@ returns-in-Err-Failed g c =
     let x = c.index-at.result.now in
     record {
       numbered = c.fail.ensures.numbered;
-      starter = shows_failed c.args.server d1 c.fail.new.domain (on_room c.args.server old d1 c.requires.on step) x (room_stood c.args.server old d1 c.requires.on step x c.index-at.ensures) (g.S.Starter.start_faults c.args.starter.now) (g.S.Starter.start_faults c.start.new.self) (g.S.Starter.asked c.args.starter.now) (g.S.Starter.asked c.start.new.self) (starter_room c.args.server old d1 c.requires.on step _ c.requires.fresh) (c.in-Err-Failed.ensures.cause (ap (λ e. Err e) c.in-Err-Failed.field-0-is)) (c.in-Err-Failed.ensures.failed (ap (λ e. Err e) c.in-Err-Failed.field-0-is)) c.fail.ensures.tried;
+      starter = shows_failed c.args.server d1 c.fail.new.domain (on_room c.args.server old d1 c.requires.on step) x (room_stood c.args.server old d1 c.requires.on step x c.index-at.ensures) (g.S.Starter.server_name c.args.starter.now) (g.S.Starter.server_name c.start.new.self) (g.S.Starter.start_faults c.args.starter.now) (g.S.Starter.start_faults c.start.new.self) (g.S.Starter.asked c.args.starter.now) (g.S.Starter.asked c.start.new.self) c.start.ensures.same (starter_room c.args.server old d1 c.requires.on step _ c.requires.fresh) (c.in-Err-Failed.ensures.cause (ap (λ e. Err e) c.in-Err-Failed.field-0-is)) (c.in-Err-Failed.ensures.failed (ap (λ e. Err e) c.in-Err-Failed.field-0-is)) c.fail.ensures.tried;
       attempts = others_room c.args.server old d1 c.requires.on step c.fail.new.domain _ c.fail.ensures.tried;
       on = c.fail.ensures.on;
       clients = on_ok_weaker c.fail.result (λ same. same ∙ step.others.3) c.fail.ensures.clients;
@@ -79,7 +81,7 @@ returns-in-Err-NoMemory g c =
     let x = c.index-at.result.now in
     record {
       numbered = numbered_room c.args.server old d1 c.requires.on step;
-      starter = shows_same (attempts d1) c.args.server (g.S.Starter.start_faults c.args.starter.now) (g.S.Starter.start_faults c.start.new.self) (g.S.Starter.asked c.args.starter.now) (g.S.Starter.asked c.start.new.self) (c.in-Err-NoMemory.ensures.quiet (λ failed. let none = c.in-Err-NoMemory.field-0-is in cc (failed, none))) (c.in-Err-NoMemory.ensures.starved (ap (λ e. Err e) c.in-Err-NoMemory.field-0-is)) (starter_room c.args.server old d1 c.requires.on step _ c.requires.fresh);
+      starter = shows_same (attempts d1) c.args.server (g.S.Starter.server_name c.args.starter.now) (g.S.Starter.server_name c.start.new.self) (g.S.Starter.start_faults c.args.starter.now) (g.S.Starter.start_faults c.start.new.self) (g.S.Starter.asked c.args.starter.now) (g.S.Starter.asked c.start.new.self) c.start.ensures.same (c.in-Err-NoMemory.ensures.quiet (λ failed. let none = c.in-Err-NoMemory.field-0-is in cc (failed, none))) (c.in-Err-NoMemory.ensures.starved (ap (λ e. Err e) c.in-Err-NoMemory.field-0-is)) (starter_room c.args.server old d1 c.requires.on step _ c.requires.fresh);
       attempts = λ i other. ap (λ (all : List (List ℕ × Attempt)). slice_get all i) (attempts_room c.args.server old d1 c.requires.on step);
       on = tt;
       clients = tt;
@@ -108,3 +110,14 @@ pub index-at-requires : goal.index-at-requires
 index-at-requires g c =
     let d1 = c.make_room.new.self in
     omega (arith, c.requires.within, changed_length c.args.server c.args.domain.now.servers.items d1.servers.items c.in_ok-make_room.ensures.done.servers, d1.servers.ok.0)
+
+pub start-requires : goal.start-requires
+start-requires g c =
+    let old = c.args.domain.now in
+    let d1 = c.make_room.new.self in
+    let step = c.in_ok-make_room.ensures.done in
+    let x = c.index-at.result.now in
+    let own = g.S.Starter.server_name c.args.starter.now in
+    let faults = g.S.Starter.start_faults c.args.starter.now in
+    let asked = g.S.Starter.asked c.args.starter.now in
+    record { own = own_name c.args.server d1 d1 (on_room c.args.server old d1 c.requires.on step) x (room_stood c.args.server old d1 c.requires.on step x c.index-at.ensures) own own faults faults asked asked refl (starter_room c.args.server old d1 c.requires.on step _ c.requires.fresh) }

@@ -16,15 +16,15 @@ pub start-requires : goal.start-requires
 start-requires g c =
     record {
       on = c.loop-server.invariant.starting.on;
-      within = omega (arith, c.loop-server-test.true, c.loop-server.invariant.all, match_long (λ s. record { faults = g.S.Starter.start_faults s; asked = g.S.Starter.asked s }) c.loop-server.domain c.loop-server.starters c.loop-server.invariant.matches);
-      fresh = match_at (λ s. record { faults = g.S.Starter.start_faults s; asked = g.S.Starter.asked s }) (attempts c.loop-server.domain) c.loop-server.starters c.loop-server.server c.index-starters-server.result c.loop-server.invariant.matches (omega (arith, c.loop-server-test.true, c.loop-server.invariant.all));
+      within = omega (arith, c.loop-server-test.true, c.loop-server.invariant.all, match_long (λ s. record { server = g.S.Starter.server_name s; faults = g.S.Starter.start_faults s; asked = g.S.Starter.asked s }) c.loop-server.domain c.loop-server.starters c.loop-server.invariant.matches);
+      fresh = match_at (λ s. record { server = g.S.Starter.server_name s; faults = g.S.Starter.start_faults s; asked = g.S.Starter.asked s }) (attempts c.loop-server.domain) c.loop-server.starters c.loop-server.server c.index-starters-server.result c.loop-server.invariant.matches (omega (arith, c.loop-server-test.true, c.loop-server.invariant.all));
     }
 
 pub returns-in_err-start : goal.returns-in_err-start
 returns-in_err-start g c =
     record {
       numbered = c.start.ensures.numbered;
-      starters = match_set (λ s. record { faults = g.S.Starter.start_faults s; asked = g.S.Starter.asked s }) (attempts c.loop-server.domain) (attempts c.start.new.domain) c.loop-server.starters c.loop-server.server c.start.new.starter c.loop-server.invariant.matches (omega (arith, c.loop-server-test.true, c.loop-server.invariant.all)) c.start.ensures.starter c.start.ensures.attempts;
+      starters = match_set (λ s. record { server = g.S.Starter.server_name s; faults = g.S.Starter.start_faults s; asked = g.S.Starter.asked s }) (attempts c.loop-server.domain) (attempts c.start.new.domain) c.loop-server.starters c.loop-server.server c.start.new.starter c.loop-server.invariant.matches (omega (arith, c.loop-server-test.true, c.loop-server.invariant.all)) c.start.ensures.starter c.start.ensures.attempts;
       ready = none_done c.from_residual.result _ _ c.from_residual.ensures.1;
       clients = none_done c.from_residual.result _ _ c.from_residual.ensures.1;
       goes = none_done c.from_residual.result _ _ c.from_residual.ensures.1;
@@ -39,7 +39,7 @@ loop-server-preserved g c =
         clients = c.in_ok-start.ensures.clients ∙ c.loop-server.invariant.starting.clients;
         goes = leads_on c.args.domain.now c.loop-server.domain c.start.new.domain c.loop-server.invariant.starting.goes c.in_ok-start.ensures.goes;
       };
-      matches = match_set (λ s. record { faults = g.S.Starter.start_faults s; asked = g.S.Starter.asked s }) (attempts c.loop-server.domain) (attempts c.start.new.domain) c.loop-server.starters c.loop-server.server c.start.new.starter c.loop-server.invariant.matches (omega (arith, c.loop-server-test.true, c.loop-server.invariant.all)) c.start.ensures.starter c.start.ensures.attempts;
+      matches = match_set (λ s. record { server = g.S.Starter.server_name s; faults = g.S.Starter.start_faults s; asked = g.S.Starter.asked s }) (attempts c.loop-server.domain) (attempts c.start.new.domain) c.loop-server.starters c.loop-server.server c.start.new.starter c.loop-server.invariant.matches (omega (arith, c.loop-server-test.true, c.loop-server.invariant.all)) c.start.ensures.starter c.start.ensures.attempts;
       all = set_length c.loop-server.starters c.loop-server.server c.start.new.starter ∙ c.loop-server.invariant.all;
     }
 
@@ -48,7 +48,7 @@ returns g c =
     record {
       numbered = c.loop-server.invariant.starting.on.numbered;
       starters = c.loop-server.invariant.matches;
-      ready = ready_all c.loop-server.server c.loop-server.domain c.loop-server.invariant.starting.on (omega (arith, c.loop-server-test.false, c.loop-server.invariant.all, match_long (λ s. record { faults = g.S.Starter.start_faults s; asked = g.S.Starter.asked s }) c.loop-server.domain c.loop-server.starters c.loop-server.invariant.matches));
+      ready = ready_all c.loop-server.server c.loop-server.domain c.loop-server.invariant.starting.on (omega (arith, c.loop-server-test.false, c.loop-server.invariant.all, match_long (λ s. record { server = g.S.Starter.server_name s; faults = g.S.Starter.start_faults s; asked = g.S.Starter.asked s }) c.loop-server.domain c.loop-server.starters c.loop-server.invariant.matches));
       clients = c.loop-server.invariant.starting.clients;
       goes = c.loop-server.invariant.starting.goes;
       failed = tt;

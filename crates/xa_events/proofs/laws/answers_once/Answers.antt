@@ -1,4 +1,4 @@
-use Rattle.std.proofs.Common.{arith}
+use Rattle.std.proofs.Common.{refl}
 use Rattle.xa_events.specs.State.{State, opening}
 use Rattle.xa_events.specs.Caller.{open_descriptors}
 use Rattle.xa_events.specs.Laws.{LawOfAnswers}
@@ -10,5 +10,5 @@ pub returns : goal.returns
 unfolding open_descriptors
 returns c setup clients events new run =
     (along (λ (s : State). Agree s × Unanswered s.past × LawOfAnswers s.past)
-    (λ s e case h. (agree_more s e case h.0, unanswered_more s e case h.1, (answer_law s e case h.0 h.1, h.2)))
-    events (opening setup clients) new (agree_none setup clients, record { all = λ r. omega arith; is_open = λ r h. cc h }, tt) run).2
+    (λ s e case h. (agree_more s e case h.0, unanswered_more s e case h.0 h.1, (answer_law s e case h.0 h.1, h.2)))
+    events (opening setup clients) new (agree_none setup clients, record { all = λ r none. refl; is_open = λ r h. cc h }, tt) run).2

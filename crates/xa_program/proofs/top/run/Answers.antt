@@ -14,7 +14,7 @@ returns-in-Ok-Some-clause-complete g c command octets script is serves configure
     let both : Some c.in-Ok-Some.command ≡ Some command = sym c.in-Ok-Some.field-0-is ∙ c.in-Ok-Some.ensures.found ∙ is in
     let same : c.in-Ok-Some.command ≡ command = cc both in
     let ends = rw same at c.obey.ensures.ends in
-    nothing_else _ (λ s. record { faults = g.Y.Start.Starter.start_faults s; asked = g.Y.Start.Starter.asked s }) _ _ command c.obey.result.status
+    nothing_else _ (λ s. record { server = g.Y.Start.Starter.server_name s; faults = g.Y.Start.Starter.start_faults s; asked = g.Y.Start.Starter.asked s }) _ _ command c.obey.result.status
     c.obey.result.homes.homes c.obey.result.history.items c.obey.result.lives.items c.obey.result.starters.items octets script (ends serves) configured told short is_script files reads writes
 
 -- ---- the words are no command's

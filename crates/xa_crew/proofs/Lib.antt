@@ -1,0 +1,15 @@
+pub mod Lists
+pub mod Placed
+pub mod Workers
+pub mod Before
+pub mod Fresh
+pub mod Growing
+pub mod Own
+pub mod Calls
+pub mod Finishing
+pub mod Replies
+pub mod Joined
+pub mod Over
+pub mod Dense
+pub mod Ending
+pub mod Crewed
