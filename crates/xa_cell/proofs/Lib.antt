@@ -19,3 +19,4 @@ pub mod Joining
 pub mod Gathering
 pub mod OpenPlaces
 pub mod Seats
+pub mod Growing

@@ -12,3 +12,4 @@ pub mod Dealing
 pub mod Finding
 pub mod Joined
 pub mod Gathered
+pub mod Growing

@@ -2,6 +2,7 @@
 ghost use Rattle.xa_cell.specs.Places.{Stand};
 ghost use Rattle.xa_cell.specs.Known.{known, IsSeatOf, IsTicketOf, SameSeat};
 ghost use Rattle.xa_cell.specs.Calls.{FilledAs};
+ghost use Rattle.xa_cell.specs.Growing.{FillAdds};
 
 use crate::cells::Cells;
 use crate::rule;
@@ -24,6 +25,7 @@ impl<A> Cells<A> {
         ensures seat { SameSeat self.now seat.old seat.new }
         ensures known { FilledAs ticket answer (known seat.old) (known seat.new) result }
         ensures open { Stand (known seat.old) (known seat.new) }
+        ensures more { FillAdds ticket answer (known seat.old) (known seat.new) result }
     {
         let Ticket { badge, cell } = ticket;
         self.table

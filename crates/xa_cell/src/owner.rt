@@ -6,6 +6,7 @@ ghost use Rattle.xa_cell.specs.Known.{known, IsSeatOf, IsTicketOf, SameSeat};
 ghost use Rattle.xa_cell.specs.Calls.{Began, AllTaken, LookedAs, TookAs, CancelledAs};
 ghost use Rattle.xa_cell.specs.Tokens.{IsCaller};
 ghost use Rattle.xa_cell.specs.Finding.{Found, IsFree, IsTicketFor};
+ghost use Rattle.xa_cell.specs.Growing.{Keeps, TakesMore, CancelTakes};
 
 use crate::cells::Cells;
 use crate::rule;
@@ -89,6 +90,7 @@ impl<A> Cells<A> {
         ensures open { IfOk result (λ begun. IsOpen seat.new begun.0 × Opens begun.0.cell request (known seat.old) (known seat.new)) }
         ensures err { IfErr result (λ full. (full.0 ≡ seat.old.count) × AllTaken seat.old seat.new) }
         ensures full { IfErr result (λ full. Stand (known seat.old) (known seat.new)) }
+        ensures keeps { Keeps (known seat.old) (known seat.new) }
     {
         match self.find(&mut seat.inner, seat.first, seat.count) {
             Some((cell, word)) => {
@@ -106,6 +108,7 @@ impl<A> Cells<A> {
         ensures seat { SameSeat self.now seat.old seat.new }
         ensures known { LookedAs place.now.cell (known seat.old) (known seat.new) result }
         ensures open { Stand (known seat.old) (known seat.new) }
+        ensures keeps { Keeps (known seat.old) (known seat.new) }
     {
         let word = self
             .table
@@ -125,6 +128,7 @@ impl<A> Cells<A> {
         ensures seat { SameSeat self.now seat.old seat.new }
         ensures known { TookAs place.cell result (known seat.old) (known seat.new) }
         ensures shut { Shuts place.cell (known seat.old) (known seat.new) }
+        ensures more { TakesMore place.cell result (known seat.old) (known seat.new) }
     {
         let Place { cell } = place;
         self.table.shared.load::<rule::Take>(&mut seat.inner, cell);
@@ -142,6 +146,7 @@ impl<A> Cells<A> {
         ensures seat { SameSeat self.now seat.old seat.new }
         ensures known { CancelledAs place.cell (known seat.old) (known seat.new) result }
         ensures shut { Shuts place.cell (known seat.old) (known seat.new) }
+        ensures more { CancelTakes place.cell (known seat.old) (known seat.new) result }
     {
         let cell = place.cell;
         let word = self.table.shared.load::<rule::Look>(&mut seat.inner, cell);
@@ -167,6 +172,7 @@ impl<A> Cells<A> {
         ensures seat { SameSeat self.now seat.old seat.new }
         ensures known { known seat.new ≡ withdrawn place.cell (known seat.old) }
         ensures shut { Shuts place.cell (known seat.old) (known seat.new) }
+        ensures keeps { Keeps (known seat.old) (known seat.new) }
     {
         let Place { cell } = place;
         let Ticket { badge, cell: _ } = ticket;

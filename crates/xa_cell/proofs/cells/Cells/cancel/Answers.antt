@@ -8,6 +8,8 @@ use Rattle.xa_cell.proofs.LookStep.{looks_keep}
 use Rattle.xa_cell.proofs.CancelStep.{cancels_at}
 use Rattle.xa_cell.proofs.Viewed.{looked_caller, looked_at, looked_else, cancelled_caller, cancelled_shuts, shuts_after, inside_parts}
 use Rattle.xa_cell.proofs.Seats.{empty_of, caller_is}
+use Rattle.xa_cell.specs.Growing.{Keeps}
+use Rattle.xa_cell.proofs.Growing.{keeps_trans, looked_keeps, cancelled_keeps, more_behind}
 use Rattle.xa_cell.proofs.cells.Cells.cancel.Goals as goal
 
 pub load-word-requires : goal.load-word-requires
@@ -55,3 +57,15 @@ returns-else-is_first-clause-shut g c = let s = c.args.seat.now in let k = c.arg
     let l = c.load-word.ensures in let u = l.2.0 in let then_ = looked_caller s.first s.count cells k v s.caller inside u in let here = looked_at s.first s.count cells k v s.caller inside u in
     let now = c.compare_exchange-found.ensures.2.1 c.if-is_first.false in let w = looked k u v in let is = ap (λ m. m.0) now ∙ ap (λ m. looked k 0 m.0) l.2.4 in
     shuts_after k v _ _ (λ j ne. ap (at j) is ∙ (looked_else s.first s.count cells k w then_ inside 0 j ne ∙ looked_else s.first s.count cells k v s.caller inside u j ne)) c.take.ensures.shut
+
+pub returns-then-is_first-clause-more : goal.returns-then-is_first-clause-more
+returns-then-is_first-clause-more g c = let k = c.args.place.cell in let v = c.args.seat.now.inner.me.0 in let l = c.load-word.ensures in let w = looked k l.2.0 v in
+    let now = c.compare_exchange-found.ensures.2.0 c.if-is_first.true in let is = ap (λ m. m.0) now ∙ ap (λ m. cancelled k m.0) l.2.4 in
+    subst (Keeps v) (sym is) (keeps_trans v w (cancelled k w) (looked_keeps k l.2.0 v) (cancelled_keeps k w))
+
+pub returns-else-is_first-clause-more : goal.returns-else-is_first-clause-more
+returns-else-is_first-clause-more g c = let s = c.args.seat.now in let k = c.args.place.cell in let v = s.inner.me.0 in let cells = s.inner.table_id.words in let range = s.caller.mine k c.requires.place in let high = range.1 in let room = s.caller.room in let inside : k < cells = omega arith in
+    let l = c.load-word.ensures in let u = l.2.0 in let then_ = looked_caller s.first s.count cells k v s.caller inside u in let here = looked_at s.first s.count cells k v s.caller inside u in
+    let now = c.compare_exchange-found.ensures.2.1 c.if-is_first.false in let w = looked k u v in let is = ap (λ m. m.0) now ∙ ap (λ m. looked k 0 m.0) l.2.4 in let again = looked_at s.first s.count cells k w then_ inside 0 in
+    let asked = ap (λ x. (at k x).asked) is ∙ (ap (λ p. p.asked) again ∙ ap (λ p. p.asked) here) in
+    more_behind k _ v _ _ asked (subst (Keeps v) (sym is) (keeps_trans v w (looked k 0 w) (looked_keeps k u v) (looked_keeps k 0 w))) c.take.ensures.more

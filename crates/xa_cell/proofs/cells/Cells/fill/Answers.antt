@@ -10,9 +10,11 @@ use Rattle.xa_cell.proofs.JoinStep.{joins_keep}
 use Rattle.xa_cell.proofs.PlaceStep.{places_at}
 use Rattle.xa_cell.proofs.FillStep.{fills_at}
 use Rattle.xa_cell.proofs.ClearStep.{clears_at}
-use Rattle.xa_cell.proofs.Viewed.{filled_caller, filled_stands, dropped_caller, dropped_stands}
+use Rattle.xa_cell.proofs.Viewed.{filled_caller, filled_stands, dropped_caller, dropped_stands, inside_parts}
 use Rattle.xa_cell.proofs.Joining.{ticket_of, armed, armed_at, armed_long, holding, holding_at, holding_long, tardy, tardy_at, tardy_long, joined_me, placed_me, delivered_me, late_me, cleared_me}
 use Rattle.xa_cell.proofs.Seats.{empty_of, caller_is, ticket_is, moved_slot, has_slot, slot_found}
+use Rattle.xa_cell.specs.Growing.{Keeps, FillsMore}
+use Rattle.xa_cell.proofs.Growing.{filled_more, dropped_keeps}
 use Rattle.xa_cell.proofs.cells.Cells.fill.Goals as goal
 
 pub join_seat-requires : goal.join_seat-requires
@@ -141,3 +143,11 @@ returns-clause-open g c = let s = c.args.seat.now in let k = c.args.ticket.cell 
     let l5 = moved_slot _ _ (tardy k o.0 v) k (Some (Answer a)) None [] l4 refl c.exchange-back.ensures.3 in let late = tardy_at s.first s.count cells k v s.caller inside o.0 in
     let z = c.fetch_sub.ensures in let l6 = cleared_me s.first s.count cells k v s.caller inside o.0 _ _ _ (z.2 o.0 (ap (λ m. (at k m.0).tickets) l5 ∙ ap (λ p. p.tickets) late)) l5 in
     subst (Stand v) (sym (ap (λ m. m.0) l6)) (dropped_stands s.first s.count cells k v s.caller inside o.0)
+
+pub returns-then-is_first-clause-more : goal.returns-then-is_first-clause-more
+returns-then-is_first-clause-more g c = let s = c.args.seat.now in let k = c.args.ticket.cell in let v = s.inner.me.0 in let cells = s.inner.table_id.words in let t = view_of c.args.ticket.badge.views in
+    let is = ticket_is k k _ cells t t refl (ap (λ z. z.words) (c.requires.0 ∙ sym c.requires.1)) refl c.args.ticket.ticket in let h = returns-then-is_first-clause-known g c in
+    (h.0, h.1, subst (FillsMore k h.0 c.args.answer v) (sym h.2) (filled_more k h.0 c.args.answer v (inside_parts s.first s.count cells k v s.caller is.inside)))
+
+pub returns-clause-more : goal.returns-clause-more
+returns-clause-more g c = let k = c.args.ticket.cell in let v = c.args.seat.now.inner.me.0 in let h = returns-clause-known g c in subst (Keeps v) (sym h.2.1) (dropped_keeps k h.0 v)

@@ -5,6 +5,8 @@ use Rattle.xa_cell.specs.Places.{Stand}
 use Rattle.xa_cell.proofs.LookStep.{looks_keep}
 use Rattle.xa_cell.proofs.Viewed.{looked_caller, looked_at, looked_stands}
 use Rattle.xa_cell.proofs.Seats.{empty_of, caller_is}
+use Rattle.xa_cell.specs.declared.owner.Look.TheVariants.{Pending, Come}
+use Rattle.xa_cell.proofs.Growing.{look_keeps}
 use Rattle.xa_cell.proofs.cells.Cells.look.Goals as goal
 
 pub load-word-requires : goal.load-word-requires
@@ -36,3 +38,9 @@ returns-then-word-eq-FILLED-clause-open g c = let s = c.args.seat.now in let k =
 pub returns-else-word-eq-FILLED-clause-open : goal.returns-else-word-eq-FILLED-clause-open
 returns-else-word-eq-FILLED-clause-open g c = let s = c.args.seat.now in let k = c.args.place.now.cell in let range = s.caller.mine k c.requires.place in let high = range.1 in let room = s.caller.room in let e = c.load-word.ensures.2 in
     subst (Stand s.inner.me.0) (sym (ap (λ m. m.0) e.4)) (looked_stands s.first s.count s.inner.table_id.words k s.inner.me.0 s.caller (omega arith) e.0 e.1)
+
+pub returns-then-word-eq-FILLED-clause-keeps : goal.returns-then-word-eq-FILLED-clause-keeps
+returns-then-word-eq-FILLED-clause-keeps g c = look_keeps c.args.place.now.cell _ _ Come (returns-then-word-eq-FILLED-clause-known g c)
+
+pub returns-else-word-eq-FILLED-clause-keeps : goal.returns-else-word-eq-FILLED-clause-keeps
+returns-else-word-eq-FILLED-clause-keeps g c = look_keeps c.args.place.now.cell _ _ Pending (returns-else-word-eq-FILLED-clause-known g c)

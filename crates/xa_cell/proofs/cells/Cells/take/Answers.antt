@@ -11,6 +11,7 @@ use Rattle.xa_cell.proofs.FreeStep.{frees_at}
 use Rattle.xa_cell.proofs.Viewed.{took_caller, took_shuts, inside_parts}
 use Rattle.xa_cell.proofs.Joining.{taking_at, taking_long, freed_is}
 use Rattle.xa_cell.proofs.Seats.{empty_of, caller_is, moved_slot, has_slot, slot_found}
+use Rattle.xa_cell.proofs.Growing.{took_more}
 use Rattle.xa_cell.proofs.cells.Cells.take.Goals as goal
 
 pub load-requires : goal.load-requires
@@ -47,3 +48,7 @@ pub returns-clause-shut : goal.returns-clause-shut
 returns-clause-shut g c = let s = c.args.seat.now in let k = c.args.place.cell in let v = s.inner.me.0 in let range = s.caller.mine k c.requires.come.0 in let high = range.1 in let room = s.caller.room in let cells = s.inner.table_id.words in let inside : k < cells = omega arith in
     let t = c.load.ensures.2 in let now = moved_slot _ _ (taking k t.0 t.1 v) k _ None _ t.3 (ap (λ m. m.1) s.empty) c.exchange-answer.ensures.3 in let y = c.fetch_sub.ensures in
     subst (Shuts k v) (sym (ap (λ m. m.0) y.2 ∙ (ap (λ m. freed k m.0) now ∙ freed_is s.first s.count cells k v s.caller inside t.0 t.1))) (took_shuts s.first s.count cells k v s.caller inside t.0 t.1)
+
+pub returns-clause-more : goal.returns-clause-more
+returns-clause-more g c = let s = c.args.seat.now in let k = c.args.place.cell in let v = s.inner.me.0 in let range = s.caller.mine k c.requires.come.0 in let high = range.1 in let room = s.caller.room in let cells = s.inner.table_id.words in let inside : k < cells = omega arith in
+    took_more k _ v _ (inside_parts s.first s.count cells k v s.caller inside) (returns-clause-known g c)

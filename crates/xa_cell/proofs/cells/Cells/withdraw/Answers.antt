@@ -9,6 +9,8 @@ use Rattle.xa_cell.proofs.FreeStep.{withdraws_at}
 use Rattle.xa_cell.proofs.Viewed.{withdrawn_caller, withdrawn_shuts}
 use Rattle.xa_cell.proofs.Joining.{ticket_of, armed, armed_at, armed_long, joined_me, withdrew_is}
 use Rattle.xa_cell.proofs.Seats.{empty_of, caller_is, ticket_is}
+use Rattle.xa_cell.specs.Growing.{Keeps}
+use Rattle.xa_cell.proofs.Growing.{withdrawn_keeps}
 use Rattle.xa_cell.proofs.cells.Cells.withdraw.Goals as goal
 
 pub join_seat-requires : goal.join_seat-requires
@@ -40,3 +42,6 @@ returns-clause-shut g c = let s = c.args.seat.now in let k = c.args.place.cell i
     let t = view_of c.args.ticket.badge.views in let is = ticket_is _ k _ cells t t (sym c.requires.place.1) (ap (λ z. z.words) (c.requires.table.0 ∙ sym c.requires.table.1)) refl c.args.ticket.ticket in let o = ticket_of k cells t is in
     let j = c.join_seat.ensures in let now = joined_me s.first s.count cells k v s.caller inside t o.0 is o.1 s.inner.me _ _ j.2 refl (ap (λ m. m.1) s.empty) (ap view_of c.into_seat.ensures.2) in
     subst (Shuts k v) (sym (ap (λ m. m.0) c.fetch_sub.ensures.2 ∙ (ap (λ m. withdrew k m.0) now ∙ withdrew_is s.first s.count cells k v s.caller inside o.0))) (withdrawn_shuts s.first s.count cells k v s.caller inside)
+
+pub returns-clause-keeps : goal.returns-clause-keeps
+returns-clause-keeps g c = let k = c.args.place.cell in let v = c.args.seat.now.inner.me.0 in subst (Keeps v) (sym (returns-clause-known g c)) (withdrawn_keeps k v)
