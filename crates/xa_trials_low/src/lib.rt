@@ -21,6 +21,8 @@ mod programs;
 #[cfg(test)]
 mod queues;
 #[cfg(test)]
+mod restarts;
+#[cfg(test)]
 mod routes;
 #[cfg(test)]
 mod rows;
