@@ -79,9 +79,10 @@ impl Buffer {
                 }
                 let held = mem::replace(octets, Octets::from_vec(Vec::new(self.alloc)));
                 let mut held = held.into_vec();
-                let done = held.resize(size as usize, 0);
+                let grown = held.resize(size as usize, 0);
                 *octets = Octets::from_vec(held);
-                Ok(done?)
+                grown?;
+                Ok(())
             }
             Content::Struct(_, structure) => {
                 if size != 0 && size as usize != structure.octets().len() {

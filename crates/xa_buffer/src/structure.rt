@@ -25,7 +25,8 @@ impl Model for Structure {
 
     ghost view = { λ s. pieces s.fields.items s.octets.items };
 
-    ghost invariant = { λ s. (size_of s.fields.items ≡ length s.octets.items) × (length s.octets.items ≤ 65536) };
+    ghost invariant = { λ s.
+        (size_of s.fields.items ≡ length s.octets.items) × (length s.octets.items ≤ 65536) };
 }
 
 // The value of the first field of that name, where the octets are of these fields.
@@ -58,7 +59,8 @@ fn write_field(
     value: &FieldValue,
 ) -> Result<(), BufferRefused>
     requires { size_of fields.now ≡ length octets.old }
-    ensures { Changes (with_value name.now value.now (pieces fields.now octets.old)) (pieces fields.now octets.old) (pieces fields.now octets.new) result }
+    ensures { let old = pieces fields.now octets.old in
+        Changes (with_value name.now value.now old) old (pieces fields.now octets.new) result }
 {
     match fields {
         [] => Err(BufferRefused::NoField),
@@ -86,10 +88,10 @@ impl Structure {
 
     /// The fields of a shape with these octets.
     pub(crate) fn of(alloc: Global, shape: &Shape, octets: &[u8]) -> Result<Structure, NoMemory>
-        requires { size_of shape.now.fields ≡ length octets.now }
+        requires fit { size_of shape.now.fields ≡ length octets.now }
+        requires small { length octets.now ≤ 65536 }
         ensures { IfOk result (λ made. made ≡ pieces shape.now.fields octets.now) }
     {
-        let _small = shape.size();
         Ok(Structure {
             fields: Vec::from_slice(alloc, shape.fields())?,
             octets: Vec::from_slice(alloc, octets)?,
