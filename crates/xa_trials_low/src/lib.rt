@@ -5,6 +5,8 @@
 #[cfg(test)]
 mod board;
 #[cfg(test)]
+mod buffers;
+#[cfg(test)]
 mod cells;
 #[cfg(test)]
 mod frames;

@@ -1,0 +1,7 @@
+pub mod Fields
+pub mod Laid
+pub mod Numbers
+pub mod Shaped
+pub mod Sizes
+pub mod Texts
+pub mod Whole
