@@ -1,9 +1,10 @@
 -- What holds of each queue, and the room that is left, once one more event is noted.
-use Rattle.std.proofs.Common.{◌≡◌, ℕ, ◌+◌, ◌<◌, ◌≤◌, ◌^◌, ◌==◌, ◌||◌, not, Bool, true, false, cond, List, [], ◌∷◌, ◌++◌, length, inl, inr, refl, sym, ◌∙◌, ap, subst, arith, append-nil, eqb-true, length-append}
+use Rattle.std.proofs.Common.{◌≡◌, ℕ, ◌+◌, ◌<◌, ◌≤◌, ◌^◌, ◌==◌, ◌||◌, not, Bool, true, false, cond, List, [], ◌∷◌, ◌++◌, length, map, inl, inr, refl, sym, ◌∙◌, ap, subst, arith, append-nil, eqb-true, length-append}
 use Rattle.std.specs.Prelude.{max, Result, Ok, Err, OnOk, is_err}
-use Rattle.std.specs.List.{All, filter, list_any, IsDistinct}
+use Rattle.std.specs.List.{All, filter, flat_map, list_any, IsDistinct}
 use Rattle.std.proofs.Math.Bool.{or-false}
 use Rattle.std.proofs.lemmas.Bool.{cases_Bool, cond_both, or_left, or_right, false≢true}
+use Rattle.std.proofs.lemmas.Grind.{flat_map-append}
 use Rattle.std.proofs.lemmas.List.{length-map, map-append}
 use Rattle.std.proofs.lemmas.List.Folds.{list_any-append}
 use Rattle.std.proofs.lemmas.List.Elements.{All-push}
@@ -13,7 +14,6 @@ use Rattle.xa_types.specs.declared.ids.ServerId.{ServerId}
 use Rattle.xa_types.specs.declared.stamp.Stamp.{Stamp}
 use Rattle.xa_events.specs.declared.event.Event.{Event}
 use Rattle.xa_events.specs.declared.event.Event.TheVariants.{Accept, Forward}
-use Rattle.xa_events.specs.Words.{from_each}
 use Rattle.xa_events.specs.Queue.{is_close_of, is_closed, is_down_of, is_down}
 use Rattle.xa_stamp.specs.declared.home.Stamped.{Stamped}
 use Rattle.xa_stamp.specs.Home.{Rises, last_stamp}
@@ -21,7 +21,7 @@ use Rattle.xa_stamp.proofs.Stamps.{Rises-push}
 use Rattle.xa_lock.specs.declared.makers.Made.{Made}
 use Rattle.xa_lock.specs.Makers.{KeptNotes, noted_in}
 use Rattle.xa_queue.specs.declared.entry.Entry.{Entry}
-use Rattle.xa_queue.specs.Queue.{Standing, IsSound, same_server, has_server, none_left, gives_up, past_of}
+use Rattle.xa_queue.specs.Queue.{Standing, IsSound, same_server, has_server, none_left, gives_up, events_of, past_of}
 use Rattle.xa_queue.specs.Changes.{larger, next_stamp, IsEntry}
 use Rattle.xa_queue.specs.Kept.{servers_left}
 use Rattle.xa_queue.proofs.Waiting.{eqb-flips, IsDistinct-one_more}
@@ -180,6 +180,7 @@ module _ {C : Type 0} where
       let x : Stamped = record { stamp = stamp; event = e } in
       let entry : Made = record { maker = maker; noted = x } in
       let bare : Made → Stamped = λ made. made.noted in
+      let event : Stamped → Event = λ noted. noted.event in
       let entries : home'.entries ≡ q.entries ++ entry ∷ [] = more ∙ ap (λ l. l ++ entry ∷ []) at in
       let whole : noted_in home'.entries ≡ noted_in q.entries ++ x ∷ [] = ap noted_in entries ∙ map-append bare q.entries (entry ∷ []) in
       let last : max seen.0 (last_stamp home.first (noted_in home.entries)) ≡ max seen.0 (last_stamp q.first (noted_in q.entries)) = ap (λ f. max seen.0 (last_stamp f (noted_in home.entries))) (sym first) ∙ ap (λ l. max seen.0 (last_stamp q.first (noted_in l))) at in
@@ -191,7 +192,7 @@ module _ {C : Type 0} where
         own = stays.own;
         once = stays.once;
         rises = subst (λ f. Rises f (noted_in home'.entries)) (sym stays.same.first) (subst (Rises q.first) (sym whole) rises);
-        given_up = stays.given_up ∙ ap (λ l. l ++ gives_up e) sound.given_up ∙ ap (from_each (λ e _. gives_up e)) (sym past);
+        given_up = stays.given_up ∙ ap (λ l. l ++ gives_up e) sound.given_up ∙ sym (ap (flat_map gives_up) (ap (map event) whole ∙ map-append event (noted_in q.entries) (x ∷ [])) ∙ flat_map-append gives_up (events_of q) (e ∷ []) ∙ ap (λ l. flat_map gives_up (events_of q) ++ l) (append-nil (gives_up e)));
         shut = stays.shut ∙ ap (λ b. is_close_of q.id.0 e || b) sound.shut ∙ ap (λ id. is_closed id.0 (e ∷ past_of q)) (sym stays.same.id) ∙ ap (is_closed left.id.0) (sym past);
         fallen = stays.fallen ∙ ap (λ b. is_down_of q.id.0 e || b) sound.fallen ∙ ap (λ id. is_down id.0 (e ∷ past_of q)) (sym stays.same.id) ∙ ap (is_down left.id.0) (sym past);
       }

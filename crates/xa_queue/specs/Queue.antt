@@ -1,13 +1,12 @@
 -- A queue as it stands (after Tuxedo, UBBCONFIG: servers that share a queue, and PRIO; that a queue has a capacity, and its stamps, are this
 -- project's own).
 use Rattle.std.specs.Prelude.{◌≡◌, ℕ, ◌≤◌, ◌==◌, Bool, true, List, [], ◌∷◌, length, map, reverse}
-use Rattle.std.specs.List.{All, list_any, list_all, IsDistinct}
+use Rattle.std.specs.List.{All, flat_map, list_any, list_all, IsDistinct}
 use Rattle.xa_types.specs.declared.ids.QueueId.{QueueId}
 use Rattle.xa_types.specs.declared.ids.ServerId.{ServerId}
 use Rattle.xa_types.specs.declared.stamp.Stamp.{Stamp}
 use Rattle.xa_events.specs.declared.event.Event.{Event}
 use Rattle.xa_events.specs.declared.event.Event.TheVariants.{Gone}
-use Rattle.xa_events.specs.Words.{from_each}
 use Rattle.xa_events.specs.Queue.{is_down, is_closed}
 use Rattle.xa_stamp.specs.Home.{Rises}
 use Rattle.xa_lock.specs.declared.makers.Made.{Made}
@@ -46,9 +45,13 @@ gives_up (Gone server) = server ∷ []
 gives_up _ = []
 
 module _ {C : Type 0} where
-  -- the events that were noted, the newest first
+  -- the events that were noted, in order
+  abbrev pub events_of : Standing C → List Event
+  events_of queue = map (λ noted. noted.event) (noted_in queue.entries)
+
+  -- the same, the newest first
   abbrev pub past_of : Standing C → List Event
-  past_of queue = reverse (map (λ noted. noted.event) (noted_in queue.entries))
+  past_of queue = reverse (events_of queue)
 
   -- no server is left
   abbrev pub none_left : Standing C → Bool
@@ -62,6 +65,6 @@ module _ {C : Type 0} where
     pub once : IsDistinct same_server queue.gone
     pub rises : Rises queue.first (noted_in queue.entries)
     -- what ended is read off the events: the servers of each Gone, in order, and whether a Close and a Down of it stand there
-    pub given_up : queue.gone ≡ from_each (λ e _. gives_up e) (past_of queue)
+    pub given_up : queue.gone ≡ flat_map gives_up (events_of queue)
     pub shut : queue.closed ≡ is_closed queue.id.0 (past_of queue)
     pub fallen : queue.down ≡ is_down queue.id.0 (past_of queue)

@@ -147,6 +147,24 @@ impl<C> Queue<C> {
         self.line.len()
     }
 
+    /// Whether it is down.
+    pub fn is_down(&self) -> bool
+        ensures value { result ≡ self.now.down }
+        ensures sound { IsSound self.now }
+        ensures reads { ReadsAsNoted self.now }
+    {
+        self.down
+    }
+
+    /// Whether it is closed.
+    pub fn is_closed(&self) -> bool
+        ensures value { result ≡ self.now.closed }
+        ensures sound { IsSound self.now }
+        ensures reads { ReadsAsNoted self.now }
+    {
+        self.closed
+    }
+
     // Whether an entry may be put, and the stamp of its event.
     fn check_put(&self, seen: Stamp) -> Result<Stamp, Refusal>
         requires { seen.0 ≤ 2 ^ 63 }
