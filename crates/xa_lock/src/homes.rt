@@ -1,6 +1,6 @@
 //! A home whose entries have their makers beside them, so that a lock can guard it.
-ghost use Rattle.std.specs.Prelude.{◌≡◌, ◌+◌, ◌^◌, ◌≤◌, ◌<◌, ◌∷◌, ◌++◌, [], max, MatchResult, IfOk, OnOk, OnErr, IsOk};
-ghost use Rattle.xa_stamp.specs.Home.{last_stamp};
+ghost use Rattle.std.specs.Prelude.{◌≡◌, ◌+◌, ◌^◌, ◌≤◌, ◌<◌, ◌∷◌, ◌++◌, [], max, length, MatchResult, IfOk, OnOk, OnErr, IsOk};
+ghost use Rattle.xa_stamp.specs.Home.{Rises, last_stamp};
 ghost use Rattle.xa_lock.specs.Pages.{GrewBy};
 ghost use Rattle.xa_lock.specs.Makers.{maker_of, noted_in, made_by};
 
@@ -8,7 +8,7 @@ use crate::{Chronicle, Made, Makers};
 use std::alloc::Global;
 use std::marker::Model;
 use xa_events::Event;
-use xa_stamp::Home;
+use xa_stamp::{Home, Stamped};
 use xa_types::{CallerId, NoMemory, Stamp, Worn};
 
 /// A home, with the maker of each of its entries.
@@ -76,6 +76,31 @@ impl Kept {
         self.home.reserve(more)
     }
 
+    /// The stamp of the next event: one more than the larger of `seen` and the last stamp. `Worn` comes exactly where the
+    /// larger is 2^63.
+    pub fn next_stamp(&self, seen: Stamp) -> Result<Stamp, Worn>
+        requires { seen.0 ≤ 2 ^ 63 }
+        ensures { MatchResult result
+            (λ stamp. (stamp.0 ≡ max seen.0 (last_stamp self.now.first (noted_in self.now.entries)) + 1) × (stamp.0 ≤ 2 ^ 63))
+            (λ worn. (worn.0.0 ≡ 2 ^ 63) × (max seen.0 (last_stamp self.now.first (noted_in self.now.entries)) ≡ 2 ^ 63)) }
+    {
+        self.home.next_stamp(seen)
+    }
+
+    /// Adds an event in the work of that maker, with a stamp that is behind the last one. It takes no memory.
+    pub fn add(&mut self, stamp: Stamp, maker: CallerId, event: Event)
+        requires later { last_stamp self.old.first (noted_in self.old.entries) < stamp.0 }
+        requires bound { stamp.0 ≤ 2 ^ 63 }
+        requires room { 0 < self.old.room }
+        ensures entries { self.new.entries ≡ self.old.entries ++ made_by maker (record { stamp = stamp; event = event } ∷ []) }
+        ensures grew { GrewBy maker_of maker.0 self.old.entries self.new.entries }
+        ensures first { self.new.first ≡ self.old.first }
+        ensures room { self.old.room ≤ self.new.room + 1 }
+    {
+        self.home.add(stamp, event);
+        self.makers.add(maker, 1);
+    }
+
     /// Notes an event in the work of that maker, with one more than the larger of `seen` and the last stamp, and answers
     /// that stamp. `Worn` comes exactly where the larger is 2^63, and then nothing changes. It takes no memory.
     pub fn note(&mut self, seen: Stamp, maker: CallerId, event: Event) -> Result<Stamp, Worn>
@@ -90,10 +115,9 @@ impl Kept {
         ensures room { self.old.room ≤ self.new.room + 1 }
         ensures kept { OnErr result (self.new ≡ self.old) }
     {
-        match self.home.next_stamp(seen) {
+        match self.next_stamp(seen) {
             Ok(stamp) => {
-                self.home.add(stamp, event);
-                self.makers.add(maker, 1);
+                self.add(stamp, maker, event);
                 Ok(stamp)
             }
             Err(worn) => {
@@ -101,6 +125,15 @@ impl Kept {
                 Err(worn)
             }
         }
+    }
+
+    /// All that was noted, in order, and that its stamps rise.
+    pub fn entries(&self) -> &[Stamped]
+        ensures value { result.now ≡ noted_in self.now.entries }
+        ensures count { length result.now ≡ length self.now.entries }
+        ensures rises { Rises self.now.first (noted_in self.now.entries) }
+    {
+        self.home.entries()
     }
 
     /// The home, without its makers. It takes no memory.

@@ -17,7 +17,7 @@ use Rattle.xa_queue.specs.Queue.{Standing, past_of, has_server, all_gone, none_l
 use Rattle.xa_queue.specs.Changes.{with_gone}
 use Rattle.xa_queue.specs.Reading.{Fits, IsRead, view_of}
 use Rattle.xa_queue.proofs.Waiting.{eqb-flips, list_any-map, list_any-reverse}
-use Rattle.xa_queue.proofs.Noted.{Parts}
+use Rattle.xa_queue.proofs.OneMore.{Parts}
 
 -- a server of the queue is given up where it is among those of the view
 gone_one : (setup : Setup) (queue server : ℕ) → queue_of setup server ≡ queue → (e : Event) (rest : List ℕ) → list_any (λ gone. server == gone) (cons_option (gone_from setup queue e) rest) ≡ (is_gone_of server e || list_any (λ gone. server == gone) rest)

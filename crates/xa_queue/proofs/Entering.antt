@@ -24,7 +24,7 @@ use Rattle.xa_queue.specs.declared.queue.Refusal.TheVariants as refusals
 use Rattle.xa_queue.specs.Changes.{IsEntry, larger, put_refused, with_entry}
 use Rattle.xa_queue.specs.Reading.{IsNew, Fits, IsRead, view_of}
 use Rattle.xa_queue.proofs.Waiting.{same_request-flips, none_of, list_any-map, IsDistinct-one_more}
-use Rattle.xa_queue.proofs.Noted.{Parts}
+use Rattle.xa_queue.proofs.OneMore.{Parts}
 
 module _ {C : Type 0} where
   abbrev request_of : Entry C → RequestId

@@ -1,22 +1,31 @@
 -- What holds of each queue, and the room that is left, once one more event is noted.
-use Rattle.std.proofs.Common.{◌≡◌, ℕ, ◌+◌, ◌<◌, ◌≤◌, ◌^◌, ◌==◌, ◌||◌, not, Bool, true, false, cond, List, [], ◌∷◌, ◌++◌, length, inl, inr, refl, sym, ◌∙◌, ap, subst, arith, eqb-true, length-append}
+use Rattle.std.proofs.Common.{◌≡◌, ℕ, ◌+◌, ◌<◌, ◌≤◌, ◌^◌, ◌==◌, ◌||◌, not, Bool, true, false, cond, List, [], ◌∷◌, ◌++◌, length, map, inl, inr, refl, sym, ◌∙◌, ap, subst, arith, append-nil, eqb-true, length-append}
 use Rattle.std.specs.Prelude.{max, Result, Ok, Err, OnOk, is_err}
-use Rattle.std.specs.List.{All, filter, list_any, IsDistinct}
+use Rattle.std.specs.List.{All, filter, flat_map, list_any, IsDistinct}
 use Rattle.std.proofs.Math.Bool.{or-false}
 use Rattle.std.proofs.lemmas.Bool.{cases_Bool, cond_both, or_left, or_right, false≢true}
+use Rattle.std.proofs.lemmas.Grind.{flat_map-append}
+use Rattle.std.proofs.lemmas.List.{length-map, map-append}
 use Rattle.std.proofs.lemmas.List.Folds.{list_any-append}
 use Rattle.std.proofs.lemmas.List.Elements.{All-push}
+use Rattle.xa_types.specs.declared.ids.CallerId.{CallerId}
+use Rattle.xa_types.specs.declared.ids.QueueId.{QueueId}
 use Rattle.xa_types.specs.declared.ids.ServerId.{ServerId}
 use Rattle.xa_types.specs.declared.stamp.Stamp.{Stamp}
 use Rattle.xa_events.specs.declared.event.Event.{Event}
+use Rattle.xa_events.specs.declared.event.Event.TheVariants.{Accept, Forward}
+use Rattle.xa_events.specs.Queue.{is_close_of, is_closed, is_down_of, is_down}
 use Rattle.xa_stamp.specs.declared.home.Stamped.{Stamped}
-use Rattle.xa_stamp.specs.Home.{Notes, Rises, last_stamp}
+use Rattle.xa_stamp.specs.Home.{Rises, last_stamp}
 use Rattle.xa_stamp.proofs.Stamps.{Rises-push}
+use Rattle.xa_lock.specs.declared.makers.Made.{Made}
+use Rattle.xa_lock.specs.Makers.{KeptNotes, noted_in}
 use Rattle.xa_queue.specs.declared.entry.Entry.{Entry}
-use Rattle.xa_queue.specs.Queue.{Standing, IsSound, same_server, has_server}
-use Rattle.xa_queue.specs.Changes.{larger, next_stamp}
+use Rattle.xa_queue.specs.Queue.{Standing, IsSound, same_server, has_server, none_left, gives_up, events_of, past_of}
+use Rattle.xa_queue.specs.Changes.{larger, next_stamp, IsEntry}
 use Rattle.xa_queue.specs.Kept.{servers_left}
 use Rattle.xa_queue.proofs.Waiting.{eqb-flips, IsDistinct-one_more}
+use Rattle.xa_queue.proofs.OneMore.{SameQueue, past-left}
 
 -- ---- the servers that are left, once one more is given up
 
@@ -103,8 +112,8 @@ left-all (s ∷ servers) = ap (λ l. s ∷ l) (left-all servers)
 -- ---- the stamps
 
 -- as many events as there were are there with one more
-pub grown : (entries entries' : List Stamped) (e : Stamped) → entries' ≡ entries ++ e ∷ [] → (n : ℕ) → n ≤ length entries → n + 1 ≤ length entries'
-grown entries entries' e are n few = let more = ap length are in omega (arith, more, few, length-append entries (e ∷ []))
+pub grown : {X : Type 0} (entries entries' : List X) (e : X) → entries' ≡ entries ++ e ∷ [] → (n : ℕ) → n ≤ length entries → n + 1 ≤ length entries'
+grown {X} entries entries' e are n few = let more = ap length are in omega (arith, more, few, length-append entries (e ∷ []))
 
 pub rises-noted : (seen stamp : Stamp) (e : Event) (first : Stamp) (entries : List Stamped) → Rises first entries → stamp.0 ≡ max seen.0 (last_stamp first entries) + 1 → stamp.0 ≤ 2 ^ 63 → Rises first (entries ++ record { stamp = stamp; event = e } ∷ [])
 rises-noted seen stamp e first entries rises next bound = Rises-push first entries (record { stamp = stamp; event = e }) rises (omega (arith, next)) bound
@@ -114,11 +123,15 @@ pub few_rise : (first : Stamp) (entries : List Stamped) → Rises first entries 
 few_rise first [] rises = omega (arith, rises)
 few_rise first (e ∷ entries) rises = let rest = few_rise e.stamp entries rises.1 in omega (arith, rest, rises.0)
 
+-- as many were noted as there are entries with makers
+pub length-noted_in : (entries : List Made) → length (noted_in entries) ≡ length entries
+length-noted_in entries = let bare : Made → Stamped = λ entry. entry.noted in length-map entries bare
+
 module _ {C : Type 0} where
   -- the next stamp of a queue is the next one of its home
-  pub next-noted : (seen stamp : Stamp) (q : Standing C) (home : Notes) → q.first ≡ home.first → home.entries ≡ q.entries → (larger seen q < 2 ^ 63) × (stamp ≡ next_stamp seen q) → (stamp.0 ≡ max seen.0 (last_stamp home.first home.entries) + 1) × (stamp.0 ≤ 2 ^ 63)
+  pub next-noted : (seen stamp : Stamp) (q : Standing C) (home : KeptNotes) → q.first ≡ home.first → home.entries ≡ q.entries → (larger seen q < 2 ^ 63) × (stamp ≡ next_stamp seen q) → (stamp.0 ≡ max seen.0 (last_stamp home.first (noted_in home.entries)) + 1) × (stamp.0 ≤ 2 ^ 63)
   next-noted seen stamp q home first entries fresh =
-      let same : larger seen q ≡ max seen.0 (last_stamp home.first home.entries) = ap (λ f. max seen.0 (last_stamp f q.entries)) first ∙ ap (λ l. max seen.0 (last_stamp home.first l)) (sym entries) in
+      let same : larger seen q ≡ max seen.0 (last_stamp home.first (noted_in home.entries)) = ap (λ f. max seen.0 (last_stamp f (noted_in q.entries))) first ∙ ap (λ l. max seen.0 (last_stamp home.first (noted_in l))) (sym entries) in
       let is : stamp.0 ≡ larger seen q + 1 = ap (λ (s : Stamp). s.0) fresh.1 in
       (is ∙ ap (λ n. n + 1) same, omega (arith, is, fresh.0))
 
@@ -129,12 +142,60 @@ module _ {C : Type 0} where
   pub once-noted : (q : Standing C) (server : ServerId) → IsSound q → has_server server q.gone ≡ false → IsDistinct same_server (q.gone ++ server ∷ [])
   once-noted q server sound left = IsDistinct-one_more same_server same_server-flips q.gone server sound.once left
 
-  -- what holds of a queue but for its stamps holds with one more event
-  pub sound-noted : (seen stamp : Stamp) (e : Event) (left : Standing C) (home home' : Notes) → left.first ≡ home.first → (stamp.0 ≡ max seen.0 (last_stamp home.first home.entries) + 1) × (stamp.0 ≤ 2 ^ 63)
-      → home'.entries ≡ home.entries ++ record { stamp = stamp; event = e } ∷ [] → IsSound (record left { entries = home.entries }) → IsSound (record left { entries = home'.entries })
-  sound-noted seen stamp e left home home' first next entries sound =
-      let rises = rises-noted seen stamp e left.first home.entries sound.rises (next.0 ∙ ap (λ f. max seen.0 (last_stamp f home.entries) + 1) (sym first)) next.1 in
-      record { few = sound.few; deserted = sound.deserted; own = sound.own; once = sound.once; rises = subst (Rises left.first) (sym entries) rises }
+  -- what holds of a queue once the event is noted, but for its stamps
+  pub record Stays (e : Event) (q left : Standing C) : Type 0 where
+    pub same : SameQueue q left
+    pub few : length left.waiting ≤ left.capacity
+    pub deserted : left.down ≡ true → none_left left ≡ true
+    pub own : All (λ server. has_server server left.servers ≡ true) left.gone
+    pub once : IsDistinct same_server left.gone
+    pub given_up : left.gone ≡ q.gone ++ gives_up e
+    pub shut : left.closed ≡ (is_close_of q.id.0 e || q.closed)
+    pub fallen : left.down ≡ (is_down_of q.id.0 e || q.down)
+
+  -- where the event ends nothing
+  pub quiet : (e : Event) (q : Standing C) (waits : List (Entry C)) (n : ℕ) → gives_up e ≡ [] → is_close_of q.id.0 e ≡ false → is_down_of q.id.0 e ≡ false → length waits ≤ q.capacity → IsSound q → Stays e q (record q { waiting = waits; takes = n })
+  quiet e q waits n none unshut up few sound = record {
+    same = record { id = refl; capacity = refl; servers = refl; first = refl; entries = refl };
+    few = few;
+    deserted = sound.deserted;
+    own = sound.own;
+    once = sound.once;
+    given_up = sym (ap (λ l. q.gone ++ l) none ∙ append-nil q.gone);
+    shut = sym (ap (λ b. b || q.closed) unshut);
+    fallen = sym (ap (λ b. b || q.down) up);
+  }
+
+  -- the event that brings an entry ends nothing
+  pub ends-nothing : (id : QueueId) (entry : Entry C) (e : Event) → IsEntry id entry e → (gives_up e ≡ []) × (is_close_of id.0 e ≡ false) × (is_down_of id.0 e ≡ false)
+  ends-nothing id entry (Accept a) its = (refl, refl, refl)
+  ends-nothing id entry (Forward f) its = (refl, refl, refl)
+  ends-nothing id entry _ its = absurd its
+
+  -- what holds of a queue holds with one more event
+  pub sound-noted : (seen stamp : Stamp) (maker : CallerId) (e : Event) (q left : Standing C) (home home' : KeptNotes) → q.first ≡ home.first → home.entries ≡ q.entries → (stamp.0 ≡ max seen.0 (last_stamp home.first (noted_in home.entries)) + 1) × (stamp.0 ≤ 2 ^ 63)
+      → home'.entries ≡ home.entries ++ record { maker = maker; noted = record { stamp = stamp; event = e } } ∷ [] → IsSound q → Stays e q left → IsSound (record left { entries = home'.entries })
+  unfolding is_closed is_down
+  sound-noted seen stamp maker e q left home home' first at next more sound stays =
+      let x : Stamped = record { stamp = stamp; event = e } in
+      let entry : Made = record { maker = maker; noted = x } in
+      let bare : Made → Stamped = λ made. made.noted in
+      let event : Stamped → Event = λ noted. noted.event in
+      let entries : home'.entries ≡ q.entries ++ entry ∷ [] = more ∙ ap (λ l. l ++ entry ∷ []) at in
+      let whole : noted_in home'.entries ≡ noted_in q.entries ++ x ∷ [] = ap noted_in entries ∙ map-append bare q.entries (entry ∷ []) in
+      let last : max seen.0 (last_stamp home.first (noted_in home.entries)) ≡ max seen.0 (last_stamp q.first (noted_in q.entries)) = ap (λ f. max seen.0 (last_stamp f (noted_in home.entries))) (sym first) ∙ ap (λ l. max seen.0 (last_stamp q.first (noted_in l))) at in
+      let rises : Rises q.first (noted_in q.entries ++ x ∷ []) = rises-noted seen stamp e q.first (noted_in q.entries) sound.rises (next.0 ∙ ap (λ n. n + 1) last) next.1 in
+      let past : past_of (record left { entries = home'.entries }) ≡ e ∷ past_of q = ap (λ l. past_of (record left { entries = l })) (entries ∙ ap (λ l. l ++ entry ∷ []) (sym stays.same.entries)) ∙ past-left stamp maker e q left stays.same in
+      record {
+        few = stays.few;
+        deserted = stays.deserted;
+        own = stays.own;
+        once = stays.once;
+        rises = subst (λ f. Rises f (noted_in home'.entries)) (sym stays.same.first) (subst (Rises q.first) (sym whole) rises);
+        given_up = stays.given_up ∙ ap (λ l. l ++ gives_up e) sound.given_up ∙ sym (ap (flat_map gives_up) (ap (map event) whole ∙ map-append event (noted_in q.entries) (x ∷ [])) ∙ flat_map-append gives_up (events_of q) (e ∷ []) ∙ ap (λ l. flat_map gives_up (events_of q) ++ l) (append-nil (gives_up e)));
+        shut = stays.shut ∙ ap (λ b. is_close_of q.id.0 e || b) sound.shut ∙ ap (λ id. is_closed id.0 (e ∷ past_of q)) (sym stays.same.id) ∙ ap (is_closed left.id.0) (sym past);
+        fallen = stays.fallen ∙ ap (λ b. is_down_of q.id.0 e || b) sound.fallen ∙ ap (λ id. is_down id.0 (e ∷ past_of q)) (sym stays.same.id) ∙ ap (is_down left.id.0) (sym past);
+      }
 
   -- one entry less waits
   pub one_less : (front : List (Entry C)) (entry : Entry C) (back all : List (Entry C)) → all ≡ front ++ entry ∷ back → length all ≡ length (front ++ back) + 1

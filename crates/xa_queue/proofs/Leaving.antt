@@ -26,7 +26,7 @@ use Rattle.xa_queue.specs.Reading.{Fits, IsRead, view_of}
 use Rattle.xa_queue.proofs.Keeping.{All-without}
 use Rattle.xa_queue.proofs.InOrder.{next-chosen}
 use Rattle.xa_queue.proofs.Waiting.{any_at, IsDistinct-without, without-one}
-use Rattle.xa_queue.proofs.Noted.{Parts}
+use Rattle.xa_queue.proofs.OneMore.{Parts}
 
 -- a server that is left among these shows that not all are gone
 pub not_all_gone : (server : ServerId) (gone servers : List ServerId) → has_server server servers ≡ true → has_server server gone ≡ false → all_gone gone servers ≡ true → ⊥

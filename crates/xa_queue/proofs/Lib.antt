@@ -3,7 +3,7 @@ pub mod Keeping
 pub mod Choosing
 pub mod InOrder
 pub mod Waiting
-pub mod Noted
+pub mod OneMore
 pub mod Entering
 pub mod Leaving
 pub mod Ending

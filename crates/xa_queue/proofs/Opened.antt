@@ -17,7 +17,7 @@ use Rattle.xa_queue.specs.Changes.{opened}
 module _ {C : Type 0} where
   pub reads-opened : (id : QueueId) (capacity : ℕ) (servers : List ServerId) (first : Stamp) → ReadsAsNoted (opened {C = C} id capacity servers first)
   unfolding waiting takes is_down is_closed
-  reads-opened id capacity servers first = λ setup fits new stays. record {
+  reads-opened id capacity servers first = λ setup fits new. record {
     view = refl;
     stand = λ clients. tt;
     met = tt;
@@ -27,10 +27,14 @@ module _ {C : Type 0} where
   }
 
   pub sound-opened : (id : QueueId) (capacity : ℕ) (servers : List ServerId) (first : Stamp) → first.0 ≤ 2 ^ 63 → IsSound (opened {C = C} id capacity servers first)
+  unfolding is_closed is_down
   sound-opened id capacity servers first bound = record {
     few = omega arith;
     deserted = λ down. absurd (false≢true down);
     own = All-nil (λ server. has_server server servers ≡ true);
     once = IsDistinct-from_apart same_server [] (λ i j d less below. absurd (omega (arith, below)));
     rises = bound;
+    given_up = refl;
+    shut = refl;
+    fallen = refl;
   }

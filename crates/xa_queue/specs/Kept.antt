@@ -17,13 +17,12 @@ module _ {C : Type 0} where
     capacity = q.capacity;
     servers = q.servers.items;
     first = q.first;
-    entries = q.home.entries;
+    entries = q.kept.entries;
     waiting = q.line.waiting;
     takes = q.takes;
     down = q.down;
     closed = q.closed;
     gone = q.gone.items;
-    drained = q.drained;
   }
 
   -- how many events may come that take no memory: a take or a sweep of each entry, what each server that is left may be told of, that the queue
@@ -34,12 +33,12 @@ module _ {C : Type 0} where
   pub record IsKept (q : Inside C) : Type 0 where
     pub reads : ReadsAsNoted (standing_of q)
     pub sound : IsSound (standing_of q)
-    pub first : q.first ≡ q.home.first
+    pub first : q.first ≡ q.kept.first
     pub known : 0 < q.id.0
     pub some : 0 < q.capacity
     pub most : q.capacity ≤ 10000
     pub servers : length q.servers.items ≤ 64
-    pub ages : q.line.next ≤ length q.home.entries
-    pub takes : q.takes ≤ length q.home.entries
-    pub room : to_come q ≤ q.home.room
+    pub ages : q.line.next ≤ length q.kept.entries
+    pub takes : q.takes ≤ length q.kept.entries
+    pub room : to_come q ≤ q.kept.room
     pub places : length q.gone.items + length (servers_left q.gone.items q.servers.items) ≤ vec_capacity q.gone

@@ -48,6 +48,6 @@ module _ {C : Type 0} where
     pub priorities : All (λ entry. priority_at (past_of queue) entry.request ≡ entry.priority) queue.waiting
     pub once : IsDistinct same_request (map (λ entry. entry.request) queue.waiting)
 
-  -- the queue reads as its events do, as long as no entry left without one and no request was sent to it while it waited there
+  -- the queue reads as its events do, as long as no request was sent to it while it waited there
   abbrev pub ReadsAsNoted : Standing C → Type 0
-  ReadsAsNoted queue = (setup : Setup) → Fits setup queue → AllNew setup queue.id.0 (past_of queue) → queue.drained ≡ false → IsRead setup queue
+  ReadsAsNoted queue = (setup : Setup) → Fits setup queue → AllNew setup queue.id.0 (past_of queue) → IsRead setup queue

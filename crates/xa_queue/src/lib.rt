@@ -6,6 +6,10 @@ mod lanes;
 pub mod laws;
 mod line;
 mod queue;
+mod rest;
+mod told;
 
 pub use entry::Entry;
 pub use queue::{PutRefused, Queue, Refusal, Taken};
+pub use rest::Rest;
+pub use told::{GivenUp, Noted, Outgoing};

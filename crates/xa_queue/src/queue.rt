@@ -1,18 +1,23 @@
 // The queue: what waits, and its events as they are noted.
 ghost use Rattle.std.specs.Prelude.{◌≡◌, ◌^◌, ◌≤◌, ◌<◌, ◌⊎◌, [], length, None, Some, true, false, IfOk, IfErr, OnOk, OnErr, MatchOption};
+ghost use Rattle.xa_lock.specs.Makers.{noted_in};
 ghost use Rattle.xa_events.specs.declared.event.Event.TheVariants.{Gone, Down, Close};
 ghost use Rattle.xa_queue.specs.Queue.{IsSound, has_server, all_gone, none_left};
 ghost use Rattle.xa_queue.specs.Reading.{ReadsAsNoted};
-ghost use Rattle.xa_queue.specs.Changes.{opened, IsEntry, larger, next_stamp, Notes, IsWorn, put_refused, with_entry, TakesAs, with_gone, Sweeps, Drains, IsDrained};
+ghost use Rattle.xa_queue.specs.Changes.{opened, IsEntry, larger, next_stamp, Notes, NotesAs, IsWorn, put_refused, with_entry, TakesAs, with_gone, Sweeps, IsSwept};
 ghost use Rattle.xa_queue.specs.declared.queue.Refusal.TheVariants as refusals;
 
 use crate::entry::Entry;
 use crate::line::Line;
+use crate::rest::Rest;
+use crate::told::{GivenUp, Noted, Outgoing};
 use std::alloc::Global;
 use std::marker::Model;
+use std::snapshot::Snapshot;
 use xa_events::{Event, Swept};
+use xa_lock::Kept;
 use xa_stamp::Home;
-use xa_types::{Generation, NoMemory, QueueId, ServerId, Stamp, Worn};
+use xa_types::{CallerId, Generation, NoMemory, QueueId, ServerId, Stamp, Worn};
 
 // How many events of a queue may come beside those of its entries and servers: an entry's own and its take, that it goes
 // down, and that it is closed.
@@ -40,8 +45,8 @@ pub struct PutRefused<C> {
 
 /// What a take answers.
 pub enum Taken<C> {
-    /// The next entry, and the stamp of the take.
-    Request(Entry<C>, Stamp),
+    /// The next entry, and the take.
+    Request(Outgoing<C>),
     /// Nothing waits.
     Empty,
     /// Nothing waits, and nothing will.
@@ -54,13 +59,12 @@ pub struct Queue<C> {
     capacity: u32,
     servers: Vec<ServerId>,
     first: Stamp,
-    home: Home,
+    kept: Kept,
     line: Line<C>,
     takes: u64,
     down: bool,
     closed: bool,
     gone: Vec<ServerId>,
-    drained: bool,
 }
 
 impl<C> Model for Queue<C> {
@@ -87,6 +91,18 @@ fn all_gone(gone: &[ServerId], servers: &[ServerId]) -> bool
     servers.iter().all(|server| has_server(gone, *server))
 }
 
+// The event with its stamp, to be told.
+fn noted(stamp: Stamp, event: &Event) -> Noted
+    requires { stamp.0 ≤ 2 ^ 63 }
+    ensures stamp { result.stamp ≡ stamp }
+    ensures event { result.event.value ≡ event.now }
+{
+    Noted {
+        stamp,
+        event: Snapshot::of(event),
+    }
+}
+
 impl<C> Queue<C> {
     /// A queue of at most 64 servers where 1 to 10,000 may wait, whose events have stamps behind this one. It makes the room
     /// that its own end and that of its servers take.
@@ -103,8 +119,8 @@ impl<C> Queue<C> {
         requires first { first.0 ≤ 2 ^ 63 }
         ensures { IfOk result (λ queue. queue ≡ opened id capacity servers.now first) }
     {
-        let mut home = Home::new(alloc, first);
-        home.reserve(servers.len() as u32 + 2)?;
+        let mut kept = Kept::of(alloc, Home::new(alloc, first))?;
+        kept.reserve(servers.len() as u32 + 2)?;
         let gone = Vec::with_capacity(alloc, servers.len())?;
         let servers = Vec::from_slice(alloc, servers)?;
         let line = Line::new(alloc)?;
@@ -113,13 +129,12 @@ impl<C> Queue<C> {
             capacity,
             servers,
             first,
-            home,
+            kept,
             line,
             takes: 0,
             down: false,
             closed: false,
             gone,
-            drained: false,
         })
     }
 
@@ -130,6 +145,24 @@ impl<C> Queue<C> {
         ensures reads { ReadsAsNoted self.now }
     {
         self.line.len()
+    }
+
+    /// Whether it is down.
+    pub fn is_down(&self) -> bool
+        ensures value { result ≡ self.now.down }
+        ensures sound { IsSound self.now }
+        ensures reads { ReadsAsNoted self.now }
+    {
+        self.down
+    }
+
+    /// Whether it is closed.
+    pub fn is_closed(&self) -> bool
+        ensures value { result ≡ self.now.closed }
+        ensures sound { IsSound self.now }
+        ensures reads { ReadsAsNoted self.now }
+    {
+        self.closed
     }
 
     // Whether an entry may be put, and the stamp of its event.
@@ -146,26 +179,27 @@ impl<C> Queue<C> {
         } else if self.line.len() == self.capacity {
             Err(Refusal::Full(self.line.len()))
         } else {
-            match self.home.next_stamp(seen) {
+            match self.kept.next_stamp(seen) {
                 Ok(stamp) => Ok(stamp),
                 Err(worn) => Err(Refusal::Worn(worn.0)),
             }
         }
     }
 
-    /// Puts an entry behind the others, and notes the event that brings it, an accept or a forward. `seen` is at most 2^63,
-    /// and the event has one more than the larger of it and of the last stamp. Where the entry is put there is room for its
-    /// take too. Where it isn't, it comes back.
+    /// Puts an entry behind the others, and notes the event that brings it, an accept or a forward, in the work of that
+    /// maker. `seen` is at most 2^63, and the event has one more than the larger of it and of the last stamp. Where the entry
+    /// is put there is room for its take too. Where it isn't, it comes back.
     pub fn put(
         &mut self,
         seen: Stamp,
+        maker: CallerId,
         event: Event,
         entry: Entry<C>,
     ) -> Result<Stamp, PutRefused<C>>
         requires seen { seen.0 ≤ 2 ^ 63 }
         requires event { IsEntry self.old.id entry event }
         requires priority { (1 ≤ entry.priority) × (entry.priority ≤ 100) }
-        ensures noted { IfOk result (λ stamp. Notes seen stamp event (with_entry entry self.old) self.new self.old) }
+        ensures noted { IfOk result (λ stamp. Notes seen maker stamp event (with_entry entry self.old) self.new self.old) }
         ensures allowed { OnOk result (put_refused seen self.old ≡ None) }
         ensures refused { IfErr result (λ back. (put_refused seen self.old ≡ Some back.why) ⊎ (back.why ≡ refusals.NoMemory)) }
         ensures back { IfErr result (λ back. back.entry ≡ entry) }
@@ -178,9 +212,9 @@ impl<C> Queue<C> {
                 return Err(PutRefused { entry, why });
             }
         };
-        let age = self.home.entries().len() as u64;
+        let age = self.kept.entries().len() as u64;
         let room = self.line.len() + self.servers.len() as u32 + OTHERS;
-        if self.home.reserve(room).is_err() {
+        if self.kept.reserve(room).is_err() {
             drop(event);
             let why = Refusal::NoMemory;
             return Err(PutRefused { entry, why });
@@ -190,21 +224,22 @@ impl<C> Queue<C> {
             let why = Refusal::NoMemory;
             return Err(PutRefused { entry, why });
         }
-        self.home.add(stamp, event);
+        self.kept.add(stamp, maker, event);
         Ok(stamp)
     }
 
-    /// Takes the next entry for a server. `seen` and the stamp are as for `put`. It takes no memory.
+    /// Takes the next entry for a server. `seen`, the maker and the stamp are as for `put`. It takes no memory.
     pub fn take(
         &mut self,
         seen: Stamp,
+        maker: CallerId,
         server: ServerId,
         generation: Generation,
     ) -> Result<Taken<C>, Worn>
         requires seen { seen.0 ≤ 2 ^ 63 }
         requires own { has_server server self.old.servers ≡ true }
         requires left { has_server server self.old.gone ≡ false }
-        ensures taken { IfOk result (λ taken. TakesAs seen server generation taken self.new self.old) }
+        ensures taken { IfOk result (λ taken. TakesAs seen maker server generation taken self.new self.old) }
         ensures worn { IfErr result (λ worn. IsWorn seen worn self.new self.old) }
         ensures some { OnErr result (0 < length self.old.waiting) }
     {
@@ -212,7 +247,7 @@ impl<C> Queue<C> {
             let closed = self.closed;
             return Ok(if closed { Taken::Closed } else { Taken::Empty });
         }
-        let stamp = self.home.next_stamp(seen)?;
+        let stamp = self.kept.next_stamp(seen)?;
         let k = self.takes + 1;
         let entry = self.line.take(k % 10 == 0);
         let taken = xa_events::Taken {
@@ -221,91 +256,92 @@ impl<C> Queue<C> {
             generation,
             k,
         };
-        self.home.add(stamp, Event::Take(taken));
+        let event = Event::Take(taken);
+        let noted = noted(stamp, &event);
+        self.kept.add(stamp, maker, event);
         self.takes = k;
-        Ok(Taken::Request(entry, stamp))
+        Ok(Taken::Request(Outgoing { entry, noted }))
     }
 
-    /// Gives a server up, and answers whether none is left. `seen` and the stamp are as for `put`. It takes no memory.
-    pub fn gone(&mut self, seen: Stamp, server: ServerId) -> Result<(Stamp, bool), Worn>
+    /// Gives a server up, and answers whether none is left. `seen`, the maker and the stamp are as for `put`. It takes no
+    /// memory.
+    pub fn gone(&mut self, seen: Stamp, maker: CallerId, server: ServerId) -> Result<GivenUp, Worn>
         requires seen { seen.0 ≤ 2 ^ 63 }
         requires own { has_server server self.old.servers ≡ true }
         requires left { has_server server self.old.gone ≡ false }
-        ensures noted { IfOk result (λ done. Notes seen done.0 (Gone server) (with_gone server self.old) self.new self.old) }
-        ensures last { IfOk result (λ done. done.1 ≡ none_left self.new) }
+        ensures noted { IfOk result (λ done. NotesAs seen maker done.noted (Gone server) (with_gone server self.old) self.new self.old) }
+        ensures last { IfOk result (λ done. done.last ≡ none_left self.new) }
         ensures worn { IfErr result (λ worn. IsWorn seen worn self.new self.old) }
     {
-        let stamp = self.home.next_stamp(seen)?;
-        self.home.add(stamp, Event::Gone(server));
+        let stamp = self.kept.next_stamp(seen)?;
+        let event = Event::Gone(server);
+        let noted = noted(stamp, &event);
+        self.kept.add(stamp, maker, event);
         self.gone.push_reserved(server);
-        let deserted = all_gone(&self.gone, &self.servers);
-        Ok((stamp, deserted))
+        let last = all_gone(&self.gone, &self.servers);
+        Ok(GivenUp { noted, last })
     }
 
-    /// Goes down, where no server is left. `seen` and the stamp are as for `put`. It takes no memory.
-    pub fn down(&mut self, seen: Stamp) -> Result<Stamp, Worn>
+    /// Goes down, where no server is left. `seen`, the maker and the stamp are as for `put`. It takes no memory.
+    pub fn down(&mut self, seen: Stamp, maker: CallerId) -> Result<Noted, Worn>
         requires seen { seen.0 ≤ 2 ^ 63 }
         requires deserted { none_left self.old ≡ true }
         requires up { self.old.down ≡ false }
-        ensures noted { IfOk result (λ stamp. Notes seen stamp (Down self.old.id) (record self.old { down = true }) self.new self.old) }
+        ensures noted { IfOk result (λ told. NotesAs seen maker told (Down self.old.id) (record self.old { down = true }) self.new self.old) }
         ensures worn { IfErr result (λ worn. IsWorn seen worn self.new self.old) }
     {
-        let stamp = self.home.next_stamp(seen)?;
-        self.home.add(stamp, Event::Down(self.id));
+        let stamp = self.kept.next_stamp(seen)?;
+        let event = Event::Down(self.id);
+        let noted = noted(stamp, &event);
+        self.kept.add(stamp, maker, event);
         self.down = true;
-        Ok(stamp)
+        Ok(noted)
     }
 
-    /// Gives up the oldest entry of a queue that is down. `seen` and the stamp are as for `put`. It takes no memory.
-    pub fn sweep(&mut self, seen: Stamp) -> Result<Option<(Entry<C>, Stamp)>, Worn>
+    /// Gives up the oldest entry of a queue that is down. `seen`, the maker and the stamp are as for `put`. It takes no
+    /// memory.
+    pub fn sweep(&mut self, seen: Stamp, maker: CallerId) -> Result<Option<Outgoing<C>>, Worn>
         requires seen { seen.0 ≤ 2 ^ 63 }
         requires down { self.old.down ≡ true }
-        ensures swept { IfOk result (λ swept. MatchOption swept (IsDrained self.new self.old) (λ s. Sweeps seen s.0 s.1 self.new self.old)) }
+        ensures swept { IfOk result (λ swept. MatchOption swept (IsSwept self.new self.old) (λ out. Sweeps seen maker out self.new self.old)) }
         ensures worn { IfErr result (λ worn. IsWorn seen worn self.new self.old) }
         ensures some { OnErr result (0 < length self.old.waiting) }
     {
         if self.line.len() == 0 {
             return Ok(None);
         }
-        let stamp = self.home.next_stamp(seen)?;
+        let stamp = self.kept.next_stamp(seen)?;
         let entry = self.line.take(true);
         let swept = Swept {
             request: entry.request,
             queue: self.id,
         };
-        self.home.add(stamp, Event::Sweep(swept));
-        Ok(Some((entry, stamp)))
+        let event = Event::Sweep(swept);
+        let noted = noted(stamp, &event);
+        self.kept.add(stamp, maker, event);
+        Ok(Some(Outgoing { entry, noted }))
     }
 
-    /// Accepts no more. `seen` and the stamp are as for `put`. It takes no memory.
-    pub fn close(&mut self, seen: Stamp) -> Result<Stamp, Worn>
+    /// Accepts no more. `seen`, the maker and the stamp are as for `put`. It takes no memory.
+    pub fn close(&mut self, seen: Stamp, maker: CallerId) -> Result<Noted, Worn>
         requires seen { seen.0 ≤ 2 ^ 63 }
         requires unshut { self.old.closed ≡ false }
-        ensures noted { IfOk result (λ stamp. Notes seen stamp (Close self.old.id) (record self.old { closed = true }) self.new self.old) }
+        ensures noted { IfOk result (λ told. NotesAs seen maker told (Close self.old.id) (record self.old { closed = true }) self.new self.old) }
         ensures worn { IfErr result (λ worn. IsWorn seen worn self.new self.old) }
     {
-        let stamp = self.home.next_stamp(seen)?;
-        self.home.add(stamp, Event::Close(self.id));
+        let stamp = self.kept.next_stamp(seen)?;
+        let event = Event::Close(self.id);
+        let noted = noted(stamp, &event);
+        self.kept.add(stamp, maker, event);
         self.closed = true;
-        Ok(stamp)
+        Ok(noted)
     }
 
-    /// Lets the oldest entry go without an event, as behind a halt. It takes no memory.
-    pub fn drain(&mut self) -> Option<Entry<C>>
-        ensures { MatchOption result (IsDrained self.new self.old) (λ entry. Drains entry self.new self.old) }
-    {
-        if self.line.len() == 0 {
-            return None;
-        }
-        self.drained = true;
-        Some(self.line.take(true))
-    }
-
-    /// The events as they were noted, of a queue where nothing waits. It takes no memory.
-    pub fn home(self) -> Home
-        requires { self.waiting ≡ [] }
+    /// Ends the queue, also where entries still wait, as behind a halt. It takes no memory.
+    pub fn drain(self) -> Rest<C>
         ensures first { result.first ≡ self.first }
-        ensures entries { result.entries ≡ self.entries }
+        ensures entries { result.entries ≡ noted_in self.entries }
+        ensures waiting { result.waiting ≡ self.waiting }
         ensures sound { IsSound self }
         ensures reads { ReadsAsNoted self }
     {
@@ -314,15 +350,27 @@ impl<C> Queue<C> {
             capacity: _,
             servers: _,
             first: _,
-            home,
+            kept,
             line,
             takes: _,
             down: _,
             closed: _,
             gone: _,
-            drained: _,
         } = self;
-        line.free();
-        home
+        Rest {
+            home: kept.into_home(),
+            line,
+        }
+    }
+
+    /// The events as they were noted, of a queue where nothing waits. It takes no memory.
+    pub fn home(self) -> Home
+        requires { self.waiting ≡ [] }
+        ensures first { result.first ≡ self.first }
+        ensures entries { result.entries ≡ noted_in self.entries }
+        ensures sound { IsSound self }
+        ensures reads { ReadsAsNoted self }
+    {
+        self.drain().home()
     }
 }

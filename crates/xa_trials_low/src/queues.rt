@@ -6,7 +6,7 @@ ghost use Rattle.xa_trials_low.specs.Queues.{SameServers};
 use crate::rows::none_fails;
 use std::alloc::Global;
 use xa_events::{Accepted, Event};
-use xa_queue::{Entry, PutRefused, Queue, Refusal, Taken};
+use xa_queue::{Entry, GivenUp, Outgoing, PutRefused, Queue, Refusal, Taken};
 use xa_types::{CallerId, Data, Generation, Mode, Name, QueueId, RequestId, ServerId, Stamp};
 
 const END: u64 = 1 << 63;
@@ -81,7 +81,12 @@ fn put(queue: &mut Queue<u64>, seen: u64, service: Name, number: u64, priority: 
         priority,
         cargo: number,
     };
-    match queue.put(Stamp(seen.min(END)), Event::Accept(accepted), entry) {
+    match queue.put(
+        Stamp(seen.min(END)),
+        CallerId(1),
+        Event::Accept(accepted),
+        entry,
+    ) {
         Ok(stamp) => Told::Put(stamp.0),
         Err(PutRefused { entry, why }) => {
             if cargo_of(entry) == number {
@@ -98,8 +103,13 @@ fn take(queue: &mut Queue<u64>, seen: u64) -> Told
     requires gone { queue.old.gone ≡ [] }
     ensures { SameServers queue.old queue.new }
 {
-    match queue.take(Stamp(seen.min(END)), ServerId(1), Generation(1)) {
-        Ok(Taken::Request(entry, _)) => { Told::Taken(cargo_of(entry)) }
+    match queue.take(
+        Stamp(seen.min(END)),
+        CallerId(2),
+        ServerId(1),
+        Generation(1),
+    ) {
+        Ok(Taken::Request(Outgoing { entry, noted: _ })) => { Told::Taken(cargo_of(entry)) }
         Ok(Taken::Empty) => Told::Empty,
         Ok(Taken::Closed) => Told::Closed,
         Err(_) => Told::Worn,
@@ -107,16 +117,17 @@ fn take(queue: &mut Queue<u64>, seen: u64) -> Told
 }
 
 // Ends a queue, and tells how many entries waited, whether their numbers rise, and how many events were noted.
-fn finish(mut queue: Queue<u64>) -> (u32, bool, usize) {
+fn finish(queue: Queue<u64>) -> (u32, bool, usize) {
     let waited = queue.len();
     let mut rise = true;
     let mut last = 0;
-    while let Some(entry) = queue.drain() {
+    let mut rest = queue.drain();
+    while let Some(entry) = rest.take() {
         let number = cargo_of(entry);
         rise &= last < number;
         last = number;
     }
-    (waited, rise, queue.home().entries().len())
+    (waited, rise, rest.home().entries().len())
 }
 
 fn are_taken(queue: &mut Queue<u64>, numbers: &[u64]) -> bool
@@ -221,7 +232,7 @@ fn fills_and_closes(alloc: Global, service: Name) -> bool {
         return false;
     };
     let mut right = are_told(&mut queue, service, &OPEN);
-    right &= matches!(queue.close(Stamp(0)), Ok(stamp) if stamp.0 == 12);
+    right &= matches!(queue.close(Stamp(0), CallerId(0)), Ok(noted) if noted.stamp.0 == 12);
     right &= are_told(&mut queue, service, &CLOSED);
     right & (finish(queue) == (0, true, 7))
 }
@@ -232,12 +243,12 @@ fn goes_down(queue: &mut Queue<u64>, service: Name) -> bool
     requires deserted { none_left queue.old ≡ true }
     requires up { queue.old.down ≡ false }
 {
-    if !matches!(queue.down(Stamp(0)), Ok(stamp) if stamp.0 == 5) {
+    if !matches!(queue.down(Stamp(0), CallerId(2)), Ok(noted) if noted.stamp.0 == 5) {
         return false;
     }
     let told = put(queue, 0, service, 4, 50);
-    let swept = match queue.sweep(Stamp(0)) {
-        Ok(Some((entry, stamp))) => (cargo_of(entry), stamp.0),
+    let swept = match queue.sweep(Stamp(0), CallerId(2)) {
+        Ok(Some(Outgoing { entry, noted })) => (cargo_of(entry), noted.stamp.0),
         _ => (0, 0),
     };
     (told == Told::Back(Refusal::Down)) & (swept == (1, 6))
@@ -248,8 +259,8 @@ fn empties(alloc: Global, service: Name) -> bool {
         return false;
     };
     let mut right = are_told(&mut queue, service, &UP);
-    right &= match queue.gone(Stamp(0), ServerId(1)) {
-        Ok((stamp, true)) => (stamp.0 == 4) & goes_down(&mut queue, service),
+    right &= match queue.gone(Stamp(0), CallerId(2), ServerId(1)) {
+        Ok(GivenUp { noted, last: true }) => (noted.stamp.0 == 4) & goes_down(&mut queue, service),
         _ => false,
     };
     right & (finish(queue) == (2, true, 6))

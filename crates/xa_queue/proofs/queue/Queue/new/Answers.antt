@@ -1,5 +1,6 @@
 use Rattle.std.proofs.Common.{◌≡◌, [], List, length, ap, sym, ◌∙◌, subst, arith}
 use Rattle.xa_types.specs.declared.ids.ServerId.{ServerId}
+use Rattle.xa_lock.specs.Makers.{made_by}
 use Rattle.xa_queue.specs.Line.{InLine}
 use Rattle.xa_queue.specs.Queue.{Standing, IsSound}
 use Rattle.xa_queue.specs.Reading.{ReadsAsNoted}
@@ -13,7 +14,7 @@ pub invariant_of-result : goal.invariant_of-result
 invariant_of-result g c =
     let line = c.in_ok-line.ensures in
     let waiting = ap (λ (l : InLine g.row.C.Denot). l.waiting) line in
-    let none : c.reserve.new.self.entries ≡ [] = c.reserve.ensures.entries ∙ c.new-home.ensures.entries in
+    let none : c.reserve.new.self.entries ≡ [] = c.reserve.ensures.entries ∙ c.in_ok-kept.ensures.entries ∙ ap (made_by (record { 0 = 0 })) c.new.ensures.entries in
     let gone = c.in_ok-gone.ensures.items in
     let empty : Standing g.row.C.Denot = opened c.args.id c.args.capacity c.in_ok-servers.servers.items c.args.first in
     let all : (gone' : List ServerId) → gone' ≡ [] → length (servers_left gone' c.in_ok-servers.servers.items) ≡ length c.args.servers.now = λ gone' is. ap (λ l. length (servers_left l c.in_ok-servers.servers.items)) is ∙ ap length (left-all c.in_ok-servers.servers.items ∙ c.in_ok-servers.ensures.items) in
@@ -24,7 +25,7 @@ invariant_of-result g c =
     record {
       reads = new ReadsAsNoted (reads-opened c.args.id c.args.capacity c.in_ok-servers.servers.items c.args.first);
       sound = new IsSound (sound-opened c.args.id c.args.capacity c.in_ok-servers.servers.items c.args.first c.requires.first);
-      first = sym (c.reserve.ensures.first ∙ c.new-home.ensures.first);
+      first = sym (c.reserve.ensures.first ∙ c.in_ok-kept.ensures.first ∙ c.new.ensures.first);
       known = c.requires.id;
       some = omega (arith, c.requires.capacity.0);
       most = c.requires.capacity.1;

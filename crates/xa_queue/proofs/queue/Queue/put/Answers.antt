@@ -1,15 +1,14 @@
 use Rattle.std.proofs.Common.{◌≡◌, ◌+◌, ◌<◌, ◌^◌, ◌∷◌, ◌++◌, [], None, List, length, refl, ap, sym, ◌∙◌, subst, arith, length-append}
-use Rattle.xa_stamp.specs.declared.home.Stamped.{Stamped}
-use Rattle.xa_stamp.specs.Home.{Rises}
+use Rattle.xa_lock.specs.declared.makers.Made.{Made}
 use Rattle.xa_queue.specs.declared.entry.Entry.{Entry}
 use Rattle.xa_queue.specs.Line.{InLine}
 use Rattle.xa_queue.specs.Queue.{Standing}
 use Rattle.xa_queue.specs.Reading.{ReadsAsNoted}
 use Rattle.xa_queue.specs.Changes.{IsEntry, larger, next_stamp, put_refused, with_entry}
 use Rattle.xa_queue.specs.Kept.{standing_of}
-use Rattle.xa_queue.proofs.Noted.{reads-noted}
+use Rattle.xa_queue.proofs.OneMore.{reads-noted}
 use Rattle.xa_queue.proofs.Entering.{IsOpen, entered, is_open}
-use Rattle.xa_queue.proofs.Lasting.{sound-noted, next-noted, grown, few_left, one_most, on_ok}
+use Rattle.xa_queue.proofs.Lasting.{sound-noted, quiet, ends-nothing, next-noted, grown, few_left, one_most, on_ok}
 use Rattle.xa_queue.proofs.queue.Queue.put.Goals as goal
 
 pub add-requires-clause-later : goal.add-requires-clause-later
@@ -33,25 +32,26 @@ invariant_of-self-2 g c =
     let fresh = subst (λ (s : Standing g.row.C.Denot). (larger c.args.seen s < 2 ^ 63) × (c.in-Ok.stamp ≡ next_stamp c.args.seen s)) (sym c.self.view_is) c.in-Ok.ensures.stamp in
     let stamp = next-noted c.args.seen c.in-Ok.stamp q c.reserve.new.self (i.first ∙ sym c.reserve.ensures.first) c.reserve.ensures.entries fresh in
     let added = c.add.ensures.entries in
-    let entries = added ∙ ap (λ (l : List Stamped). l ++ record { stamp = c.in-Ok.stamp; event = c.args.event } ∷ []) c.reserve.ensures.entries in
+    let entries = added ∙ ap (λ (l : List Made). l ++ record { maker = c.args.maker; noted = record { stamp = c.in-Ok.stamp; event = c.args.event } } ∷ []) c.reserve.ensures.entries in
     let more : length c.push.new.self.waiting ≡ length q.waiting + 1 = ap length waiting ∙ length-append q.waiting (entry ∷ []) in
     let reserved = on_ok c.reserve.result (sym c.is_err.ensures.value ∙ c.if-is_err.false) c.reserve.ensures.room in
-    let taken : Standing g.row.C.Denot = record q { waiting = c.push.new.self.waiting } in
     let next = ap (λ (line : InLine g.row.C.Denot). line.next) pushed in
-    let age = ap (λ (l : List Stamped). length l) c.entries.ensures.value in
+    let age = c.entries.ensures.count in
     record {
-      reads = subst (λ w. ReadsAsNoted (record left { entries = c.add.new.self.entries; waiting = w })) (sym {A = List (Entry g.row.C.Denot)} waiting) (subst (λ l. ReadsAsNoted (record left { entries = l })) (sym {A = List Stamped} entries)
-          (reads-noted c.in-Ok.stamp c.args.event q left (record { id = refl; capacity = refl; servers = refl; entries = refl; drained = refl }) i.reads
+      reads = subst (λ w. ReadsAsNoted (record left { entries = c.add.new.self.entries; waiting = w })) (sym {A = List (Entry g.row.C.Denot)} waiting) (subst (λ l. ReadsAsNoted (record left { entries = l })) (sym {A = List Made} entries)
+          (reads-noted c.in-Ok.stamp c.args.maker c.args.event q left (record { id = refl; capacity = refl; servers = refl; first = refl; entries = refl }) i.reads
           (λ setup fits new read. entered setup q c.args.event entry its fits free new read)));
-      sound = sound-noted c.args.seen c.in-Ok.stamp c.args.event taken c.reserve.new.self c.add.new.self (i.first ∙ sym c.reserve.ensures.first) stamp added
-          (record { few = omega (arith, more, free.room); deserted = i.sound.deserted; own = i.sound.own; once = i.sound.once; rises = subst (Rises q.first) (sym c.reserve.ensures.entries) i.sound.rises });
+      sound =
+          let nothing = ends-nothing q.id entry c.args.event its in
+          sound-noted c.args.seen c.in-Ok.stamp c.args.maker c.args.event q (record q { waiting = c.push.new.self.waiting }) c.reserve.new.self c.add.new.self (i.first ∙ sym c.reserve.ensures.first) c.reserve.ensures.entries stamp added i.sound
+          (quiet c.args.event q c.push.new.self.waiting q.takes nothing.0 nothing.1 nothing.2 (omega (arith, more, free.room)) i.sound);
       first = i.first ∙ sym (c.add.ensures.first ∙ c.reserve.ensures.first);
       known = i.known;
       some = i.some;
       most = i.most;
       servers = i.servers;
-      ages = let grows = grown c.self.inside.home.entries c.add.new.self.entries _ entries (length c.self.inside.home.entries) (omega arith) in omega (arith, grows, next, age);
-      takes = let grows = grown c.self.inside.home.entries c.add.new.self.entries _ entries c.self.inside.takes i.takes in omega (arith, grows);
+      ages = let grows = grown c.self.inside.kept.entries c.add.new.self.entries _ entries (length c.self.inside.kept.entries) (omega arith) in omega (arith, grows, next, age);
+      takes = let grows = grown c.self.inside.kept.entries c.add.new.self.entries _ entries c.self.inside.takes i.takes in omega (arith, grows);
       room =
           let lines = c.len.ensures in
           let some = few_left c.self.inside.gone.items c.self.inside.servers.items in

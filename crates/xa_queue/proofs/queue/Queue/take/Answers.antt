@@ -1,21 +1,22 @@
 use Rattle.std.proofs.Common.{◌≡◌, ◌+◌, ◌++◌, List, length, true, false, refl, ap, sym, ◌∙◌, subst, arith}
 use Rattle.xa_events.specs.declared.event.Event.{Event}
-use Rattle.xa_stamp.specs.declared.home.Stamped.{Stamped}
+use Rattle.xa_lock.specs.declared.makers.Made.{Made}
 use Rattle.xa_queue.specs.declared.entry.Entry.{Entry}
-use Rattle.xa_queue.specs.Queue.{Standing, IsSound, has_server}
+use Rattle.xa_lock.specs.Makers.{noted_in}
+use Rattle.xa_queue.specs.Queue.{Standing, has_server}
 use Rattle.xa_queue.specs.Reading.{ReadsAsNoted}
 use Rattle.xa_queue.specs.Changes.{taken}
 use Rattle.xa_queue.specs.Kept.{standing_of}
-use Rattle.xa_queue.proofs.Noted.{reads-noted}
+use Rattle.xa_queue.proofs.OneMore.{reads-noted}
 use Rattle.xa_queue.proofs.Leaving.{took, is_up}
-use Rattle.xa_queue.proofs.Lasting.{sound-noted, one_less, few_rise, grown}
+use Rattle.xa_queue.proofs.Lasting.{sound-noted, quiet, one_less, few_rise, grown, length-noted_in}
 use Rattle.xa_queue.proofs.queue.Queue.take.Goals as goal
 
 pub overflow_add-k : goal.overflow_add-k
 overflow_add-k g c =
     let i = c.self.invariant in
-    let few = few_rise c.self.inside.first c.self.inside.home.entries i.sound.rises in
-    omega (arith, few, i.takes)
+    let few = few_rise c.self.inside.first (noted_in c.self.inside.kept.entries) i.sound.rises in
+    omega (arith, few, length-noted_in c.self.inside.kept.entries, i.takes)
 
 pub invariant_of-self : goal.invariant_of-self
 invariant_of-self g c =
@@ -34,19 +35,18 @@ invariant_of-self g c =
     let fewer : length q.waiting ≡ length rest + 1 = one_less out.front entry out.back q.waiting out.was in
     let shorter : length c.take-entry.new.self.waiting ≡ length rest = ap length out.left in
     record {
-      reads = subst (λ w. ReadsAsNoted (record left { entries = c.add.new.self.entries; waiting = w })) (sym {A = List (Entry g.row.C.Denot)} out.left) (subst (λ l. ReadsAsNoted (record left { entries = l })) (sym {A = List Stamped} entries)
-          (reads-noted c.in_ok-stamp.stamp e q left (record { id = refl; capacity = refl; servers = refl; entries = refl; drained = refl }) i.reads
+      reads = subst (λ w. ReadsAsNoted (record left { entries = c.add.new.self.entries; waiting = w })) (sym {A = List (Entry g.row.C.Denot)} out.left) (subst (λ l. ReadsAsNoted (record left { entries = l })) (sym {A = List Made} entries)
+          (reads-noted c.in_ok-stamp.stamp c.args.maker e q left (record { id = refl; capacity = refl; servers = refl; first = refl; entries = refl }) i.reads
           (λ setup fits new read. took setup q server c.args.generation out.front entry out.back out.was out.chosen up own fits read)));
-      sound = subst (λ w. IsSound (record left { entries = c.add.new.self.entries; waiting = w })) (sym {A = List (Entry g.row.C.Denot)} out.left)
-          (sound-noted c.args.seen c.in_ok-stamp.stamp e left c.self.inside.home c.add.new.self i.first c.in_ok-stamp.ensures entries
-          (record { few = omega (arith, fewer, i.sound.few); deserted = i.sound.deserted; own = i.sound.own; once = i.sound.once; rises = i.sound.rises }));
+      sound = sound-noted c.args.seen c.in_ok-stamp.stamp c.args.maker e q (record q { waiting = c.take-entry.new.self.waiting; takes = q.takes + 1 }) c.self.inside.kept c.add.new.self i.first refl c.in_ok-stamp.ensures entries i.sound
+          (quiet e q c.take-entry.new.self.waiting (q.takes + 1) refl refl refl (omega (arith, fewer, shorter, i.sound.few)) i.sound);
       first = i.first ∙ sym c.add.ensures.first;
       known = i.known;
       some = i.some;
       most = i.most;
       servers = i.servers;
-      ages = let more = grown c.self.inside.home.entries c.add.new.self.entries _ entries c.self.inside.line.next i.ages in omega (arith, more, c.take-entry.ensures.next);
-      takes = grown c.self.inside.home.entries c.add.new.self.entries _ entries c.self.inside.takes i.takes;
+      ages = let more = grown c.self.inside.kept.entries c.add.new.self.entries _ entries c.self.inside.line.next i.ages in omega (arith, more, c.take-entry.ensures.next);
+      takes = grown c.self.inside.kept.entries c.add.new.self.entries _ entries c.self.inside.takes i.takes;
       room = omega (arith, fewer, shorter, i.room, c.add.ensures.room);
       places = i.places;
     }

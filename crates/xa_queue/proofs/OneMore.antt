@@ -2,6 +2,7 @@
 use Rattle.std.proofs.Common.{◌≡◌, ℕ, ◌==◌, [], ◌∷◌, map, reverse, sym, ◌∙◌, ap, subst}
 use Rattle.std.specs.List.{All, list_any, IsDistinct}
 use Rattle.std.proofs.lemmas.List.{map-append, reverse-append}
+use Rattle.xa_types.specs.declared.ids.CallerId.{CallerId}
 use Rattle.xa_types.specs.declared.stamp.Stamp.{Stamp}
 use Rattle.xa_types.specs.declared.setup.Setup.{Setup}
 use Rattle.xa_types.specs.Setup.{queue_of, capacity_of}
@@ -15,15 +16,19 @@ use Rattle.xa_events.specs.Cases.{HomePart}
 use Rattle.xa_events.specs.Views.{queue_view, queue_after}
 use Rattle.xa_events.proofs.Owns.{queue_more}
 use Rattle.xa_stamp.specs.declared.home.Stamped.{Stamped}
+use Rattle.xa_lock.specs.declared.makers.Made.{Made}
+use Rattle.xa_lock.specs.Makers.{noted_in}
 use Rattle.xa_queue.specs.Queue.{Standing, past_of}
 use Rattle.xa_queue.specs.Changes.{noted}
 use Rattle.xa_queue.specs.Reading.{IsNew, AllNew, Fits, IsRead, ReadsAsNoted, view_of}
 
 module _ {C : Type 0} where
-  pub past-noted : (stamp : Stamp) (e : Event) (left : Standing C) → past_of (noted stamp e left) ≡ e ∷ past_of left
-  past-noted stamp e left =
+  pub past-noted : (stamp : Stamp) (maker : CallerId) (e : Event) (left : Standing C) → past_of (noted stamp maker e left) ≡ e ∷ past_of left
+  past-noted stamp maker e left =
       let event : Stamped → Event = λ noted. noted.event in
-      ap reverse (map-append event left.entries (record { stamp = stamp; event = e } ∷ [])) ∙ reverse-append (map event left.entries) (e ∷ [])
+      let bare : Made → Stamped = λ entry. entry.noted in
+      let x : Stamped = record { stamp = stamp; event = e } in
+      ap (λ l. reverse (map event l)) (map-append bare left.entries (record { maker = maker; noted = x } ∷ [])) ∙ ap reverse (map-append event (noted_in left.entries) (x ∷ [])) ∙ reverse-append (map event (noted_in left.entries)) (e ∷ [])
 
   -- what one event more asks for, which leaves the queue so
   pub record Parts (setup : Setup) (e : Event) (q left : Standing C) : Type 0 where
@@ -39,12 +44,15 @@ module _ {C : Type 0} where
     pub id : left.id ≡ q.id
     pub capacity : left.capacity ≡ q.capacity
     pub servers : left.servers ≡ q.servers
+    pub first : left.first ≡ q.first
     pub entries : left.entries ≡ q.entries
-    pub drained : left.drained ≡ q.drained
 
-  read-noted : (setup : Setup) (stamp : Stamp) (e : Event) (q left : Standing C) → SameQueue q left → IsRead setup q → Parts setup e q left → IsRead setup (noted stamp e left)
-  read-noted setup stamp e q left same read parts =
-      let past : past_of (noted stamp e left) ≡ e ∷ past_of q = past-noted stamp e left ∙ ap (λ entries. e ∷ reverse (map (λ noted. noted.event) entries)) same.entries in
+  pub past-left : (stamp : Stamp) (maker : CallerId) (e : Event) (q left : Standing C) → SameQueue q left → past_of (noted stamp maker e left) ≡ e ∷ past_of q
+  past-left stamp maker e q left same = past-noted stamp maker e left ∙ ap (λ entries. e ∷ reverse (map (λ noted. noted.event) (noted_in entries))) same.entries
+
+  read-noted : (setup : Setup) (stamp : Stamp) (maker : CallerId) (e : Event) (q left : Standing C) → SameQueue q left → IsRead setup q → Parts setup e q left → IsRead setup (noted stamp maker e left)
+  read-noted setup stamp maker e q left same read parts =
+      let past : past_of (noted stamp maker e left) ≡ e ∷ past_of q = past-left stamp maker e q left same in
       record {
         view = parts.view ∙ ap (queue_after setup q.id.0 e) read.view ∙ sym (queue_more setup q.id.0 e (past_of q)) ∙ ap (λ id. queue_view setup id.0 (e ∷ past_of q)) (sym same.id) ∙ ap (queue_view setup left.id.0) (sym past);
         stand = λ clients. subst (λ events. AtEach (λ e _. home_of setup clients e ≡ QueueHome left.id.0) events) (sym past)
@@ -55,13 +63,13 @@ module _ {C : Type 0} where
         once = parts.once;
       }
 
-  pub reads-noted : (stamp : Stamp) (e : Event) (q left : Standing C) → SameQueue q left → ReadsAsNoted q → ((setup : Setup) → Fits setup q → IsNew setup q.id.0 e (past_of q) → IsRead setup q → Parts setup e q left) → ReadsAsNoted (noted stamp e left)
-  reads-noted stamp e q left same reads parts setup fits new stays =
-      let past : past_of (noted stamp e left) ≡ e ∷ past_of q = past-noted stamp e left ∙ ap (λ entries. e ∷ reverse (map (λ noted. noted.event) entries)) same.entries in
+  pub reads-noted : (stamp : Stamp) (maker : CallerId) (e : Event) (q left : Standing C) → SameQueue q left → ReadsAsNoted q → ((setup : Setup) → Fits setup q → IsNew setup q.id.0 e (past_of q) → IsRead setup q → Parts setup e q left) → ReadsAsNoted (noted stamp maker e left)
+  reads-noted stamp maker e q left same reads parts setup fits new =
+      let past : past_of (noted stamp maker e left) ≡ e ∷ past_of q = past-left stamp maker e q left same in
       let fits' : Fits setup q = record {
         capacity = ap (λ id. capacity_of setup id.0) (sym same.id) ∙ fits.capacity ∙ same.capacity;
         servers = λ server. ap (λ id. queue_of setup server == id.0) (sym same.id) ∙ fits.servers server ∙ ap (list_any (λ own. server == own.0)) same.servers;
       } in
-      let new' : AllNew setup q.id.0 (e ∷ past_of q) = subst (AllNew setup q.id.0) past (subst (λ id. AllNew setup id.0 (past_of (noted stamp e left))) same.id new) in
-      let read = reads setup fits' new'.1 (sym same.drained ∙ stays) in
-      read-noted setup stamp e q left same read (parts setup fits' new'.0 read)
+      let new' : AllNew setup q.id.0 (e ∷ past_of q) = subst (AllNew setup q.id.0) past (subst (λ id. AllNew setup id.0 (past_of (noted stamp maker e left))) same.id new) in
+      let read = reads setup fits' new'.1 in
+      read-noted setup stamp maker e q left same read (parts setup fits' new'.0 read)
