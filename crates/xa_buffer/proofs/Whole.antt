@@ -15,7 +15,7 @@ use Rattle.xa_buffer.specs.declared.buffer.Content.TheVariants.{Octet, Struct}
 use Rattle.xa_buffer.specs.declared.refusal.BufferRefused.{BufferRefused}
 use Rattle.xa_buffer.specs.declared.refusal.BufferRefused.TheVariants.{BadSize, TooLong, WrongLength}
 use Rattle.xa_buffer.specs.declared.value.FieldValue.{FieldValue}
-use Rattle.xa_buffer.specs.Layout.{Piece, joined, pieces, zeroed, with_value, then_as, size_of as size_of_fields}
+use Rattle.xa_buffer.specs.Layout.{Piece, joined, pieces, zeroed, with_value, then_as, size_of_fields}
 use Rattle.xa_buffer.specs.Contents.{shape_of, allocated_as, allocated, with_field, packed, unpacked_as, unpacked}
 use Rattle.xa_buffer.specs.Laws.{IsLaidOut, IsOf}
 use Rattle.xa_buffer.proofs.Fields.{passed, stays_laid}

@@ -36,6 +36,7 @@ text_octets n text =
     if list_any (λ octet. octet == 0) text then Err WrongKind
     else (if nat_le (length text) n then Ok (text ++ replicate (n - length text) 0) else Err TooLong)
 
+-- the octets of a number in a field of that kind
 abbrev pub number_octets : FieldKind → ℤ → Result (List ℕ) BufferRefused
 number_octets kind z = if holds kind z then Ok (big_bytes (field_size kind) (low_bytes w64 (field_size kind) z)) else Err TooLong
 
@@ -59,8 +60,9 @@ pub record Piece : Type 0 where
   pub field : FieldSetup
   pub octets : List ℕ
 
-abbrev pub size_of : List FieldSetup → ℕ
-size_of fields = sum_by (λ (field : FieldSetup). field_size field.kind) fields
+-- how many octets the fields have together
+abbrev pub size_of_fields : List FieldSetup → ℕ
+size_of_fields fields = sum_by (λ (field : FieldSetup). field_size field.kind) fields
 
 -- the octets of a structure: those of its fields, one after another
 abbrev pub joined : List Piece → List ℕ
@@ -72,9 +74,11 @@ pieces [] octets = []
 pieces (field ∷ fields) octets =
     record { field = field; octets = take (field_size field.kind) octets } ∷ pieces fields (drop (field_size field.kind) octets)
 
+-- the fields with nothing but zeros
 abbrev pub zeroed : List FieldSetup → List Piece
 zeroed fields = map (λ (field : FieldSetup). record { field = field; octets = replicate (field_size field.kind) 0 }) fields
 
+-- the value in a piece, if it is there
 abbrev pub value_in : Option Piece → Result FieldValue BufferRefused
 value_in None = Err NoField
 value_in (Some piece) = Ok (decoded piece.field.kind piece.octets)
@@ -83,7 +87,7 @@ value_in (Some piece) = Ok (decoded piece.field.kind piece.octets)
 abbrev pub value_named : List ℕ → List Piece → Result FieldValue BufferRefused
 value_named name parts = value_in (find (λ (piece : Piece). bytes_eq piece.field.name name) parts)
 
--- what comes of a good answer; a refusal stays one
+-- what is made of a good answer; a refusal stays one
 abbrev pub then_as : {X Y : Type 0} → (X → Y) → Result X BufferRefused → Result Y BufferRefused
 then_as f (Ok x) = Ok (f x)
 then_as f (Err why) = Err why

@@ -5,7 +5,7 @@ ghost use Rattle.std.specs.Str.{bytes_eq};
 ghost use Rattle.xa_types.specs.Configured.{is_configured};
 ghost use Rattle.xa_types.specs.Kind.{field_size, is_sound};
 ghost use Rattle.xa_types.specs.declared.setup.Setup.{Setup};
-ghost use Rattle.xa_buffer.specs.Layout.{size_of};
+ghost use Rattle.xa_buffer.specs.Layout.{size_of_fields};
 ghost use Rattle.xa_buffer.specs.Contents.{shape_of};
 
 use std::alloc::Global;
@@ -34,9 +34,9 @@ pub(crate) fn is_same(a: &Name, b: &Name) -> bool
     a.octets() == b.octets()
 }
 
-fn size_of(fields: &[FieldSetup]) -> u32
-    requires { size_of fields.now ≤ 65536 }
-    ensures { result ≡ size_of fields.now }
+fn size_of_fields(fields: &[FieldSetup]) -> u32
+    requires { size_of_fields fields.now ≤ 65536 }
+    ensures { result ≡ size_of_fields fields.now }
 {
     fields.iter().map(|field| field_size(field.kind)).sum()
 }
@@ -52,25 +52,25 @@ pub(crate) struct Shape {
 impl Model for Shape {
     ghost use Rattle.std.specs.Prelude.{◌≡◌, ◌≤◌};
     ghost use Rattle.xa_types.specs.declared.setup.ShapeSetup.{ShapeSetup};
-    ghost use Rattle.xa_buffer.specs.Layout.{size_of};
+    ghost use Rattle.xa_buffer.specs.Layout.{size_of_fields};
 
     ghost Value = { ShapeSetup };
 
     ghost view = { λ s. record { name = s.name; fields = s.fields } };
 
-    ghost invariant = { λ s. (s.size ≡ size_of s.fields) × (s.size ≤ 65536) };
+    ghost invariant = { λ s. (s.size ≡ size_of_fields s.fields) × (s.size ≤ 65536) };
 }
 
 impl Shape {
     fn new(alloc: Global, shape: &ShapeSetup) -> Result<Shape, NoMemory>
-        requires { size_of shape.now.fields ≤ 65536 }
+        requires { size_of_fields shape.now.fields ≤ 65536 }
         ensures { IfOk result (λ made. made ≡ shape.now) }
     {
         let fields = shape.fields.slice();
         Ok(Shape {
             name: shape.name,
             fields: Sequence::from_vec(Vec::from_slice(alloc, fields)?),
-            size: size_of(fields),
+            size: size_of_fields(fields),
         })
     }
 
@@ -83,7 +83,7 @@ impl Shape {
 
     /// How many octets its fields have together.
     pub(crate) fn size(&self) -> u32
-        ensures value { result ≡ size_of self.now.fields }
+        ensures value { result ≡ size_of_fields self.now.fields }
         ensures small { result ≤ 65536 }
     {
         self.size

@@ -1,6 +1,6 @@
 // What a buffer of X_C_TYPE holds: the fields of its shape.
 ghost use Rattle.std.specs.Prelude.{◌≡◌, ◌≤◌, length, IfOk};
-ghost use Rattle.xa_buffer.specs.Layout.{size_of, joined, pieces, zeroed, value_named, with_value};
+ghost use Rattle.xa_buffer.specs.Layout.{size_of_fields, joined, pieces, zeroed, value_named, with_value};
 ghost use Rattle.xa_buffer.specs.Answers.{Answers, Changes};
 
 use crate::shapes::{Shape, field_size, is_same};
@@ -19,14 +19,14 @@ pub(crate) struct Structure {
 
 impl Model for Structure {
     ghost use Rattle.std.specs.Prelude.{◌≡◌, ◌≤◌, List, length};
-    ghost use Rattle.xa_buffer.specs.Layout.{Piece, size_of, pieces};
+    ghost use Rattle.xa_buffer.specs.Layout.{Piece, size_of_fields, pieces};
 
     ghost Value = { List Piece };
 
     ghost view = { λ s. pieces s.fields.items s.octets.items };
 
     ghost invariant = { λ s.
-        (size_of s.fields.items ≡ length s.octets.items) × (length s.octets.items ≤ 65536) };
+        (size_of_fields s.fields.items ≡ length s.octets.items) × (length s.octets.items ≤ 65536) };
 }
 
 // The value of the first field of that name, where the octets are of these fields.
@@ -36,7 +36,7 @@ fn read_field(
     octets: &[u8],
     name: &Name,
 ) -> Result<FieldValue, BufferRefused>
-    requires { size_of fields.now ≡ length octets.now }
+    requires { size_of_fields fields.now ≡ length octets.now }
     ensures { Answers (value_named name.now (pieces fields.now octets.now)) result }
 {
     match fields {
@@ -58,7 +58,7 @@ fn write_field(
     name: &Name,
     value: &FieldValue,
 ) -> Result<(), BufferRefused>
-    requires { size_of fields.now ≡ length octets.old }
+    requires { size_of_fields fields.now ≡ length octets.old }
     ensures { let old = pieces fields.now octets.old in
         Changes (with_value name.now value.now old) old (pieces fields.now octets.new) result }
 {
@@ -88,7 +88,7 @@ impl Structure {
 
     /// The fields of a shape with these octets.
     pub(crate) fn of(alloc: Global, shape: &Shape, octets: &[u8]) -> Result<Structure, NoMemory>
-        requires fit { size_of shape.now.fields ≡ length octets.now }
+        requires fit { size_of_fields shape.now.fields ≡ length octets.now }
         requires small { length octets.now ≤ 65536 }
         ensures { IfOk result (λ made. made ≡ pieces shape.now.fields octets.now) }
     {
