@@ -13,7 +13,7 @@ use Rattle.xa_pipe.specs.declared.hearing.Return.{Return}
 use Rattle.xa_pipe.specs.Frames.{next_frame, ready_frame, return_frame}
 use Rattle.xa_pipe.specs.Life.{Says, Turn, MaySay, turn_behind, tag_after, return_of, returns_in}
 use Rattle.xa_pipe.specs.Life.Says.{Silent, Named, Free, Invoked, Answers}
-use Rattle.xa_pipe.specs.Life.Turn.{AwaitsReady, AwaitsNext, AwaitsInvoke, Serving, Exited}
+use Rattle.xa_pipe.specs.declared.turn.Turn.TheVariants.{AwaitsReady, AwaitsNext, AwaitsInvoke, Serving, Exited}
 
 -- ---- each frame has a spelling
 
