@@ -6,3 +6,4 @@ pub mod Coming
 pub mod Taking
 pub mod Whole
 pub mod Courses
+pub mod Followed

@@ -1,4 +1,4 @@
--- How a life that ended is kept. No public contract rests on this file.
+-- What is left of a life that ended, and how it is kept.
 use Rattle.std.specs.Prelude.{Bool, true, false}
 use Rattle.xa_pipe.specs.declared.over.EndedLife.TheInside.{Inside}
 use Rattle.xa_pipe.specs.declared.over.Pipes.{Pipes}

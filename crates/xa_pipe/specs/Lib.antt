@@ -6,3 +6,4 @@ pub mod Standing
 pub mod Changes
 pub mod Kept
 pub mod Ended
+pub mod Following

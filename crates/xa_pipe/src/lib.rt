@@ -14,7 +14,7 @@ mod pipe;
 mod turn;
 
 pub use hearing::Return;
-pub use laws::ends_as_said;
+pub use laws::{ends_as_said, is_life};
 pub use life::{Answered, Life};
 pub use over::{EndedLife, Pipes};
 pub use pipe::Pipe;

@@ -2,6 +2,7 @@
 ghost use Rattle.std.specs.Prelude.{◌≡◌};
 ghost use Rattle.xa_events.specs.declared.event.StopCause.TheVariants.{Shutdown, Exit};
 ghost use Rattle.xa_pipe.specs.Standing.{IsOver};
+ghost use Rattle.xa_pipe.specs.Ended.{pipes_show, are_killed};
 
 use crate::noted::{Asked, Said};
 use crate::turn::{Turn, Written};
@@ -12,6 +13,7 @@ use xa_types::{Generation, Name, ServerId};
 
 /// The pipes of a life that ended: open, where its program ends by itself and is waited for as they are dropped, or what
 /// is left where it was ended by force.
+#[derive(Drop)]
 pub enum Pipes<L> {
     Open(L),
     Killed(Killed<L>),
@@ -62,5 +64,25 @@ impl<L: Link> EndedLife<L> {
         ensures { result ≡ self.now.life.generation }
     {
         self.generation
+    }
+
+    /// What is left of its pipes.
+    pub fn into_pipes(self) -> Pipes<L>
+        ensures killed { are_killed result ≡ self.killed }
+        ensures shows { pipes_show (λ l. record { took = L.took l; gave = L.gave l; left = L.left l; reads = L.read_faults l; writes = L.write_faults l; whose = L.whose l }) result ≡ self.life.link }
+        ensures over { IsOver self }
+    {
+        let EndedLife {
+            name: _,
+            server: _,
+            generation: _,
+            pipes,
+            asked: _,
+            said: _,
+            turn: _,
+            cause: _,
+            written: _,
+        } = self;
+        pipes
     }
 }

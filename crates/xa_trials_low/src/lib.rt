@@ -13,6 +13,8 @@ mod lines;
 #[cfg(test)]
 mod links;
 #[cfg(test)]
+mod lives;
+#[cfg(test)]
 mod memory;
 #[cfg(test)]
 mod pipes;
