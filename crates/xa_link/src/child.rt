@@ -10,7 +10,9 @@ ghost use Rattle.xa_link.specs.Processes.{StartsServer, IsChosen};
 
 use crate::count::raise;
 use crate::escaped::Escaped;
-use crate::{Failed, Killed, Link, ReadSource, Sink, Source, StartRefused, Starter, WriteSink, Yard};
+use crate::{
+    Failed, Killed, Link, ReadSource, Sink, Source, StartRefused, Starter, WriteSink, Yard,
+};
 use std::alloc::{AllocError, Global};
 use std::io::{PipeReader, PipeWriter, Write};
 use std::marker::Model;

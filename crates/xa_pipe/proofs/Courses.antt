@@ -1,5 +1,5 @@
 -- How a life is kept by each of its calls, and what is left where it ends.
-use Rattle.std.proofs.Common.{◌≡◌, ℕ, ◌+◌, ◌-◌, ◌^◌, ◌%◌, min, Bool, true, false, List, [], ◌∷◌, ◌++◌, length, Option, refl, sym, ◌∙◌, ap, subst, append-nil, append_assoc}
+use Rattle.std.proofs.Common.{◌≡◌, ℕ, ◌+◌, ◌-◌, ◌^◌, ◌%◌, min, true, List, [], ◌∷◌, ◌++◌, length, Option, refl, sym, ◌∙◌, ap, subst, append-nil, append_assoc}
 use Rattle.std.specs.Prelude.{IfSome, IfOk, Result, Ok, Err}
 use Rattle.xa_types.specs.declared.ids.Generation.{Generation}
 use Rattle.std.proofs.Math.Nat.{mod-add-mod}
@@ -16,15 +16,14 @@ use Rattle.xa_events.specs.declared.event.StopCause.TheVariants.{Shutdown, Exit,
 use Rattle.xa_pipe.specs.declared.course.Course.{Course}
 use Rattle.xa_pipe.specs.declared.hearing.Return.{Return}
 use Rattle.xa_pipe.specs.declared.turn.Turn.TheVariants.{AwaitsReady, AwaitsNext, AwaitsInvoke, Serving, Exited}
-use Rattle.xa_pipe.specs.declared.turn.Written.TheVariants.{Whole, Cut, Missing}
-use Rattle.xa_pipe.specs.Frames.{ready_frame, next_frame, shutdown_frame, return_frame}
-use Rattle.xa_pipe.specs.Life.{Turn, Written, Says, MaySay, Took, Gave, LastTurn, LinkShows, IsCounted, IsOf, awaiting, is_reading, is_writing, may_end, tag_after, turn_behind, returns_in}
+use Rattle.xa_pipe.specs.declared.turn.Written.TheVariants.{Whole}
+use Rattle.xa_pipe.specs.Frames.{ready_frame, next_frame, shutdown_frame}
+use Rattle.xa_pipe.specs.Life.{Turn, Says, MaySay, Took, Gave, LinkShows, IsCounted, IsOf, awaiting, is_reading, is_writing, may_end, tag_after, turn_behind, returns_in}
 use Rattle.xa_pipe.specs.Life.Says.{Silent, Named, Free, Invoked, Answers}
 use Rattle.xa_pipe.specs.Pipe.{Piped, shown, invoke_frame, Wrote, HasRead, Ceases, CountsReads, CountsWrites}
-use Rattle.xa_pipe.specs.Standing.{Standing, IsSound, IsOver, GaveFirst, id_of, tag_of, due_in}
+use Rattle.xa_pipe.specs.Standing.{Standing, IsOver, GaveFirst, id_of, tag_of, due_in}
 use Rattle.xa_pipe.specs.Changes.{Heard, Greeted, Invoked as HasInvoked, turn_after, with_said, with_asked, next_invoke}
 use Rattle.xa_pipe.specs.Kept.{standing_of, ending_of, IsKept, tag_after_turn, unwritten}
-use Rattle.xa_pipe.proofs.Ceasing.{gave_read}
 use Rattle.xa_pipe.proofs.Frames.{told_more, read_same}
 use Rattle.xa_pipe.proofs.Saying.{returned_is, returns_append, returns_next, returns_push}
 use Rattle.xa_pipe.proofs.Taking.{took_more, took_cut, took_missing}
@@ -85,7 +84,7 @@ greets old mid new f ready first next =
     record {
       made = next.made ∙ (ap (λ (m : Standing). with_said next_frame new.link m) first.made
           ∙ (ap (λ (t : Turn). record old { link = new.link; said = (old.said ++ f ∷ []) ++ next_frame ∷ []; turn = turn_after (turn_after t f.body) Next }) ready
-            ∙ ap (λ (fs : List Frame). record old { link = new.link; said = fs; turn = AwaitsInvoke }) both));
+          ∙ ap (λ (fs : List Frame). record old { link = new.link; said = fs; turn = AwaitsInvoke }) both));
       took = next.took ∙ first.took;
     }
 
@@ -94,8 +93,8 @@ link_written : (old new : LinkShows) → new.gave ≡ old.gave → new.reads ≡
 link_written old new gave reads writes whose =
     ap (λ (told : Option (List ℕ)). record new { gave = told }) gave
     ∙ (ap (λ (count : ℕ). record new { gave = old.gave; reads = count }) reads
-      ∙ (ap (λ (count : ℕ). record new { gave = old.gave; reads = old.reads; writes = count }) writes
-        ∙ ap (λ (its : Option (List ℕ × Generation)). record new { gave = old.gave; reads = old.reads; writes = old.writes; whose = its }) whose))
+    ∙ (ap (λ (count : ℕ). record new { gave = old.gave; reads = old.reads; writes = count }) writes
+    ∙ ap (λ (its : Option (List ℕ × Generation)). record new { gave = old.gave; reads = old.reads; writes = old.writes; whose = its }) whose))
 
 -- what is known of a value, of which more follows
 pub ok_more : {T E : Type 0} (result : Result T E) (is so : T → Type 0) → ((value : T) → is value → so value) → IfOk result is → IfOk result so
@@ -170,7 +169,7 @@ module _ {L : Type 0} where
   invokes old new service routine payload made kept took gave reads writes whose = record {
     made = ap standing_of made
         ∙ (ap (λ (tag : ℕ). with_asked (invoke_frame service routine tag payload) (shown new.pipe) (standing_of old)) kept.tag
-          ∙ ap (λ (l : LinkShows). with_asked (next_invoke service routine payload (standing_of old)) l (standing_of old)) (link_written (shown old.pipe) (shown new.pipe) gave reads writes whose));
+        ∙ ap (λ (l : LinkShows). with_asked (next_invoke service routine payload (standing_of old)) l (standing_of old)) (link_written (shown old.pipe) (shown new.pipe) gave reads writes whose));
     took = subst (λ (tag : ℕ). Grew old.pipe.took new.pipe.took (spelled (invoke_frame service routine tag payload))) kept.tag took;
   }
 

@@ -23,18 +23,58 @@ const OTHER: &[u8] = b"XA\x01\x04\0\0\0\x06\0\0\0\x02\0\0\0\0\x07\0";
 type Course = (&'static [&'static [u8]], [u64; 2], StopCause, bool);
 
 static COURSES: [Course; 12] = [
-    (&[READY, NEXT, RETURN, NEXT], [0, 0], StopCause::Shutdown, false),
+    (
+        &[READY, NEXT, RETURN, NEXT],
+        [0, 0],
+        StopCause::Shutdown,
+        false,
+    ),
     (&[READY, NEXT, EXIT], [0, 0], StopCause::Exit, false),
     (&[READY, NEXT, EXIT, b"XA"], [0, 0], StopCause::Exit, false),
     (&[], [0, 0], StopCause::EndOfInput, true),
     (&[READY, NEXT], [0, 0], StopCause::EndOfInput, true),
-    (&[READY, NEXT, RETURN, b"XA"], [0, 0], StopCause::EndOfInput, true),
-    (&[READY, NEXT, RETURN, NEXT], [1, 0], StopCause::ReadFault, true),
-    (&[READY, NEXT, RETURN, NEXT], [0, 1], StopCause::WriteFault, true),
-    (&[READY, NEXT, RETURN, NEXT], [0, 2], StopCause::WriteFault, true),
-    (&[READY, NEXT, b"nonsense, no frame"], [0, 0], StopCause::BadBytes(26), true),
-    (&[READY, NEXT, OTHER], [0, 0], StopCause::OutOfTurn(0x04, 2), true),
-    (&[READY, NEXT, RETURN, RETURN], [0, 0], StopCause::OutOfTurn(0x04, 1), true),
+    (
+        &[READY, NEXT, RETURN, b"XA"],
+        [0, 0],
+        StopCause::EndOfInput,
+        true,
+    ),
+    (
+        &[READY, NEXT, RETURN, NEXT],
+        [1, 0],
+        StopCause::ReadFault,
+        true,
+    ),
+    (
+        &[READY, NEXT, RETURN, NEXT],
+        [0, 1],
+        StopCause::WriteFault,
+        true,
+    ),
+    (
+        &[READY, NEXT, RETURN, NEXT],
+        [0, 2],
+        StopCause::WriteFault,
+        true,
+    ),
+    (
+        &[READY, NEXT, b"nonsense, no frame"],
+        [0, 0],
+        StopCause::BadBytes(26),
+        true,
+    ),
+    (
+        &[READY, NEXT, OTHER],
+        [0, 0],
+        StopCause::OutOfTurn(0x04, 2),
+        true,
+    ),
+    (
+        &[READY, NEXT, RETURN, RETURN],
+        [0, 0],
+        StopCause::OutOfTurn(0x04, 1),
+        true,
+    ),
 ];
 
 const ONE_SERVER: &[u8] = b"queue = [{ name = 'Q' }]
@@ -58,7 +98,12 @@ fn is_killed(over: EndedLife<MemoryLink>) -> bool {
 }
 
 // Whether the first life of the server ends by that cause, and is killed so.
-fn ends_so<S: Starter<MemoryLink>>(alloc: Global, starter: &mut S, cause: StopCause, killed: bool) -> bool {
+fn ends_so<S: Starter<MemoryLink>>(
+    alloc: Global,
+    starter: &mut S,
+    cause: StopCause,
+    killed: bool,
+) -> bool {
     let server = starter.server();
     let Ok(link) = starter.start(&server, Generation(1)) else {
         return false;

@@ -1,12 +1,12 @@
-use Rattle.std.proofs.Common.{◌≡◌, List, length, ◌∷◌, [], ◌++◌, Err, refl, ap, ◌∙◌, subst}
+use Rattle.std.proofs.Common.{List, length, ◌∷◌, [], ◌++◌, Err, refl, ap, subst}
 use Rattle.xa_frame.specs.declared.frame.Frame.{Frame}
 use Rattle.xa_pipe.specs.declared.turn.Turn.TheVariants.{AwaitsInvoke, Serving}
 use Rattle.xa_pipe.specs.Life.{Turn, Says, returns_in}
 use Rattle.xa_pipe.specs.Life.Says.{Invoked as SaysInvoked}
 use Rattle.xa_pipe.specs.Pipe.{invoke_frame}
-use Rattle.xa_pipe.specs.Standing.{Standing, IsOver}
+use Rattle.xa_pipe.specs.Standing.{Standing}
 use Rattle.xa_pipe.specs.Changes.{Invoked, next_invoke}
-use Rattle.xa_pipe.specs.Kept.{standing_of, ending_of}
+use Rattle.xa_pipe.specs.Kept.{standing_of}
 use Rattle.xa_pipe.proofs.Courses.{kept_invoked, invokes, unsent_over, in_turn}
 use Rattle.xa_pipe.proofs.life.Life.send.Goals as goal
 

@@ -1,9 +1,6 @@
-use Rattle.std.proofs.Common.{Err, refl, ap}
+use Rattle.std.proofs.Common.{refl}
 use Rattle.xa_pipe.specs.declared.turn.Turn.TheVariants.{AwaitsInvoke}
-use Rattle.xa_pipe.specs.Frames.{shutdown_frame}
-use Rattle.xa_pipe.specs.Life.{Turn, is_writing}
-use Rattle.xa_pipe.specs.Standing.{due_in}
-use Rattle.xa_pipe.proofs.Courses.{shut_over, unsent_over, in_turn}
+use Rattle.xa_pipe.proofs.Courses.{shut_over, in_turn}
 use Rattle.xa_pipe.proofs.life.Life.shut_down.Goals as goal
 
 pub end-requires : goal.end-requires
