@@ -1,4 +1,7 @@
 //! Lives over links in memory: how each ends, and whether it is killed.
+ghost use Rattle.std.specs.Prelude.{◌≡◌};
+ghost use Rattle.xa_pipe.specs.declared.turn.Turn.TheVariants.{AwaitsReady};
+
 use crate::memory::{joined, link_of, setup_of};
 use crate::rows::none_fails;
 use std::alloc::Global;
@@ -81,7 +84,9 @@ const ONE_SERVER: &[u8] = b"queue = [{ name = 'Q' }]
 server = [{ name = 'S', queue = 'Q' }]";
 
 // The program greets, is asked once and is shut down, or ends by itself.
-fn serve<L: Link>(life: Life<L>, service: &Name) -> Result<EndedLife<L>, EndedLife<L>> {
+fn serve<L: Link>(life: Life<L>, service: &Name) -> Result<EndedLife<L>, EndedLife<L>>
+    requires { life.turn ≡ AwaitsReady }
+{
     let life = life.greet()?.send(service, service, &Data::Absent)?;
     let Answered { life, back } = life.hear()?;
     match back.value {
