@@ -20,9 +20,10 @@ use Rattle.xa_events.specs.declared.event.Doing.TheVariants.{Off, Idle}
 use Rattle.xa_events.specs.Server.{is_shutdown}
 use Rattle.xa_link.specs.Told.{Rose}
 use Rattle.xa_link.specs.Starts.{AsksFor}
-use Rattle.xa_pipe.specs.Life.{Turn, may_end}
-use Rattle.xa_pipe.specs.Life.Turn.{AwaitsReady, AwaitsNext, AwaitsInvoke}
-use Rattle.xa_pipe.specs.Life.Written.{Whole}
+use Rattle.xa_pipe.specs.Life.{may_end}
+use Rattle.xa_pipe.specs.declared.turn.Turn.{Turn}
+use Rattle.xa_pipe.specs.declared.turn.Turn.TheVariants.{AwaitsReady, AwaitsNext, AwaitsInvoke}
+use Rattle.xa_pipe.specs.declared.turn.Written.TheVariants.{Whole}
 use Rattle.xa_pipe.specs.Pipe.{Wrote, HasRead}
 use Rattle.xa_script.specs.declared.script.Client.{Client as ScriptClient}
 use Rattle.xa_tables.specs.declared.queue.Queue.{Queue}

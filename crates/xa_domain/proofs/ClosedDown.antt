@@ -20,7 +20,7 @@ use Rattle.xa_events.specs.Server.{is_shutdown}
 use Rattle.xa_events.proofs.Owns.{queue_own}
 use Rattle.xa_pipe.specs.Frames.{shutdown_frame}
 use Rattle.xa_pipe.specs.Life.{IsLife}
-use Rattle.xa_pipe.specs.Life.Turn.{AwaitsInvoke}
+use Rattle.xa_pipe.specs.declared.turn.Turn.TheVariants.{AwaitsInvoke}
 use Rattle.xa_pipe.specs.Pipe.{CountsWrites, shown}
 use Rattle.xa_script.specs.declared.script.Client.{Client as ScriptClient}
 use Rattle.xa_tables.specs.declared.queue.Queue.{Queue}

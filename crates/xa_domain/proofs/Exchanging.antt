@@ -29,7 +29,7 @@ use Rattle.xa_events.specs.Words.{count as counted}
 use Rattle.xa_events.proofs.WordsLemmas.{same_request_of}
 use Rattle.xa_pipe.specs.declared.hearing.Return.{Return}
 use Rattle.xa_pipe.specs.Life.{IsLife, turn_behind, lost_by}
-use Rattle.xa_pipe.specs.Life.Turn.{AwaitsInvoke}
+use Rattle.xa_pipe.specs.declared.turn.Turn.TheVariants.{AwaitsInvoke}
 use Rattle.xa_pipe.specs.Pipe.{Piped, shown, invoke_frame}
 use Rattle.xa_script.specs.declared.script.Client.{Client as ScriptClient}
 use Rattle.xa_tables.specs.declared.queue.Queue.{Queue}

@@ -25,10 +25,12 @@ use Rattle.xa_events.specs.Request.{SentAs, sent_as}
 use Rattle.xa_events.specs.Server.{is_shutdown}
 use Rattle.xa_pipe.specs.declared.hearing.Return.{Return}
 use Rattle.xa_pipe.specs.Frames.{is_of_life, is_take_in, invocation, farewell, written_at, frames_out, ready_frame, next_frame, shutdown_frame, return_frame}
-use Rattle.xa_pipe.specs.Life.{Says, Turn, Written, LifeId, LinkShows, Occurrence, EachCame, AllCame, StopsClosed, IsLife, IsCounted, IsOf, Took, Gave, due, stops_life, cause_of, came_at, came_in, returns_in, outcome_by, lost_by, tag_after, turn_behind, may_end}
+use Rattle.xa_pipe.specs.Life.{Says, LifeId, LinkShows, Occurrence, EachCame, AllCame, StopsClosed, IsLife, IsCounted, IsOf, Took, Gave, due, stops_life, cause_of, came_at, came_in, returns_in, outcome_by, lost_by, tag_after, turn_behind, may_end}
+use Rattle.xa_pipe.specs.declared.turn.Turn.{Turn}
+use Rattle.xa_pipe.specs.declared.turn.Written.{Written}
 use Rattle.xa_pipe.specs.Life.Says.{Named, Free, Invoked, Answers}
-use Rattle.xa_pipe.specs.Life.Turn.{AwaitsReady, AwaitsNext, AwaitsInvoke, Serving, Exited}
-use Rattle.xa_pipe.specs.Life.Written.{Whole, Cut, Missing}
+use Rattle.xa_pipe.specs.declared.turn.Turn.TheVariants.{AwaitsReady, AwaitsNext, AwaitsInvoke, Serving, Exited}
+use Rattle.xa_pipe.specs.declared.turn.Written.TheVariants.{Whole, Cut, Missing}
 use Rattle.xa_pipe.specs.Pipe.{invoke_frame, Piped, shown, Wrote, HasRead, CountsReads}
 use Rattle.xa_pipe.proofs.Coming.{came_end, came_push, came_cut_off, life_kept}
 use Rattle.xa_pipe.proofs.Frames.{read_same, told_more}

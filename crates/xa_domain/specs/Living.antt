@@ -9,8 +9,9 @@ use Rattle.xa_events.specs.declared.event.Doing.TheVariants.{Off, Idle, Busy, Dy
 use Rattle.xa_events.specs.Words.{count, AtEach}
 use Rattle.xa_frame.specs.declared.frame.Frame.{Frame}
 use Rattle.xa_pipe.specs.Frames.{is_of_life, is_take_in, frames_out}
-use Rattle.xa_pipe.specs.Life.{Says, Turn, EachCame, StopsClosed, IsLife, IsOf, came_in, returns_in}
-use Rattle.xa_pipe.specs.Life.Turn.{AwaitsInvoke}
+use Rattle.xa_pipe.specs.Life.{Says, EachCame, StopsClosed, IsLife, IsOf, came_in, returns_in}
+use Rattle.xa_pipe.specs.declared.turn.Turn.{Turn}
+use Rattle.xa_pipe.specs.declared.turn.Turn.TheVariants.{AwaitsInvoke}
 use Rattle.xa_pipe.specs.Pipe.{Piped, Wrote, HasRead, shown}
 
 -- the event is one of that server's one life, of those that its pipes show

@@ -10,7 +10,9 @@ ghost use Rattle.xa_link.specs.Processes.{StartsServer, IsChosen};
 
 use crate::count::raise;
 use crate::escaped::Escaped;
-use crate::{Failed, Link, ReadSource, Sink, Source, StartRefused, Starter, WriteSink, Yard};
+use crate::{
+    Failed, Killed, Link, ReadSource, Sink, Source, StartRefused, Starter, WriteSink, Yard,
+};
 use std::alloc::{AllocError, Global};
 use std::io::{PipeReader, PipeWriter, Write};
 use std::marker::Model;
@@ -118,7 +120,12 @@ impl<P: OpenProcess + Drop> Link for ChildLink<P> {
 
     // Where the system refuses to end the process, it is waited for only behind its pipes, as the link is dropped: it may
     // wait for its input.
-    fn kill(&mut self) {
+    fn kill(mut self) -> Killed<ChildLink<P>> {
+        let _ = end(&mut self.child);
+        Killed::of(self)
+    }
+
+    fn end(&mut self) {
         let _ = end(&mut self.child);
     }
 }

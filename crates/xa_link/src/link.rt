@@ -3,6 +3,30 @@ ghost use Rattle.std.specs.Prelude.{◌≡◌, ℕ, List, Option};
 ghost use Rattle.xa_types.specs.declared.ids.Generation.{Generation};
 
 use crate::{Sink, Source};
+use std::snapshot::Snapshot;
+
+/// What is left of the pipes of a life whose program was ended by force: nothing can be read from it or written to it, and
+/// clauses read what the pipes were.
+pub struct Killed<L> {
+    was: Snapshot<L>,
+}
+
+impl<L> Drop for Killed<L> {
+    fn drop(self) {
+        let Killed { was: _ } = self;
+    }
+}
+
+impl<L: Drop> Killed<L> {
+    /// What is left of the link of a program that was ended by force. The link is dropped.
+    pub fn of(link: L) -> Killed<L>
+        ensures { result.was.value ≡ link }
+    {
+        let was = Snapshot::of(&link);
+        drop(link);
+        Killed { was }
+    }
+}
 
 /// The two pipes of one life of a server: what the server writes is read from it, and what is written to it the server
 /// reads. Each direction leaves the other alone.
@@ -10,9 +34,19 @@ pub trait Link: Source + Sink {
     /// Whose it is, once its program was started: its server's name, and the generation.
     ghost whose: { Self → Option (List ℕ × Generation) };
 
+    /// Ends the server's program by force, and waits for it. What went through the pipes and what failed was as it is now,
+    /// and so was whose they are.
+    fn kill(self) -> Killed<Self>
+        ensures took { Self.took result.was.value ≡ Self.took self }
+        ensures gave { Self.gave result.was.value ≡ Self.gave self }
+        ensures left { Self.left result.was.value ≡ Self.left self }
+        ensures whose { whose result.was.value ≡ whose self }
+        ensures reads { Self.read_faults result.was.value ≡ Self.read_faults self }
+        ensures writes { Self.write_faults result.was.value ≡ Self.write_faults self };
+
     /// Ends the server's program by force, and waits for it, where it hasn't ended yet. What went through the pipes and
     /// what failed stays as it is, and so does whose it is.
-    fn kill(&mut self)
+    fn end(&mut self)
         ensures took { Self.took self.new ≡ Self.took self.old }
         ensures gave { Self.gave self.new ≡ Self.gave self.old }
         ensures left { Self.left self.new ≡ Self.left self.old }

@@ -8,7 +8,7 @@ use Rattle.xa_frame.specs.Spelling.{spelled, all_spelled, HasSpelling, kind_octe
 use Rattle.xa_events.specs.declared.event.StopCause.{StopCause}
 use Rattle.xa_events.specs.declared.event.StopCause.TheVariants.{Shutdown, Exit, EndOfInput, ReadFault, WriteFault, BadBytes, OutOfTurn, Starved}
 use Rattle.xa_pipe.specs.Life.{Turn, LastTurn, Written, MaySay, Shows, Gave, awaiting, is_reading, is_writing}
-use Rattle.xa_pipe.specs.Life.Written.{Cut, Missing}
+use Rattle.xa_pipe.specs.declared.turn.Written.TheVariants.{Cut, Missing}
 use Rattle.xa_pipe.specs.Pipe.{Piped, HasRead, Keeps, ReadsNone, Ceases}
 use Rattle.xa_frame.proofs.FrameLemmas.{all_spelled-push}
 use Rattle.xa_pipe.proofs.Frames.{told_more}

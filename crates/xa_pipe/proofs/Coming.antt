@@ -17,7 +17,7 @@ use Rattle.xa_events.specs.Words.{AtEach}
 use Rattle.xa_frame.specs.declared.frame.Frame.{Frame}
 use Rattle.xa_pipe.specs.Frames.{is_of_life, frames_out}
 use Rattle.xa_pipe.specs.Life.{Turn, LifeId, LinkShows, IsLife, Occurrence, EndsAs, ComesTo, EachCame, AllCame, StopsClosed, Took, due, came_in, cause_of, outcome_of, returns_in}
-use Rattle.xa_pipe.specs.Life.Turn.{AwaitsReady, AwaitsNext, AwaitsInvoke, Serving, Exited}
+use Rattle.xa_pipe.specs.declared.turn.Turn.TheVariants.{AwaitsReady, AwaitsNext, AwaitsInvoke, Serving, Exited}
 use Rattle.xa_pipe.specs.Pipe.{Piped, CutOff}
 use Rattle.xa_pipe.proofs.Saying.{none_returned}
 

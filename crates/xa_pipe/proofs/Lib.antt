@@ -5,3 +5,5 @@ pub mod Saying
 pub mod Coming
 pub mod Taking
 pub mod Whole
+pub mod Courses
+pub mod Followed

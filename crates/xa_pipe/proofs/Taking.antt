@@ -6,7 +6,7 @@ use Rattle.xa_frame.specs.declared.frame.Frame.{Frame}
 use Rattle.xa_frame.specs.Spelling.{spelled, all_spelled}
 use Rattle.xa_frame.proofs.FrameLemmas.{all_spelled-push}
 use Rattle.xa_pipe.specs.Life.{Took}
-use Rattle.xa_pipe.specs.Life.Written.{Whole, Cut, Missing}
+use Rattle.xa_pipe.specs.declared.turn.Written.TheVariants.{Whole, Cut, Missing}
 use Rattle.xa_pipe.proofs.Frames.{told_more}
 
 grown : (took now : Option (List ℕ)) (frames : List Frame) (piece : List ℕ) → IfSome took (Took Whole frames) → Grew took now piece → IfSome now (λ octets. octets ≡ all_spelled frames ++ piece)

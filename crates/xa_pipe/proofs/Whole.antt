@@ -15,7 +15,7 @@ use Rattle.xa_events.specs.declared.event.StopCause.{StopCause}
 use Rattle.xa_events.specs.declared.event.StopCause.TheVariants.{Shutdown, Exit, EndOfInput, ReadFault, WriteFault, BadBytes, OutOfTurn, Starved}
 use Rattle.xa_pipe.specs.declared.hearing.Return.{Return}
 use Rattle.xa_pipe.specs.Life.{Says, Turn, Written, LifeId, LinkShows, Occurrence, EndsAs, EachCame, AllCame, MaySay, IsLife, IsCounted, Shows, came_in, returns_in, lost_by, may_end, tag_after}
-use Rattle.xa_pipe.specs.Life.Turn.{AwaitsReady, AwaitsNext, AwaitsInvoke, Serving, Exited}
+use Rattle.xa_pipe.specs.declared.turn.Turn.TheVariants.{AwaitsReady, AwaitsNext, AwaitsInvoke, Serving, Exited}
 use Rattle.xa_pipe.specs.Whole.{GivesAll, CameAsSaid}
 use Rattle.xa_pipe.proofs.Ceasing.{stood}
 use Rattle.xa_pipe.proofs.Coming.{came_length}

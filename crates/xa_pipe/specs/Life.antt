@@ -23,17 +23,13 @@ use Rattle.xa_events.specs.declared.event.StopCause.TheVariants.{Shutdown, Exit,
 use Rattle.xa_events.specs.Words.{latest, from_each, AtEach}
 use Rattle.xa_events.specs.Queue.{is_closed}
 use Rattle.xa_pipe.specs.declared.hearing.Return.{Return}
+pub use Rattle.xa_pipe.specs.declared.turn.Turn.{Turn}
+use Rattle.xa_pipe.specs.declared.turn.Turn.TheVariants.{AwaitsReady, AwaitsNext, AwaitsInvoke, Serving, Exited}
+pub use Rattle.xa_pipe.specs.declared.turn.Written.{Written}
+use Rattle.xa_pipe.specs.declared.turn.Written.TheVariants.{Whole, Cut, Missing}
 use Rattle.xa_pipe.specs.Frames.{is_of_life, next_frame, ready_frame, shutdown_frame, return_frame, frames_out}
 
 -- ---- what the program says
-
--- what comes next: READY, NEXT, an INVOKE or SHUTDOWN of the monitor, a RETURN, or nothing after TPEXIT
-pub data Turn : Type 0 where
-  AwaitsReady : Turn
-  AwaitsNext : Turn
-  AwaitsInvoke : Turn
-  Serving : Turn
-  Exited : Turn
 
 -- what comes next behind a RETURN
 abbrev pub turn_behind : Rval → Turn
@@ -117,12 +113,6 @@ AllCame setup cause Serving returns came =
 AllCame setup cause turn returns came = EachCame setup returns came
 
 -- ---- how the life ends
-
--- whether the link took the last frame that was due to the program: all of it, a front, or nothing
-pub data Written : Type 0 where
-  Whole : Written
-  Cut : Written
-  Missing : Written
 
 -- where a life ended: what the program had said, whose turn it was, the tag that a RETURN had to have, and whether the last frame was written
 pub record LastTurn : Type 0 where

@@ -13,7 +13,7 @@ use Rattle.xa_frame.specs.Stream.{IsPartial, IsMalformed}
 use Rattle.xa_frame.specs.Spelling.{all_spelled}
 use Rattle.xa_events.specs.declared.event.StopCause.{StopCause}
 use Rattle.xa_events.specs.declared.event.StopCause.TheVariants.{Shutdown, Exit, EndOfInput, ReadFault, WriteFault, BadBytes, Starved}
-use Rattle.xa_pipe.specs.Life.Turn.{AwaitsReady, AwaitsNext}
+use Rattle.xa_pipe.specs.declared.turn.Turn.TheVariants.{AwaitsReady, AwaitsNext}
 use Rattle.xa_pipe.specs.Life.{Turn, Says, LastTurn, LinkShows, Gave, awaiting, may_end, tag_after, place_behind}
 
 -- the request to that routine of that service

@@ -5,7 +5,7 @@ ghost use Rattle.xa_frame.specs.Spelling.{HasSpelling, kind_octet};
 ghost use Rattle.xa_pipe.specs.Frames.{ready_frame, next_frame, return_frame};
 ghost use Rattle.xa_events.specs.declared.event.StopCause.TheVariants.{OutOfTurn};
 ghost use Rattle.xa_pipe.specs.Life.{MaySay, awaiting};
-ghost use Rattle.xa_pipe.specs.Life.Turn.{AwaitsReady, AwaitsNext, Serving};
+ghost use Rattle.xa_pipe.specs.declared.turn.Turn.TheVariants.{AwaitsReady, AwaitsNext, Serving};
 ghost use Rattle.xa_pipe.specs.Pipe.{HasRead, Ceases, CutOff, CountsReads};
 
 use crate::pipe::Pipe;
@@ -22,13 +22,13 @@ pub struct Return {
     pub payload: Data,
 }
 
-fn out_of_turn(frame: &Frame) -> StopCause
+pub(crate) fn out_of_turn(frame: &Frame) -> StopCause
     ensures { result ≡ OutOfTurn (kind_octet frame.now.body) frame.now.tag }
 {
     StopCause::OutOfTurn(kind_octet(&frame.body), frame.tag)
 }
 
-fn is_ready(frame: &Frame, server: &Name) -> bool
+pub(crate) fn is_ready(frame: &Frame, server: &Name) -> bool
     ensures yes { result ≡ true → frame.now ≡ ready_frame server.now }
     ensures no { result ≡ false → frame.now ≡ ready_frame server.now → ⊥ }
 {
@@ -38,12 +38,22 @@ fn is_ready(frame: &Frame, server: &Name) -> bool
     }
 }
 
-fn is_next(frame: &Frame) -> bool
+pub(crate) fn is_next(frame: &Frame) -> bool
     ensures yes { result ≡ true → frame.now ≡ next_frame }
     ensures no { result ≡ false → frame.now ≡ next_frame → ⊥ }
 {
     match &frame.body {
         Body::Next => frame.tag == 0,
+        _ => false,
+    }
+}
+
+pub(crate) fn is_return(frame: &Frame, number: u32) -> bool
+    ensures yes { result ≡ true → MaySay [] number Serving frame.now }
+    ensures no { result ≡ false → MaySay [] number Serving frame.now → ⊥ }
+{
+    match &frame.body {
+        Body::Return(..) => frame.tag == number,
         _ => false,
     }
 }
@@ -87,6 +97,22 @@ fn return_in(frame: Frame, number: u32) -> Result<Return, StopCause>
             payload,
         }),
         _ => Err(refused),
+    }
+}
+
+// What a RETURN returns.
+pub(crate) fn returned(frame: Frame) -> Return
+    requires { MaySay [] frame.tag Serving frame }
+    ensures { frame ≡ return_frame frame.tag result.value result.code result.payload }
+{
+    let Frame { tag: _, body } = frame;
+    match body {
+        Body::Return(value, code, payload) => Return {
+            value,
+            code,
+            payload,
+        },
+        _ => unreachable!(),
     }
 }
 

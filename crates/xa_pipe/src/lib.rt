@@ -4,10 +4,18 @@
 //! TPEXIT it says nothing more.
 #![tactic(auto)]
 
+mod course;
 mod hearing;
 mod laws;
+mod life;
+mod noted;
+mod over;
 mod pipe;
+mod turn;
 
 pub use hearing::Return;
-pub use laws::ends_as_said;
+pub use laws::{ends_as_said, is_life};
+pub use life::{Answered, Life};
+pub use over::{EndedLife, Pipes};
 pub use pipe::Pipe;
+pub use turn::{Turn, Written};

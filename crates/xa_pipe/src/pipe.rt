@@ -5,13 +5,13 @@ ghost use Rattle.xa_frame.specs.Spelling.{spelled, HasSpelling, IsData};
 ghost use Rattle.xa_events.specs.declared.event.StopCause.TheVariants.{Starved, WriteFault};
 ghost use Rattle.xa_frame.specs.Stream.{IsPartial};
 ghost use Rattle.xa_pipe.specs.Frames.{shutdown_frame};
-ghost use Rattle.xa_pipe.specs.Pipe.{invoke_frame, Wrote, HasRead, ended_by, Keeps, ReadsNone, CountsReads, CountsWrites};
+ghost use Rattle.xa_pipe.specs.Pipe.{invoke_frame, Wrote, HasRead, ended_by, Keeps, ReadsNone, CountsReads, CountsWrites, shown};
 
 use std::alloc::Global;
 use std::marker::Model;
 use xa_events::StopCause;
 use xa_frame::{Body, Frame, NextRefused, Reader, append, append_invoke};
-use xa_link::{Link, put};
+use xa_link::{Killed, Link, put};
 use xa_types::{Data, Mode, Name, NoMemory};
 
 // How many octets one read takes at most.
@@ -21,7 +21,6 @@ const PIECE: usize = 8192;
 pub struct Pipe<L: Link> {
     link: L,
     reader: Reader,
-    piece: [u8; PIECE],
     due: Vec<u8>,
 }
 
@@ -89,13 +88,13 @@ impl<L: Link> Pipe<L> {
         ensures reads { result.reads ≡ L.read_faults link }
         ensures writes { result.writes ≡ L.write_faults link }
         ensures whose { result.whose ≡ L.whose link }
+        ensures shows { shown result ≡ record { took = L.took link; gave = L.gave link; left = L.left link; reads = L.read_faults link; writes = L.write_faults link; whose = L.whose link } }
         ensures wrote { Wrote result [] }
         ensures read { HasRead result [] }
     {
         Pipe {
             link,
             reader: Reader::new(alloc),
-            piece: [0; PIECE],
             due: Vec::new(alloc),
         }
     }
@@ -112,7 +111,6 @@ impl<L: Link> Pipe<L> {
         let Pipe {
             link,
             reader: _,
-            piece: _,
             due: _,
         } = self;
         link
@@ -175,11 +173,23 @@ impl<L: Link> Pipe<L> {
         write(&mut self.link, &self.due)
     }
 
+    /// Ends the program by force, and waits for it: what is left.
+    pub fn kill(self) -> Killed<L>
+        ensures took { L.took result.was.value ≡ self.took }
+        ensures gave { L.gave result.was.value ≡ self.gave }
+        ensures left { L.left result.was.value ≡ self.left }
+        ensures reads { L.read_faults result.was.value ≡ self.reads }
+        ensures writes { L.write_faults result.was.value ≡ self.writes }
+        ensures whose { L.whose result.was.value ≡ self.whose }
+    {
+        self.into_link().kill()
+    }
+
     /// Ends the program by force, and waits for it. What went through the pipes stays as it is.
-    pub fn kill(&mut self)
+    pub fn end(&mut self)
         ensures { self.new ≡ self.old }
     {
-        self.link.kill();
+        self.link.end();
     }
 
     // Reads the next frame, or says why there is none.
@@ -219,10 +229,11 @@ impl<L: Link> Pipe<L> {
         ensures why { IfErr result (λ cause. (frames : List Frame) → HasRead self.old frames → ReadsNone self.new frames cause) }
         ensures counts { IfErr result (λ cause. CountsReads cause self.old.reads self.new.reads) }
     {
-        match self.link.read(&mut self.piece) {
+        let mut piece = [0; PIECE];
+        match self.link.read(&mut piece) {
             Err(_) => Err(StopCause::ReadFault),
             Ok(0) => Err(StopCause::EndOfInput),
-            Ok(count) => match self.reader.feed(&self.piece[..count]) {
+            Ok(count) => match self.reader.feed(&piece[..count]) {
                 Ok(()) => Ok(()),
                 Err(_) => Err(StopCause::Starved),
             },

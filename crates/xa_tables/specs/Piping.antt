@@ -8,7 +8,7 @@ use Rattle.xa_events.specs.declared.event.StopCause.TheVariants.{WriteFault, Sta
 use Rattle.xa_pipe.specs.declared.hearing.Return.{Return}
 use Rattle.xa_pipe.specs.Frames.{ready_frame, next_frame, return_frame}
 use Rattle.xa_pipe.specs.Life.{awaiting}
-use Rattle.xa_pipe.specs.Life.Turn.{AwaitsNext, Serving}
+use Rattle.xa_pipe.specs.declared.turn.Turn.TheVariants.{AwaitsNext, Serving}
 use Rattle.xa_pipe.specs.Pipe.{Piped, HasRead, Ceases, CutOff, CountsReads, CountsWrites}
 
 -- ---- writing: `send` and `shut_down`

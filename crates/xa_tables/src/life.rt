@@ -83,6 +83,6 @@ impl<L: Link> Lived<L> {
     pub fn kill(&mut self)
         ensures { self.new ≡ self.old }
     {
-        self.pipe.kill();
+        self.pipe.end();
     }
 }

@@ -15,6 +15,8 @@ mod lines;
 #[cfg(test)]
 mod links;
 #[cfg(test)]
+mod lives;
+#[cfg(test)]
 mod memory;
 #[cfg(test)]
 mod pipes;

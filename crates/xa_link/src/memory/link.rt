@@ -2,7 +2,7 @@
 ghost use Rattle.std.specs.Prelude.{◌≡◌, ◌++◌, [], Some};
 
 use super::{MemorySink, MemorySource};
-use crate::{Failed, Link, Sink, Source};
+use crate::{Failed, Killed, Link, Sink, Source};
 use xa_types::{Generation, Name};
 
 /// The two pipes of a life in memory. It tells all.
@@ -92,5 +92,9 @@ impl Link for MemoryLink {
     ghost writes_alone = { λ _. refl };
 
     // There is no program to end.
-    fn kill(&mut self) {}
+    fn kill(self) -> Killed<MemoryLink> {
+        Killed::of(self)
+    }
+
+    fn end(&mut self) {}
 }

@@ -2,7 +2,7 @@ use Rattle.std.proofs.Common.{[], ◌∷◌, inl, inr, refl}
 use Rattle.xa_pipe.specs.Frames.{ready_frame}
 use Rattle.xa_pipe.specs.Life.{tag_after}
 use Rattle.xa_pipe.specs.Life.Says.{Silent, Named}
-use Rattle.xa_pipe.specs.Life.Turn.{AwaitsReady, AwaitsNext}
+use Rattle.xa_pipe.specs.declared.turn.Turn.TheVariants.{AwaitsReady, AwaitsNext}
 use Rattle.xa_pipe.proofs.Ceasing.{err_is, err_more}
 use Rattle.xa_pipe.proofs.pipe.Pipe.greet.Goals as goal
 

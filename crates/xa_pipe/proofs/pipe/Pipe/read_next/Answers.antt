@@ -1,5 +1,5 @@
 use Rattle.std.proofs.Common.{refl}
-use Rattle.xa_pipe.specs.Life.Turn.{AwaitsNext}
+use Rattle.xa_pipe.specs.declared.turn.Turn.TheVariants.{AwaitsNext}
 use Rattle.xa_pipe.proofs.Ceasing.{err_is, err_more, ceases_none, ceases_other}
 use Rattle.xa_pipe.proofs.pipe.Pipe.read_next.Goals as goal
 

@@ -1,0 +1,281 @@
+-- How a life is kept by each of its calls, and what is left where it ends.
+use Rattle.std.proofs.Common.{◌≡◌, ℕ, ◌+◌, ◌-◌, ◌^◌, ◌%◌, min, true, List, [], ◌∷◌, ◌++◌, length, Option, refl, sym, ◌∙◌, ap, subst, append-nil, append_assoc}
+use Rattle.std.specs.Prelude.{IfSome, IfOk, Result, Ok, Err}
+use Rattle.xa_types.specs.declared.ids.Generation.{Generation}
+use Rattle.std.proofs.Math.Nat.{mod-add-mod}
+use Rattle.std.proofs.lemmas.List.{length-append}
+use Rattle.xa_types.specs.declared.data.Data.{Data}
+use Rattle.xa_types.specs.declared.call.Rval.{Rval}
+use Rattle.xa_types.specs.declared.call.Rval.TheVariants.{Success, Fail, Exit as ExitValue}
+use Rattle.xa_link.specs.Told.{Rose, Grew, GrewByPart}
+use Rattle.xa_frame.specs.declared.frame.Frame.{Frame}
+use Rattle.xa_frame.specs.declared.frame.Body.TheVariants.{Next}
+use Rattle.xa_frame.specs.Spelling.{spelled, HasSpelling}
+use Rattle.xa_events.specs.declared.event.StopCause.{StopCause}
+use Rattle.xa_events.specs.declared.event.StopCause.TheVariants.{Shutdown, Exit, EndOfInput, ReadFault, WriteFault, BadBytes, OutOfTurn, Starved}
+use Rattle.xa_pipe.specs.declared.course.Course.{Course}
+use Rattle.xa_pipe.specs.declared.hearing.Return.{Return}
+use Rattle.xa_pipe.specs.declared.turn.Turn.TheVariants.{AwaitsReady, AwaitsNext, AwaitsInvoke, Serving, Exited}
+use Rattle.xa_pipe.specs.declared.turn.Written.TheVariants.{Whole}
+use Rattle.xa_pipe.specs.Frames.{ready_frame, next_frame, shutdown_frame}
+use Rattle.xa_pipe.specs.Life.{Turn, Says, MaySay, Took, Gave, LinkShows, IsCounted, IsOf, awaiting, is_reading, is_writing, may_end, tag_after, turn_behind, returns_in}
+use Rattle.xa_pipe.specs.Life.Says.{Silent, Named, Free, Invoked, Answers}
+use Rattle.xa_pipe.specs.Pipe.{Piped, shown, invoke_frame, Wrote, HasRead, Ceases, CountsReads, CountsWrites}
+use Rattle.xa_pipe.specs.Standing.{Standing, IsOver, GaveFirst, id_of, tag_of, due_in}
+use Rattle.xa_pipe.specs.Changes.{Heard, Greeted, Invoked as HasInvoked, turn_after, with_said, with_asked, next_invoke}
+use Rattle.xa_pipe.specs.Kept.{standing_of, ending_of, IsKept, tag_after_turn, unwritten}
+use Rattle.xa_pipe.proofs.Frames.{told_more, read_same}
+use Rattle.xa_pipe.proofs.Saying.{returned_is, returns_append, returns_next, returns_push}
+use Rattle.xa_pipe.proofs.Taking.{took_more, took_cut, took_missing}
+
+-- ---- what the program says
+
+says_again : {name : List ℕ} {n : ℕ} {frames : List Frame} {turn : Turn} → Says name n frames turn → Says name (length (returns_in frames)) frames turn
+says_again {name} {n} {frames} {turn} says = subst (λ (k : ℕ). Says name k frames turn) (returned_is says) says
+
+not_ready : (value : Rval) → turn_behind value ≡ AwaitsReady → ⊥
+not_ready Success e = cc e
+not_ready Fail e = cc e
+not_ready ExitValue e = cc e
+
+-- before READY nothing was said
+silent : {name : List ℕ} {n : ℕ} {frames : List Frame} {turn : Turn} → Says name n frames turn → turn ≡ AwaitsReady → frames ≡ []
+silent Silent e = refl
+silent (Named h) e = absurd (cc e)
+silent (Free says) e = absurd (cc e)
+silent (Invoked says) e = absurd (cc e)
+silent (Answers value code payload says h) e = absurd (not_ready value e)
+
+module _ (name : List ℕ) where
+  -- a frame that may come next is said in turn
+  heard_says : (n : ℕ) (frames : List Frame) (turn : Turn) (f : Frame) → Says name n frames turn → MaySay name (tag_after n) turn f → HasSpelling f
+      → Says name (length (returns_in (frames ++ f ∷ []))) (frames ++ f ∷ []) (turn_after turn f.body)
+  heard_says n frames AwaitsReady f says may h =
+      subst (λ (g : Frame). Says name (length (returns_in (frames ++ g ∷ []))) (frames ++ g ∷ []) AwaitsNext) (sym may)
+      (subst (λ (fs : List Frame). Says name (length (returns_in (fs ++ ready_frame name ∷ []))) (fs ++ ready_frame name ∷ []) AwaitsNext) (sym (silent says refl))
+      (Named (subst HasSpelling may h)))
+  heard_says n frames AwaitsNext f says may h = subst (λ (g : Frame). Says name (length (returns_in (frames ++ g ∷ []))) (frames ++ g ∷ []) AwaitsInvoke) (sym may) (says_again (Free says))
+  heard_says n frames Serving f says (value, code, payload, is) h =
+      subst (λ (g : Frame). Says name (length (returns_in (frames ++ g ∷ []))) (frames ++ g ∷ []) (turn_after Serving g.body)) (sym is)
+      (says_again (Answers value code payload says (subst HasSpelling is h)))
+  heard_says n frames AwaitsInvoke f says may h = absurd may
+  heard_says n frames Exited f says may h = absurd may
+
+  -- and the next number stays, or is one more behind a RETURN
+  heard_tag : (frames : List Frame) (turn : Turn) (tag : ℕ) (f : Frame) → tag ≡ tag_after (length (returns_in frames)) → MaySay name tag turn f
+      → tag_after_turn turn tag ≡ tag_after (length (returns_in (frames ++ f ∷ [])))
+  heard_tag frames AwaitsReady tag f is may =
+      is ∙ ap tag_after (ap length (sym (append-nil (returns_in frames)) ∙ (sym (returns_append frames (ready_frame name ∷ [])) ∙ ap (λ (g : Frame). returns_in (frames ++ g ∷ [])) (sym may))))
+  heard_tag frames AwaitsNext tag f is may = is ∙ ap tag_after (ap length (sym (returns_next frames) ∙ ap (λ (g : Frame). returns_in (frames ++ g ∷ [])) (sym may)))
+  heard_tag frames Serving tag f is (value, code, payload, said) =
+      let back : Return = record { value = value; code = code; payload = payload } in
+      let more : length (returns_in (frames ++ f ∷ [])) ≡ length (returns_in frames) + 1
+      = ap (λ (g : Frame). length (returns_in (frames ++ g ∷ []))) said ∙ (ap length (returns_push frames tag back) ∙ length-append (returns_in frames) (back ∷ [])) in
+      (ap (λ (k : ℕ). (k + 1) % 2 ^ 32) is ∙ mod-add-mod (length (returns_in frames) + 1) (2 ^ 32) 1) ∙ ap tag_after (sym more)
+  heard_tag frames AwaitsInvoke tag f is may = absurd may
+  heard_tag frames Exited tag f is may = absurd may
+
+-- READY, and NEXT behind it
+pub greets : (old mid new : Standing) (f : Frame) → old.turn ≡ AwaitsReady → Heard f mid old → Heard next_frame new mid → Greeted new old
+greets old mid new f ready first next =
+    let is : f ≡ ready_frame old.name = subst (λ (t : Turn). MaySay old.name (tag_of old) t f) ready first.may in
+    let both : (old.said ++ f ∷ []) ++ next_frame ∷ [] ≡ old.said ++ ready_frame old.name ∷ next_frame ∷ []
+    = ap (λ (g : Frame). (old.said ++ g ∷ []) ++ next_frame ∷ []) is ∙ append_assoc old.said (ready_frame old.name ∷ []) (next_frame ∷ []) in
+    record {
+      made = next.made ∙ (ap (λ (m : Standing). with_said next_frame new.link m) first.made
+          ∙ (ap (λ (t : Turn). record old { link = new.link; said = (old.said ++ f ∷ []) ++ next_frame ∷ []; turn = turn_after (turn_after t f.body) Next }) ready
+          ∙ ap (λ (fs : List Frame). record old { link = new.link; said = fs; turn = AwaitsInvoke }) both));
+      took = next.took ∙ first.took;
+    }
+
+-- a write changes what the link took, and may change what it still holds
+link_written : (old new : LinkShows) → new.gave ≡ old.gave → new.reads ≡ old.reads → new.writes ≡ old.writes → new.whose ≡ old.whose → new ≡ record old { took = new.took; left = new.left }
+link_written old new gave reads writes whose =
+    ap (λ (told : Option (List ℕ)). record new { gave = told }) gave
+    ∙ (ap (λ (count : ℕ). record new { gave = old.gave; reads = count }) reads
+    ∙ (ap (λ (count : ℕ). record new { gave = old.gave; reads = old.reads; writes = count }) writes
+    ∙ ap (λ (its : Option (List ℕ × Generation)). record new { gave = old.gave; reads = old.reads; writes = old.writes; whose = its }) whose))
+
+-- what is known of a value, of which more follows
+pub ok_more : {T E : Type 0} (result : Result T E) (is so : T → Type 0) → ((value : T) → is value → so value) → IfOk result is → IfOk result so
+ok_more (Ok value) is so follows h = follows value h
+ok_more (Err error) is so follows h = tt
+
+-- ---- how it is kept
+
+module _ {L : Type 0} where
+  -- whose turn it is, as clauses see it
+  pub in_turn : (c : Course L) (s : Standing) (turn : Turn) → standing_of c ≡ s → s.turn ≡ turn → c.turn ≡ turn
+  in_turn c s turn is at = ap (λ (x : Standing). x.turn) is ∙ at
+
+  pub kept_begun : (c : Course L) → c.asked ≡ [] → c.said ≡ [] → c.turn ≡ AwaitsReady → c.tag ≡ 1 → Wrote c.pipe [] → HasRead c.pipe [] → c.pipe.reads ≡ 0 → c.pipe.writes ≡ 0
+      → IsOf (id_of (standing_of c)) c.pipe.whose → IsKept c
+  kept_begun c asked said turn tag wrote read reads writes whose = record {
+    sound = record {
+      says = subst (λ (t : Turn). Says c.name (length (returns_in c.said)) c.said t) (sym turn)
+          (subst (λ (fs : List Frame). Says c.name (length (returns_in fs)) fs AwaitsReady) (sym said) Silent);
+      took = subst (λ (fs : List Frame). Wrote c.pipe fs) (sym asked) wrote;
+      gave = subst (λ (fs : List Frame). GaveFirst c.pipe.gave fs) (sym said) (told_more c.pipe.gave _ _ (λ octets e. (c.pipe.rest, e)) read.told);
+      reads = reads;
+      writes = writes;
+      whose = whose;
+    };
+    read = subst (λ (fs : List Frame). HasRead c.pipe fs) (sym said) read;
+    tag = tag ∙ ap (λ (fs : List Frame). tag_after (length (returns_in fs))) (sym said);
+  }
+
+  -- with one more frame of its program
+  pub kept_heard : (old mid new : Course L) (f : Frame) → mid ≡ record old { pipe = mid.pipe }
+      → new ≡ record mid { said = mid.said ++ f ∷ []; turn = turn_after mid.turn f.body; tag = tag_after_turn mid.turn mid.tag }
+      → IsKept old → MaySay old.name old.tag old.turn f → HasSpelling f → HasRead mid.pipe (old.said ++ f ∷ [])
+      → mid.pipe.took ≡ old.pipe.took → mid.pipe.reads ≡ old.pipe.reads → mid.pipe.writes ≡ old.pipe.writes → mid.pipe.whose ≡ old.pipe.whose → IsKept new
+  kept_heard old mid new f same noted kept may spelling read took reads writes whose =
+      subst IsKept (sym (noted ∙ ap (λ (m : Course L). record m { said = m.said ++ f ∷ []; turn = turn_after m.turn f.body; tag = tag_after_turn m.turn m.tag }) same)) (record {
+        sound = record {
+          says = heard_says old.name _ old.said old.turn f kept.sound.says (subst (λ (tag : ℕ). MaySay old.name tag old.turn f) kept.tag may) spelling;
+          took = subst (λ (told : Option (List ℕ)). IfSome told (Took Whole old.asked)) (sym took) kept.sound.took;
+          gave = told_more mid.pipe.gave _ _ (λ octets e. (mid.pipe.rest, e)) read.told;
+          reads = reads ∙ kept.sound.reads;
+          writes = writes ∙ kept.sound.writes;
+          whose = whose ∙ kept.sound.whose;
+        };
+        read = read;
+        tag = heard_tag old.name old.said old.turn old.tag f kept.tag may;
+      })
+
+  -- with an INVOKE in hand
+  pub kept_invoked : (old new : Course L) (f : Frame) → old.turn ≡ AwaitsInvoke → new ≡ record old { pipe = new.pipe; asked = old.asked ++ f ∷ []; turn = Serving } → IsKept old
+      → Grew old.pipe.took new.pipe.took (spelled f) → new.pipe.gave ≡ old.pipe.gave → new.pipe.rest ≡ old.pipe.rest → new.pipe.place ≡ old.pipe.place
+      → new.pipe.reads ≡ old.pipe.reads → new.pipe.writes ≡ old.pipe.writes → new.pipe.whose ≡ old.pipe.whose → IsKept new
+  kept_invoked old new f idle made kept took gave rest place reads writes whose =
+      let read = read_same old.pipe new.pipe old.said gave rest place kept.read in
+      subst IsKept (sym made) (record {
+        sound = record {
+          says = Invoked (subst (λ (t : Turn). Says old.name (length (returns_in old.said)) old.said t) idle kept.sound.says);
+          took = took_more old.pipe.took new.pipe.took old.asked f kept.sound.took took;
+          gave = told_more new.pipe.gave _ _ (λ octets e. (new.pipe.rest, e)) read.told;
+          reads = reads ∙ kept.sound.reads;
+          writes = writes ∙ kept.sound.writes;
+          whose = whose ∙ kept.sound.whose;
+        };
+        read = read;
+        tag = kept.tag;
+      })
+
+  pub invokes : (old new : Course L) (service routine : List ℕ) (payload : Data) → new ≡ record old { pipe = new.pipe; asked = old.asked ++ invoke_frame service routine old.tag payload ∷ []; turn = Serving }
+      → IsKept old → Grew old.pipe.took new.pipe.took (spelled (invoke_frame service routine old.tag payload)) → new.pipe.gave ≡ old.pipe.gave
+      → new.pipe.reads ≡ old.pipe.reads → new.pipe.writes ≡ old.pipe.writes → new.pipe.whose ≡ old.pipe.whose
+      → HasInvoked (next_invoke service routine payload (standing_of old)) (standing_of new) (standing_of old)
+  invokes old new service routine payload made kept took gave reads writes whose = record {
+    made = ap standing_of made
+        ∙ (ap (λ (tag : ℕ). with_asked (invoke_frame service routine tag payload) (shown new.pipe) (standing_of old)) kept.tag
+        ∙ ap (λ (l : LinkShows). with_asked (next_invoke service routine payload (standing_of old)) l (standing_of old)) (link_written (shown old.pipe) (shown new.pipe) gave reads writes whose));
+    took = subst (λ (tag : ℕ). Grew old.pipe.took new.pipe.took (spelled (invoke_frame service routine tag payload))) kept.tag took;
+  }
+
+-- ---- how it ends
+
+once : (before now : ℕ) → Rose before now → before ≡ 0 → now ≡ 1
+once before now rose none = subst (λ (n : ℕ). now ≡ min (n + 1) (2 ^ 64 - 1)) none rose
+
+-- what the counts are where reading failed first
+counted_reading : (cause : StopCause) (before now writes : ℕ) → CountsReads cause before now → before ≡ 0 → writes ≡ 0 → IsCounted cause now writes
+counted_reading ReadFault before now writes counts none well = (once before now counts none, well)
+counted_reading WriteFault before now writes counts none well = absurd counts
+counted_reading Shutdown before now writes counts none well = absurd counts
+counted_reading Exit before now writes counts none well = absurd counts
+counted_reading EndOfInput before now writes counts none well = (counts ∙ none, well)
+counted_reading (BadBytes place) before now writes counts none well = (counts ∙ none, well)
+counted_reading (OutOfTurn kind tag) before now writes counts none well = (counts ∙ none, well)
+counted_reading Starved before now writes counts none well = (counts ∙ none, well)
+
+due_reading : (turn : Turn) (asked : List Frame) → is_reading turn ≡ true → due_in turn asked ≡ asked
+due_reading AwaitsReady asked reads = refl
+due_reading AwaitsNext asked reads = refl
+due_reading Serving asked reads = refl
+due_reading AwaitsInvoke asked reads = absurd (cc reads)
+due_reading Exited asked reads = refl
+
+-- the link took no more than a front of the last frame that was due
+took_unwritten : (cause : StopCause) (before after : Piped) (asked : List Frame) (f : Frame) → CountsWrites cause before.writes after.writes → IfSome before.took (Took Whole asked)
+    → (cause ≡ WriteFault → GrewByPart before.took after.took (spelled f)) → (cause ≡ Starved → after.took ≡ before.took) → IfSome after.took (Took (unwritten cause) (asked ++ f ∷ []))
+took_unwritten WriteFault before after asked f counts wrote part starved = took_cut before.took after.took asked f wrote (part refl)
+took_unwritten Starved before after asked f counts wrote part starved = took_missing before.took after.took asked f wrote (starved refl)
+took_unwritten cause before after asked f counts wrote part starved = absurd counts
+
+may_unwritten : (cause : StopCause) (turn : Turn) (before after : ℕ) → CountsWrites cause before after → is_writing turn ≡ true → may_end cause turn (unwritten cause) ≡ true
+may_unwritten WriteFault turn before after counts writing = writing
+may_unwritten Starved turn before after counts writing = writing
+may_unwritten cause turn before after counts writing = absurd counts
+
+counted_unwritten : (cause : StopCause) (reads before after : ℕ) → CountsWrites cause before after → reads ≡ 0 → before ≡ 0 → IsCounted cause reads after
+counted_unwritten WriteFault reads before after counts well none = (well, once before after counts none)
+counted_unwritten Starved reads before after counts well none = (well, counts ∙ none)
+counted_unwritten cause reads before after counts well none = absurd counts
+
+gave_unwritten : (cause : StopCause) (name : List ℕ) (tag : ℕ) (turn : Turn) (pipe : Piped) (frames : List Frame) (before : ℕ) → CountsWrites cause before pipe.writes → HasRead pipe frames
+    → Gave (record { name = name; tag = tag; frames = frames; turn = turn; written = unwritten cause }) cause pipe.gave pipe.left
+gave_unwritten WriteFault name tag turn pipe frames before counts read = told_more pipe.gave _ _ (λ octets e. (pipe.rest, e, tt)) read.told
+gave_unwritten Starved name tag turn pipe frames before counts read = told_more pipe.gave _ _ (λ octets e. (pipe.rest, e, (λ whole. cc whole))) read.told
+gave_unwritten cause name tag turn pipe frames before counts read = absurd counts
+
+module _ {L : Type 0} where
+  -- as a frame of its program was to come
+  pub fell_over : (old new : Course L) (cause : StopCause) → new ≡ record old { pipe = new.pipe } → is_reading old.turn ≡ true → IsKept old
+      → Ceases (awaiting old.name old.tag old.said old.turn) new.pipe cause → CountsReads cause old.pipe.reads new.pipe.reads
+      → new.pipe.took ≡ old.pipe.took → new.pipe.writes ≡ old.pipe.writes → new.pipe.whose ≡ old.pipe.whose → IsOver (ending_of new cause Whole)
+  fell_over old new cause made reading kept ceases counts took writes whose =
+      subst (λ (c : Course L). IsOver (ending_of c cause Whole)) (sym made) (record {
+        says = kept.sound.says;
+        may = ceases.may;
+        took = subst (λ (fs : List Frame). IfSome new.pipe.took (Took Whole fs)) (sym (due_reading old.turn old.asked reading))
+            (subst (λ (told : Option (List ℕ)). IfSome told (Took Whole old.asked)) (sym took) kept.sound.took);
+        gave = subst (λ (tag : ℕ). Gave (awaiting old.name tag old.said old.turn) cause new.pipe.gave new.pipe.left) kept.tag ceases.gave;
+        counted = counted_reading cause old.pipe.reads new.pipe.reads new.pipe.writes counts kept.sound.reads (writes ∙ kept.sound.writes);
+        whose = whose ∙ kept.sound.whose;
+        killed = refl;
+      })
+
+  -- as a frame was to be written
+  pub unsent_over : (old new : Course L) (turn : Turn) (asked : List Frame) (f : Frame) (cause : StopCause) → new ≡ record old { pipe = new.pipe; asked = asked; turn = turn }
+      → due_in turn asked ≡ old.asked ++ f ∷ [] → is_writing turn ≡ true → Says old.name (length (returns_in old.said)) old.said turn → IsKept old
+      → CountsWrites cause old.pipe.writes new.pipe.writes → (cause ≡ WriteFault → GrewByPart old.pipe.took new.pipe.took (spelled f)) → (cause ≡ Starved → new.pipe.took ≡ old.pipe.took)
+      → new.pipe.gave ≡ old.pipe.gave → new.pipe.rest ≡ old.pipe.rest → new.pipe.place ≡ old.pipe.place → new.pipe.reads ≡ old.pipe.reads → new.pipe.whose ≡ old.pipe.whose
+      → IsOver (ending_of new cause (unwritten cause))
+  unsent_over old new turn asked f cause made due writing says kept counts part starved gave rest place reads whose =
+      subst (λ (c : Course L). IsOver (ending_of c cause (unwritten cause))) (sym made) (record {
+        says = says;
+        may = may_unwritten cause turn old.pipe.writes new.pipe.writes counts writing;
+        took = subst (λ (fs : List Frame). IfSome new.pipe.took (Took (unwritten cause) fs)) (sym due) (took_unwritten cause old.pipe new.pipe old.asked f counts kept.sound.took part starved);
+        gave = gave_unwritten cause old.name _ turn new.pipe old.said old.pipe.writes counts (read_same old.pipe new.pipe old.said gave rest place kept.read);
+        counted = counted_unwritten cause new.pipe.reads old.pipe.writes new.pipe.writes counts (reads ∙ kept.sound.reads) kept.sound.writes;
+        whose = whose ∙ kept.sound.whose;
+        killed = refl;
+      })
+
+  -- by SHUTDOWN
+  pub shut_over : (old new : Course L) → new ≡ record old { pipe = new.pipe } → old.turn ≡ AwaitsInvoke → IsKept old → Grew old.pipe.took new.pipe.took (spelled shutdown_frame)
+      → new.pipe.gave ≡ old.pipe.gave → new.pipe.rest ≡ old.pipe.rest → new.pipe.place ≡ old.pipe.place → new.pipe.reads ≡ old.pipe.reads → new.pipe.writes ≡ old.pipe.writes
+      → new.pipe.whose ≡ old.pipe.whose → IsOver (ending_of new Shutdown Whole)
+  shut_over old new made idle kept took gave rest place reads writes whose =
+      subst (λ (c : Course L). IsOver (ending_of c Shutdown Whole)) (sym made) (record {
+        says = kept.sound.says;
+        may = ap (λ (t : Turn). may_end Shutdown t Whole) idle;
+        took = subst (λ (t : Turn). IfSome new.pipe.took (Took Whole (due_in t old.asked))) (sym idle) (took_more old.pipe.took new.pipe.took old.asked shutdown_frame kept.sound.took took);
+        gave = told_more new.pipe.gave _ _ (λ octets e. (new.pipe.rest, e, tt)) (read_same old.pipe new.pipe old.said gave rest place kept.read).told;
+        counted = (reads ∙ kept.sound.reads, writes ∙ kept.sound.writes);
+        whose = whose ∙ kept.sound.whose;
+        killed = refl;
+      })
+
+  -- behind TPEXIT
+  pub exit_over : (c : Course L) → c.turn ≡ Exited → IsKept c → IsOver (ending_of c Exit Whole)
+  exit_over c turn kept = record {
+    says = kept.sound.says;
+    may = ap (λ (t : Turn). may_end Exit t Whole) turn;
+    took = subst (λ (t : Turn). IfSome c.pipe.took (Took Whole (due_in t c.asked))) (sym turn) kept.sound.took;
+    gave = told_more c.pipe.gave _ _ (λ octets e. (c.pipe.rest, e, tt)) kept.read.told;
+    counted = (kept.sound.reads, kept.sound.writes);
+    whose = kept.sound.whose;
+    killed = refl;
+  }

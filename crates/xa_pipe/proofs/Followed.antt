@@ -1,0 +1,408 @@
+-- How a worker carries the events of a life beside what it does: a step for each, and what they come to in a run.
+use Rattle.std.proofs.Common.{◌≡◌, ℕ, zero, suc, ◌+◌, Bool, true, false, List, [], ◌∷◌, ◌++◌, length, Some, refl, sym, ◌∙◌, ap, subst, append-nil, add-one, arith}
+use Rattle.std.specs.Prelude.{IfSome, map, cond, take, drop, if◌then◌else◌}
+use Rattle.std.specs.List.{filter}
+use Rattle.std.proofs.lemmas.List.{length-append, map-append}
+use Rattle.xa_types.specs.declared.setup.Setup.{Setup}
+use Rattle.xa_types.specs.declared.ids.ServerId.{ServerId}
+use Rattle.xa_types.specs.declared.ids.Generation.{Generation}
+use Rattle.xa_frame.specs.declared.frame.Frame.{Frame}
+use Rattle.xa_events.specs.declared.event.Event.{Event}
+use Rattle.xa_events.specs.declared.event.Event.TheVariants.{Take, Forward, End, Stop}
+use Rattle.xa_events.specs.declared.event.Taken.{Taken}
+use Rattle.xa_events.specs.declared.event.Ended.{Ended}
+use Rattle.xa_events.specs.declared.event.Stopped.{Stopped}
+use Rattle.xa_events.specs.declared.event.StopCause.{StopCause}
+use Rattle.xa_events.specs.declared.event.StopCause.TheVariants.{Shutdown}
+use Rattle.xa_events.specs.Words.{count, latest, AtEach}
+use Rattle.xa_pipe.specs.declared.hearing.Return.{Return}
+use Rattle.xa_pipe.specs.declared.turn.Turn.TheVariants.{AwaitsReady, AwaitsNext, AwaitsInvoke, Serving, Exited}
+use Rattle.xa_pipe.specs.declared.turn.Written.TheVariants.{Whole, Cut, Missing}
+use Rattle.xa_pipe.specs.Frames.{is_of_life, is_take_in, written_at, ready_frame, next_frame, return_frame, farewell, frames_out}
+use Rattle.xa_pipe.specs.Life.{Turn, Written, LinkShows, Occurrence, IsLife, Took, EachCame, AllCame, EndsAs, stops_life, cause_of, cause_in, came_at, came_in, returns_in, outcome_by, lost_by, due, may_end}
+use Rattle.xa_pipe.specs.Standing.{Standing, Ending, IsOver, id_of, returned, due_in}
+use Rattle.xa_pipe.specs.Changes.{begun, Heard, Fell, Greeted, Invoked, Unsent, ShutDown, Exits}
+use Rattle.xa_pipe.specs.Following.{is_of, Follows, Settled, EndsLast, HasStopped, IsSent, StandsIn}
+use Rattle.xa_pipe.proofs.Coming.{came_end, came_push}
+use Rattle.xa_pipe.proofs.Saying.{returns_append, returns_next, returns_push}
+
+-- ---- events that are none of the life's
+
+one_more : (n : ℕ) → n + 1 ≡ 0 → ⊥
+one_more n none = absurd (omega (arith, none))
+
+module _ (server g : ℕ) where
+  writes_none : (e : Event) (past : List Event) → is_of server g e ≡ false → written_at server g e past ≡ []
+  writes_none (Take t) past other = rw other refl
+  writes_none (Stop x) past other = rw other refl
+  writes_none e past other = refl
+
+  comes_none : (e : Event) (past : List Event) → is_of server g e ≡ false → came_at server g e past ≡ []
+  comes_none (End e) past other = rw other refl
+  comes_none (Forward f) past other = rw other refl
+  comes_none e past other = refl
+
+  takes_none : (e : Event) → is_of server g e ≡ false → is_take_in server g e ≡ false
+  takes_none (Take t) other = other
+  takes_none e other = refl
+
+  stops_none : (e : Event) → is_of server g e ≡ false → stops_life server g e ≡ false
+  stops_none (Stop x) other = other
+  stops_none e other = refl
+
+  came_idle : (e : Event) (own : List Event) → is_of server g e ≡ false → came_in server g (e ∷ own) ≡ came_in server g own
+  came_idle e own other = ap (λ (os : List Occurrence). came_in server g own ++ os) (comes_none e own other) ∙ append-nil (came_in server g own)
+
+  taken_idle : (e : Event) (own : List Event) → is_of server g e ≡ false → count (is_take_in server g) (e ∷ own) ≡ count (is_take_in server g) own
+  taken_idle e own other = rw (takes_none e other) refl
+
+  ends_idle : (e : Event) (own : List Event) → is_of server g e ≡ false → count (stops_life server g) (e ∷ own) ≡ count (stops_life server g) own
+  ends_idle e own other = rw (stops_none e other) refl
+
+  cause_idle : (e : Event) (own : List Event) → is_of server g e ≡ false → cause_of server g (e ∷ own) ≡ cause_of server g own
+  cause_idle e own other = rw (stops_none e other) refl
+
+  -- what passes a test that passes the life's events alone is counted among those
+  count_own : (p : Event → Bool) → ((e : Event) → is_of server g e ≡ false → p e ≡ false) → (past : List Event) → count p past ≡ count p (filter (is_of server g) past)
+  count_own p none [] = refl
+  count_own p none (e ∷ past) = by_one (is_of server g e) refl (count_own p none past)
+    where
+      by_one : (b : Bool) → is_of server g e ≡ b → count p past ≡ count p (filter (is_of server g) past)
+          → count p (e ∷ past) ≡ count p (cond b (e ∷ filter (is_of server g) past) (filter (is_of server g) past))
+      by_one true is same = ap (λ (n : ℕ). cond (p e) (n + 1) n) same
+      by_one false is same = rw (none e is) same
+
+  taken_more : (t : Taken) (own : List Event) (asked : List Frame) (f : Frame) → is_of_life server g t.server.0 t.generation.0 ≡ true → count (is_take_in server g) own ≡ length asked
+      → count (is_take_in server g) (Take t ∷ own) ≡ length (asked ++ f ∷ [])
+  taken_more t own asked f its taken = rw its (ap (λ (n : ℕ). n + 1) taken ∙ sym (length-append asked (f ∷ [])))
+
+module _ (setup : Setup) where
+  -- an event that is none of the life's changes nothing
+  pub follows_idle : (life : Standing) (e : Event) (own : List Event) → is_of life.server.0 life.generation.0 e ≡ false → Follows setup life own → Follows setup life (e ∷ own)
+  follows_idle life e own other old = record {
+    alive = ends_idle life.server.0 life.generation.0 e own other ∙ old.alive;
+    taken = taken_idle life.server.0 life.generation.0 e own other ∙ old.taken;
+    came = subst (λ (os : List Occurrence). EachCame setup (returns_in life.said) os) (sym (came_idle life.server.0 life.generation.0 e own other)) old.came;
+  }
+
+  pub settled_idle : (over : Ending) (e : Event) (own : List Event) → is_of over.life.server.0 over.life.generation.0 e ≡ false → Settled setup over own → Settled setup over (e ∷ own)
+  settled_idle over e own other old = record {
+    alive = ends_idle over.life.server.0 over.life.generation.0 e own other ∙ old.alive;
+    taken = taken_idle over.life.server.0 over.life.generation.0 e own other ∙ old.taken;
+    came = subst (λ (os : List Occurrence). AllCame setup over.cause over.life.turn (returns_in over.life.said) os) (sym (came_idle over.life.server.0 over.life.generation.0 e own other)) old.came;
+  }
+
+  pub stopped_idle : (over : Ending) (e : Event) (own : List Event) → is_of over.life.server.0 over.life.generation.0 e ≡ false → HasStopped setup over own → HasStopped setup over (e ∷ own)
+  stopped_idle over e own other old = record {
+    taken = taken_idle over.life.server.0 over.life.generation.0 e own other ∙ old.taken;
+    came = subst (λ (os : List Occurrence). AllCame setup over.cause over.life.turn (returns_in over.life.said) os) (sym (came_idle over.life.server.0 over.life.generation.0 e own other)) old.came;
+    stopped = cause_idle over.life.server.0 over.life.generation.0 e own other ∙ old.stopped;
+    last = rw other old.last;
+  }
+
+  -- ---- while the life goes on
+
+  -- a life of which nothing was noted begins
+  pub follows_begun : (name : List ℕ) (server : ServerId) (g : Generation) (link : LinkShows) (own : List Event) → count (stops_life server.0 g.0) own ≡ 0 → count (is_take_in server.0 g.0) own ≡ 0
+      → came_in server.0 g.0 own ≡ [] → Follows setup (begun name server g link) own
+  follows_begun name server g link own unstopped none nothing = record {
+    alive = unstopped;
+    taken = none;
+    came = subst (λ (os : List Occurrence). EachCame setup [] os) (sym nothing) tt;
+  }
+
+  same_returns : (old new : Standing) (own : List Event) (link : LinkShows) (said : List Frame) (turn : Turn) → new ≡ record old { link = link; said = said; turn = turn }
+      → returns_in said ≡ returns_in old.said → Follows setup old own → Follows setup new own
+  same_returns old new own link said turn made none follows = subst (λ (s : Standing). Follows setup s own) (sym made) (record {
+    alive = follows.alive;
+    taken = follows.taken;
+    came = subst (λ (rs : List Return). EachCame setup rs (came_in old.server.0 old.generation.0 own)) (sym none) follows.came;
+  })
+
+  -- its program greeted
+  pub follows_greeted : (old new : Standing) (own : List Event) → Greeted new old → Follows setup old own → Follows setup new own
+  follows_greeted old new own greeted follows =
+      same_returns old new own new.link _ AwaitsInvoke greeted.made (returns_append old.said (ready_frame old.name ∷ next_frame ∷ []) ∙ append-nil (returns_in old.said)) follows
+
+  -- its program said NEXT
+  pub follows_next : (old new : Standing) (own : List Event) → Heard next_frame new old → Follows setup old own → Follows setup new own
+  follows_next old new own heard follows = same_returns old new own new.link _ _ heard.made (returns_next old.said) follows
+
+  -- a request was taken and sent
+  pub follows_take : (old new : Standing) (own : List Event) (t : Taken) (f : Frame) → is_of_life old.server.0 old.generation.0 t.server.0 t.generation.0 ≡ true → Invoked f new old
+      → Follows setup old own → Follows setup new (Take t ∷ own)
+  follows_take old new own t f its invoked follows = subst (λ (s : Standing). Follows setup s (Take t ∷ own)) (sym invoked.made) (record {
+    alive = follows.alive;
+    taken = taken_more old.server.0 old.generation.0 t own old.asked f its follows.taken;
+    came = subst (λ (os : List Occurrence). EachCame setup (returns_in old.said) os) (sym (append-nil (came_in old.server.0 old.generation.0 own))) follows.came;
+  })
+
+  -- its RETURN was heard, and the request ended as that says
+  pub follows_end : (old new : Standing) (own : List Event) (e : Ended) (back : Return) (tag : ℕ) → is_of_life old.server.0 old.generation.0 e.server.0 e.generation.0 ≡ true
+      → Heard (return_frame tag back.value back.code back.payload) new old → e.outcome ≡ outcome_by setup back.value back.code back.payload → Follows setup old own → Follows setup new (End e ∷ own)
+  follows_end old new own e back tag its heard ends follows = subst (λ (s : Standing). Follows setup s (End e ∷ own)) (sym heard.made) (record {
+    alive = follows.alive;
+    taken = follows.taken;
+    came = subst (λ (os : List Occurrence). EachCame setup (returns_in (old.said ++ return_frame tag back.value back.code back.payload ∷ [])) os) (sym (came_end old.server.0 old.generation.0 e own its))
+        (subst (λ (rs : List Return). EachCame setup rs (came_in old.server.0 old.generation.0 own ++ record { event = End e; before = own } ∷ [])) (sym (returns_push old.said tag back))
+        (came_push setup (returns_in old.said) (came_in old.server.0 old.generation.0 own) back (record { event = End e; before = own }) follows.came ends));
+  })
+
+  -- ---- as it ends
+
+  none_lost : (cause : StopCause) (turn : Turn) (returns : List Return) (came : List Occurrence) → (turn ≡ Serving → ⊥) → EachCame setup returns came → AllCame setup cause turn returns came
+  none_lost cause AwaitsReady returns came free each = each
+  none_lost cause AwaitsNext returns came free each = each
+  none_lost cause AwaitsInvoke returns came free each = each
+  none_lost cause Serving returns came free each = absurd (free refl)
+  none_lost cause Exited returns came free each = each
+
+  -- with no request in hand
+  settles : (old : Standing) (over : Ending) (own : List Event) (link : LinkShows) → over.life ≡ record old { link = link } → (old.turn ≡ Serving → ⊥) → Follows setup old own → Settled setup over own
+  settles old over own link made free follows = by_life over.life over.cause made
+    where
+      by_life : (life : Standing) (cause : StopCause) → life ≡ record old { link = link } → Settled setup (record over { life = life; cause = cause }) own
+      by_life life cause is = subst (λ (s : Standing). Settled setup (record over { life = s; cause = cause }) own) (sym is) (record {
+        alive = follows.alive;
+        taken = follows.taken;
+        came = none_lost cause old.turn (returns_in old.said) (came_in old.server.0 old.generation.0 own) free follows.came;
+      })
+
+  pub settles_fallen : (old : Standing) (over : Ending) (own : List Event) → Fell over old → (old.turn ≡ Serving → ⊥) → Follows setup old own → Settled setup over own
+  settles_fallen old over own fell free follows = settles old over own over.life.link fell.life free follows
+
+  pub settles_shut : (old : Standing) (over : Ending) (own : List Event) → ShutDown over old → old.turn ≡ AwaitsInvoke → Follows setup old own → Settled setup over own
+  settles_shut old over own shut idle follows = settles old over own over.life.link shut.life (λ h. cc (h, idle)) follows
+
+  pub settles_exited : (old : Standing) (over : Ending) (own : List Event) → Exits over old → old.turn ≡ Exited → Follows setup old own → Settled setup over own
+  settles_exited old over own exits done follows = settles old over own old.link exits.life (λ h. cc (h, done)) follows
+
+  -- with the request in hand
+  loses : (over : Ending) (own : List Event) (e : Ended) → over.life.turn ≡ Serving → is_of_life over.life.server.0 over.life.generation.0 e.server.0 e.generation.0 ≡ true → e.outcome ≡ lost_by over.cause
+      → Follows setup over.life own → Settled setup over (End e ∷ own)
+  loses over own e serving its ends follows = record {
+    alive = follows.alive;
+    taken = follows.taken;
+    came = subst (λ (t : Turn). AllCame setup over.cause t (returns_in over.life.said) (came_in over.life.server.0 over.life.generation.0 (End e ∷ own))) (sym serving)
+        (came_in over.life.server.0 over.life.generation.0 own, record { event = End e; before = own }, came_end over.life.server.0 over.life.generation.0 e own its, follows.came, ends);
+  }
+
+  -- as its RETURN was to come
+  pub settles_lost : (old : Standing) (over : Ending) (own : List Event) (e : Ended) → Fell over old → old.turn ≡ Serving → is_of_life over.life.server.0 over.life.generation.0 e.server.0 e.generation.0 ≡ true
+      → e.outcome ≡ lost_by over.cause → Follows setup old own → Settled setup over (End e ∷ own)
+  settles_lost old over own e fell serving its ends follows =
+      loses over own e (ap (λ (s : Standing). s.turn) fell.life ∙ serving) its ends (subst (λ (s : Standing). Follows setup s own) (sym fell.life) (record { alive = follows.alive; taken = follows.taken; came = follows.came }))
+
+  -- as its INVOKE was to be written
+  pub settles_unsent : (old : Standing) (over : Ending) (own : List Event) (t : Taken) (e : Ended) (f : Frame) → Unsent f over old
+      → is_of_life old.server.0 old.generation.0 t.server.0 t.generation.0 ≡ true → is_of_life over.life.server.0 over.life.generation.0 e.server.0 e.generation.0 ≡ true
+      → e.outcome ≡ lost_by over.cause → Follows setup old own → Settled setup over (End e ∷ Take t ∷ own)
+  settles_unsent old over own t e f unsent its ended ends follows =
+      loses over (Take t ∷ own) e (ap (λ (s : Standing). s.turn) unsent.life) ended ends
+      (subst (λ (s : Standing). Follows setup s (Take t ∷ own)) (sym unsent.life) (record {
+        alive = follows.alive;
+        taken = taken_more old.server.0 old.generation.0 t own old.asked f its follows.taken;
+        came = subst (λ (os : List Occurrence). EachCame setup (returns_in old.said) os) (sym (append-nil (came_in old.server.0 old.generation.0 own))) follows.came;
+      }))
+
+  -- and its end is noted
+  pub stops : (over : Ending) (own : List Event) (x : Stopped) → is_of_life over.life.server.0 over.life.generation.0 x.server.0 x.generation.0 ≡ true → x.cause ≡ over.cause
+      → Settled setup over own → HasStopped setup over (Stop x ∷ own)
+  stops over own x its why settled = record {
+    taken = settled.taken;
+    came = subst (λ (os : List Occurrence). AllCame setup over.cause over.life.turn (returns_in over.life.said) os) (sym (append-nil (came_in over.life.server.0 over.life.generation.0 own))) settled.came;
+    stopped = rw its (ap (λ (c : StopCause). Some c) why);
+    last = rw its (its, sym (count_own over.life.server.0 over.life.generation.0 (stops_life over.life.server.0 over.life.generation.0) (stops_none over.life.server.0 over.life.generation.0) own) ∙ settled.alive);
+  }
+
+-- ---- in a run
+
+abbrev event_in : Occurrence → Event
+event_in came = came.event
+
+-- what a take came to, as an event
+abbrev outcomes_at : Event → List Event
+outcomes_at (End e) = End e ∷ []
+outcomes_at (Forward f) = Forward f ∷ []
+outcomes_at e = []
+
+abbrev outcomes : List Event → List Event
+outcomes [] = []
+outcomes (e ∷ events) = outcomes events ++ outcomes_at e
+
+module _ (server g : ℕ) where
+  here_or_not : (b : Bool) (e : Event) (came : List Occurrence) (past events : List Event) → outcomes_at e ≡ e ∷ [] → map event_in came ≡ outcomes events
+      → map event_in (came ++ (if b then (record { event = e; before = past }) ∷ [] else [])) ≡ outcomes (cond b (e ∷ events) events)
+  here_or_not true e came past events its same = map-append event_in came _ ∙ (ap (λ (es : List Event). es ++ e ∷ []) same ∙ ap (λ (es : List Event). outcomes events ++ es) (sym its))
+  here_or_not false e came past events its same = ap (map event_in) (append-nil came) ∙ same
+
+  beside : (b : Bool) (e : Event) (came : List Occurrence) (events : List Event) → outcomes_at e ≡ [] → map event_in came ≡ outcomes events
+      → map event_in (came ++ []) ≡ outcomes (cond b (e ∷ events) events)
+  beside true e came events none same = ap (map event_in) (append-nil came) ∙ (same ∙ (sym (append-nil (outcomes events)) ∙ ap (λ (es : List Event). outcomes events ++ es) (sym none)))
+  beside false e came events none same = ap (map event_in) (append-nil came) ∙ same
+
+  -- what the takes came to is read off the life's events alone
+  came_own : (past : List Event) → map event_in (came_in server g past) ≡ outcomes (filter (is_of server g) past)
+  came_own [] = refl
+  came_own (End e ∷ past) = here_or_not (is_of_life server g e.server.0 e.generation.0) (End e) (came_in server g past) past (filter (is_of server g) past) refl (came_own past)
+  came_own (Forward f ∷ past) = here_or_not (is_of_life server g f.server.0 f.generation.0) (Forward f) (came_in server g past) past (filter (is_of server g) past) refl (came_own past)
+  came_own (Take t ∷ past) = beside (is_of_life server g t.server.0 t.generation.0) (Take t) (came_in server g past) (filter (is_of server g) past) refl (came_own past)
+  came_own (Stop x ∷ past) = beside (is_of_life server g x.server.0 x.generation.0) (Stop x) (came_in server g past) (filter (is_of server g) past) refl (came_own past)
+  came_own (e ∷ past) = ap (map event_in) (append-nil (came_in server g past)) ∙ came_own past
+
+  latest_or_not : (b : Bool) (x : Stopped) (past events : List Event) → is_of_life server g x.server.0 x.generation.0 ≡ b → latest (stops_life server g) past ≡ latest (stops_life server g) events
+      → latest (stops_life server g) (Stop x ∷ past) ≡ latest (stops_life server g) (cond b (Stop x ∷ events) events)
+  latest_or_not true x past events is same = rw is refl
+  latest_or_not false x past events is same = rw is same
+
+  stepped_over : (b : Bool) (e : Event) (events : List Event) → stops_life server g e ≡ false → latest (stops_life server g) (cond b (e ∷ events) events) ≡ latest (stops_life server g) events
+  stepped_over true e events none = rw none refl
+  stepped_over false e events none = refl
+
+  -- and so is why it ended
+  latest_own : (past : List Event) → latest (stops_life server g) past ≡ latest (stops_life server g) (filter (is_of server g) past)
+  latest_own [] = refl
+  latest_own (Stop x ∷ past) = latest_or_not (is_of_life server g x.server.0 x.generation.0) x past (filter (is_of server g) past) refl (latest_own past)
+  latest_own (Take t ∷ past) = latest_own past ∙ sym (stepped_over (is_of_life server g t.server.0 t.generation.0) (Take t) (filter (is_of server g) past) refl)
+  latest_own (End e ∷ past) = latest_own past ∙ sym (stepped_over (is_of_life server g e.server.0 e.generation.0) (End e) (filter (is_of server g) past) refl)
+  latest_own (Forward f ∷ past) = latest_own past ∙ sym (stepped_over (is_of_life server g f.server.0 f.generation.0) (Forward f) (filter (is_of server g) past) refl)
+  latest_own (e ∷ past) = latest_own past
+
+-- what came of RETURNs doesn't hang on what stood before the events
+each_alike : (setup : Setup) (returns : List Return) (came others : List Occurrence) → map event_in came ≡ map event_in others → EachCame setup returns came → EachCame setup returns others
+each_alike setup [] [] [] same each = tt
+each_alike setup [] [] (o ∷ others) same each = absurd (cc same)
+each_alike setup [] (c ∷ came) others same each = absurd each
+each_alike setup (r ∷ returns) [] others same each = absurd each
+each_alike setup (r ∷ returns) (c ∷ came) [] same each = absurd (cc same)
+each_alike setup (r ∷ returns) (c ∷ came) (o ∷ others) same each =
+    let first : c.event ≡ o.event = cc same in
+    (subst (λ (e : Event). EndsAs (outcome_by setup r.value r.code r.payload) e) first each.0, each_alike setup returns came others (cc same) each.1)
+
+-- a list that ends with an event, as one that has the same
+split_alike : (earlier : List Occurrence) (last : Occurrence) (others : List Occurrence) → map event_in (earlier ++ last ∷ []) ≡ map event_in others
+    → (front : List Occurrence) × (o : Occurrence) × (others ≡ front ++ o ∷ []) × (map event_in earlier ≡ map event_in front) × (last.event ≡ o.event)
+split_alike [] last [] same = absurd (cc same)
+split_alike [] last (o ∷ []) same = ([], o, refl, refl, cc same)
+split_alike [] last (o ∷ p ∷ others) same = absurd (cc same)
+split_alike (c ∷ earlier) last [] same = absurd (cc same)
+split_alike (c ∷ earlier) last (o ∷ others) same =
+    let first : c.event ≡ o.event = cc same in
+    let more = split_alike earlier last others (cc same) in
+    (o ∷ more.0, more.1, ap (λ (os : List Occurrence). o ∷ os) more.2, cc (first, more.3), more.4)
+
+all_alike : (setup : Setup) (cause : StopCause) (turn : Turn) (returns : List Return) (came others : List Occurrence) → map event_in came ≡ map event_in others → AllCame setup cause turn returns came
+    → AllCame setup cause turn returns others
+all_alike setup cause Serving returns came others same (earlier, last, is, each, lost) =
+    let parts = split_alike earlier last others (ap (map event_in) (sym is) ∙ same) in
+    (parts.0, parts.1, parts.2, each_alike setup returns earlier parts.0 parts.3 each, subst (λ (e : Event). EndsAs (lost_by cause) e) parts.4 lost)
+all_alike setup cause AwaitsReady returns came others same each = each_alike setup returns came others same each
+all_alike setup cause AwaitsNext returns came others same each = each_alike setup returns came others same each
+all_alike setup cause AwaitsInvoke returns came others same each = each_alike setup returns came others same each
+all_alike setup cause Exited returns came others same each = each_alike setup returns came others same each
+
+-- ---- what was due
+
+due_unshut : (turn : Turn) (written : Written) (asked : List Frame) → (turn ≡ AwaitsInvoke → written ≡ Whole → ⊥) → due written turn asked ≡ due_in turn asked
+due_unshut AwaitsInvoke Whole asked not = absurd (not refl refl)
+due_unshut AwaitsInvoke Cut asked not = refl
+due_unshut AwaitsInvoke Missing asked not = refl
+due_unshut turn Whole asked not = refl
+due_unshut turn Cut asked not = refl
+due_unshut turn Missing asked not = refl
+
+due_at : (cause : StopCause) (turn : Turn) (written : Written) (asked : List Frame) → may_end cause turn written ≡ true → due written turn (asked ++ farewell cause) ≡ due_in turn asked
+due_at Shutdown AwaitsInvoke Whole asked may = refl
+due_at Shutdown turn written asked may = absurd (cc may)
+due_at cause turn written asked may =
+    ap (λ (fs : List Frame). due written turn fs) (append-nil asked)
+    ∙ due_unshut turn written asked (λ idle whole. cc (subst (λ (w : Written). may_end cause AwaitsInvoke w ≡ true) whole (subst (λ (t : Turn). may_end cause t written ≡ true) idle may)))
+
+-- ---- what was written
+
+take_next : (n : ℕ) (fs : List Frame) → take n fs ++ take 1 (drop n fs) ≡ take (suc n) fs
+take_next zero fs = refl
+take_next (suc n) [] = refl
+take_next (suc n) (f ∷ fs) = ap (λ (gs : List Frame). f ∷ gs) (take_next n fs)
+
+take_whole : (fs : List Frame) → take (length fs) fs ≡ fs
+take_whole [] = refl
+take_whole (f ∷ fs) = ap (λ (gs : List Frame). f ∷ gs) (take_whole fs)
+
+module _ (server g : ℕ) (asked : List Frame) where
+  out_idle : (e : Event) (past : List Event) → is_of server g e ≡ false → frames_out server g (e ∷ past) ≡ frames_out server g past
+  out_idle e past other = ap (λ (fs : List Frame). frames_out server g past ++ fs) (writes_none server g e past other) ∙ append-nil (frames_out server g past)
+
+  -- while the life goes on these INVOKEs were written
+  out_alive : (past : List Event) → count (stops_life server g) past ≡ 0 → AtEach (IsSent server g asked) past → frames_out server g past ≡ take (count (is_take_in server g) past) asked
+  out_alive [] alive sent = refl
+  out_alive (Take t ∷ past) alive sent = by_one (is_of_life server g t.server.0 t.generation.0) refl (out_alive past alive sent.1)
+    where
+      by_one : (b : Bool) → is_of_life server g t.server.0 t.generation.0 ≡ b → frames_out server g past ≡ take (count (is_take_in server g) past) asked
+          → frames_out server g (Take t ∷ past) ≡ take (count (is_take_in server g) (Take t ∷ past)) asked
+      by_one true is before = rw is (ap (λ (fs : List Frame). frames_out server g past ++ fs) (sent.0 is)
+          ∙ (ap (λ (fs : List Frame). fs ++ take 1 (drop (count (is_take_in server g) past) asked)) before
+          ∙ (take_next (count (is_take_in server g) past) asked ∙ ap (λ (n : ℕ). take n asked) (sym (add-one (count (is_take_in server g) past))))))
+      by_one false is before = rw is (append-nil (frames_out server g past) ∙ before)
+  out_alive (Stop x ∷ past) alive sent = by_one (is_of_life server g x.server.0 x.generation.0) refl (λ none. out_alive past none sent.1)
+    where
+      by_one : (b : Bool) → is_of_life server g x.server.0 x.generation.0 ≡ b → (count (stops_life server g) past ≡ 0 → frames_out server g past ≡ take (count (is_take_in server g) past) asked)
+          → frames_out server g (Stop x ∷ past) ≡ take (count (is_take_in server g) past) asked
+      by_one true is before = absurd (one_more (count (stops_life server g) past) (rw is at alive))
+      by_one false is before = out_idle (Stop x) past is ∙ before (rw is at alive)
+  out_alive (e ∷ past) alive sent = append-nil (frames_out server g past) ∙ out_alive past alive sent.1
+
+  at_stop : (cause : StopCause) (e : Event) (past : List Event) → is_of server g e ≡ true → EndsLast server g (e ∷ filter (is_of server g) past) → cause_of server g (e ∷ past) ≡ Some cause
+      → AtEach (IsSent server g asked) (e ∷ past) → frames_out server g (e ∷ past) ≡ take (count (is_take_in server g) (e ∷ past)) asked ++ farewell cause
+  at_stop cause (Stop x) past is last why sent =
+      let its : x.cause ≡ cause = cc (rw is at why) in
+      rw is (ap (λ (fs : List Frame). fs ++ farewell x.cause) (out_alive past (count_own server g (stops_life server g) (stops_none server g) past ∙ last.1) sent.1)
+      ∙ ap (λ (c : StopCause). take (count (is_take_in server g) past) asked ++ farewell c) its)
+  at_stop cause e past is last why sent = absurd (cc last.0)
+
+  -- and what its end says
+  out_stopped : (cause : StopCause) (past : List Event) → EndsLast server g (filter (is_of server g) past) → cause_of server g past ≡ Some cause → AtEach (IsSent server g asked) past
+      → frames_out server g past ≡ take (count (is_take_in server g) past) asked ++ farewell cause
+  out_stopped cause [] last why sent = absurd last
+  out_stopped cause (e ∷ past) last why sent = by_one (is_of server g e) refl (λ earlier so. out_stopped cause past earlier so sent.1)
+    where
+      by_one : (b : Bool) → is_of server g e ≡ b
+          → (EndsLast server g (filter (is_of server g) past) → cause_of server g past ≡ Some cause → frames_out server g past ≡ take (count (is_take_in server g) past) asked ++ farewell cause)
+          → frames_out server g (e ∷ past) ≡ take (count (is_take_in server g) (e ∷ past)) asked ++ farewell cause
+      by_one true is before = at_stop cause e past is (rw is at last) why sent
+      by_one false is before = out_idle e past is ∙ (before (rw is at last) (sym (cause_idle server g e past is) ∙ why)
+          ∙ ap (λ (n : ℕ). take n asked ++ farewell cause) (sym (taken_idle server g e past is)))
+
+-- ---- the law
+
+pub is_life : (setup : Setup) (over : Ending) (own past : List Event) → IsOver over → HasStopped setup over own → StandsIn setup over own past → IsLife setup (id_of over.life) past over.life.link
+is_life setup over own past ended noted stands =
+    let server = over.life.server.0 in
+    let g = over.life.generation.0 in
+    let alike : map event_in (came_in server g own) ≡ map event_in (came_in server g past) = came_own server g own ∙ (ap outcomes stands.same ∙ sym (came_own server g past)) in
+    let why : cause_of server g own ≡ cause_of server g past
+    = ap cause_in (latest_own server g own ∙ (ap (λ (es : List Event). latest (stops_life server g) es) stands.same ∙ sym (latest_own server g past))) in
+    let takes : count (is_take_in server g) past ≡ length over.life.asked
+    = count_own server g (is_take_in server g) (takes_none server g) past ∙ (ap (λ (es : List Event). count (is_take_in server g) es) (sym stands.same)
+    ∙ (sym (count_own server g (is_take_in server g) (takes_none server g) own) ∙ noted.taken)) in
+    let sent : frames_out server g past ≡ over.life.asked ++ farewell over.cause
+    = out_stopped server g over.life.asked over.cause past (subst (λ (es : List Event). EndsLast server g es) stands.same noted.last) (sym why ∙ noted.stopped) stands.sent
+    ∙ ap (λ (fs : List Frame). fs ++ farewell over.cause) (ap (λ (n : ℕ). take n over.life.asked) takes ∙ take_whole over.life.asked) in
+    let due_is : due_in over.life.turn over.life.asked ≡ due over.written over.life.turn (frames_out server g past)
+    = sym (ap (λ (fs : List Frame). due over.written over.life.turn fs) sent ∙ due_at over.cause over.life.turn over.written over.life.asked ended.may) in
+    record {
+      cause = over.cause;
+      turn = over.life.turn;
+      returned = returned over.life;
+      frames = over.life.said;
+      written = over.written;
+      stopped = sym why ∙ noted.stopped;
+      says = ended.says;
+      came = all_alike setup over.cause over.life.turn (returns_in over.life.said) (came_in server g own) (came_in server g past) alike noted.came;
+      may = ended.may;
+      closed = stands.closed;
+      counted = ended.counted;
+      whose = ended.whose;
+      took_frames = subst (λ (fs : List Frame). IfSome over.life.link.took (Took over.written fs)) due_is ended.took;
+      gave_frames = ended.gave;
+    }

@@ -1,0 +1,25 @@
+-- What is left of a life that ended, and how it is kept.
+use Rattle.std.specs.Prelude.{Bool, true, false}
+use Rattle.xa_pipe.specs.declared.over.EndedLife.TheInside.{Inside}
+use Rattle.xa_pipe.specs.declared.over.Pipes.{Pipes}
+use Rattle.xa_pipe.specs.declared.over.Pipes.TheVariants.{Open, Killed}
+use Rattle.xa_pipe.specs.Life.{LinkShows}
+use Rattle.xa_pipe.specs.Standing.{Ending}
+
+module _ {L : Type 0} where
+  -- what the pipes show; where the program was ended by force, what they showed then
+  abbrev pub pipes_show : (L → LinkShows) → Pipes L → LinkShows
+  pipes_show shows (Open link) = shows link
+  pipes_show shows (Killed killed) = shows killed.was.value
+
+  abbrev pub are_killed : Pipes L → Bool
+  are_killed (Open link) = false
+  are_killed (Killed killed) = true
+
+  abbrev pub ending : Inside L → LinkShows → Ending
+  ending e link = record {
+    life = record { name = e.name; server = e.server; generation = e.generation; link = link; asked = e.asked; said = e.said; turn = e.turn };
+    cause = e.cause;
+    written = e.written;
+    killed = are_killed e.pipes;
+  }

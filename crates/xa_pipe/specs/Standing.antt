@@ -1,0 +1,83 @@
+-- A life of a server as it stands, by what it did itself, and how one ended (this project's own).
+use Rattle.std.specs.Prelude.{◌≡◌, ℕ, Bool, true, false, List, [], ◌∷◌, ◌++◌, length, Option, IfSome}
+use Rattle.xa_types.specs.declared.ids.ServerId.{ServerId}
+use Rattle.xa_types.specs.declared.ids.Generation.{Generation}
+use Rattle.xa_frame.specs.declared.frame.Frame.{Frame}
+use Rattle.xa_frame.specs.Spelling.{all_spelled}
+use Rattle.xa_events.specs.declared.event.StopCause.{StopCause}
+use Rattle.xa_events.specs.declared.event.StopCause.TheVariants.{Shutdown, Exit}
+use Rattle.xa_pipe.specs.declared.turn.Turn.TheVariants.{AwaitsInvoke}
+use Rattle.xa_pipe.specs.Frames.{shutdown_frame}
+use Rattle.xa_pipe.specs.Life.{Turn, Written, LifeId, LinkShows, LastTurn, Says, IsOf, IsCounted, Took, Gave, returns_in, tag_after, may_end}
+
+-- what a life is: its server's name and number, its generation, what its link shows, the INVOKEs that were written to it, what its program said,
+-- and what comes next
+pub record Standing : Type 0 where
+  pub name : List ℕ
+  pub server : ServerId
+  pub generation : Generation
+  pub link : LinkShows
+  pub asked : List Frame
+  pub said : List Frame
+  pub turn : Turn
+
+-- how many RETURNs its program said
+abbrev pub returned : Standing → ℕ
+returned life = length (returns_in life.said)
+
+-- the tag of the next RETURN, which is the number of the INVOKE in hand or else of the next one
+abbrev pub tag_of : Standing → ℕ
+tag_of life = tag_after (returned life)
+
+abbrev pub id_of : Standing → LifeId
+id_of life = record { name = life.name; server = life.server.0; generation = life.generation.0 }
+
+-- the octets, where they are told, begin with those of these frames
+abbrev pub GaveFirst : Option (List ℕ) → List Frame → Type 0
+GaveFirst gave frames = IfSome gave (λ octets. (rest : List ℕ) × (octets ≡ all_spelled frames ++ rest))
+
+-- what holds of each life: its program spoke in turn, the octets that went to it are those of the INVOKEs, those that came from it begin with
+-- those of what it said, nothing failed, and its link is its own
+pub record IsSound (life : Standing) : Type 0 where
+  pub says : Says life.name (returned life) life.said life.turn
+  pub took : IfSome life.link.took (λ octets. octets ≡ all_spelled life.asked)
+  pub gave : GaveFirst life.link.gave life.said
+  pub reads : life.link.reads ≡ 0
+  pub writes : life.link.writes ≡ 0
+  pub whose : IsOf (id_of life) life.link.whose
+
+-- ---- a life that ended
+
+-- what is left of a life: how it stood in its last turn, why it ended, whether the last frame that was due was written, and whether its program was
+-- ended by force
+pub record Ending : Type 0 where
+  pub life : Standing
+  pub cause : StopCause
+  pub written : Written
+  pub killed : Bool
+
+-- the frames that were due to the program; where it waited for a request, SHUTDOWN was the last
+abbrev pub due_in : Turn → List Frame → List Frame
+due_in AwaitsInvoke asked = asked ++ shutdown_frame ∷ []
+due_in turn asked = asked
+
+-- whether a life that ends so is killed
+abbrev pub is_killed : StopCause → Bool
+is_killed Shutdown = false
+is_killed Exit = false
+is_killed cause = true
+
+-- where the life ended
+abbrev pub last_turn : Ending → LastTurn
+last_turn over = record { name = over.life.name; tag = tag_of over.life; frames = over.life.said; turn = over.life.turn; written = over.written }
+
+-- what holds of each life that ended: its program had spoken in turn, it may end so, what its link took and gave shows that, one read or write failed
+-- exactly where that was the cause, the link is its own, and it was killed exactly where it ended neither by SHUTDOWN nor by TPEXIT
+pub record IsOver (over : Ending) : Type 0 where
+  pub says : Says over.life.name (returned over.life) over.life.said over.life.turn
+  pub may : may_end over.cause over.life.turn over.written ≡ true
+  pub took : IfSome over.life.link.took (Took over.written (due_in over.life.turn over.life.asked))
+  pub gave : Gave (last_turn over) over.cause over.life.link.gave over.life.link.left
+  pub counted : IsCounted over.cause over.life.link.reads over.life.link.writes
+  pub whose : IsOf (id_of over.life) over.life.link.whose
+  pub killed : over.killed ≡ is_killed over.cause

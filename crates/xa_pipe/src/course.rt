@@ -1,0 +1,157 @@
+// How a life goes, step by step.
+ghost use Rattle.std.specs.Prelude.{◌≡◌, ◌++◌, ◌∷◌, [], ◌+◌, ◌%◌, ◌^◌, ℕ, List, IfOk, IfErr, OnOk, true, false};
+ghost use Rattle.xa_link.specs.Told.{Grew, GrewByPart};
+ghost use Rattle.xa_frame.specs.Spelling.{HasSpelling, spelled, kind_octet};
+ghost use Rattle.xa_pipe.specs.Life.{MaySay, awaiting, is_reading, turn_behind};
+ghost use Rattle.xa_pipe.specs.Pipe.{HasRead, Ceases, CountsReads, shown};
+ghost use Rattle.xa_pipe.specs.Changes.{turn_after};
+ghost use Rattle.xa_pipe.specs.Ended.{pipes_show, are_killed};
+ghost use Rattle.xa_pipe.specs.Standing.{IsOver, is_killed};
+ghost use Rattle.xa_pipe.specs.Kept.{ending_of, tag_after_turn};
+
+use crate::hearing::{is_next, is_ready, is_return, out_of_turn};
+use crate::noted::{Asked, Said};
+use crate::over::{EndedLife, Pipes};
+use crate::pipe::Pipe;
+use crate::turn::{Turn, Written};
+use xa_events::StopCause;
+use xa_frame::{Body, Frame};
+use xa_link::Link;
+use xa_types::{Generation, Name, Rval, ServerId};
+
+/// What a life has.
+pub struct Course<L: Link> {
+    pub name: Name,
+    pub server: ServerId,
+    pub generation: Generation,
+    pub pipe: Pipe<L>,
+    pub asked: Asked,
+    pub said: Said,
+    pub turn: Turn,
+    // The number of the INVOKE in hand, or else of the next one.
+    pub tag: u32,
+}
+
+// Whether the program may say that frame in that turn.
+fn may_say(frame: &Frame, name: &Name, tag: u32, turn: Turn) -> bool
+    ensures yes { result ≡ true → MaySay name.now tag turn frame.now }
+    ensures no { result ≡ false → MaySay name.now tag turn frame.now → ⊥ }
+{
+    match turn {
+        Turn::AwaitsReady => is_ready(frame, name),
+        Turn::AwaitsNext => is_next(frame),
+        Turn::Serving => is_return(frame, tag),
+        Turn::AwaitsInvoke | Turn::Exited => false,
+    }
+}
+
+// What comes next behind a RETURN.
+fn turn_behind(value: Rval) -> Turn
+    ensures { result ≡ turn_behind value }
+{
+    match value {
+        Rval::Success | Rval::Fail => Turn::AwaitsNext,
+        Rval::Exit => Turn::Exited,
+    }
+}
+
+// What comes next behind what the program said.
+fn turn_after(turn: Turn, body: &Body) -> Turn
+    ensures { result ≡ turn_after turn body.now }
+{
+    match (turn, body) {
+        (Turn::AwaitsReady, _) => Turn::AwaitsNext,
+        (Turn::AwaitsNext, _) => Turn::AwaitsInvoke,
+        (Turn::Serving, Body::Return(value, _, _)) => turn_behind(*value),
+        (turn, _) => turn,
+    }
+}
+
+// The number of the next INVOKE behind what the program said.
+fn tag_after(turn: Turn, tag: u32) -> u32
+    ensures { result ≡ tag_after_turn turn tag }
+{
+    match turn {
+        Turn::Serving => tag.wrapping_add(1),
+        _ => tag,
+    }
+}
+
+impl<L: Link> Course<L> {
+    /// Reads a frame that the program may say now, or says why the life ends.
+    pub fn read(&mut self) -> Result<Frame, StopCause>
+        requires { is_reading self.old.turn ≡ true }
+        ensures same { self.new ≡ record self.old { pipe = self.new.pipe } }
+        ensures may { IfOk result (λ f. MaySay self.old.name self.old.tag self.old.turn f × HasSpelling f) }
+        ensures read { IfOk result (λ f. HasRead self.old.pipe self.old.said → HasRead self.new.pipe (self.old.said ++ f ∷ [])) }
+        ensures beside { (self.new.pipe.took ≡ self.old.pipe.took) × (self.new.pipe.writes ≡ self.old.pipe.writes) × (self.new.pipe.whose ≡ self.old.pipe.whose) }
+        ensures well { OnOk result (self.new.pipe.reads ≡ self.old.pipe.reads) }
+        ensures why { IfErr result (λ cause. HasRead self.old.pipe self.old.said → Ceases (awaiting self.old.name self.old.tag self.old.said self.old.turn) self.new.pipe cause) }
+        ensures counts { IfErr result (λ cause. CountsReads cause self.old.pipe.reads self.new.pipe.reads) }
+    {
+        let frame = self.pipe.read()?;
+        if may_say(&frame, &self.name, self.tag, self.turn) {
+            return Ok(frame);
+        }
+        let cause = out_of_turn(&frame);
+        drop(frame);
+        Err(cause)
+    }
+
+    /// The program said that frame.
+    pub fn note(&mut self, frame: &Frame)
+        ensures { self.new ≡ record self.old { said = self.old.said ++ frame.now ∷ []; turn = turn_after self.old.turn frame.now.body; tag = tag_after_turn self.old.turn self.old.tag } }
+    {
+        self.said.note(frame);
+        self.tag = tag_after(self.turn, self.tag);
+        self.turn = turn_after(self.turn, &frame.body);
+    }
+
+    /// The life ends by that cause: its program is ended by force, but behind SHUTDOWN and TPEXIT, where it ends by itself.
+    pub fn end(self, cause: StopCause, written: Written) -> EndedLife<L>
+        requires { IsOver (ending_of self cause written) }
+        ensures { result ≡ ending_of self cause written }
+    {
+        let Course {
+            name,
+            server,
+            generation,
+            pipe,
+            asked,
+            said,
+            turn,
+            tag: _,
+        } = self;
+        let pipes = close(pipe, cause);
+        EndedLife {
+            name,
+            server,
+            generation,
+            pipes,
+            asked,
+            said,
+            turn,
+            cause,
+            written,
+        }
+    }
+}
+
+// Whether a life that ends so is killed.
+fn is_killed(cause: StopCause) -> bool
+    ensures { result ≡ is_killed cause }
+{
+    !matches!(cause, StopCause::Shutdown | StopCause::Exit)
+}
+
+// What is left of the pipes of a life that ends so.
+fn close<L: Link>(pipe: Pipe<L>, cause: StopCause) -> Pipes<L>
+    ensures killed { are_killed result ≡ is_killed cause }
+    ensures shows { pipes_show (λ l. record { took = L.took l; gave = L.gave l; left = L.left l; reads = L.read_faults l; writes = L.write_faults l; whose = L.whose l }) result ≡ shown pipe }
+{
+    if is_killed(cause) {
+        Pipes::Killed(pipe.kill())
+    } else {
+        Pipes::Open(pipe.into_link())
+    }
+}

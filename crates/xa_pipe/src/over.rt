@@ -1,0 +1,88 @@
+// A life that ended.
+ghost use Rattle.std.specs.Prelude.{◌≡◌};
+ghost use Rattle.xa_events.specs.declared.event.StopCause.TheVariants.{Shutdown, Exit};
+ghost use Rattle.xa_pipe.specs.Standing.{IsOver};
+ghost use Rattle.xa_pipe.specs.Ended.{pipes_show, are_killed};
+
+use crate::noted::{Asked, Said};
+use crate::turn::{Turn, Written};
+use std::marker::Model;
+use xa_events::StopCause;
+use xa_link::{Killed, Link};
+use xa_types::{Generation, Name, ServerId};
+
+/// The pipes of a life that ended: open, where its program ends by itself and is waited for as they are dropped, or what
+/// is left where it was ended by force.
+#[derive(Drop)]
+pub enum Pipes<L> {
+    Open(L),
+    Killed(Killed<L>),
+}
+
+/// A life that ended, and what is left of its pipes.
+pub struct EndedLife<L: Link> {
+    pub(crate) name: Name,
+    pub(crate) server: ServerId,
+    pub(crate) generation: Generation,
+    pub(crate) pipes: Pipes<L>,
+    pub(crate) asked: Asked,
+    pub(crate) said: Said,
+    pub(crate) turn: Turn,
+    pub(crate) cause: StopCause,
+    pub(crate) written: Written,
+}
+
+impl<L: Link> Model for EndedLife<L> {
+    ghost use Rattle.xa_pipe.specs.Standing.{Ending, IsOver};
+    ghost use Rattle.xa_pipe.specs.Ended.{pipes_show, ending};
+
+    ghost Value = { Ending };
+
+    ghost view = { λ e. ending e (pipes_show (λ l. record { took = L.took l; gave = L.gave l; left = L.left l; reads = L.read_faults l; writes = L.write_faults l; whose = L.whose l }) e.pipes) };
+
+    ghost invariant = { λ e. IsOver (ending e (pipes_show (λ l. record { took = L.took l; gave = L.gave l; left = L.left l; reads = L.read_faults l; writes = L.write_faults l; whose = L.whose l }) e.pipes)) };
+}
+
+impl<L: Link> EndedLife<L> {
+    /// Why it ended.
+    pub fn cause(&self) -> StopCause
+        ensures value { result ≡ self.now.cause }
+        ensures over { IsOver self.now }
+    {
+        self.cause
+    }
+
+    /// Whose life it was.
+    pub fn server(&self) -> ServerId
+        ensures { result ≡ self.now.life.server }
+    {
+        self.server
+    }
+
+    /// Which life of its server it was, counted from 1.
+    pub fn generation(&self) -> Generation
+        ensures { result ≡ self.now.life.generation }
+    {
+        self.generation
+    }
+
+    /// What is left of its pipes.
+    pub fn into_pipes(self) -> Pipes<L>
+        ensures killed { are_killed result ≡ self.killed }
+        ensures shows { pipes_show (λ l. record { took = L.took l; gave = L.gave l; left = L.left l; reads = L.read_faults l; writes = L.write_faults l; whose = L.whose l }) result ≡ self.life.link }
+        ensures over { IsOver self }
+    {
+        let EndedLife {
+            name: _,
+            server: _,
+            generation: _,
+            pipes,
+            asked: _,
+            said: _,
+            turn: _,
+            cause: _,
+            written: _,
+        } = self;
+        pipes
+    }
+}

@@ -1,0 +1,151 @@
+//! Lives over links in memory: how each ends, and whether it is killed.
+ghost use Rattle.std.specs.Prelude.{◌≡◌};
+ghost use Rattle.xa_pipe.specs.declared.turn.Turn.TheVariants.{AwaitsReady};
+
+use crate::memory::{joined, link_of, setup_of};
+use crate::rows::none_fails;
+use std::alloc::Global;
+use xa_events::StopCause;
+use xa_link::{Link, MemoryLink, MemoryYard, Starter, Yard};
+use xa_pipe::{Answered, EndedLife, Life, Pipes};
+use xa_types::{Data, Generation, Name, Rval, ServerId};
+
+const READY: &[u8] = b"XA\x01\x01\0\0\0\x02\0\0\0\0\x01S";
+
+const NEXT: &[u8] = b"XA\x01\x02\0\0\0\0\0\0\0\0";
+
+// A RETURN to the first invocation with TPSUCCESS, one with TPEXIT, and one to the second invocation.
+const RETURN: &[u8] = b"XA\x01\x04\0\0\0\x06\0\0\0\x01\0\0\0\0\x07\0";
+
+const EXIT: &[u8] = b"XA\x01\x04\0\0\0\x06\0\0\0\x01\x02\0\0\0\x07\0";
+
+const OTHER: &[u8] = b"XA\x01\x04\0\0\0\x06\0\0\0\x02\0\0\0\0\x07\0";
+
+// What the program says, the numbers of the read and of the write of 64 octets that fail, or 0, why the life ends, and
+// whether its program is killed.
+type Course = (&'static [&'static [u8]], [u64; 2], StopCause, bool);
+
+static COURSES: [Course; 12] = [
+    (
+        &[READY, NEXT, RETURN, NEXT],
+        [0, 0],
+        StopCause::Shutdown,
+        false,
+    ),
+    (&[READY, NEXT, EXIT], [0, 0], StopCause::Exit, false),
+    (&[READY, NEXT, EXIT, b"XA"], [0, 0], StopCause::Exit, false),
+    (&[], [0, 0], StopCause::EndOfInput, true),
+    (&[READY, NEXT], [0, 0], StopCause::EndOfInput, true),
+    (
+        &[READY, NEXT, RETURN, b"XA"],
+        [0, 0],
+        StopCause::EndOfInput,
+        true,
+    ),
+    (
+        &[READY, NEXT, RETURN, NEXT],
+        [1, 0],
+        StopCause::ReadFault,
+        true,
+    ),
+    (
+        &[READY, NEXT, RETURN, NEXT],
+        [0, 1],
+        StopCause::WriteFault,
+        true,
+    ),
+    (
+        &[READY, NEXT, RETURN, NEXT],
+        [0, 2],
+        StopCause::WriteFault,
+        true,
+    ),
+    (
+        &[READY, NEXT, b"nonsense, no frame"],
+        [0, 0],
+        StopCause::BadBytes(26),
+        true,
+    ),
+    (
+        &[READY, NEXT, OTHER],
+        [0, 0],
+        StopCause::OutOfTurn(0x04, 2),
+        true,
+    ),
+    (
+        &[READY, NEXT, RETURN, RETURN],
+        [0, 0],
+        StopCause::OutOfTurn(0x04, 1),
+        true,
+    ),
+];
+
+const ONE_SERVER: &[u8] = b"queue = [{ name = 'Q' }]
+server = [{ name = 'S', queue = 'Q' }]";
+
+// The program greets, is asked once and is shut down, or ends by itself.
+fn serve<L: Link>(life: Life<L>, service: &Name) -> Result<EndedLife<L>, EndedLife<L>>
+    requires { life.turn ≡ AwaitsReady }
+{
+    let life = life.greet()?.send(service, service, &Data::Absent)?;
+    let Answered { life, back } = life.hear()?;
+    match back.value {
+        Rval::Exit => Ok(life.exit()),
+        _ => Ok(life.read_next()?.shut_down()),
+    }
+}
+
+fn is_killed(over: EndedLife<MemoryLink>) -> bool {
+    match over.into_pipes() {
+        Pipes::Killed(_) => true,
+        Pipes::Open(_) => false,
+    }
+}
+
+// Whether the first life of the server ends by that cause, and is killed so.
+fn ends_so<S: Starter<MemoryLink>>(
+    alloc: Global,
+    starter: &mut S,
+    cause: StopCause,
+    killed: bool,
+) -> bool {
+    let server = starter.server();
+    let Ok(link) = starter.start(&server, Generation(1)) else {
+        return false;
+    };
+    let life = Life::new(alloc, link, server, ServerId(1), Generation(1));
+    let over = match serve(life, &server) {
+        Ok(over) => over,
+        Err(over) => over,
+    };
+    let is_right = over.cause() == cause;
+    is_right & (is_killed(over) == killed)
+}
+
+fn yard_of(alloc: Global, said: &[&[u8]], [reads, writes]: [u64; 2]) -> Option<MemoryYard> {
+    let octets = joined(alloc, said)?;
+    let link = link_of(alloc, &octets, [reads, writes, 0], 64)?;
+    let lives = [Vec::from_array(alloc, [Some(link)]).ok()?];
+    Some(MemoryYard::new(alloc, Vec::from_array(alloc, lives).ok()?))
+}
+
+fn is_right(alloc: Global, (said, fails, cause, killed): Course) -> Option<bool> {
+    let mut yard = yard_of(alloc, said, fails)?;
+    let mut starters = yard.starters(&setup_of(alloc, ONE_SERVER)?).ok()?;
+    let starter = starters.as_mut_slice().get_mut(0)?;
+    Some(ends_so(alloc, starter, cause, killed))
+}
+
+fn first_wrong(alloc: Global) -> Option<usize> {
+    for (place, row) in COURSES.iter().enumerate() {
+        if is_right(alloc, *row) != Some(true) {
+            return Some(place);
+        }
+    }
+    None
+}
+
+#[test]
+fn each_life_ends_by_its_cause(rt: HostRuntime) {
+    none_fails(&rt, first_wrong(rt.alloc()));
+}
