@@ -7,7 +7,7 @@ use Rattle.xa_types.specs.declared.call.Rval.{Rval}
 use Rattle.xa_types.specs.declared.call.Rval.TheVariants.{Success, Fail, Exit as ExitValue}
 use Rattle.xa_frame.specs.declared.frame.Frame.{Frame}
 use Rattle.xa_frame.specs.declared.frame.Body.{Body}
-use Rattle.xa_frame.specs.declared.frame.Body.TheVariants.{Ready, Next, Return as ReturnBody, Invoke, Shutdown as ShutdownBody}
+use Rattle.xa_frame.specs.declared.frame.Body.TheVariants.{Next}
 use Rattle.xa_frame.specs.Spelling.{HasSpelling}
 use Rattle.xa_pipe.specs.declared.hearing.Return.{Return}
 use Rattle.xa_pipe.specs.Frames.{next_frame, ready_frame, return_frame}
@@ -64,10 +64,7 @@ none_returned {name} {frames} says = no_returns (returns_in frames) (returned_is
 
 abbrev is_next : Body → Bool
 is_next Next = true
-is_next (Ready name) = false
-is_next (ReturnBody value code payload) = false
-is_next (Invoke service routine mode payload) = false
-is_next ShutdownBody = false
+is_next body = false
 
 -- whether the last frame is NEXT
 abbrev ends_free : List Frame → Bool
