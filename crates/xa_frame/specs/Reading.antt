@@ -1,7 +1,7 @@
 -- Reading octets from left to right: what a field is, and the octets after it. No public contract rests on these.
-use Rattle.std.specs.Prelude.{◌≡◌, ℕ, ℤ, ◌+◌, ◌/◌, ◌%◌, ◌^◌, Bool, true, false, List, [], ◌∷◌, length, take, drop, Option, Some, None, Result, Ok, Err, IsSome, nat_lt, nat_le, ◌==◌, ◌&&◌, if◌then◌else◌}
+use Rattle.std.specs.Prelude.{◌≡◌, ⊤, ℕ, ℤ, ◌+◌, ◌/◌, ◌%◌, ◌^◌, Bool, true, false, List, [], ◌∷◌, length, take, drop, Option, Some, None, Result, Ok, Err, IsSome, nat_lt, nat_le, ◌==◌, ◌&&◌, if◌then◌else◌}
 use Rattle.std.specs.Int.{w32, w64, from_be_bytes, cast_signed}
-use Rattle.xa_types.specs.Name.{is_name}
+use Rattle.xa_types.specs.Name.{is_name, IsName}
 use Rattle.xa_types.specs.declared.data.Data.{Data}
 use Rattle.xa_types.specs.declared.data.Data.TheVariants.{Absent, Octet, Struct}
 use Rattle.xa_types.specs.declared.data.Kind.{Kind}
@@ -211,7 +211,13 @@ data_at = by_octet data_form
 abbrev pub held : Payload → Data
 held payloads.Absent = Absent
 held (payloads.Octet octets) = Octet octets.now
-held (payloads.Struct subtype octets) = Struct subtype octets.now
+held (payloads.Struct subtype octets) = Struct subtype.now octets.now
+
+-- its subtype is a name
+abbrev pub IsPayload : Payload → Type 0
+IsPayload payloads.Absent = ⊤
+IsPayload (payloads.Octet octets) = ⊤
+IsPayload (payloads.Struct subtype octets) = IsName subtype.now
 
 -- ---- operations
 
@@ -330,6 +336,11 @@ abbrev pub meant : Told → Answer
 meant (tolds.Success code payload) = answers.Success code (held payload)
 meant (tolds.Failed code payload) = answers.Failed code (held payload)
 meant (tolds.Error fault) = answers.Error fault
+
+abbrev pub IsTold : Told → Type 0
+IsTold (tolds.Success code payload) = IsPayload payload
+IsTold (tolds.Failed code payload) = IsPayload payload
+IsTold (tolds.Error fault) = ⊤
 
 abbrev pub done_at : Field Reply
 done_at octets = Some (replies.Done, octets)

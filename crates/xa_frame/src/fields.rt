@@ -98,7 +98,8 @@ pub fn word_at(octets: &[u8]) -> Result<(&[u8], &[u8]), NoFrame>
     Ok(rest.split_at(len))
 }
 
-fn name_of(octets: &[u8]) -> Result<Name, NoFrame>
+/// The name that these octets are.
+pub fn name_of(octets: &[u8]) -> Result<Name, NoFrame>
     ensures { Reads (λ x. x) result (name_of octets.now) }
 {
     Ok(Name::read(octets)?)

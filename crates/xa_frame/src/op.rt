@@ -2,14 +2,16 @@
 
 ghost use Rattle.std.specs.Prelude.{◌≡◌, ◌≤◌, ◌<◌, ◌^◌, ◌++◌, ◌∷◌, length, OnOk};
 ghost use Rattle.xa_types.specs.declared.call.Op.TheVariants as ops;
+ghost use Rattle.xa_frame.specs.declared.frame.Body.TheVariants as bodies;
 ghost use Rattle.xa_frame.specs.Spelling.{bit, data_octets, op_octets, IsData, IsOp};
-ghost use Rattle.xa_frame.specs.Reading.{Reads, Makes, whole, flags_at, call_at, acall_at, get_at, get_any_at, cancel_at, connect_at, send_at, receive_at, disconnect_at, priority_at, advertise_at, unadvertise_at, tick_at, op_at};
+ghost use Rattle.xa_frame.specs.Reading.{Reads, Makes, all_as, flags_at, call_at, acall_at, get_at, get_any_at, cancel_at, connect_at, send_at, receive_at, disconnect_at, priority_at, advertise_at, unadvertise_at, tick_at, op_at};
 
 use crate::choices::{bit, direction_octet, direction_of, flags_octet, flags_of, truth_of};
 use crate::fields::{
     NoFrame, ReadError, ended, long_at, number_at, octet_at, put_long, put_word, signed_at,
     word_at, word_len,
 };
+use crate::frame::Body;
 use crate::payload::{data_at, data_kind_at, data_kind_len, data_len, put_data, put_data_kind};
 use std::alloc::Global;
 use xa_types::{Ask, CallFlags, Data, Direction, Kind, NoMemory, Octets, Op};
@@ -22,53 +24,49 @@ fn flags_at(octets: &[u8]) -> Result<(CallFlags, &[u8]), NoFrame>
 }
 
 #[tactic(auto, unfolding(crate::specs::Reading::call_at))]
-fn call_of(alloc: Global, octets: &[u8]) -> Result<Op, ReadError>
-    ensures { Makes result (whole call_at octets.now) }
+fn call_of(alloc: Global, octets: &[u8]) -> Result<Body, ReadError>
+    ensures { Makes result (all_as bodies.Op call_at octets.now) }
 {
     let (flags, rest) = flags_at(octets)?;
     let (service, rest) = word_at(rest)?;
     let Ok((expect, rest)) = data_kind_at(rest) else {
         return Err(ReadError::NoFrame);
     };
-    let Ok((payload, rest)) = data_at(rest) else {
-        return Err(ReadError::NoFrame);
-    };
+    let (payload, rest) = data_at(rest)?;
     ended(rest)?;
     let service = Octets::of(alloc, service)?;
     let payload = payload.own(alloc)?;
-    Ok(Op::Call(Ask {
+    Ok(Body::Op(Op::Call(Ask {
         service,
         payload,
         flags,
         expect,
         direction: Direction::Neither,
-    }))
+    })))
 }
 
 #[tactic(auto, unfolding(crate::specs::Reading::acall_at))]
-fn acall_of(alloc: Global, octets: &[u8]) -> Result<Op, ReadError>
-    ensures { Makes result (whole acall_at octets.now) }
+fn acall_of(alloc: Global, octets: &[u8]) -> Result<Body, ReadError>
+    ensures { Makes result (all_as bodies.Op acall_at octets.now) }
 {
     let (flags, rest) = flags_at(octets)?;
     let (service, rest) = word_at(rest)?;
-    let Ok((payload, rest)) = data_at(rest) else {
-        return Err(ReadError::NoFrame);
-    };
+    let (payload, rest) = data_at(rest)?;
     ended(rest)?;
     let service = Octets::of(alloc, service)?;
     let payload = payload.own(alloc)?;
-    Ok(Op::Acall(Ask {
+    Ok(Body::Op(Op::Acall(Ask {
         service,
         payload,
         flags,
         expect: None,
         direction: Direction::Neither,
-    }))
+    })))
 }
 
 #[tactic(auto, unfolding(crate::specs::Reading::get_at))]
-fn get_of(octets: &[u8]) -> Result<Op, ReadError>
-    ensures { Makes result (whole get_at octets.now) }
+fn get_of(octets: &[u8]) -> Result<Body, ReadError>
+    ensures { Makes result (all_as bodies.Op get_at octets.now) }
 {
     let (flags, rest) = flags_at(octets)?;
     let (descriptor, rest) = long_at(rest)?;
@@ -76,134 +74,130 @@ fn get_of(octets: &[u8]) -> Result<Op, ReadError>
         return Err(ReadError::NoFrame);
     };
     ended(rest)?;
-    Ok(Op::Get(descriptor, flags, expect))
+    Ok(Body::Op(Op::Get(descriptor, flags, expect)))
 }
 
 #[tactic(auto, unfolding(crate::specs::Reading::get_any_at))]
-fn get_any_of(octets: &[u8]) -> Result<Op, ReadError>
-    ensures { Makes result (whole get_any_at octets.now) }
+fn get_any_of(octets: &[u8]) -> Result<Body, ReadError>
+    ensures { Makes result (all_as bodies.Op get_any_at octets.now) }
 {
     let (flags, rest) = flags_at(octets)?;
     let Ok((expect, rest)) = data_kind_at(rest) else {
         return Err(ReadError::NoFrame);
     };
     ended(rest)?;
-    Ok(Op::GetAny(flags, expect))
+    Ok(Body::Op(Op::GetAny(flags, expect)))
 }
 
 #[tactic(auto, unfolding(crate::specs::Reading::cancel_at))]
-fn cancel_of(octets: &[u8]) -> Result<Op, ReadError>
-    ensures { Makes result (whole cancel_at octets.now) }
+fn cancel_of(octets: &[u8]) -> Result<Body, ReadError>
+    ensures { Makes result (all_as bodies.Op cancel_at octets.now) }
 {
     let (descriptor, rest) = long_at(octets)?;
     ended(rest)?;
-    Ok(Op::Cancel(descriptor))
+    Ok(Body::Op(Op::Cancel(descriptor)))
 }
 
 #[tactic(auto, unfolding(crate::specs::Reading::connect_at))]
-fn connect_of(alloc: Global, octets: &[u8]) -> Result<Op, ReadError>
-    ensures { Makes result (whole connect_at octets.now) }
+fn connect_of(alloc: Global, octets: &[u8]) -> Result<Body, ReadError>
+    ensures { Makes result (all_as bodies.Op connect_at octets.now) }
 {
     let (flags, rest) = flags_at(octets)?;
     let (direction, rest) = octet_at(rest)?;
     let direction = direction_of(direction)?;
     let (service, rest) = word_at(rest)?;
-    let Ok((payload, rest)) = data_at(rest) else {
-        return Err(ReadError::NoFrame);
-    };
+    let (payload, rest) = data_at(rest)?;
     ended(rest)?;
     let service = Octets::of(alloc, service)?;
     let payload = payload.own(alloc)?;
-    Ok(Op::Connect(Ask {
+    Ok(Body::Op(Op::Connect(Ask {
         service,
         payload,
         flags,
         expect: None,
         direction,
-    }))
+    })))
 }
 
 #[tactic(auto, unfolding(crate::specs::Reading::send_at))]
-fn send_of(alloc: Global, octets: &[u8]) -> Result<Op, ReadError>
-    ensures { Makes result (whole send_at octets.now) }
+fn send_of(alloc: Global, octets: &[u8]) -> Result<Body, ReadError>
+    ensures { Makes result (all_as bodies.Op send_at octets.now) }
 {
     let (flags, rest) = flags_at(octets)?;
     let (descriptor, rest) = long_at(rest)?;
     let (recv_only, rest) = octet_at(rest)?;
     let recv_only = truth_of(recv_only)?;
-    let Ok((payload, rest)) = data_at(rest) else {
-        return Err(ReadError::NoFrame);
-    };
+    let (payload, rest) = data_at(rest)?;
     ended(rest)?;
     let payload = payload.own(alloc)?;
-    Ok(Op::Send(descriptor, flags, recv_only, payload))
+    Ok(Body::Op(Op::Send(descriptor, flags, recv_only, payload)))
 }
 
 #[tactic(auto, unfolding(crate::specs::Reading::receive_at))]
-fn receive_of(octets: &[u8]) -> Result<Op, ReadError>
-    ensures { Makes result (whole receive_at octets.now) }
+fn receive_of(octets: &[u8]) -> Result<Body, ReadError>
+    ensures { Makes result (all_as bodies.Op receive_at octets.now) }
 {
     let (flags, rest) = flags_at(octets)?;
     let (descriptor, rest) = long_at(rest)?;
     ended(rest)?;
-    Ok(Op::Receive(descriptor, flags))
+    Ok(Body::Op(Op::Receive(descriptor, flags)))
 }
 
 #[tactic(auto, unfolding(crate::specs::Reading::disconnect_at))]
-fn disconnect_of(octets: &[u8]) -> Result<Op, ReadError>
-    ensures { Makes result (whole disconnect_at octets.now) }
+fn disconnect_of(octets: &[u8]) -> Result<Body, ReadError>
+    ensures { Makes result (all_as bodies.Op disconnect_at octets.now) }
 {
     let (descriptor, rest) = long_at(octets)?;
     ended(rest)?;
-    Ok(Op::Disconnect(descriptor))
+    Ok(Body::Op(Op::Disconnect(descriptor)))
 }
 
 #[tactic(auto, unfolding(crate::specs::Reading::priority_at))]
-fn priority_of(octets: &[u8]) -> Result<Op, ReadError>
-    ensures { Makes result (whole priority_at octets.now) }
+fn priority_of(octets: &[u8]) -> Result<Body, ReadError>
+    ensures { Makes result (all_as bodies.Op priority_at octets.now) }
 {
     let (absolute, rest) = octet_at(octets)?;
     let absolute = truth_of(absolute)?;
     let (amount, rest) = signed_at(rest)?;
     ended(rest)?;
-    Ok(Op::Priority(absolute, amount))
+    Ok(Body::Op(Op::Priority(absolute, amount)))
 }
 
 #[tactic(auto, unfolding(crate::specs::Reading::advertise_at))]
-fn advertise_of(alloc: Global, octets: &[u8]) -> Result<Op, ReadError>
-    ensures { Makes result (whole advertise_at octets.now) }
+fn advertise_of(alloc: Global, octets: &[u8]) -> Result<Body, ReadError>
+    ensures { Makes result (all_as bodies.Op advertise_at octets.now) }
 {
     let (service, rest) = word_at(octets)?;
     let (routine, rest) = word_at(rest)?;
     ended(rest)?;
     let service = Octets::of(alloc, service)?;
     let routine = Octets::of(alloc, routine)?;
-    Ok(Op::Advertise(service, routine))
+    Ok(Body::Op(Op::Advertise(service, routine)))
 }
 
 #[tactic(auto, unfolding(crate::specs::Reading::unadvertise_at))]
-fn unadvertise_of(alloc: Global, octets: &[u8]) -> Result<Op, ReadError>
-    ensures { Makes result (whole unadvertise_at octets.now) }
+fn unadvertise_of(alloc: Global, octets: &[u8]) -> Result<Body, ReadError>
+    ensures { Makes result (all_as bodies.Op unadvertise_at octets.now) }
 {
     let (service, rest) = word_at(octets)?;
     ended(rest)?;
-    Ok(Op::Unadvertise(Octets::of(alloc, service)?))
+    Ok(Body::Op(Op::Unadvertise(Octets::of(alloc, service)?)))
 }
 
 #[tactic(auto, unfolding(crate::specs::Reading::tick_at))]
-fn tick_of(octets: &[u8]) -> Result<Op, ReadError>
-    ensures { Makes result (whole tick_at octets.now) }
+fn tick_of(octets: &[u8]) -> Result<Body, ReadError>
+    ensures { Makes result (all_as bodies.Op tick_at octets.now) }
 {
     let (ticks, rest) = number_at(octets)?;
     ended(rest)?;
-    Ok(Op::Tick(ticks))
+    Ok(Body::Op(Op::Tick(ticks)))
 }
 
-/// The operation that all of the octets are.
+/// The OP whose operation all of the octets are.
 #[tactic(auto, unfolding(crate::specs::Reading::op_at))]
 #[inline(never)]
-pub fn op_of(alloc: Global, octets: &[u8]) -> Result<Op, ReadError>
-    ensures { Makes result (whole op_at octets.now) }
+pub fn op_of(alloc: Global, octets: &[u8]) -> Result<Body, ReadError>
+    ensures { Makes result (all_as bodies.Op op_at octets.now) }
 {
     let (code, rest) = octet_at(octets)?;
     match code {

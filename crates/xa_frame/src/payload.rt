@@ -2,18 +2,21 @@
 
 ghost use Rattle.std.specs.Prelude.{◌≡◌, ◌≤◌, ◌++◌, length, OnOk, IfOk};
 ghost use Rattle.xa_frame.specs.Spelling.{data_kind_octets, data_octets, IsDataKind, IsData};
-ghost use Rattle.xa_frame.specs.Reading.{Reads, held, data_kind_at, data_at};
+ghost use Rattle.xa_frame.specs.Reading.{Reads, held, IsPayload, data_kind_at, data_at};
 
-use crate::fields::{NoFrame, name_at, octet_at, put_sized, put_word, sized_at, word_len};
+use crate::fields::{
+    NoFrame, name_at, name_of, octet_at, put_sized, put_word, sized_at, word_at, word_len,
+};
 use std::alloc::Global;
 use xa_types::{Data, Kind, Name, NoMemory, Octets};
 
-/// Data whose octets stay where they are.
+/// Data whose octets stay where they are. The subtype is a name, which is made where the data is copied: names are long to
+/// carry along.
 #[derive(Clone, Copy)]
 pub enum Payload<'a> {
     Absent,
     Octet(&'a [u8]),
-    Struct(Name, &'a [u8]),
+    Struct(&'a [u8], &'a [u8]),
 }
 
 /// The kind of a buffer, and what stands behind it.
@@ -36,9 +39,10 @@ pub fn data_kind_at(octets: &[u8]) -> Result<(Option<Kind>, &[u8]), NoFrame>
 }
 
 /// Data, and what stands behind it.
-#[tactic(auto, unfolding(crate::specs::Reading::data_at))]
+#[tactic(auto, unfolding(crate::specs::Reading::data_at, crate::specs::Reading::name_at))]
 pub fn data_at(octets: &[u8]) -> Result<(Payload<'_>, &[u8]), NoFrame>
-    ensures { Reads (λ x. (held x.0, x.1.now)) result (data_at octets.now) }
+    ensures read { Reads (λ x. (held x.0, x.1.now)) result (data_at octets.now) }
+    ensures named { IfOk result (λ x. IsPayload x.0) }
 {
     let (kind, rest) = octet_at(octets)?;
     match kind {
@@ -48,9 +52,8 @@ pub fn data_at(octets: &[u8]) -> Result<(Payload<'_>, &[u8]), NoFrame>
             Ok((Payload::Octet(octets), rest))
         }
         0x02 => {
-            let Ok((subtype, rest)) = name_at(rest) else {
-                return Err(NoFrame);
-            };
+            let (subtype, rest) = word_at(rest)?;
+            name_of(subtype)?;
             let (octets, rest) = sized_at(rest)?;
             Ok((Payload::Struct(subtype, octets), rest))
         }
@@ -61,13 +64,17 @@ pub fn data_at(octets: &[u8]) -> Result<(Payload<'_>, &[u8]), NoFrame>
 impl Payload<'_> {
     /// A copy of the data.
     pub fn own(&self, alloc: Global) -> Result<Data, NoMemory>
+        requires { IsPayload self.now }
         ensures { IfOk result (λ owned. owned ≡ held self.now) }
     {
         match self {
             Payload::Absent => Ok(Data::Absent),
             Payload::Octet(octets) => Ok(Data::Octet(Octets::of(alloc, octets)?)),
             Payload::Struct(subtype, octets) => {
-                Ok(Data::Struct(*subtype, Octets::of(alloc, octets)?))
+                let Ok(subtype) = Name::read(subtype) else {
+                    unreachable!()
+                };
+                Ok(Data::Struct(subtype, Octets::of(alloc, octets)?))
             }
         }
     }

@@ -6,7 +6,7 @@ ghost use Rattle.xa_frame.specs.declared.frame.Body.TheVariants.{Ready, Next, Sh
 ghost use Rattle.xa_frame.specs.Reading.{Makes, Stands, StandsFirst, name_at, nothing, all_as, return_of, forward_of, invoke_of, body_of, front_at};
 
 use crate::choices::{mode_of, rval_of};
-use crate::fields::{ReadError, ended, name_at, octet_at, word_at};
+use crate::fields::{ReadError, ended, name_of, octet_at, word_at};
 use crate::frame::{Body, Frame};
 use crate::header::{FrameKind, HEADER, header_at};
 use crate::op::op_of;
@@ -16,14 +16,14 @@ use crate::reply::{coded_at, reply_of};
 use std::alloc::Global;
 use xa_types::Octets;
 
+#[tactic(auto, unfolding(crate::specs::Reading::name_at))]
 #[inline(never)]
 fn ready_of(octets: &[u8]) -> Result<Body, ReadError>
     ensures body { Makes result (all_as Ready name_at octets.now) }
     ensures why { IfErr result (λ why. why ≡ errors.NoFrame) }
 {
-    let Ok((name, rest)) = name_at(octets) else {
-        return Err(ReadError::NoFrame);
-    };
+    let (name, rest) = word_at(octets)?;
+    let name = name_of(name)?;
     ended(rest)?;
     Ok(Body::Ready(name))
 }
@@ -35,9 +35,7 @@ fn return_of(alloc: Global, octets: &[u8]) -> Result<Body, ReadError>
 {
     let (value, rest) = octet_at(octets)?;
     let value = rval_of(value)?;
-    let Ok(((code, payload), rest)) = coded_at(rest) else {
-        return Err(ReadError::NoFrame);
-    };
+    let ((code, payload), rest) = coded_at(rest)?;
     ended(rest)?;
     Ok(Body::Return(value, code, payload.own(alloc)?))
 }
@@ -48,31 +46,25 @@ fn forward_of(alloc: Global, octets: &[u8]) -> Result<Body, ReadError>
     ensures { Makes result (forward_of octets.now) }
 {
     let (service, rest) = word_at(octets)?;
-    let Ok((payload, rest)) = data_at(rest) else {
-        return Err(ReadError::NoFrame);
-    };
+    let (payload, rest) = data_at(rest)?;
     ended(rest)?;
     let service = Octets::of(alloc, service)?;
     let payload = payload.own(alloc)?;
     Ok(Body::Forward(service, payload))
 }
 
-#[tactic(auto, unfolding(crate::specs::Reading::invoke_of))]
+#[tactic(auto, unfolding(crate::specs::Reading::invoke_of, crate::specs::Reading::name_at))]
 #[inline(never)]
 fn invoke_of(alloc: Global, octets: &[u8]) -> Result<Body, ReadError>
     ensures { Makes result (invoke_of octets.now) }
 {
-    let Ok((service, rest)) = name_at(octets) else {
-        return Err(ReadError::NoFrame);
-    };
-    let Ok((routine, rest)) = name_at(rest) else {
-        return Err(ReadError::NoFrame);
-    };
+    let (service, rest) = word_at(octets)?;
+    let service = name_of(service)?;
+    let (routine, rest) = word_at(rest)?;
+    let routine = name_of(routine)?;
     let (mode, rest) = octet_at(rest)?;
     let mode = mode_of(mode)?;
-    let Ok((payload, rest)) = data_at(rest) else {
-        return Err(ReadError::NoFrame);
-    };
+    let (payload, rest) = data_at(rest)?;
     ended(rest)?;
     Ok(Body::Invoke(service, routine, mode, payload.own(alloc)?))
 }
@@ -102,11 +94,11 @@ fn body_of(alloc: Global, kind: FrameKind, octets: &[u8]) -> Result<Body, ReadEr
     match kind {
         FrameKind::Ready => ready_of(octets),
         FrameKind::Next => next_of(octets),
-        FrameKind::Op => Ok(Body::Op(op_of(alloc, octets)?)),
+        FrameKind::Op => op_of(alloc, octets),
         FrameKind::Return => return_of(alloc, octets),
         FrameKind::Forward => forward_of(alloc, octets),
         FrameKind::Invoke => invoke_of(alloc, octets),
-        FrameKind::Reply => Ok(Body::Reply(reply_of(alloc, octets)?)),
+        FrameKind::Reply => reply_of(alloc, octets),
         FrameKind::Shutdown => shutdown_of(octets),
     }
 }
@@ -136,17 +128,17 @@ fn front_at(
         return Ok(None);
     }
     let (octets, _) = rest.split_at(body_size);
-    let body = match body_of(alloc, header.kind, octets) {
-        Ok(body) => body,
-        Err(ReadError::NoFrame) => return Err(NextRefused::BadFrame(place)),
-        Err(ReadError::NoMemory) => return Err(NextRefused::NoMemory),
-    };
-    *size = HEADER + body_size;
-    let frame = Frame {
-        tag: header.tag,
-        body,
-    };
-    Ok(Some(frame))
+    match body_of(alloc, header.kind, octets) {
+        Ok(body) => {
+            *size = HEADER + body_size;
+            Ok(Some(Frame {
+                tag: header.tag,
+                body,
+            }))
+        }
+        Err(ReadError::NoFrame) => Err(NextRefused::BadFrame(place)),
+        Err(ReadError::NoMemory) => Err(NextRefused::NoMemory),
+    }
 }
 
 /// The same of the octets after so many.

@@ -2,11 +2,13 @@
 
 ghost use Rattle.std.specs.Prelude.{◌≡◌, ◌≤◌, ◌++◌, ◌∷◌, [], length, OnOk, IfOk};
 ghost use Rattle.xa_types.specs.declared.reply.Reply.TheVariants as replies;
+ghost use Rattle.xa_frame.specs.declared.frame.Body.TheVariants as bodies;
 ghost use Rattle.xa_frame.specs.Spelling.{signed, data_octets, answer_octets, reply_octets, IsData, IsAnswer, IsReply};
-ghost use Rattle.xa_frame.specs.Reading.{Reads, Makes, whole, held, meant, coded_at, fault_at, answer_at, descriptor_at, now_at, answered_at, message_at, event_at, fault_reply_at, done_at, reply_at};
+ghost use Rattle.xa_frame.specs.Reading.{Reads, Makes, all_as, held, meant, IsPayload, IsTold, coded_at, fault_at, answer_at, descriptor_at, now_at, answered_at, message_at, event_at, fault_reply_at, done_at, reply_at};
 
 use crate::choices::{event_octet, event_of, fault_octet, fault_of};
 use crate::fields::{NoFrame, ReadError, ended, long_at, octet_at, put_long, signed_at};
+use crate::frame::Body;
 use crate::payload::{Payload, data_at, data_len, put_data};
 use std::alloc::Global;
 use xa_types::{Answer, ConvEvent, Data, Fault, NoMemory, Reply};
@@ -21,12 +23,11 @@ pub enum Told<'a> {
 
 /// A code and data, and what stands behind them.
 pub fn coded_at(octets: &[u8]) -> Result<((i32, Payload<'_>), &[u8]), NoFrame>
-    ensures { Reads (λ x. ((x.0.0, held x.0.1), x.1.now)) result (coded_at octets.now) }
+    ensures read { Reads (λ x. ((x.0.0, held x.0.1), x.1.now)) result (coded_at octets.now) }
+    ensures named { IfOk result (λ x. IsPayload x.0.1) }
 {
     let (code, rest) = signed_at(octets)?;
-    let Ok((payload, rest)) = data_at(rest) else {
-        return Err(NoFrame);
-    };
+    let (payload, rest) = data_at(rest)?;
     Ok(((code, payload), rest))
 }
 
@@ -39,20 +40,17 @@ fn fault_at(octets: &[u8]) -> Result<(Fault, &[u8]), NoFrame>
 
 #[tactic(auto, unfolding(crate::specs::Reading::answer_at))]
 fn answer_at(octets: &[u8]) -> Result<(Told<'_>, &[u8]), NoFrame>
-    ensures { Reads (λ x. (meant x.0, x.1.now)) result (answer_at octets.now) }
+    ensures read { Reads (λ x. (meant x.0, x.1.now)) result (answer_at octets.now) }
+    ensures named { IfOk result (λ x. IsTold x.0) }
 {
     let (code, rest) = octet_at(octets)?;
     match code {
         0 => {
-            let Ok(((code, payload), rest)) = coded_at(rest) else {
-                return Err(NoFrame);
-            };
+            let ((code, payload), rest) = coded_at(rest)?;
             Ok((Told::Success(code, payload), rest))
         }
         1 => {
-            let Ok(((code, payload), rest)) = coded_at(rest) else {
-                return Err(NoFrame);
-            };
+            let ((code, payload), rest) = coded_at(rest)?;
             Ok((Told::Failed(code, payload), rest))
         }
         2 => {
@@ -66,6 +64,7 @@ fn answer_at(octets: &[u8]) -> Result<(Told<'_>, &[u8]), NoFrame>
 impl Told<'_> {
     // A copy of the answer.
     fn own(&self, alloc: Global) -> Result<Answer, NoMemory>
+        requires { IsTold self.now }
         ensures { IfOk result (λ answer. answer ≡ meant self.now) }
     {
         match self {
@@ -77,80 +76,74 @@ impl Told<'_> {
 }
 
 #[tactic(auto, unfolding(crate::specs::Reading::descriptor_at))]
-fn descriptor_of(octets: &[u8]) -> Result<Reply, ReadError>
-    ensures { Makes result (whole descriptor_at octets.now) }
+fn descriptor_of(octets: &[u8]) -> Result<Body, ReadError>
+    ensures { Makes result (all_as bodies.Reply descriptor_at octets.now) }
 {
     let (descriptor, rest) = long_at(octets)?;
     ended(rest)?;
-    Ok(Reply::Descriptor(descriptor))
+    Ok(Body::Reply(Reply::Descriptor(descriptor)))
 }
 
 #[tactic(auto, unfolding(crate::specs::Reading::now_at))]
-fn now_of(octets: &[u8]) -> Result<Reply, ReadError>
-    ensures { Makes result (whole now_at octets.now) }
+fn now_of(octets: &[u8]) -> Result<Body, ReadError>
+    ensures { Makes result (all_as bodies.Reply now_at octets.now) }
 {
     let (now, rest) = long_at(octets)?;
     ended(rest)?;
-    Ok(Reply::Now(now))
+    Ok(Body::Reply(Reply::Now(now)))
 }
 
 #[tactic(auto, unfolding(crate::specs::Reading::answered_at))]
-fn answered_of(alloc: Global, octets: &[u8]) -> Result<Reply, ReadError>
-    ensures { Makes result (whole answered_at octets.now) }
+fn answered_of(alloc: Global, octets: &[u8]) -> Result<Body, ReadError>
+    ensures { Makes result (all_as bodies.Reply answered_at octets.now) }
 {
     let (descriptor, rest) = long_at(octets)?;
-    let Ok((answer, rest)) = answer_at(rest) else {
-        return Err(ReadError::NoFrame);
-    };
+    let (answer, rest) = answer_at(rest)?;
     ended(rest)?;
-    Ok(Reply::Answered(descriptor, answer.own(alloc)?))
+    Ok(Body::Reply(Reply::Answered(descriptor, answer.own(alloc)?)))
 }
 
 #[tactic(auto, unfolding(crate::specs::Reading::message_at))]
-fn message_of(alloc: Global, octets: &[u8]) -> Result<Reply, ReadError>
-    ensures { Makes result (whole message_at octets.now) }
+fn message_of(alloc: Global, octets: &[u8]) -> Result<Body, ReadError>
+    ensures { Makes result (all_as bodies.Reply message_at octets.now) }
 {
-    let Ok((payload, rest)) = data_at(octets) else {
-        return Err(ReadError::NoFrame);
-    };
+    let (payload, rest) = data_at(octets)?;
     ended(rest)?;
-    Ok(Reply::Message(payload.own(alloc)?))
+    Ok(Body::Reply(Reply::Message(payload.own(alloc)?)))
 }
 
 #[tactic(auto, unfolding(crate::specs::Reading::event_at))]
-fn event_reply_of(alloc: Global, octets: &[u8]) -> Result<Reply, ReadError>
-    ensures { Makes result (whole event_at octets.now) }
+fn event_reply_of(alloc: Global, octets: &[u8]) -> Result<Body, ReadError>
+    ensures { Makes result (all_as bodies.Reply event_at octets.now) }
 {
     let (event, rest) = octet_at(octets)?;
     let event = event_of(event)?;
-    let Ok(((code, payload), rest)) = coded_at(rest) else {
-        return Err(ReadError::NoFrame);
-    };
+    let ((code, payload), rest) = coded_at(rest)?;
     ended(rest)?;
-    Ok(Reply::Event(event, code, payload.own(alloc)?))
+    Ok(Body::Reply(Reply::Event(event, code, payload.own(alloc)?)))
 }
 
 #[tactic(auto, unfolding(crate::specs::Reading::fault_reply_at))]
-fn fault_reply_of(octets: &[u8]) -> Result<Reply, ReadError>
-    ensures { Makes result (whole fault_reply_at octets.now) }
+fn fault_reply_of(octets: &[u8]) -> Result<Body, ReadError>
+    ensures { Makes result (all_as bodies.Reply fault_reply_at octets.now) }
 {
     let (fault, rest) = fault_at(octets)?;
     ended(rest)?;
-    Ok(Reply::Fault(fault))
+    Ok(Body::Reply(Reply::Fault(fault)))
 }
 
-fn done_of(octets: &[u8]) -> Result<Reply, ReadError>
-    ensures { Makes result (whole done_at octets.now) }
+fn done_of(octets: &[u8]) -> Result<Body, ReadError>
+    ensures { Makes result (all_as bodies.Reply done_at octets.now) }
 {
     ended(octets)?;
-    Ok(Reply::Done)
+    Ok(Body::Reply(Reply::Done))
 }
 
-/// The reply that all of the octets are.
+/// The REPLY whose reply all of the octets are.
 #[tactic(auto, unfolding(crate::specs::Reading::reply_at))]
 #[inline(never)]
-pub fn reply_of(alloc: Global, octets: &[u8]) -> Result<Reply, ReadError>
-    ensures { Makes result (whole reply_at octets.now) }
+pub fn reply_of(alloc: Global, octets: &[u8]) -> Result<Body, ReadError>
+    ensures { Makes result (all_as bodies.Reply reply_at octets.now) }
 {
     let (code, rest) = octet_at(octets)?;
     match code {
