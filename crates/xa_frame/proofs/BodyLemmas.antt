@@ -19,96 +19,96 @@ use Rattle.xa_frame.specs.declared.frame.Body.TheVariants as bodies
 use Rattle.xa_frame.specs.declared.header.FrameKind.{FrameKind}
 use Rattle.xa_frame.specs.declared.header.FrameKind.TheVariants as kinds
 use Rattle.xa_frame.specs.Spelling.{word, sized, data_kind_octets, data_octets, mode_octet, op_octets, answer_octets, reply_octets, body_octets, IsWord, IsDataKind, IsData, IsOp, IsAnswer, IsReply, IsBody}
-use Rattle.xa_frame.specs.Reading.{◌>>=◌, whole, all_as, called, acalled, got, got_any, connected, sent, received, prior, advertised, succeeded, failed, answered, evented, returned, forwarded, invoked, call_at, acall_at, get_at, get_any_at, cancel_at, connect_at, send_at, receive_at, disconnect_at, priority_at, advertise_at, unadvertise_at, tick_at, op_form, op_at, answer_form, answer_at, descriptor_at, now_at, answered_at, message_at, event_at, fault_reply_at, reply_form, reply_at, return_of, forward_of, invoke_of, body_of, most_octets}
-use Rattle.xa_frame.proofs.FieldLemmas.{IsBytes, bind_some, IsField, two_is, form_again, Taken, chosen, forms_are, whole_is}
-use Rattle.xa_frame.proofs.PartLemmas.{truth_is, direction_is, rval_is, mode_is, fault_is, event_is, flags_are, number_is, signed_is, long_is, word_is, name_is, name_short, nothing_is, data_kind_is, data_is, coded_is}
+use Rattle.xa_frame.specs.Reading.{◌>>=◌, said, called, acalled, got, got_any, connected, sent, received, prior, advertised, succeeded, failed, answered, evented, returned, forwarded, invoked, call_of, acall_of, get_of, get_any_of, cancel_of, connect_of, send_of, receive_of, disconnect_of, priority_of, advertise_of, unadvertise_of, tick_of, op_form, op_of, answer_form, answer_of, descriptor_of, now_of, answered_of, message_of, event_reply_of, fault_reply_of, reply_form, reply_of, return_of, forward_of, invoke_of, body_of, most_octets}
+use Rattle.xa_frame.proofs.FieldLemmas.{IsBytes, IsForm, nothing_is, last_is, before_is, said_takes, said_again, Spells, chosen, forms_are}
+use Rattle.xa_frame.proofs.PartLemmas.{truth_is, direction_is, rval_is, mode_is, fault_is, event_is, flags_are, number_is, signed_is, long_is, word_is, name_is, name_short, data_kind_is, data_is, coded_is}
 
 -- ---- operations
 
-op_taken : (k : ℕ) (bytes : List ℕ) (x : Op × List ℕ) → IsBytes bytes → op_form k bytes ≡ Some x → Taken op_octets IsOp k bytes x
-unfolding call_at acall_at get_at get_any_at cancel_at connect_at send_at receive_at disconnect_at priority_at advertise_at unadvertise_at tick_at
+op_taken : (k : ℕ) (bytes : List ℕ) (x : Op) → IsBytes bytes → op_form k bytes ≡ Some x → Spells op_octets IsOp k bytes x
+unfolding call_of acall_of get_of get_any_of cancel_of connect_of send_of receive_of disconnect_of priority_of advertise_of unadvertise_of tick_of
 op_taken k bytes x fits =
-    chosen (two_is flags_are (two_is word_is (two_is data_kind_is data_is))) called op_octets IsOp 1 (λ v. refl) (λ v p. (p.1.0, p.1.1.0, p.1.1.1, refl)) k bytes x fits _
-    (chosen (two_is flags_are (two_is word_is data_is)) acalled op_octets IsOp 2 (λ v. refl) (λ v p. (p.1.0, p.1.1, refl, refl)) k bytes x fits _
-    (chosen (two_is flags_are (two_is long_is data_kind_is)) got op_octets IsOp 3 (λ v. refl) (λ v p. p.1) k bytes x fits _
-    (chosen (two_is flags_are data_kind_is) got_any op_octets IsOp 4 (λ v. refl) (λ v p. p.1) k bytes x fits _
-    (chosen long_is ops.Cancel op_octets IsOp 5 (λ v. refl) (λ v p. p) k bytes x fits _
-    (chosen (two_is flags_are (two_is direction_is (two_is word_is data_is))) connected op_octets IsOp 6 (λ v. refl) (λ v p. (p.1.1.0, p.1.1.1, refl)) k bytes x fits _
-    (chosen (two_is flags_are (two_is long_is (two_is truth_is data_is))) sent op_octets IsOp 7 (λ v. refl) (λ v p. (p.1.0, p.1.1.1)) k bytes x fits _
-    (chosen (two_is flags_are long_is) received op_octets IsOp 8 (λ v. refl) (λ v p. p.1) k bytes x fits _
-    (chosen long_is ops.Disconnect op_octets IsOp 9 (λ v. refl) (λ v p. p) k bytes x fits _
-    (chosen (two_is truth_is signed_is) prior op_octets IsOp 10 (λ v. refl) (λ v p. p.1) k bytes x fits _
-    (chosen (two_is word_is word_is) advertised op_octets IsOp 11 (λ v. refl) (λ v p. p) k bytes x fits _
-    (chosen word_is ops.Unadvertise op_octets IsOp 12 (λ v. refl) (λ v p. p) k bytes x fits _
-    (chosen number_is ops.Tick op_octets IsOp 13 (λ v. refl) (λ v p. p) k bytes x fits None (λ h. absurd cc)))))))))))))
+    chosen (before_is flags_are (before_is word_is (before_is data_kind_is data_is))) called op_octets IsOp 1 (λ v. refl) (λ v p. (p.1.0, p.1.1.0, p.1.1.1, refl)) k bytes x fits _
+    (chosen (before_is flags_are (before_is word_is data_is)) acalled op_octets IsOp 2 (λ v. refl) (λ v p. (p.1.0, p.1.1, refl, refl)) k bytes x fits _
+    (chosen (before_is flags_are (before_is long_is (last_is data_kind_is))) got op_octets IsOp 3 (λ v. refl) (λ v p. p.1) k bytes x fits _
+    (chosen (before_is flags_are (last_is data_kind_is)) got_any op_octets IsOp 4 (λ v. refl) (λ v p. p.1) k bytes x fits _
+    (chosen (last_is long_is) ops.Cancel op_octets IsOp 5 (λ v. refl) (λ v p. p) k bytes x fits _
+    (chosen (before_is flags_are (before_is direction_is (before_is word_is data_is))) connected op_octets IsOp 6 (λ v. refl) (λ v p. (p.1.1.0, p.1.1.1, refl)) k bytes x fits _
+    (chosen (before_is flags_are (before_is long_is (before_is truth_is data_is))) sent op_octets IsOp 7 (λ v. refl) (λ v p. (p.1.0, p.1.1.1)) k bytes x fits _
+    (chosen (before_is flags_are (last_is long_is)) received op_octets IsOp 8 (λ v. refl) (λ v p. p.1) k bytes x fits _
+    (chosen (last_is long_is) ops.Disconnect op_octets IsOp 9 (λ v. refl) (λ v p. p) k bytes x fits _
+    (chosen (before_is truth_is (last_is signed_is)) prior op_octets IsOp 10 (λ v. refl) (λ v p. p.1) k bytes x fits _
+    (chosen (before_is word_is (last_is word_is)) advertised op_octets IsOp 11 (λ v. refl) (λ v p. p) k bytes x fits _
+    (chosen (last_is word_is) ops.Unadvertise op_octets IsOp 12 (λ v. refl) (λ v p. p) k bytes x fits _
+    (chosen (last_is number_is) ops.Tick op_octets IsOp 13 (λ v. refl) (λ v p. p) k bytes x fits None (λ h. absurd cc)))))))))))))
 
-op_again : (op : Op) (rest : List ℕ) → IsOp op → op_at (op_octets op ++ rest) ≡ Some (op, rest)
-unfolding op_at call_at acall_at get_at get_any_at cancel_at connect_at send_at receive_at disconnect_at priority_at advertise_at unadvertise_at tick_at
-op_again (ops.Call ask) rest h =
-    form_again (two_is flags_are (two_is word_is (two_is data_kind_is data_is))) called (ask.flags, (ask.service, (ask.expect, ask.payload))) rest (tt, (h.0, (h.1, h.2)))
-    ∙ ap (λ (d : Direction). Some (ops.Call (record { service = ask.service; payload = ask.payload; flags = ask.flags; expect = ask.expect; direction = d }), rest)) (sym h.3)
-op_again (ops.Acall ask) rest h =
-    form_again (two_is flags_are (two_is word_is data_is)) acalled (ask.flags, (ask.service, ask.payload)) rest (tt, (h.0, h.1))
-    ∙ ap (λ (k : Option Kind). Some (ops.Acall (record { service = ask.service; payload = ask.payload; flags = ask.flags; expect = k; direction = Neither }), rest)) (sym h.2) ∙ ap (λ (d : Direction). Some (ops.Acall (record { service = ask.service; payload = ask.payload; flags = ask.flags; expect = ask.expect; direction = d }), rest)) (sym h.3)
-op_again (ops.Get descriptor flags expect) rest h = form_again (two_is flags_are (two_is long_is data_kind_is)) got (flags, (descriptor, expect)) rest (tt, h)
-op_again (ops.GetAny flags expect) rest h = form_again (two_is flags_are data_kind_is) got_any (flags, expect) rest (tt, h)
-op_again (ops.Cancel descriptor) rest h = form_again long_is ops.Cancel descriptor rest h
-op_again (ops.Connect ask) rest h =
-    form_again (two_is flags_are (two_is direction_is (two_is word_is data_is))) connected (ask.flags, (ask.direction, (ask.service, ask.payload))) rest (tt, (tt, (h.0, h.1)))
-    ∙ ap (λ (k : Option Kind). Some (ops.Connect (record { service = ask.service; payload = ask.payload; flags = ask.flags; expect = k; direction = ask.direction }), rest)) (sym h.2)
-op_again (ops.Send descriptor flags recv_only payload) rest h = form_again (two_is flags_are (two_is long_is (two_is truth_is data_is))) sent (flags, (descriptor, (recv_only, payload))) rest (tt, (h.0, (tt, h.1)))
-op_again (ops.Receive descriptor flags) rest h = form_again (two_is flags_are long_is) received (flags, descriptor) rest (tt, h)
-op_again (ops.Disconnect descriptor) rest h = form_again long_is ops.Disconnect descriptor rest h
-op_again (ops.Priority absolute amount) rest h = form_again (two_is truth_is signed_is) prior (absolute, amount) rest (tt, h)
-op_again (ops.Advertise service routine) rest h = form_again (two_is word_is word_is) advertised (service, routine) rest h
-op_again (ops.Unadvertise service) rest h = form_again word_is ops.Unadvertise service rest h
-op_again (ops.Tick ticks) rest h = form_again number_is ops.Tick ticks rest h
+op_again : (op : Op) → IsOp op → op_of (op_octets op) ≡ Some op
+unfolding op_of call_of acall_of get_of get_any_of cancel_of connect_of send_of receive_of disconnect_of priority_of advertise_of unadvertise_of tick_of
+op_again (ops.Call ask) h =
+    said_again (before_is flags_are (before_is word_is (before_is data_kind_is data_is))) called (ask.flags, (ask.service, (ask.expect, ask.payload))) (tt, (h.0, (h.1, h.2)))
+    ∙ ap (λ (d : Direction). Some (ops.Call (record { service = ask.service; payload = ask.payload; flags = ask.flags; expect = ask.expect; direction = d }))) (sym h.3)
+op_again (ops.Acall ask) h =
+    said_again (before_is flags_are (before_is word_is data_is)) acalled (ask.flags, (ask.service, ask.payload)) (tt, (h.0, h.1))
+    ∙ ap (λ (k : Option Kind). Some (ops.Acall (record { service = ask.service; payload = ask.payload; flags = ask.flags; expect = k; direction = Neither }))) (sym h.2) ∙ ap (λ (d : Direction). Some (ops.Acall (record { service = ask.service; payload = ask.payload; flags = ask.flags; expect = ask.expect; direction = d }))) (sym h.3)
+op_again (ops.Get descriptor flags expect) h = said_again (before_is flags_are (before_is long_is (last_is data_kind_is))) got (flags, (descriptor, expect)) (tt, h)
+op_again (ops.GetAny flags expect) h = said_again (before_is flags_are (last_is data_kind_is)) got_any (flags, expect) (tt, h)
+op_again (ops.Cancel descriptor) h = said_again (last_is long_is) ops.Cancel descriptor h
+op_again (ops.Connect ask) h =
+    said_again (before_is flags_are (before_is direction_is (before_is word_is data_is))) connected (ask.flags, (ask.direction, (ask.service, ask.payload))) (tt, (tt, (h.0, h.1)))
+    ∙ ap (λ (k : Option Kind). Some (ops.Connect (record { service = ask.service; payload = ask.payload; flags = ask.flags; expect = k; direction = ask.direction }))) (sym h.2)
+op_again (ops.Send descriptor flags recv_only payload) h = said_again (before_is flags_are (before_is long_is (before_is truth_is data_is))) sent (flags, (descriptor, (recv_only, payload))) (tt, (h.0, (tt, h.1)))
+op_again (ops.Receive descriptor flags) h = said_again (before_is flags_are (last_is long_is)) received (flags, descriptor) (tt, h)
+op_again (ops.Disconnect descriptor) h = said_again (last_is long_is) ops.Disconnect descriptor h
+op_again (ops.Priority absolute amount) h = said_again (before_is truth_is (last_is signed_is)) prior (absolute, amount) (tt, h)
+op_again (ops.Advertise service routine) h = said_again (before_is word_is (last_is word_is)) advertised (service, routine) h
+op_again (ops.Unadvertise service) h = said_again (last_is word_is) ops.Unadvertise service h
+op_again (ops.Tick ticks) h = said_again (last_is number_is) ops.Tick ticks h
 
-pub op_is : IsField op_at op_octets IsOp
-unfolding op_at
+pub op_is : IsForm op_of op_octets IsOp
+unfolding op_of
 op_is = forms_are op_form op_octets IsOp op_taken op_again
 
 -- ---- replies
 
-answer_taken : (k : ℕ) (bytes : List ℕ) (x : Answer × List ℕ) → IsBytes bytes → answer_form k bytes ≡ Some x → Taken answer_octets IsAnswer k bytes x
+answer_taken : (k : ℕ) (bytes : List ℕ) (x : Answer) → IsBytes bytes → answer_form k bytes ≡ Some x → Spells answer_octets IsAnswer k bytes x
 answer_taken k bytes x fits =
     chosen coded_is succeeded answer_octets IsAnswer 0 (λ v. refl) (λ v p. p) k bytes x fits _
     (chosen coded_is failed answer_octets IsAnswer 1 (λ v. refl) (λ v p. p) k bytes x fits _
-    (chosen fault_is answers.Error answer_octets IsAnswer 2 (λ v. refl) (λ v p. tt) k bytes x fits None (λ h. absurd cc)))
+    (chosen (last_is fault_is) answers.Error answer_octets IsAnswer 2 (λ v. refl) (λ v p. tt) k bytes x fits None (λ h. absurd cc)))
 
-answer_again : (a : Answer) (rest : List ℕ) → IsAnswer a → answer_at (answer_octets a ++ rest) ≡ Some (a, rest)
-unfolding answer_at
-answer_again (answers.Success code payload) rest h = form_again coded_is succeeded (code, payload) rest h
-answer_again (answers.Failed code payload) rest h = form_again coded_is failed (code, payload) rest h
-answer_again (answers.Error fault) rest h = form_again fault_is answers.Error fault rest tt
+answer_again : (a : Answer) → IsAnswer a → answer_of (answer_octets a) ≡ Some a
+unfolding answer_of
+answer_again (answers.Success code payload) h = said_again coded_is succeeded (code, payload) h
+answer_again (answers.Failed code payload) h = said_again coded_is failed (code, payload) h
+answer_again (answers.Error fault) h = said_again (last_is fault_is) answers.Error fault tt
 
-answer_is : IsField answer_at answer_octets IsAnswer
-unfolding answer_at
+answer_is : IsForm answer_of answer_octets IsAnswer
+unfolding answer_of
 answer_is = forms_are answer_form answer_octets IsAnswer answer_taken answer_again
 
-reply_taken : (k : ℕ) (bytes : List ℕ) (x : Reply × List ℕ) → IsBytes bytes → reply_form k bytes ≡ Some x → Taken reply_octets IsReply k bytes x
-unfolding descriptor_at now_at answered_at message_at event_at fault_reply_at
+reply_taken : (k : ℕ) (bytes : List ℕ) (x : Reply) → IsBytes bytes → reply_form k bytes ≡ Some x → Spells reply_octets IsReply k bytes x
+unfolding descriptor_of now_of answered_of message_of event_reply_of fault_reply_of
 reply_taken k bytes x fits =
     chosen nothing_is (λ _. replies.Done) reply_octets IsReply 0 (λ v. refl) (λ v p. tt) k bytes x fits _
-    (chosen long_is replies.Descriptor reply_octets IsReply 1 (λ v. refl) (λ v p. p) k bytes x fits _
-    (chosen long_is replies.Now reply_octets IsReply 2 (λ v. refl) (λ v p. p) k bytes x fits _
-    (chosen (two_is long_is answer_is) answered reply_octets IsReply 3 (λ v. refl) (λ v p. p) k bytes x fits _
+    (chosen (last_is long_is) replies.Descriptor reply_octets IsReply 1 (λ v. refl) (λ v p. p) k bytes x fits _
+    (chosen (last_is long_is) replies.Now reply_octets IsReply 2 (λ v. refl) (λ v p. p) k bytes x fits _
+    (chosen (before_is long_is answer_is) answered reply_octets IsReply 3 (λ v. refl) (λ v p. p) k bytes x fits _
     (chosen data_is replies.Message reply_octets IsReply 4 (λ v. refl) (λ v p. p) k bytes x fits _
-    (chosen (two_is event_is coded_is) evented reply_octets IsReply 5 (λ v. refl) (λ v p. p.1) k bytes x fits _
-    (chosen fault_is replies.Fault reply_octets IsReply 6 (λ v. refl) (λ v p. tt) k bytes x fits None (λ h. absurd cc)))))))
+    (chosen (before_is event_is coded_is) evented reply_octets IsReply 5 (λ v. refl) (λ v p. p.1) k bytes x fits _
+    (chosen (last_is fault_is) replies.Fault reply_octets IsReply 6 (λ v. refl) (λ v p. tt) k bytes x fits None (λ h. absurd cc)))))))
 
-reply_again : (r : Reply) (rest : List ℕ) → IsReply r → reply_at (reply_octets r ++ rest) ≡ Some (r, rest)
-unfolding reply_at descriptor_at now_at answered_at message_at event_at fault_reply_at
-reply_again replies.Done rest h = refl
-reply_again (replies.Descriptor descriptor) rest h = form_again long_is replies.Descriptor descriptor rest h
-reply_again (replies.Now now) rest h = form_again long_is replies.Now now rest h
-reply_again (replies.Answered descriptor answer) rest h = form_again (two_is long_is answer_is) answered (descriptor, answer) rest h
-reply_again (replies.Message payload) rest h = form_again data_is replies.Message payload rest h
-reply_again (replies.Event event code payload) rest h = form_again (two_is event_is coded_is) evented (event, (code, payload)) rest (tt, h)
-reply_again (replies.Fault fault) rest h = form_again fault_is replies.Fault fault rest tt
+reply_again : (r : Reply) → IsReply r → reply_of (reply_octets r) ≡ Some r
+unfolding reply_of descriptor_of now_of answered_of message_of event_reply_of fault_reply_of
+reply_again replies.Done h = refl
+reply_again (replies.Descriptor descriptor) h = said_again (last_is long_is) replies.Descriptor descriptor h
+reply_again (replies.Now now) h = said_again (last_is long_is) replies.Now now h
+reply_again (replies.Answered descriptor answer) h = said_again (before_is long_is answer_is) answered (descriptor, answer) h
+reply_again (replies.Message payload) h = said_again data_is replies.Message payload h
+reply_again (replies.Event event code payload) h = said_again (before_is event_is coded_is) evented (event, (code, payload)) (tt, h)
+reply_again (replies.Fault fault) h = said_again (last_is fault_is) replies.Fault fault tt
 
-pub reply_is : IsField reply_at reply_octets IsReply
-unfolding reply_at
+pub reply_is : IsForm reply_of reply_octets IsReply
+unfolding reply_of
 reply_is = forms_are reply_form reply_octets IsReply reply_taken reply_again
 
 -- ---- bodies
@@ -130,37 +130,33 @@ pub record IsSpelled (kind : FrameKind) (bytes : List ℕ) (b : Body) : Type 0 w
   pub sound : IsBody b
 
 -- a body that is made of what all of the octets are
-spelled_as : {A : Type 0} {f : List ℕ → Option (A × List ℕ)} {s : A → List ℕ} {P : A → Type 0} (is : IsField f s P) (kind : FrameKind) (to : A → Body) → ((v : A) → kind ≡ kind_is (to v)) → ((v : A) → s v ≡ body_octets (to v)) → ((v : A) → P v → IsBody (to v))
-    → (bytes : List ℕ) (b : Body) → IsBytes bytes → all_as to f bytes ≡ Some b → IsSpelled kind bytes b
-spelled_as {A} {f} is kind to of same sound bytes b fits e =
-    let v = bind_some (whole f bytes) (λ v. Some (to v)) b e in
-    let t = (whole_is is).takes bytes v.0 fits v.1 in
-    subst (IsSpelled kind bytes) (same_Some (to v.0) b v.2) (record { kind_as = of v.0; whole = t.0 ∙ same v.0; sound = sound v.0 t.1 })
-
-all_again : {A : Type 0} {f : List ℕ → Option (A × List ℕ)} {s : A → List ℕ} {P : A → Type 0} (is : IsField f s P) (to : A → Body) (v : A) → P v → all_as to f (s v) ≡ Some (to v)
-all_again {A} is to v h = ap (λ (r : Option A). r >>= λ w. Some (to w)) ((whole_is is).again v h)
+spelled_as : {A : Type 0} {g : List ℕ → Option A} {s : A → List ℕ} {P : A → Type 0} (is : IsForm g s P) (kind : FrameKind) (to : A → Body) → ((v : A) → kind ≡ kind_is (to v)) → ((v : A) → s v ≡ body_octets (to v)) → ((v : A) → P v → IsBody (to v))
+    → (bytes : List ℕ) (b : Body) → IsBytes bytes → said to g bytes ≡ Some b → IsSpelled kind bytes b
+spelled_as is kind to of same sound bytes b fits e =
+    let v = said_takes is to bytes b fits e in
+    subst (IsSpelled kind bytes) v.3 (record { kind_as = of v.0; whole = v.1 ∙ same v.0; sound = sound v.0 v.2 })
 
 pub body_takes : (kind : FrameKind) (bytes : List ℕ) (b : Body) → IsBytes bytes → body_of kind bytes ≡ Some b → IsSpelled kind bytes b
 unfolding return_of forward_of invoke_of
-body_takes kinds.Ready = spelled_as name_is kinds.Ready bodies.Ready (λ v. refl) (λ v. refl) (λ v p. p)
+body_takes kinds.Ready = spelled_as (last_is name_is) kinds.Ready bodies.Ready (λ v. refl) (λ v. refl) (λ v p. p)
 body_takes kinds.Next = spelled_as nothing_is kinds.Next (λ _. bodies.Next) (λ v. refl) (λ v. refl) (λ v p. tt)
 body_takes kinds.Op = spelled_as op_is kinds.Op bodies.Op (λ v. refl) (λ v. refl) (λ v p. p)
-body_takes kinds.Return = spelled_as (two_is rval_is coded_is) kinds.Return returned (λ v. refl) (λ v. refl) (λ v p. p.1)
-body_takes kinds.Forward = spelled_as (two_is word_is data_is) kinds.Forward forwarded (λ v. refl) (λ v. refl) (λ v p. p)
-body_takes kinds.Invoke = spelled_as (two_is name_is (two_is name_is (two_is mode_is data_is))) kinds.Invoke invoked (λ v. refl) (λ v. refl) (λ v p. (p.0, p.1.0, p.1.1.1))
+body_takes kinds.Return = spelled_as (before_is rval_is coded_is) kinds.Return returned (λ v. refl) (λ v. refl) (λ v p. p.1)
+body_takes kinds.Forward = spelled_as (before_is word_is data_is) kinds.Forward forwarded (λ v. refl) (λ v. refl) (λ v p. p)
+body_takes kinds.Invoke = spelled_as (before_is name_is (before_is name_is (before_is mode_is data_is))) kinds.Invoke invoked (λ v. refl) (λ v. refl) (λ v p. (p.0, p.1.0, p.1.1.1))
 body_takes kinds.Reply = spelled_as reply_is kinds.Reply bodies.Reply (λ v. refl) (λ v. refl) (λ v p. p)
 body_takes kinds.Shutdown = spelled_as nothing_is kinds.Shutdown (λ _. bodies.Shutdown) (λ v. refl) (λ v. refl) (λ v p. tt)
 
 pub body_again : (b : Body) → IsBody b → body_of (kind_is b) (body_octets b) ≡ Some b
 unfolding return_of forward_of invoke_of
-body_again (bodies.Ready name) h = all_again name_is bodies.Ready name h
+body_again (bodies.Ready name) h = said_again (last_is name_is) bodies.Ready name h
 body_again bodies.Next h = refl
-body_again (bodies.Op op) h = all_again op_is bodies.Op op h
-body_again (bodies.Return value code payload) h = all_again (two_is rval_is coded_is) returned (value, (code, payload)) (tt, h)
-body_again (bodies.Forward service payload) h = all_again (two_is word_is data_is) forwarded (service, payload) h
+body_again (bodies.Op op) h = said_again op_is bodies.Op op h
+body_again (bodies.Return value code payload) h = said_again (before_is rval_is coded_is) returned (value, (code, payload)) (tt, h)
+body_again (bodies.Forward service payload) h = said_again (before_is word_is data_is) forwarded (service, payload) h
 body_again (bodies.Invoke service routine mode payload) h =
-    all_again (two_is name_is (two_is name_is (two_is mode_is data_is))) invoked (service, (routine, (mode, payload))) (h.0, (h.1, (tt, h.2)))
-body_again (bodies.Reply reply) h = all_again reply_is bodies.Reply reply h
+    said_again (before_is name_is (before_is name_is (before_is mode_is data_is))) invoked (service, (routine, (mode, payload))) (h.0, (h.1, (tt, h.2)))
+body_again (bodies.Reply reply) h = said_again reply_is bodies.Reply reply h
 body_again bodies.Shutdown h = refl
 
 -- ---- lengths

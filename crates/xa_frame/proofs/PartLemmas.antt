@@ -2,7 +2,7 @@
 use Rattle.std.proofs.Common.{◌≡◌, ℕ, zero, suc, ◌/◌, ◌%◌, ◌^◌, ◌<◌, ◌≤◌, Bool, true, false, cond, ltb, leb, eqb, ◌&&◌, List, [], ◌∷◌, ◌++◌, length, take, drop, Option, Some, None, refl, sym, ap, subst, ◌∙◌, arith, rules, ℤ, pos, negsuc}
 use Rattle.std.specs.Int.{w32, w64, from_be_bytes, cast_signed, cast_unsigned}
 use Rattle.std.specs.Prelude.{FitsSigned}
-use Rattle.std.proofs.lemmas.Bool.{ltb-false, le-ltb, leb-true, le-leb, ltb-true, lt-ltb, and_parts, and_from, cond-true, cond-false}
+use Rattle.std.proofs.lemmas.Bool.{ltb-false, le-ltb, leb-true, le-leb, eqb-true, eq-eqb, ltb-true, lt-ltb, and_parts, and_from, cond-true, cond-false}
 use Rattle.std.proofs.lemmas.Int.{to_z-of_z, of_z-to_z}
 use Rattle.std.proofs.Math.Facts.{sfits_to_z}
 use Rattle.std.proofs.lemmas.Option.{cond_some, same_Some}
@@ -26,8 +26,8 @@ use Rattle.xa_types.specs.declared.fault.Fault.TheVariants as faults
 use Rattle.xa_types.specs.declared.fault.ConvEvent.{ConvEvent}
 use Rattle.xa_types.specs.declared.fault.ConvEvent.TheVariants as events
 use Rattle.xa_frame.specs.Spelling.{word, sized, signed, bit, data_kind_octets, data_octets, flags_octet, direction_octet, rval_octet, mode_octet, fault_octet, event_octet, IsWord, IsDataKind, IsData}
-use Rattle.xa_frame.specs.Reading.{◌>>=◌, nothing, two, octet_at, octet_as, all_truths, all_directions, all_rvals, all_modes, all_faults, all_events, truth_of, direction_of, rval_of, mode_of, fault_of, event_of, is_set, flags_of, flags_at, number_at, signed_at, long_at, word_at, name_of, name_at, sized_at, data_kind_form, data_kind_at, typed, data_form, data_at, coded_at}
-use Rattle.xa_frame.proofs.FieldLemmas.{IsBytes, IsBytes-drop, IsBytes-take, bind_some, guard_some, Takes, Takes-then, IsField, octet_takes, pick_takes, octet_is, two_is, made_takes, made_again, form_again, Taken, chosen, forms_are}
+use Rattle.xa_frame.specs.Reading.{◌>>=◌, octet_at, octet_as, all_truths, all_directions, all_rvals, all_modes, all_faults, all_events, truth_of, direction_of, rval_of, mode_of, fault_of, event_of, is_set, flags_of, flags_at, number_at, signed_at, long_at, word_at, name_of, name_at, sized_of, data_kind_form, data_kind_at, typed, struct_of, data_form, data_of, coded_of}
+use Rattle.xa_frame.proofs.FieldLemmas.{IsBytes, IsBytes-drop, IsBytes-take, IsBytes-rest, bind_some, guard_some, Takes, Takes-then, IsField, IsForm, decided, octet_takes, pick_takes, octet_is, nothing_is, before_is, said_again, Spells, chosen, forms_are}
 
 -- ---- octets that say something
 
@@ -188,14 +188,14 @@ pub signed_is : IsField signed_at signed (FitsSigned w32)
 signed_is = record { takes = λ bytes x fits e. taken bytes x fits e; again = λ z rest h. found z rest h } where
   taken : (bytes : List ℕ) (x : ℤ × List ℕ) → IsBytes bytes → signed_at bytes ≡ Some x → Takes bytes (signed x.0) x.1 × FitsSigned w32 x.0
   taken bytes x fits e =
-      let a = made_takes (cast_signed w32) number_at bytes x e in
+      let a = bind_some (number_at bytes) (λ n. Some (cast_signed w32 n.0, n.1)) x e in
       let n = number_is.takes bytes a.0 fits a.1 in
       let same : a.0.0 ≡ cast_unsigned w32 (cast_signed w32 a.0.0) = sym (of_z-to_z w32 a.0.0 n.1) in
-      subst (λ (y : ℤ × List ℕ). Takes bytes (signed y.0) y.1 × FitsSigned w32 y.0) a.2 (subst (λ (k : ℕ). Takes bytes (big_bytes 4 k) a.0.1) same n.0, signed_fits a.0.0 n.1)
+      subst (λ (y : ℤ × List ℕ). Takes bytes (signed y.0) y.1 × FitsSigned w32 y.0) (same_Some (cast_signed w32 a.0.0, a.0.1) x a.2) (subst (λ (k : ℕ). Takes bytes (big_bytes 4 k) a.0.1) same n.0, signed_fits a.0.0 n.1)
 
   found : (z : ℤ) (rest : List ℕ) → FitsSigned w32 z → signed_at (signed z ++ rest) ≡ Some (z, rest)
   found z rest h =
-      made_again (cast_signed w32) number_at (signed z ++ rest) rest (cast_unsigned w32 z) (number_is.again (cast_unsigned w32 z) rest (code_fits z h))
+      ap (λ (r : Option (ℕ × List ℕ)). r >>= λ n. Some (cast_signed w32 n.0, n.1)) (number_is.again (cast_unsigned w32 z) rest (code_fits z h))
       ∙ ap (λ (k : ℤ). Some (k, rest)) (to_z-of_z w32 z h)
 
 -- ---- words and names
@@ -250,67 +250,72 @@ name_is = record { takes = λ bytes x fits e. taken bytes x fits e; again = λ n
 
 -- ---- data
 
-pub sized_is : IsField sized_at sized (λ octets. length octets ≤ 65_536)
-unfolding sized_at
-sized_is = record { takes = λ bytes x fits e. taken bytes x fits e; again = λ octets rest most. found octets rest most } where
-  taken : (bytes : List ℕ) (x : List ℕ × List ℕ) → IsBytes bytes → sized_at bytes ≡ Some x → Takes bytes (sized x.0) x.1 × (length x.0 ≤ 65_536)
-  taken bytes x fits e =
-      let a = bind_some (number_at bytes) (λ n. cond (leb n.0 65_536 && leb n.0 (length n.1)) (Some (take n.0 n.1, drop n.0 n.1)) None) x e in
+pub sized_is : IsForm sized_of sized (λ octets. length octets ≤ 65_536)
+unfolding sized_of
+sized_is = record { takes = λ bytes octets fits e. taken bytes octets fits e; again = λ octets most. found octets most } where
+  taken : (bytes octets : List ℕ) → IsBytes bytes → sized_of bytes ≡ Some octets → (bytes ≡ sized octets) × (length octets ≤ 65_536)
+  taken bytes octets fits e =
+      let a = bind_some (number_at bytes) (λ n. cond (leb n.0 65_536 && eqb (length n.1) n.0) (Some n.1) None) octets e in
       let n = a.0 in
       let first = number_is.takes bytes n fits a.1 in
-      let g = cond_some (leb n.0 65_536 && leb n.0 (length n.1)) (take n.0 n.1, drop n.0 n.1) x a.2 in
-      let tests = and_parts (leb n.0 65_536) (leb n.0 (length n.1)) g.0 in
+      let g = cond_some (leb n.0 65_536 && eqb (length n.1) n.0) n.1 octets a.2 in
+      let tests = and_parts (leb n.0 65_536) (eqb (length n.1) n.0) g.0 in
       let most : n.0 ≤ 65_536 = leb-true _ _ tests.0 in
-      let long : n.0 ≤ length n.1 = leb-true _ _ tests.1 in
-      let len : n.0 ≡ length (take n.0 n.1) = omega (arith, length-take n.0 n.1) in
-      let second : Takes n.1 (take n.0 n.1) (drop n.0 n.1) = record { parts = sym (take-append-drop n.0 n.1); rest_fits = IsBytes-drop n.0 n.1 first.0.rest_fits } in
-      let both = Takes-then bytes (big_bytes 4 n.0) n.1 (take n.0 n.1) (drop n.0 n.1) first.0 second in
-      let whole : Takes bytes (sized (take n.0 n.1)) (drop n.0 n.1) = subst (λ (k : ℕ). Takes bytes (big_bytes 4 k ++ take n.0 n.1) (drop n.0 n.1)) len both in
-      subst (λ (y : List ℕ × List ℕ). Takes bytes (sized y.0) y.1 × (length y.0 ≤ 65_536)) g.1 (whole, omega arith)
+      let len : length n.1 ≡ n.0 = eqb-true _ _ tests.1 in
+      let whole : bytes ≡ sized n.1 = first.0.parts ∙ ap (λ (k : ℕ). big_bytes 4 k ++ n.1) (sym len) in
+      subst (λ (y : List ℕ). (bytes ≡ sized y) × (length y ≤ 65_536)) g.1 (whole, omega arith)
 
-  found : (octets rest : List ℕ) → length octets ≤ 65_536 → sized_at (sized octets ++ rest) ≡ Some (octets, rest)
-  found octets rest most =
-      let tests = and_from (leb (length octets) 65_536) (leb (length octets) (length (octets ++ rest))) (le-leb _ _ most) (le-leb _ _ (omega (arith, length-append octets rest))) in
-      ap (λ (r : Option (ℕ × List ℕ)). r >>= λ n. cond (leb n.0 65_536 && leb n.0 (length n.1)) (Some (take n.0 n.1, drop n.0 n.1)) None) (number_is.again (length octets) (octets ++ rest) (omega (arith, most)))
-      ∙ cond-true (leb (length octets) 65_536 && leb (length octets) (length (octets ++ rest))) _ None tests
-      ∙ rw (take_at octets rest (length octets) refl, drop_at octets rest (length octets) refl) refl
+  found : (octets : List ℕ) → length octets ≤ 65_536 → sized_of (sized octets) ≡ Some octets
+  found octets most =
+      ap (λ (r : Option (ℕ × List ℕ)). r >>= λ n. cond (leb n.0 65_536 && eqb (length n.1) n.0) (Some n.1) None) (number_is.again (length octets) octets (omega arith))
+      ∙ cond-true (leb (length octets) 65_536 && eqb (length octets) (length octets)) (Some octets) None (and_from _ _ (le-leb _ _ most) (eq-eqb _ _ refl))
 
-pub nothing_is : IsField nothing (λ _. []) (λ _. Unit {0})
-nothing_is = record { takes = λ bytes x fits e. taken bytes x fits e; again = λ v rest h. refl } where
-  taken : (bytes : List ℕ) (x : Unit {0} × List ℕ) → IsBytes bytes → nothing bytes ≡ Some x → Takes bytes [] x.1 × Unit {0}
-  taken bytes x fits e =
-      subst (λ (y : Unit {0} × List ℕ). Takes bytes [] y.1 × Unit {0}) (same_Some (tt, bytes) x e) (record { parts = refl; rest_fits = fits }, tt)
+-- the kind of a buffer, which the octet k says
+record SpellsKind (k : ℕ) (bytes : List ℕ) (x : Option Kind × List ℕ) : Type 0 where
+  takes : Takes (k ∷ bytes) (data_kind_octets x.0) x.1
+  fits : IsDataKind x.0
 
 pub data_kind_is : IsField data_kind_at data_kind_octets IsDataKind
 unfolding data_kind_at
-data_kind_is = forms_are data_kind_form data_kind_octets IsDataKind taken again where
-  taken : (k : ℕ) (bytes : List ℕ) (x : Option Kind × List ℕ) → IsBytes bytes → data_kind_form k bytes ≡ Some x → Taken data_kind_octets IsDataKind k bytes x
-  taken k bytes x fits =
-      chosen nothing_is (λ _. None) data_kind_octets IsDataKind 0 (λ v. refl) (λ v p. tt) k bytes x fits _
-      (chosen nothing_is (λ _. Some data_kinds.Octet) data_kind_octets IsDataKind 1 (λ v. refl) (λ v p. tt) k bytes x fits _
-      (chosen name_is (λ name. Some (data_kinds.Struct name)) data_kind_octets IsDataKind 2 (λ v. refl) (λ v p. p) k bytes x fits None (λ h. absurd cc)))
+data_kind_is = record { takes = λ bytes x fits e. taken bytes x fits e; again = λ v rest h. found v rest h } where
+  plain : (k n : ℕ) (bytes : List ℕ) (v : Option Kind) (x : Option Kind × List ℕ) → IsBytes bytes → n ∷ [] ≡ data_kind_octets v → IsDataKind v → k ≡ n → Some (v, bytes) ≡ Some x → SpellsKind k bytes x
+  plain k n bytes v x fits said sound t e =
+      subst (SpellsKind k bytes) (same_Some (v, bytes) x e) (record { takes = record { parts = ap (λ (m : ℕ). m ∷ bytes) t ∙ ap (λ (t : List ℕ). t ++ bytes) said; rest_fits = fits }; fits = sound })
 
-  again : (v : Option Kind) (rest : List ℕ) → IsDataKind v → data_kind_at (data_kind_octets v ++ rest) ≡ Some (v, rest)
-  again None rest h = refl
-  again (Some data_kinds.Octet) rest h = refl
-  again (Some (data_kinds.Struct name)) rest h = form_again name_is (λ n. Some (data_kinds.Struct n)) name rest h
+  named : (k : ℕ) (bytes : List ℕ) (x : Option Kind × List ℕ) → IsBytes bytes → k ≡ 2 → (name_at bytes >>= λ name. Some (Some (data_kinds.Struct name.0), name.1)) ≡ Some x → SpellsKind k bytes x
+  named k bytes x fits t e =
+      let n = bind_some (name_at bytes) (λ name. Some (Some (data_kinds.Struct name.0), name.1)) x e in
+      let h = name_is.takes bytes n.0 fits n.1 in
+      subst (SpellsKind k bytes) (same_Some (Some (data_kinds.Struct n.0.0), n.0.1) x n.2)
+      (record { takes = record { parts = ap (λ (m : ℕ). m ∷ bytes) t ∙ ap (λ (t : List ℕ). 2 ∷ t) h.0.parts; rest_fits = h.0.rest_fits }; fits = h.1 })
 
-struct_is : IsField (two name_at sized_at) (λ v. word v.0 ++ sized v.1) (λ v. IsName v.0 × (length v.1 ≤ 65_536))
-struct_is = two_is name_is sized_is
+  behind : (k : ℕ) (bytes : List ℕ) (x : Option Kind × List ℕ) → IsBytes bytes → data_kind_form k bytes ≡ Some x → SpellsKind k bytes x
+  behind k bytes x fits =
+      decided k 0 _ _ x (plain k 0 bytes None x fits refl tt)
+      (decided k 1 _ _ x (plain k 1 bytes (Some data_kinds.Octet) x fits refl tt) (decided k 2 _ None x (named k bytes x fits) (λ h. absurd cc)))
 
-pub data_is : IsField data_at data_octets IsData
-unfolding data_at
+  taken : (bytes : List ℕ) (x : Option Kind × List ℕ) → IsBytes bytes → data_kind_at bytes ≡ Some x → Takes bytes (data_kind_octets x.0) x.1 × IsDataKind x.0
+  taken [] x fits e = absurd cc
+  taken (k ∷ bytes) x fits e = let s = behind k bytes x (IsBytes-rest k bytes fits) e in (s.takes, s.fits)
+
+  found : (v : Option Kind) (rest : List ℕ) → IsDataKind v → data_kind_at (data_kind_octets v ++ rest) ≡ Some (v, rest)
+  found None rest h = refl
+  found (Some data_kinds.Octet) rest h = refl
+  found (Some (data_kinds.Struct name)) rest h = ap (λ (r : Option (List ℕ × List ℕ)). r >>= λ n. Some (Some (data_kinds.Struct n.0), n.1)) (name_is.again name rest h)
+
+pub data_is : IsForm data_of data_octets IsData
+unfolding data_of struct_of
 data_is = forms_are data_form data_octets IsData taken again where
-  taken : (k : ℕ) (bytes : List ℕ) (x : Data × List ℕ) → IsBytes bytes → data_form k bytes ≡ Some x → Taken data_octets IsData k bytes x
-  taken k bytes x fits =
-      chosen nothing_is (λ _. Absent) data_octets IsData 0 (λ v. refl) (λ v p. tt) k bytes x fits _
-      (chosen sized_is Octet data_octets IsData 1 (λ v. refl) (λ v p. p) k bytes x fits _
-      (chosen struct_is typed data_octets IsData 2 (λ v. refl) (λ v p. p) k bytes x fits None (λ h. absurd cc)))
+  taken : (k : ℕ) (bytes : List ℕ) (d : Data) → IsBytes bytes → data_form k bytes ≡ Some d → Spells data_octets IsData k bytes d
+  taken k bytes d fits =
+      chosen nothing_is (λ _. Absent) data_octets IsData 0 (λ v. refl) (λ v p. tt) k bytes d fits _
+      (chosen sized_is Octet data_octets IsData 1 (λ v. refl) (λ v p. p) k bytes d fits _
+      (chosen (before_is name_is sized_is) typed data_octets IsData 2 (λ v. refl) (λ v p. p) k bytes d fits None (λ h. absurd cc)))
 
-  again : (v : Data) (rest : List ℕ) → IsData v → data_at (data_octets v ++ rest) ≡ Some (v, rest)
-  again Absent rest h = refl
-  again (Octet octets) rest h = form_again sized_is Octet octets rest h
-  again (Struct subtype octets) rest h = form_again struct_is typed (subtype, octets) rest h
+  again : (d : Data) → IsData d → data_of (data_octets d) ≡ Some d
+  again Absent h = refl
+  again (Octet octets) h = said_again sized_is Octet octets h
+  again (Struct subtype octets) h = said_again (before_is name_is sized_is) typed (subtype, octets) h
 
-pub coded_is : IsField coded_at (λ v. signed v.0 ++ data_octets v.1) (λ v. FitsSigned w32 v.0 × IsData v.1)
-coded_is = two_is signed_is data_is
+pub coded_is : IsForm coded_of (λ v. signed v.0 ++ data_octets v.1) (λ v. FitsSigned w32 v.0 × IsData v.1)
+coded_is = before_is signed_is data_is

@@ -1,7 +1,7 @@
 -- Reading octets from left to right: what a field is, and the octets after it. No public contract rests on these.
-use Rattle.std.specs.Prelude.{◌≡◌, ⊤, ℕ, ℤ, ◌+◌, ◌/◌, ◌%◌, ◌^◌, Bool, true, false, List, [], ◌∷◌, length, take, drop, Option, Some, None, Result, Ok, Err, IsSome, nat_lt, nat_le, ◌==◌, ◌&&◌, if◌then◌else◌}
+use Rattle.std.specs.Prelude.{◌≡◌, ℕ, ℤ, ◌+◌, ◌/◌, ◌%◌, ◌^◌, Bool, true, false, List, [], ◌∷◌, length, take, drop, Option, Some, None, Result, Ok, Err, IsSome, nat_lt, nat_le, ◌==◌, ◌&&◌, if◌then◌else◌}
 use Rattle.std.specs.Int.{w32, w64, from_be_bytes, cast_signed}
-use Rattle.xa_types.specs.Name.{is_name, IsName}
+use Rattle.xa_types.specs.Name.{is_name}
 use Rattle.xa_types.specs.declared.data.Data.{Data}
 use Rattle.xa_types.specs.declared.data.Data.TheVariants.{Absent, Octet, Struct}
 use Rattle.xa_types.specs.declared.data.Kind.{Kind}
@@ -23,10 +23,6 @@ use Rattle.xa_types.specs.declared.reply.Answer.{Answer}
 use Rattle.xa_types.specs.declared.reply.Answer.TheVariants as answers
 use Rattle.xa_types.specs.declared.reply.Reply.{Reply}
 use Rattle.xa_types.specs.declared.reply.Reply.TheVariants as replies
-use Rattle.xa_frame.specs.declared.payload.Payload.{Payload}
-use Rattle.xa_frame.specs.declared.payload.Payload.TheVariants as payloads
-use Rattle.xa_frame.specs.declared.reply.Told.{Told}
-use Rattle.xa_frame.specs.declared.reply.Told.TheVariants as tolds
 use Rattle.xa_frame.specs.declared.frame.Frame.{Frame}
 use Rattle.xa_frame.specs.declared.frame.Body.{Body}
 use Rattle.xa_frame.specs.declared.frame.Body.TheVariants as bodies
@@ -66,34 +62,32 @@ Makes (Err e) read = Fails e read
 abbrev pub Field : Type 0 → Type 0
 Field A = List ℕ → Option (A × List ℕ)
 
--- one field, and then another
-abbrev pub two : {A B : Type 0} → Field A → Field B → Field (A × B)
-two f g octets = do
-  a ← f octets
-  b ← g a.1
-  Some ((a.0, b.0), b.1)
+-- what all of the octets are
+abbrev pub Form : Type 0 → Type 0
+Form A = List ℕ → Option A
 
--- a field that says another value
-abbrev pub made : {A B : Type 0} → (A → B) → Field A → Field B
-made to f octets = do
-  x ← f octets
-  Some (to x.0, x.1)
+-- no octet
+abbrev pub nothing : Form (Unit {0})
+nothing octets = if length octets == 0 then Some tt else None
 
--- all of the octets are that field
-abbrev pub whole : {A : Type 0} → Field A → List ℕ → Option A
-whole f octets = do
+-- a last field
+abbrev pub last : {A : Type 0} → Field A → Form A
+last f octets = do
   x ← f octets
   if length x.1 == 0 then Some x.0 else None
 
--- all of the octets are that field, which says another value
-abbrev pub all_as : {A B : Type 0} → (A → B) → Field A → List ℕ → Option B
-all_as to f octets = do
-  v ← whole f octets
-  Some (to v)
+-- one field, and then others
+abbrev pub before : {A B : Type 0} → Field A → Form B → Form (A × B)
+before f g octets = do
+  a ← f octets
+  b ← g a.1
+  Some (a.0, b)
 
--- a field of no octet
-abbrev pub nothing : Field (Unit {0})
-nothing octets = Some (tt, octets)
+-- a form that says another value
+abbrev pub said : {A B : Type 0} → (A → B) → Form A → Form B
+said to g octets = do
+  v ← g octets
+  Some (to v)
 
 abbrev pub octet_at : Field ℕ
 octet_at [] = None
@@ -107,7 +101,7 @@ octet_as of octets = do
   Some (value, octet.1)
 
 -- one of several forms, which the first octet says
-abbrev pub by_octet : {A : Type 0} → (ℕ → Field A) → Field A
+abbrev pub by_octet : {A : Type 0} → (ℕ → Form A) → Form A
 by_octet form octets = do
   octet ← octet_at octets
   form octet.0 octet.1
@@ -168,7 +162,9 @@ abbrev pub number_at : Field ℕ
 number_at octets = if nat_lt (length octets) 4 then None else Some (from_be_bytes w32 (take 4 octets), drop 4 octets)
 
 abbrev pub signed_at : Field ℤ
-signed_at = made (cast_signed w32) number_at
+signed_at octets = do
+  n ← number_at octets
+  Some (cast_signed w32 n.0, n.1)
 
 abbrev pub long_at : Field ℕ
 long_at octets = if nat_lt (length octets) 8 then None else Some (from_be_bytes w64 (take 8 octets), drop 8 octets)
@@ -187,37 +183,38 @@ name_at octets = do
   name ← name_of word.0
   Some (name, word.1)
 
-unfoldable pub sized_at : Field (List ℕ)
-sized_at octets = do
+unfoldable pub sized_of : Form (List ℕ)
+sized_of octets = do
   n ← number_at octets
-  if nat_le n.0 65_536 && nat_le n.0 (length n.1) then Some (take n.0 n.1, drop n.0 n.1) else None
+  if nat_le n.0 65_536 && (length n.1 == n.0) then Some n.1 else None
 
 abbrev pub data_kind_form : ℕ → Field (Option Kind)
-data_kind_form kind rest = if kind == 0 then Some (None, rest) else if kind == 1 then Some (Some data_kinds.Octet, rest) else if kind == 2 then made (λ name. Some (data_kinds.Struct name)) name_at rest else None
+data_kind_form kind rest =
+    if kind == 0 then Some (None, rest)
+    else (if kind == 1 then Some (Some data_kinds.Octet, rest)
+    else (if kind == 2 then name_at rest >>= (λ name. Some (Some (data_kinds.Struct name.0), name.1))
+    else None))
 
 unfoldable pub data_kind_at : Field (Option Kind)
-data_kind_at = by_octet data_kind_form
+data_kind_at octets = do
+  kind ← octet_at octets
+  data_kind_form kind.0 kind.1
 
 abbrev pub typed : List ℕ × List ℕ → Data
 typed v = Struct v.0 v.1
 
-abbrev pub data_form : ℕ → Field Data
-data_form kind rest = if kind == 0 then Some (Absent, rest) else if kind == 1 then made Octet sized_at rest else if kind == 2 then made typed (two name_at sized_at) rest else None
+unfoldable pub struct_of : Form Data
+struct_of = said typed (before name_at sized_of)
 
-unfoldable pub data_at : Field Data
-data_at = by_octet data_form
+abbrev pub data_form : ℕ → Form Data
+data_form kind rest =
+    if kind == 0 then said (λ _. Absent) nothing rest
+    else (if kind == 1 then said Octet sized_of rest
+    else (if kind == 2 then struct_of rest
+    else None))
 
--- the data whose octets stay where they are
-abbrev pub held : Payload → Data
-held payloads.Absent = Absent
-held (payloads.Octet octets) = Octet octets.now
-held (payloads.Struct subtype octets) = Struct subtype.now octets.now
-
--- its subtype is a name
-abbrev pub IsPayload : Payload → Type 0
-IsPayload payloads.Absent = ⊤
-IsPayload (payloads.Octet octets) = ⊤
-IsPayload (payloads.Struct subtype octets) = IsName subtype.now
+unfoldable pub data_of : Form Data
+data_of = by_octet data_form
 
 -- ---- operations
 
@@ -227,90 +224,90 @@ flags_at = octet_as flags_of
 abbrev pub called : CallFlags × (List ℕ × (Option Kind × Data)) → Op
 called v = ops.Call (record { service = v.1.0; payload = v.1.1.1; flags = v.0; expect = v.1.1.0; direction = Neither })
 
-unfoldable pub call_at : Field Op
-call_at = made called (two flags_at (two word_at (two data_kind_at data_at)))
+unfoldable pub call_of : Form Op
+call_of = said called (before flags_at (before word_at (before data_kind_at data_of)))
 
 abbrev pub acalled : CallFlags × (List ℕ × Data) → Op
 acalled v = ops.Acall (record { service = v.1.0; payload = v.1.1; flags = v.0; expect = None; direction = Neither })
 
-unfoldable pub acall_at : Field Op
-acall_at = made acalled (two flags_at (two word_at data_at))
+unfoldable pub acall_of : Form Op
+acall_of = said acalled (before flags_at (before word_at data_of))
 
 abbrev pub got : CallFlags × (ℕ × Option Kind) → Op
 got v = ops.Get v.1.0 v.0 v.1.1
 
-unfoldable pub get_at : Field Op
-get_at = made got (two flags_at (two long_at data_kind_at))
+unfoldable pub get_of : Form Op
+get_of = said got (before flags_at (before long_at (last data_kind_at)))
 
 abbrev pub got_any : CallFlags × Option Kind → Op
 got_any v = ops.GetAny v.0 v.1
 
-unfoldable pub get_any_at : Field Op
-get_any_at = made got_any (two flags_at data_kind_at)
+unfoldable pub get_any_of : Form Op
+get_any_of = said got_any (before flags_at (last data_kind_at))
 
-unfoldable pub cancel_at : Field Op
-cancel_at = made ops.Cancel long_at
+unfoldable pub cancel_of : Form Op
+cancel_of = said ops.Cancel (last long_at)
 
 abbrev pub connected : CallFlags × (Direction × (List ℕ × Data)) → Op
 connected v = ops.Connect (record { service = v.1.1.0; payload = v.1.1.1; flags = v.0; expect = None; direction = v.1.0 })
 
-unfoldable pub connect_at : Field Op
-connect_at = made connected (two flags_at (two (octet_as direction_of) (two word_at data_at)))
+unfoldable pub connect_of : Form Op
+connect_of = said connected (before flags_at (before (octet_as direction_of) (before word_at data_of)))
 
 abbrev pub sent : CallFlags × (ℕ × (Bool × Data)) → Op
 sent v = ops.Send v.1.0 v.0 v.1.1.0 v.1.1.1
 
-unfoldable pub send_at : Field Op
-send_at = made sent (two flags_at (two long_at (two (octet_as truth_of) data_at)))
+unfoldable pub send_of : Form Op
+send_of = said sent (before flags_at (before long_at (before (octet_as truth_of) data_of)))
 
 abbrev pub received : CallFlags × ℕ → Op
 received v = ops.Receive v.1 v.0
 
-unfoldable pub receive_at : Field Op
-receive_at = made received (two flags_at long_at)
+unfoldable pub receive_of : Form Op
+receive_of = said received (before flags_at (last long_at))
 
-unfoldable pub disconnect_at : Field Op
-disconnect_at = made ops.Disconnect long_at
+unfoldable pub disconnect_of : Form Op
+disconnect_of = said ops.Disconnect (last long_at)
 
 abbrev pub prior : Bool × ℤ → Op
 prior v = ops.Priority v.0 v.1
 
-unfoldable pub priority_at : Field Op
-priority_at = made prior (two (octet_as truth_of) signed_at)
+unfoldable pub priority_of : Form Op
+priority_of = said prior (before (octet_as truth_of) (last signed_at))
 
 abbrev pub advertised : List ℕ × List ℕ → Op
 advertised v = ops.Advertise v.0 v.1
 
-unfoldable pub advertise_at : Field Op
-advertise_at = made advertised (two word_at word_at)
+unfoldable pub advertise_of : Form Op
+advertise_of = said advertised (before word_at (last word_at))
 
-unfoldable pub unadvertise_at : Field Op
-unadvertise_at = made ops.Unadvertise word_at
+unfoldable pub unadvertise_of : Form Op
+unadvertise_of = said ops.Unadvertise (last word_at)
 
-unfoldable pub tick_at : Field Op
-tick_at = made ops.Tick number_at
+unfoldable pub tick_of : Form Op
+tick_of = said ops.Tick (last number_at)
 
-abbrev pub op_form : ℕ → Field Op
+abbrev pub op_form : ℕ → Form Op
 op_form code rest =
-    if code == 1 then call_at rest
-    else (if code == 2 then acall_at rest
-    else (if code == 3 then get_at rest
-    else (if code == 4 then get_any_at rest
-    else (if code == 5 then cancel_at rest
-    else (if code == 6 then connect_at rest
-    else (if code == 7 then send_at rest
-    else (if code == 8 then receive_at rest
-    else (if code == 9 then disconnect_at rest
-    else (if code == 10 then priority_at rest
-    else (if code == 11 then advertise_at rest
-    else (if code == 12 then unadvertise_at rest
-    else (if code == 13 then tick_at rest
+    if code == 1 then call_of rest
+    else (if code == 2 then acall_of rest
+    else (if code == 3 then get_of rest
+    else (if code == 4 then get_any_of rest
+    else (if code == 5 then cancel_of rest
+    else (if code == 6 then connect_of rest
+    else (if code == 7 then send_of rest
+    else (if code == 8 then receive_of rest
+    else (if code == 9 then disconnect_of rest
+    else (if code == 10 then priority_of rest
+    else (if code == 11 then advertise_of rest
+    else (if code == 12 then unadvertise_of rest
+    else (if code == 13 then tick_of rest
     else None))))))))))))
 
 -- ---- replies
 
-abbrev pub coded_at : Field (ℤ × Data)
-coded_at = two signed_at data_at
+abbrev pub coded_of : Form (ℤ × Data)
+coded_of = before signed_at data_of
 
 abbrev pub fault_at : Field Fault
 fault_at = octet_as fault_of
@@ -321,70 +318,59 @@ succeeded v = answers.Success v.0 v.1
 abbrev pub failed : ℤ × Data → Answer
 failed v = answers.Failed v.0 v.1
 
-abbrev pub answer_form : ℕ → Field Answer
+abbrev pub answer_form : ℕ → Form Answer
 answer_form code rest =
-    if code == 0 then made succeeded coded_at rest
-    else (if code == 1 then made failed coded_at rest
-    else (if code == 2 then made answers.Error fault_at rest
+    if code == 0 then said succeeded coded_of rest
+    else (if code == 1 then said failed coded_of rest
+    else (if code == 2 then said answers.Error (last fault_at) rest
     else None))
 
-unfoldable pub answer_at : Field Answer
-answer_at = by_octet answer_form
+unfoldable pub answer_of : Form Answer
+answer_of = by_octet answer_form
 
--- the answer whose data stays where it is
-abbrev pub meant : Told → Answer
-meant (tolds.Success code payload) = answers.Success code (held payload)
-meant (tolds.Failed code payload) = answers.Failed code (held payload)
-meant (tolds.Error fault) = answers.Error fault
+abbrev pub done_of : Form Reply
+done_of = said (λ _. replies.Done) nothing
 
-abbrev pub IsTold : Told → Type 0
-IsTold (tolds.Success code payload) = IsPayload payload
-IsTold (tolds.Failed code payload) = IsPayload payload
-IsTold (tolds.Error fault) = ⊤
+unfoldable pub descriptor_of : Form Reply
+descriptor_of = said replies.Descriptor (last long_at)
 
-abbrev pub done_at : Field Reply
-done_at octets = Some (replies.Done, octets)
-
-unfoldable pub descriptor_at : Field Reply
-descriptor_at = made replies.Descriptor long_at
-
-unfoldable pub now_at : Field Reply
-now_at = made replies.Now long_at
+unfoldable pub now_of : Form Reply
+now_of = said replies.Now (last long_at)
 
 abbrev pub answered : ℕ × Answer → Reply
 answered v = replies.Answered v.0 v.1
 
-unfoldable pub answered_at : Field Reply
-answered_at = made answered (two long_at answer_at)
+unfoldable pub answered_of : Form Reply
+answered_of = said answered (before long_at answer_of)
 
-unfoldable pub message_at : Field Reply
-message_at = made replies.Message data_at
+unfoldable pub message_of : Form Reply
+message_of = said replies.Message data_of
 
 abbrev pub evented : ConvEvent × (ℤ × Data) → Reply
 evented v = replies.Event v.0 v.1.0 v.1.1
 
-unfoldable pub event_at : Field Reply
-event_at = made evented (two (octet_as event_of) coded_at)
+unfoldable pub event_reply_of : Form Reply
+event_reply_of = said evented (before (octet_as event_of) coded_of)
 
-unfoldable pub fault_reply_at : Field Reply
-fault_reply_at = made replies.Fault fault_at
+unfoldable pub fault_reply_of : Form Reply
+fault_reply_of = said replies.Fault (last fault_at)
 
-abbrev pub reply_form : ℕ → Field Reply
+abbrev pub reply_form : ℕ → Form Reply
 reply_form code rest =
-    if code == 0 then done_at rest
-    else (if code == 1 then descriptor_at rest
-    else (if code == 2 then now_at rest
-    else (if code == 3 then answered_at rest
-    else (if code == 4 then message_at rest
-    else (if code == 5 then event_at rest
-    else (if code == 6 then fault_reply_at rest
+    if code == 0 then done_of rest
+    else (if code == 1 then descriptor_of rest
+    else (if code == 2 then now_of rest
+    else (if code == 3 then answered_of rest
+    else (if code == 4 then message_of rest
+    else (if code == 5 then event_reply_of rest
+    else (if code == 6 then fault_reply_of rest
     else None))))))
 
-unfoldable pub op_at : Field Op
-op_at = by_octet op_form
+unfoldable pub op_of : Form Op
+op_of = by_octet op_form
 
-unfoldable pub reply_at : Field Reply
-reply_at = by_octet reply_form
+unfoldable pub reply_of : Form Reply
+reply_of = by_octet reply_form
 
 -- ---- bodies
 
@@ -397,24 +383,24 @@ forwarded v = bodies.Forward v.0 v.1
 abbrev pub invoked : List ℕ × (List ℕ × (Mode × Data)) → Body
 invoked v = bodies.Invoke v.0 v.1.0 v.1.1.0 v.1.1.1
 
-unfoldable pub return_of : List ℕ → Option Body
-return_of octets = all_as returned (two (octet_as rval_of) coded_at) octets
+unfoldable pub return_of : Form Body
+return_of = said returned (before (octet_as rval_of) coded_of)
 
-unfoldable pub forward_of : List ℕ → Option Body
-forward_of octets = all_as forwarded (two word_at data_at) octets
+unfoldable pub forward_of : Form Body
+forward_of = said forwarded (before word_at data_of)
 
-unfoldable pub invoke_of : List ℕ → Option Body
-invoke_of octets = all_as invoked (two name_at (two name_at (two (octet_as mode_of) data_at))) octets
+unfoldable pub invoke_of : Form Body
+invoke_of = said invoked (before name_at (before name_at (before (octet_as mode_of) data_of)))
 
-abbrev pub body_of : FrameKind → List ℕ → Option Body
-body_of kinds.Ready octets = all_as bodies.Ready name_at octets
-body_of kinds.Next octets = all_as (λ _. bodies.Next) nothing octets
-body_of kinds.Op octets = all_as bodies.Op op_at octets
-body_of kinds.Return octets = return_of octets
-body_of kinds.Forward octets = forward_of octets
-body_of kinds.Invoke octets = invoke_of octets
-body_of kinds.Reply octets = all_as bodies.Reply reply_at octets
-body_of kinds.Shutdown octets = all_as (λ _. bodies.Shutdown) nothing octets
+abbrev pub body_of : FrameKind → Form Body
+body_of kinds.Ready = said bodies.Ready (last name_at)
+body_of kinds.Next = said (λ _. bodies.Next) nothing
+body_of kinds.Op = said bodies.Op op_of
+body_of kinds.Return = return_of
+body_of kinds.Forward = forward_of
+body_of kinds.Invoke = invoke_of
+body_of kinds.Reply = said bodies.Reply reply_of
+body_of kinds.Shutdown = said (λ _. bodies.Shutdown) nothing
 
 -- ---- headers
 

@@ -4,7 +4,7 @@ ghost use Rattle.std.specs.Prelude.{◌≡◌, ◌≤◌, ◌+◌, ◌++◌, ◌
 ghost use Rattle.byteorder.specs.Endian.{big_bytes};
 ghost use Rattle.xa_frame.specs.declared.fields.ReadError.TheVariants as errors;
 ghost use Rattle.xa_frame.specs.Spelling.{word, sized, IsWord};
-ghost use Rattle.xa_frame.specs.Reading.{Reads, octet_at, number_at, signed_at, long_at, word_at, name_of, name_at, sized_at};
+ghost use Rattle.xa_frame.specs.Reading.{Reads, octet_at, number_at, signed_at, long_at, word_at, name_of, sized_of};
 
 use xa_types::{BadName, Name, NoMemory};
 
@@ -105,25 +105,16 @@ pub fn name_of(octets: &[u8]) -> Result<Name, NoFrame>
     Ok(Name::read(octets)?)
 }
 
-/// A word that is a name, and what stands behind it.
-#[tactic(auto, unfolding(crate::specs::Reading::name_at))]
-pub fn name_at(octets: &[u8]) -> Result<(Name, &[u8]), NoFrame>
-    ensures { Reads (λ x. (x.0, x.1.now)) result (name_at octets.now) }
-{
-    let (word, rest) = word_at(octets)?;
-    Ok((name_of(word)?, rest))
-}
-
-/// A length and so many octets, at most 65,536, and what stands behind them.
-#[tactic(auto, unfolding(crate::specs::Reading::sized_at))]
-pub fn sized_at(octets: &[u8]) -> Result<(&[u8], &[u8]), NoFrame>
-    ensures { Reads (λ x. (x.0.now, x.1.now)) result (sized_at octets.now) }
+/// A length, at most 65,536, and so many octets, which are all that is left.
+#[tactic(auto, unfolding(crate::specs::Reading::sized_of))]
+pub fn sized_of(octets: &[u8]) -> Result<&[u8], NoFrame>
+    ensures { Reads (λ x. x.now) result (sized_of octets.now) }
 {
     let (len, rest) = number_at(octets)?;
-    if len > MOST_DATA || rest.len() < len as usize {
+    if len > MOST_DATA || rest.len() != len as usize {
         return Err(NoFrame);
     }
-    Ok(rest.split_at(len as usize))
+    Ok(rest)
 }
 
 /// Nothing stands behind the last field.

@@ -4,7 +4,7 @@ ghost use Rattle.std.specs.Prelude.{◌≡◌, ◌≤◌, ◌<◌, ◌^◌, ◌+
 ghost use Rattle.xa_types.specs.declared.call.Op.TheVariants as ops;
 ghost use Rattle.xa_frame.specs.declared.frame.Body.TheVariants as bodies;
 ghost use Rattle.xa_frame.specs.Spelling.{bit, data_octets, op_octets, IsData, IsOp};
-ghost use Rattle.xa_frame.specs.Reading.{Reads, Makes, all_as, flags_at, call_at, acall_at, get_at, get_any_at, cancel_at, connect_at, send_at, receive_at, disconnect_at, priority_at, advertise_at, unadvertise_at, tick_at, op_at};
+ghost use Rattle.xa_frame.specs.Reading.{Reads, Makes, said, flags_at, call_of, acall_of, get_of, get_any_of, cancel_of, connect_of, send_of, receive_of, disconnect_of, priority_of, advertise_of, unadvertise_of, tick_of, op_of};
 
 use crate::choices::{bit, direction_octet, direction_of, flags_octet, flags_of, truth_of};
 use crate::fields::{
@@ -12,7 +12,7 @@ use crate::fields::{
     word_at, word_len,
 };
 use crate::frame::Body;
-use crate::payload::{data_at, data_kind_at, data_kind_len, data_len, put_data, put_data_kind};
+use crate::payload::{data_kind_at, data_kind_len, data_len, data_of, put_data, put_data_kind};
 use std::alloc::Global;
 use xa_types::{Ask, CallFlags, Data, Direction, Kind, NoMemory, Octets, Op};
 
@@ -23,19 +23,17 @@ fn flags_at(octets: &[u8]) -> Result<(CallFlags, &[u8]), NoFrame>
     Ok((flags_of(flags)?, rest))
 }
 
-#[tactic(auto, unfolding(crate::specs::Reading::call_at))]
+#[tactic(auto, unfolding(crate::specs::Reading::call_of))]
 fn call_of(alloc: Global, octets: &[u8]) -> Result<Body, ReadError>
-    ensures { Makes result (all_as bodies.Op call_at octets.now) }
+    ensures { Makes result (said bodies.Op call_of octets.now) }
 {
     let (flags, rest) = flags_at(octets)?;
     let (service, rest) = word_at(rest)?;
     let Ok((expect, rest)) = data_kind_at(rest) else {
         return Err(ReadError::NoFrame);
     };
-    let (payload, rest) = data_at(rest)?;
-    ended(rest)?;
+    let payload = data_of(alloc, rest)?;
     let service = Octets::of(alloc, service)?;
-    let payload = payload.own(alloc)?;
     Ok(Body::Op(Op::Call(Ask {
         service,
         payload,
@@ -45,16 +43,14 @@ fn call_of(alloc: Global, octets: &[u8]) -> Result<Body, ReadError>
     })))
 }
 
-#[tactic(auto, unfolding(crate::specs::Reading::acall_at))]
+#[tactic(auto, unfolding(crate::specs::Reading::acall_of))]
 fn acall_of(alloc: Global, octets: &[u8]) -> Result<Body, ReadError>
-    ensures { Makes result (all_as bodies.Op acall_at octets.now) }
+    ensures { Makes result (said bodies.Op acall_of octets.now) }
 {
     let (flags, rest) = flags_at(octets)?;
     let (service, rest) = word_at(rest)?;
-    let (payload, rest) = data_at(rest)?;
-    ended(rest)?;
+    let payload = data_of(alloc, rest)?;
     let service = Octets::of(alloc, service)?;
-    let payload = payload.own(alloc)?;
     Ok(Body::Op(Op::Acall(Ask {
         service,
         payload,
@@ -64,9 +60,9 @@ fn acall_of(alloc: Global, octets: &[u8]) -> Result<Body, ReadError>
     })))
 }
 
-#[tactic(auto, unfolding(crate::specs::Reading::get_at))]
+#[tactic(auto, unfolding(crate::specs::Reading::get_of))]
 fn get_of(octets: &[u8]) -> Result<Body, ReadError>
-    ensures { Makes result (all_as bodies.Op get_at octets.now) }
+    ensures { Makes result (said bodies.Op get_of octets.now) }
 {
     let (flags, rest) = flags_at(octets)?;
     let (descriptor, rest) = long_at(rest)?;
@@ -77,9 +73,9 @@ fn get_of(octets: &[u8]) -> Result<Body, ReadError>
     Ok(Body::Op(Op::Get(descriptor, flags, expect)))
 }
 
-#[tactic(auto, unfolding(crate::specs::Reading::get_any_at))]
+#[tactic(auto, unfolding(crate::specs::Reading::get_any_of))]
 fn get_any_of(octets: &[u8]) -> Result<Body, ReadError>
-    ensures { Makes result (all_as bodies.Op get_any_at octets.now) }
+    ensures { Makes result (said bodies.Op get_any_of octets.now) }
 {
     let (flags, rest) = flags_at(octets)?;
     let Ok((expect, rest)) = data_kind_at(rest) else {
@@ -89,27 +85,25 @@ fn get_any_of(octets: &[u8]) -> Result<Body, ReadError>
     Ok(Body::Op(Op::GetAny(flags, expect)))
 }
 
-#[tactic(auto, unfolding(crate::specs::Reading::cancel_at))]
+#[tactic(auto, unfolding(crate::specs::Reading::cancel_of))]
 fn cancel_of(octets: &[u8]) -> Result<Body, ReadError>
-    ensures { Makes result (all_as bodies.Op cancel_at octets.now) }
+    ensures { Makes result (said bodies.Op cancel_of octets.now) }
 {
     let (descriptor, rest) = long_at(octets)?;
     ended(rest)?;
     Ok(Body::Op(Op::Cancel(descriptor)))
 }
 
-#[tactic(auto, unfolding(crate::specs::Reading::connect_at))]
+#[tactic(auto, unfolding(crate::specs::Reading::connect_of))]
 fn connect_of(alloc: Global, octets: &[u8]) -> Result<Body, ReadError>
-    ensures { Makes result (all_as bodies.Op connect_at octets.now) }
+    ensures { Makes result (said bodies.Op connect_of octets.now) }
 {
     let (flags, rest) = flags_at(octets)?;
     let (direction, rest) = octet_at(rest)?;
     let direction = direction_of(direction)?;
     let (service, rest) = word_at(rest)?;
-    let (payload, rest) = data_at(rest)?;
-    ended(rest)?;
+    let payload = data_of(alloc, rest)?;
     let service = Octets::of(alloc, service)?;
-    let payload = payload.own(alloc)?;
     Ok(Body::Op(Op::Connect(Ask {
         service,
         payload,
@@ -119,23 +113,21 @@ fn connect_of(alloc: Global, octets: &[u8]) -> Result<Body, ReadError>
     })))
 }
 
-#[tactic(auto, unfolding(crate::specs::Reading::send_at))]
+#[tactic(auto, unfolding(crate::specs::Reading::send_of))]
 fn send_of(alloc: Global, octets: &[u8]) -> Result<Body, ReadError>
-    ensures { Makes result (all_as bodies.Op send_at octets.now) }
+    ensures { Makes result (said bodies.Op send_of octets.now) }
 {
     let (flags, rest) = flags_at(octets)?;
     let (descriptor, rest) = long_at(rest)?;
     let (recv_only, rest) = octet_at(rest)?;
     let recv_only = truth_of(recv_only)?;
-    let (payload, rest) = data_at(rest)?;
-    ended(rest)?;
-    let payload = payload.own(alloc)?;
+    let payload = data_of(alloc, rest)?;
     Ok(Body::Op(Op::Send(descriptor, flags, recv_only, payload)))
 }
 
-#[tactic(auto, unfolding(crate::specs::Reading::receive_at))]
+#[tactic(auto, unfolding(crate::specs::Reading::receive_of))]
 fn receive_of(octets: &[u8]) -> Result<Body, ReadError>
-    ensures { Makes result (all_as bodies.Op receive_at octets.now) }
+    ensures { Makes result (said bodies.Op receive_of octets.now) }
 {
     let (flags, rest) = flags_at(octets)?;
     let (descriptor, rest) = long_at(rest)?;
@@ -143,18 +135,18 @@ fn receive_of(octets: &[u8]) -> Result<Body, ReadError>
     Ok(Body::Op(Op::Receive(descriptor, flags)))
 }
 
-#[tactic(auto, unfolding(crate::specs::Reading::disconnect_at))]
+#[tactic(auto, unfolding(crate::specs::Reading::disconnect_of))]
 fn disconnect_of(octets: &[u8]) -> Result<Body, ReadError>
-    ensures { Makes result (all_as bodies.Op disconnect_at octets.now) }
+    ensures { Makes result (said bodies.Op disconnect_of octets.now) }
 {
     let (descriptor, rest) = long_at(octets)?;
     ended(rest)?;
     Ok(Body::Op(Op::Disconnect(descriptor)))
 }
 
-#[tactic(auto, unfolding(crate::specs::Reading::priority_at))]
+#[tactic(auto, unfolding(crate::specs::Reading::priority_of))]
 fn priority_of(octets: &[u8]) -> Result<Body, ReadError>
-    ensures { Makes result (all_as bodies.Op priority_at octets.now) }
+    ensures { Makes result (said bodies.Op priority_of octets.now) }
 {
     let (absolute, rest) = octet_at(octets)?;
     let absolute = truth_of(absolute)?;
@@ -163,9 +155,9 @@ fn priority_of(octets: &[u8]) -> Result<Body, ReadError>
     Ok(Body::Op(Op::Priority(absolute, amount)))
 }
 
-#[tactic(auto, unfolding(crate::specs::Reading::advertise_at))]
+#[tactic(auto, unfolding(crate::specs::Reading::advertise_of))]
 fn advertise_of(alloc: Global, octets: &[u8]) -> Result<Body, ReadError>
-    ensures { Makes result (all_as bodies.Op advertise_at octets.now) }
+    ensures { Makes result (said bodies.Op advertise_of octets.now) }
 {
     let (service, rest) = word_at(octets)?;
     let (routine, rest) = word_at(rest)?;
@@ -175,18 +167,18 @@ fn advertise_of(alloc: Global, octets: &[u8]) -> Result<Body, ReadError>
     Ok(Body::Op(Op::Advertise(service, routine)))
 }
 
-#[tactic(auto, unfolding(crate::specs::Reading::unadvertise_at))]
+#[tactic(auto, unfolding(crate::specs::Reading::unadvertise_of))]
 fn unadvertise_of(alloc: Global, octets: &[u8]) -> Result<Body, ReadError>
-    ensures { Makes result (all_as bodies.Op unadvertise_at octets.now) }
+    ensures { Makes result (said bodies.Op unadvertise_of octets.now) }
 {
     let (service, rest) = word_at(octets)?;
     ended(rest)?;
     Ok(Body::Op(Op::Unadvertise(Octets::of(alloc, service)?)))
 }
 
-#[tactic(auto, unfolding(crate::specs::Reading::tick_at))]
+#[tactic(auto, unfolding(crate::specs::Reading::tick_of))]
 fn tick_of(octets: &[u8]) -> Result<Body, ReadError>
-    ensures { Makes result (all_as bodies.Op tick_at octets.now) }
+    ensures { Makes result (said bodies.Op tick_of octets.now) }
 {
     let (ticks, rest) = number_at(octets)?;
     ended(rest)?;
@@ -194,10 +186,10 @@ fn tick_of(octets: &[u8]) -> Result<Body, ReadError>
 }
 
 /// The OP whose operation all of the octets are.
-#[tactic(auto, unfolding(crate::specs::Reading::op_at))]
+#[tactic(auto, unfolding(crate::specs::Reading::op_of))]
 #[inline(never)]
 pub fn op_of(alloc: Global, octets: &[u8]) -> Result<Body, ReadError>
-    ensures { Makes result (all_as bodies.Op op_at octets.now) }
+    ensures { Makes result (said bodies.Op op_of octets.now) }
 {
     let (code, rest) = octet_at(octets)?;
     match code {

@@ -1,26 +1,17 @@
 //! The kinds of buffers and data, as fields.
 
-ghost use Rattle.std.specs.Prelude.{◌≡◌, ◌≤◌, ◌++◌, length, OnOk, IfOk};
+ghost use Rattle.std.specs.Prelude.{◌≡◌, ◌≤◌, ◌++◌, length, OnOk};
 ghost use Rattle.xa_frame.specs.Spelling.{data_kind_octets, data_octets, IsDataKind, IsData};
-ghost use Rattle.xa_frame.specs.Reading.{Reads, held, IsPayload, data_kind_at, data_at};
+ghost use Rattle.xa_frame.specs.Reading.{Reads, Makes, data_kind_at, struct_of, data_of};
 
 use crate::fields::{
-    NoFrame, name_at, name_of, octet_at, put_sized, put_word, sized_at, word_at, word_len,
+    NoFrame, ReadError, ended, name_of, octet_at, put_sized, put_word, sized_of, word_at, word_len,
 };
 use std::alloc::Global;
-use xa_types::{Data, Kind, Name, NoMemory, Octets};
-
-/// Data whose octets stay where they are. The subtype is a name, which is made where the data is copied: names are long to
-/// carry along.
-#[derive(Clone, Copy)]
-pub enum Payload<'a> {
-    Absent,
-    Octet(&'a [u8]),
-    Struct(&'a [u8], &'a [u8]),
-}
+use xa_types::{Data, Kind, NoMemory, Octets};
 
 /// The kind of a buffer, and what stands behind it.
-#[tactic(auto, unfolding(crate::specs::Reading::data_kind_at))]
+#[tactic(auto, unfolding(crate::specs::Reading::data_kind_at, crate::specs::Reading::name_at))]
 pub fn data_kind_at(octets: &[u8]) -> Result<(Option<Kind>, &[u8]), NoFrame>
     ensures { Reads (λ x. (x.0, x.1.now)) result (data_kind_at octets.now) }
 {
@@ -29,54 +20,41 @@ pub fn data_kind_at(octets: &[u8]) -> Result<(Option<Kind>, &[u8]), NoFrame>
         0x00 => Ok((None, rest)),
         0x01 => Ok((Some(Kind::Octet), rest)),
         0x02 => {
-            let Ok((subtype, rest)) = name_at(rest) else {
-                return Err(NoFrame);
-            };
+            let (subtype, rest) = word_at(rest)?;
+            let subtype = name_of(subtype)?;
             Ok((Some(Kind::Struct(subtype)), rest))
         }
         _ => Err(NoFrame),
     }
 }
 
-/// Data, and what stands behind it.
-#[tactic(auto, unfolding(crate::specs::Reading::data_at, crate::specs::Reading::name_at))]
-pub fn data_at(octets: &[u8]) -> Result<(Payload<'_>, &[u8]), NoFrame>
-    ensures read { Reads (λ x. (held x.0, x.1.now)) result (data_at octets.now) }
-    ensures named { IfOk result (λ x. IsPayload x.0) }
+#[tactic(auto, unfolding(crate::specs::Reading::struct_of, crate::specs::Reading::name_at))]
+fn struct_of(alloc: Global, octets: &[u8]) -> Result<Data, ReadError>
+    ensures { Makes result (struct_of octets.now) }
+{
+    let (subtype, rest) = word_at(octets)?;
+    let subtype = name_of(subtype)?;
+    let octets = sized_of(rest)?;
+    Ok(Data::Struct(subtype, Octets::of(alloc, octets)?))
+}
+
+/// The data that all of the octets are. It comes last, so what is copied besides is copied behind it.
+#[tactic(auto, unfolding(crate::specs::Reading::data_of))]
+pub fn data_of(alloc: Global, octets: &[u8]) -> Result<Data, ReadError>
+    ensures { Makes result (data_of octets.now) }
 {
     let (kind, rest) = octet_at(octets)?;
     match kind {
-        0x00 => Ok((Payload::Absent, rest)),
+        0x00 => {
+            ended(rest)?;
+            Ok(Data::Absent)
+        }
         0x01 => {
-            let (octets, rest) = sized_at(rest)?;
-            Ok((Payload::Octet(octets), rest))
+            let octets = sized_of(rest)?;
+            Ok(Data::Octet(Octets::of(alloc, octets)?))
         }
-        0x02 => {
-            let (subtype, rest) = word_at(rest)?;
-            name_of(subtype)?;
-            let (octets, rest) = sized_at(rest)?;
-            Ok((Payload::Struct(subtype, octets), rest))
-        }
-        _ => Err(NoFrame),
-    }
-}
-
-impl Payload<'_> {
-    /// A copy of the data.
-    pub fn own(&self, alloc: Global) -> Result<Data, NoMemory>
-        requires { IsPayload self.now }
-        ensures { IfOk result (λ owned. owned ≡ held self.now) }
-    {
-        match self {
-            Payload::Absent => Ok(Data::Absent),
-            Payload::Octet(octets) => Ok(Data::Octet(Octets::of(alloc, octets)?)),
-            Payload::Struct(subtype, octets) => {
-                let Ok(subtype) = Name::read(subtype) else {
-                    unreachable!()
-                };
-                Ok(Data::Struct(subtype, Octets::of(alloc, octets)?))
-            }
-        }
+        0x02 => struct_of(alloc, rest),
+        _ => Err(ReadError::NoFrame),
     }
 }
 

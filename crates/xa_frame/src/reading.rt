@@ -3,23 +3,23 @@
 ghost use Rattle.std.specs.Prelude.{◌≡◌, ◌≤◌, ◌+◌, length, drop, IfErr};
 ghost use Rattle.xa_frame.specs.declared.fields.ReadError.TheVariants as errors;
 ghost use Rattle.xa_frame.specs.declared.frame.Body.TheVariants.{Ready, Next, Shutdown};
-ghost use Rattle.xa_frame.specs.Reading.{Makes, Stands, StandsFirst, name_at, nothing, all_as, return_of, forward_of, invoke_of, body_of, front_at};
+ghost use Rattle.xa_frame.specs.Reading.{Makes, Stands, StandsFirst, last, name_at, nothing, said, return_of, forward_of, invoke_of, body_of, front_at};
 
 use crate::choices::{mode_of, rval_of};
-use crate::fields::{ReadError, ended, name_of, octet_at, word_at};
+use crate::fields::{ReadError, ended, name_of, octet_at, signed_at, word_at};
 use crate::frame::{Body, Frame};
 use crate::header::{FrameKind, HEADER, header_at};
 use crate::op::op_of;
-use crate::payload::data_at;
+use crate::payload::data_of;
 use crate::reader::NextRefused;
-use crate::reply::{coded_at, reply_of};
+use crate::reply::reply_of;
 use std::alloc::Global;
 use xa_types::Octets;
 
 #[tactic(auto, unfolding(crate::specs::Reading::name_at))]
 #[inline(never)]
 fn ready_of(octets: &[u8]) -> Result<Body, ReadError>
-    ensures body { Makes result (all_as Ready name_at octets.now) }
+    ensures body { Makes result (said Ready (last name_at) octets.now) }
     ensures why { IfErr result (λ why. why ≡ errors.NoFrame) }
 {
     let (name, rest) = word_at(octets)?;
@@ -35,9 +35,9 @@ fn return_of(alloc: Global, octets: &[u8]) -> Result<Body, ReadError>
 {
     let (value, rest) = octet_at(octets)?;
     let value = rval_of(value)?;
-    let ((code, payload), rest) = coded_at(rest)?;
-    ended(rest)?;
-    Ok(Body::Return(value, code, payload.own(alloc)?))
+    let (code, rest) = signed_at(rest)?;
+    let payload = data_of(alloc, rest)?;
+    Ok(Body::Return(value, code, payload))
 }
 
 #[tactic(auto, unfolding(crate::specs::Reading::forward_of))]
@@ -46,10 +46,8 @@ fn forward_of(alloc: Global, octets: &[u8]) -> Result<Body, ReadError>
     ensures { Makes result (forward_of octets.now) }
 {
     let (service, rest) = word_at(octets)?;
-    let (payload, rest) = data_at(rest)?;
-    ended(rest)?;
+    let payload = data_of(alloc, rest)?;
     let service = Octets::of(alloc, service)?;
-    let payload = payload.own(alloc)?;
     Ok(Body::Forward(service, payload))
 }
 
@@ -64,14 +62,13 @@ fn invoke_of(alloc: Global, octets: &[u8]) -> Result<Body, ReadError>
     let routine = name_of(routine)?;
     let (mode, rest) = octet_at(rest)?;
     let mode = mode_of(mode)?;
-    let (payload, rest) = data_at(rest)?;
-    ended(rest)?;
-    Ok(Body::Invoke(service, routine, mode, payload.own(alloc)?))
+    let payload = data_of(alloc, rest)?;
+    Ok(Body::Invoke(service, routine, mode, payload))
 }
 
 #[inline(never)]
 fn next_of(octets: &[u8]) -> Result<Body, ReadError>
-    ensures body { Makes result (all_as (λ _. Next) nothing octets.now) }
+    ensures body { Makes result (said (λ _. Next) nothing octets.now) }
     ensures why { IfErr result (λ why. why ≡ errors.NoFrame) }
 {
     ended(octets)?;
@@ -80,7 +77,7 @@ fn next_of(octets: &[u8]) -> Result<Body, ReadError>
 
 #[inline(never)]
 fn shutdown_of(octets: &[u8]) -> Result<Body, ReadError>
-    ensures body { Makes result (all_as (λ _. Shutdown) nothing octets.now) }
+    ensures body { Makes result (said (λ _. Shutdown) nothing octets.now) }
     ensures why { IfErr result (λ why. why ≡ errors.NoFrame) }
 {
     ended(octets)?;

@@ -4,32 +4,14 @@ ghost use Rattle.std.specs.Prelude.{◌≡◌, ◌≤◌, ◌++◌, ◌∷◌, [
 ghost use Rattle.xa_types.specs.declared.reply.Reply.TheVariants as replies;
 ghost use Rattle.xa_frame.specs.declared.frame.Body.TheVariants as bodies;
 ghost use Rattle.xa_frame.specs.Spelling.{signed, data_octets, answer_octets, reply_octets, IsData, IsAnswer, IsReply};
-ghost use Rattle.xa_frame.specs.Reading.{Reads, Makes, all_as, held, meant, IsPayload, IsTold, coded_at, fault_at, answer_at, descriptor_at, now_at, answered_at, message_at, event_at, fault_reply_at, done_at, reply_at};
+ghost use Rattle.xa_frame.specs.Reading.{Reads, Makes, said, fault_at, answer_of, descriptor_of, now_of, answered_of, message_of, event_reply_of, fault_reply_of, done_of, reply_of};
 
 use crate::choices::{event_octet, event_of, fault_octet, fault_of};
 use crate::fields::{NoFrame, ReadError, ended, long_at, octet_at, put_long, signed_at};
 use crate::frame::Body;
-use crate::payload::{Payload, data_at, data_len, put_data};
+use crate::payload::{data_len, data_of, put_data};
 use std::alloc::Global;
 use xa_types::{Answer, ConvEvent, Data, Fault, NoMemory, Reply};
-
-/// An answer whose data stays where it is.
-#[derive(Clone, Copy)]
-pub enum Told<'a> {
-    Success(i32, Payload<'a>),
-    Failed(i32, Payload<'a>),
-    Error(Fault),
-}
-
-/// A code and data, and what stands behind them.
-pub fn coded_at(octets: &[u8]) -> Result<((i32, Payload<'_>), &[u8]), NoFrame>
-    ensures read { Reads (λ x. ((x.0.0, held x.0.1), x.1.now)) result (coded_at octets.now) }
-    ensures named { IfOk result (λ x. IsPayload x.0.1) }
-{
-    let (code, rest) = signed_at(octets)?;
-    let (payload, rest) = data_at(rest)?;
-    Ok(((code, payload), rest))
-}
 
 fn fault_at(octets: &[u8]) -> Result<(Fault, &[u8]), NoFrame>
     ensures { Reads (λ x. (x.0, x.1.now)) result (fault_at octets.now) }
@@ -38,94 +20,78 @@ fn fault_at(octets: &[u8]) -> Result<(Fault, &[u8]), NoFrame>
     Ok((fault_of(fault)?, rest))
 }
 
-#[tactic(auto, unfolding(crate::specs::Reading::answer_at))]
-fn answer_at(octets: &[u8]) -> Result<(Told<'_>, &[u8]), NoFrame>
-    ensures read { Reads (λ x. (meant x.0, x.1.now)) result (answer_at octets.now) }
-    ensures named { IfOk result (λ x. IsTold x.0) }
+#[tactic(auto, unfolding(crate::specs::Reading::answer_of))]
+fn answer_of(alloc: Global, octets: &[u8]) -> Result<Answer, ReadError>
+    ensures { Makes result (answer_of octets.now) }
 {
-    let (code, rest) = octet_at(octets)?;
-    match code {
+    let (which, rest) = octet_at(octets)?;
+    match which {
         0 => {
-            let ((code, payload), rest) = coded_at(rest)?;
-            Ok((Told::Success(code, payload), rest))
+            let (code, rest) = signed_at(rest)?;
+            Ok(Answer::Success(code, data_of(alloc, rest)?))
         }
         1 => {
-            let ((code, payload), rest) = coded_at(rest)?;
-            Ok((Told::Failed(code, payload), rest))
+            let (code, rest) = signed_at(rest)?;
+            Ok(Answer::Failed(code, data_of(alloc, rest)?))
         }
         2 => {
             let (fault, rest) = fault_at(rest)?;
-            Ok((Told::Error(fault), rest))
+            ended(rest)?;
+            Ok(Answer::Error(fault))
         }
-        _ => Err(NoFrame),
+        _ => Err(ReadError::NoFrame),
     }
 }
 
-impl Told<'_> {
-    // A copy of the answer.
-    fn own(&self, alloc: Global) -> Result<Answer, NoMemory>
-        requires { IsTold self.now }
-        ensures { IfOk result (λ answer. answer ≡ meant self.now) }
-    {
-        match self {
-            Told::Success(code, payload) => Ok(Answer::Success(*code, payload.own(alloc)?)),
-            Told::Failed(code, payload) => Ok(Answer::Failed(*code, payload.own(alloc)?)),
-            Told::Error(fault) => Ok(Answer::Error(*fault)),
-        }
-    }
-}
-
-#[tactic(auto, unfolding(crate::specs::Reading::descriptor_at))]
+#[tactic(auto, unfolding(crate::specs::Reading::descriptor_of))]
 fn descriptor_of(octets: &[u8]) -> Result<Body, ReadError>
-    ensures { Makes result (all_as bodies.Reply descriptor_at octets.now) }
+    ensures { Makes result (said bodies.Reply descriptor_of octets.now) }
 {
     let (descriptor, rest) = long_at(octets)?;
     ended(rest)?;
     Ok(Body::Reply(Reply::Descriptor(descriptor)))
 }
 
-#[tactic(auto, unfolding(crate::specs::Reading::now_at))]
+#[tactic(auto, unfolding(crate::specs::Reading::now_of))]
 fn now_of(octets: &[u8]) -> Result<Body, ReadError>
-    ensures { Makes result (all_as bodies.Reply now_at octets.now) }
+    ensures { Makes result (said bodies.Reply now_of octets.now) }
 {
     let (now, rest) = long_at(octets)?;
     ended(rest)?;
     Ok(Body::Reply(Reply::Now(now)))
 }
 
-#[tactic(auto, unfolding(crate::specs::Reading::answered_at))]
+#[tactic(auto, unfolding(crate::specs::Reading::answered_of))]
 fn answered_of(alloc: Global, octets: &[u8]) -> Result<Body, ReadError>
-    ensures { Makes result (all_as bodies.Reply answered_at octets.now) }
+    ensures { Makes result (said bodies.Reply answered_of octets.now) }
 {
     let (descriptor, rest) = long_at(octets)?;
-    let (answer, rest) = answer_at(rest)?;
-    ended(rest)?;
-    Ok(Body::Reply(Reply::Answered(descriptor, answer.own(alloc)?)))
+    let answer = answer_of(alloc, rest)?;
+    Ok(Body::Reply(Reply::Answered(descriptor, answer)))
 }
 
-#[tactic(auto, unfolding(crate::specs::Reading::message_at))]
+#[tactic(auto, unfolding(crate::specs::Reading::message_of))]
 fn message_of(alloc: Global, octets: &[u8]) -> Result<Body, ReadError>
-    ensures { Makes result (all_as bodies.Reply message_at octets.now) }
+    ensures { Makes result (said bodies.Reply message_of octets.now) }
 {
-    let (payload, rest) = data_at(octets)?;
-    ended(rest)?;
-    Ok(Body::Reply(Reply::Message(payload.own(alloc)?)))
+    let payload = data_of(alloc, octets)?;
+    Ok(Body::Reply(Reply::Message(payload)))
 }
 
-#[tactic(auto, unfolding(crate::specs::Reading::event_at))]
+#[tactic(auto, unfolding(crate::specs::Reading::event_reply_of))]
 fn event_reply_of(alloc: Global, octets: &[u8]) -> Result<Body, ReadError>
-    ensures { Makes result (all_as bodies.Reply event_at octets.now) }
+    ensures { Makes result (said bodies.Reply event_reply_of octets.now) }
 {
     let (event, rest) = octet_at(octets)?;
     let event = event_of(event)?;
-    let ((code, payload), rest) = coded_at(rest)?;
-    ended(rest)?;
-    Ok(Body::Reply(Reply::Event(event, code, payload.own(alloc)?)))
+    let (code, rest) = signed_at(rest)?;
+    let payload = data_of(alloc, rest)?;
+    Ok(Body::Reply(Reply::Event(event, code, payload)))
 }
 
-#[tactic(auto, unfolding(crate::specs::Reading::fault_reply_at))]
+#[tactic(auto, unfolding(crate::specs::Reading::fault_reply_of))]
 fn fault_reply_of(octets: &[u8]) -> Result<Body, ReadError>
-    ensures { Makes result (all_as bodies.Reply fault_reply_at octets.now) }
+    ensures { Makes result (said bodies.Reply fault_reply_of octets.now) }
 {
     let (fault, rest) = fault_at(octets)?;
     ended(rest)?;
@@ -133,17 +99,17 @@ fn fault_reply_of(octets: &[u8]) -> Result<Body, ReadError>
 }
 
 fn done_of(octets: &[u8]) -> Result<Body, ReadError>
-    ensures { Makes result (all_as bodies.Reply done_at octets.now) }
+    ensures { Makes result (said bodies.Reply done_of octets.now) }
 {
     ended(octets)?;
     Ok(Body::Reply(Reply::Done))
 }
 
 /// The REPLY whose reply all of the octets are.
-#[tactic(auto, unfolding(crate::specs::Reading::reply_at))]
+#[tactic(auto, unfolding(crate::specs::Reading::reply_of))]
 #[inline(never)]
 pub fn reply_of(alloc: Global, octets: &[u8]) -> Result<Body, ReadError>
-    ensures { Makes result (all_as bodies.Reply reply_at octets.now) }
+    ensures { Makes result (said bodies.Reply reply_of octets.now) }
 {
     let (code, rest) = octet_at(octets)?;
     match code {
