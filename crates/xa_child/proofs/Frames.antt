@@ -12,7 +12,7 @@ use Rattle.xa_types.specs.declared.data.Data.TheVariants.{Absent}
 use Rattle.xa_types.specs.declared.call.Rval.TheVariants.{Success, Fail}
 use Rattle.xa_frame.specs.declared.frame.Frame.{Frame}
 use Rattle.xa_frame.specs.declared.frame.Body.{Body}
-use Rattle.xa_frame.specs.declared.frame.Body.TheVariants.{Ready, Next, Return, Invoke, Shutdown}
+use Rattle.xa_frame.specs.declared.frame.Body.TheVariants.{Ready, Return, Invoke}
 use Rattle.xa_frame.specs.Spelling.{spelled, all_spelled, HasSpelling, IsBody, IsData}
 use Rattle.xa_frame.proofs.FrameLemmas.{all_spelled-push}
 use Rattle.xa_child.specs.declared.child.Returned.{Returned}

@@ -1,6 +1,5 @@
 -- Operations, replies and bodies: what is read is spelled so, and what is spelled so is read.
 use Rattle.std.proofs.Common.{◌≡◌, ℕ, ◌≤◌, List, ◌∷◌, ◌++◌, length, Option, Some, None, refl, sym, ap, subst, ◌∙◌, arith}
-use Rattle.std.proofs.lemmas.Option.{same_Some}
 use Rattle.std.proofs.lemmas.List.{length-append}
 use Rattle.xa_types.specs.declared.data.Data.{Data}
 use Rattle.xa_types.specs.declared.data.Data.TheVariants.{Absent, Octet, Struct}
@@ -19,7 +18,7 @@ use Rattle.xa_frame.specs.declared.frame.Body.TheVariants as bodies
 use Rattle.xa_frame.specs.declared.header.FrameKind.{FrameKind}
 use Rattle.xa_frame.specs.declared.header.FrameKind.TheVariants as kinds
 use Rattle.xa_frame.specs.Spelling.{word, sized, data_kind_octets, data_octets, mode_octet, op_octets, answer_octets, reply_octets, body_octets, IsWord, IsDataKind, IsData, IsOp, IsAnswer, IsReply, IsBody}
-use Rattle.xa_frame.specs.Reading.{◌>>=◌, said, called, acalled, got, got_any, connected, sent, received, prior, advertised, succeeded, failed, answered, evented, returned, forwarded, invoked, call_of, acall_of, get_of, get_any_of, cancel_of, connect_of, send_of, receive_of, disconnect_of, priority_of, advertise_of, unadvertise_of, tick_of, op_form, op_of, answer_form, answer_of, descriptor_of, now_of, answered_of, message_of, event_reply_of, fault_reply_of, reply_form, reply_of, return_of, forward_of, invoke_of, body_of, most_octets}
+use Rattle.xa_frame.specs.Reading.{said, called, acalled, got, got_any, connected, sent, received, prior, advertised, succeeded, failed, answered, evented, returned, forwarded, invoked, call_of, acall_of, get_of, get_any_of, cancel_of, connect_of, send_of, receive_of, disconnect_of, priority_of, advertise_of, unadvertise_of, tick_of, op_form, op_of, answer_form, answer_of, descriptor_of, now_of, answered_of, message_of, event_reply_of, fault_reply_of, reply_form, reply_of, return_of, forward_of, invoke_of, body_of, most_octets}
 use Rattle.xa_frame.proofs.FieldLemmas.{IsBytes, IsForm, nothing_is, last_is, before_is, said_takes, said_again, Spells, chosen, forms_are}
 use Rattle.xa_frame.proofs.PartLemmas.{truth_is, direction_is, rval_is, mode_is, fault_is, event_is, flags_are, number_is, signed_is, long_is, word_is, name_is, name_short, data_kind_is, data_is, coded_is}
 
