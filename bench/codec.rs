@@ -33,11 +33,34 @@ pub enum Data {
     Struct(Name, Octets),
 }
 
+/// A tpcall: its flags as an octet, the service, the kind of its TPNOCHANGE buffer, and data.
+pub struct Call {
+    pub flags: u8,
+    pub service: Octets,
+    pub expect: Option<Kind>,
+    pub payload: Data,
+}
+
+#[derive(Clone, Copy)]
+pub enum Kind {
+    Octet,
+    Struct(Name),
+}
+
+pub enum Answer {
+    Success(i32, Data),
+    Failed(i32, Data),
+    Error(u8),
+}
+
+/// Of the operations it has the tpcall, and of the replies the answer.
 pub enum Body {
     Ready(Name),
     Next,
+    Op(Call),
     Return(u8, i32, Data),
     Invoke(Name, Name, u8, Data),
+    Reply(u64, Answer),
     Shutdown,
 }
 
@@ -76,6 +99,43 @@ fn data(octets: &[u8]) -> Option<Data> {
     }
 }
 
+fn kind_at(octets: &[u8]) -> Option<(Option<Kind>, &[u8])> {
+    match octets {
+        [0, rest @ ..] => Some((None, rest)),
+        [1, rest @ ..] => Some((Some(Kind::Octet), rest)),
+        [2, rest @ ..] => {
+            let (subtype, rest) = name_at(rest)?;
+            Some((Some(Kind::Struct(subtype)), rest))
+        }
+        _ => None,
+    }
+}
+
+fn op(octets: &[u8]) -> Option<Body> {
+    let [1, flags @ 0..32, len, rest @ ..] = octets else {
+        return None;
+    };
+    let (service, rest) = rest.split_at_checked(usize::from(*len))?;
+    let (expect, rest) = kind_at(rest)?;
+    let payload = data(rest)?;
+    Some(Body::Op(Call { flags: *flags, service: service.to_vec(), expect, payload }))
+}
+
+fn reply(octets: &[u8]) -> Option<Body> {
+    let (front, rest) = octets.split_at_checked(10)?;
+    let descriptor = u64::from_be_bytes(front[1..9].try_into().ok()?);
+    let answer = match (front[0], front[9]) {
+        (3, 0) => Answer::Success(number_at(rest, 0)? as i32, data(&rest[4..])?),
+        (3, 1) => Answer::Failed(number_at(rest, 0)? as i32, data(&rest[4..])?),
+        (3, 2) => match rest {
+            [fault @ 1..=15] => Answer::Error(*fault),
+            _ => return None,
+        },
+        _ => return None,
+    };
+    Some(Body::Reply(descriptor, answer))
+}
+
 fn body(kind: u8, octets: &[u8]) -> Option<Body> {
     match kind {
         0x01 => match name_at(octets)? {
@@ -83,6 +143,7 @@ fn body(kind: u8, octets: &[u8]) -> Option<Body> {
             _ => None,
         },
         0x02 => Some(Body::Next),
+        0x03 => op(octets),
         0x04 => {
             let value = *octets.first().filter(|value| **value <= 2)?;
             let code = number_at(octets, 1)? as i32;
@@ -97,6 +158,7 @@ fn body(kind: u8, octets: &[u8]) -> Option<Body> {
             }
             Some(Body::Invoke(service, routine, *mode, data(rest)?))
         }
+        0x12 => reply(octets),
         _ => Some(Body::Shutdown),
     }
 }
@@ -107,7 +169,7 @@ fn front(octets: &[u8]) -> Result<Option<(Frame, usize)>, ()> {
         return Ok(None);
     };
     let most = match header[3] {
-        0x01 | 0x04 | 0x11 => 66_000,
+        0x01 | 0x03 | 0x04 | 0x11 | 0x12 => 66_000,
         0x02 | 0x13 => 0,
         _ => return Err(()),
     };
@@ -177,10 +239,43 @@ fn put_data(out: &mut Octets, payload: &Data) {
     }
 }
 
+fn put_kind(out: &mut Octets, kind: &Option<Kind>) {
+    match kind {
+        None => out.push(0),
+        Some(Kind::Octet) => out.push(1),
+        Some(Kind::Struct(subtype)) => {
+            out.push(2);
+            put_name(out, subtype);
+        }
+    }
+}
+
+fn put_answer(out: &mut Octets, answer: &Answer) {
+    let (which, code, payload) = match answer {
+        Answer::Success(code, payload) => (0, code, payload),
+        Answer::Failed(code, payload) => (1, code, payload),
+        Answer::Error(fault) => return out.extend_from_slice(&[2, *fault]),
+    };
+    out.push(which);
+    out.extend_from_slice(&code.to_be_bytes());
+    put_data(out, payload);
+}
+
 fn put_body(out: &mut Octets, body: &Body) {
     match body {
         Body::Ready(name) => put_name(out, name),
         Body::Next | Body::Shutdown => {}
+        Body::Op(call) => {
+            out.extend_from_slice(&[1, call.flags, call.service.len() as u8]);
+            out.extend_from_slice(&call.service);
+            put_kind(out, &call.expect);
+            put_data(out, &call.payload);
+        }
+        Body::Reply(descriptor, answer) => {
+            out.push(3);
+            out.extend_from_slice(&descriptor.to_be_bytes());
+            put_answer(out, answer);
+        }
         Body::Return(value, code, payload) => {
             out.push(*value);
             out.extend_from_slice(&code.to_be_bytes());
@@ -203,14 +298,32 @@ fn data_len(payload: &Data) -> usize {
     }
 }
 
+fn kind_len(kind: &Option<Kind>) -> usize {
+    match kind {
+        Some(Kind::Struct(subtype)) => 2 + subtype.octets().len(),
+        None | Some(Kind::Octet) => 1,
+    }
+}
+
+fn answer_len(answer: &Answer) -> usize {
+    match answer {
+        Answer::Success(_, payload) | Answer::Failed(_, payload) => 5 + data_len(payload),
+        Answer::Error(_) => 2,
+    }
+}
+
 fn kind_and_size(body: &Body) -> (u8, usize) {
     match body {
         Body::Ready(name) => (0x01, 1 + name.octets().len()),
         Body::Next => (0x02, 0),
+        Body::Op(call) => {
+            (0x03, 3 + call.service.len() + kind_len(&call.expect) + data_len(&call.payload))
+        }
         Body::Return(_, _, payload) => (0x04, 5 + data_len(payload)),
         Body::Invoke(service, routine, _, payload) => {
             (0x11, 3 + service.octets().len() + routine.octets().len() + data_len(payload))
         }
+        Body::Reply(_, answer) => (0x12, 9 + answer_len(answer)),
         Body::Shutdown => (0x13, 0),
     }
 }

@@ -12,7 +12,7 @@ use Rattle.xa_types.specs.declared.data.Data.TheVariants.{Absent}
 use Rattle.xa_types.specs.declared.call.Rval.TheVariants.{Success, Fail}
 use Rattle.xa_frame.specs.declared.frame.Frame.{Frame}
 use Rattle.xa_frame.specs.declared.frame.Body.{Body}
-use Rattle.xa_frame.specs.declared.frame.Body.TheVariants.{Ready, Next, Return, Invoke, Shutdown}
+use Rattle.xa_frame.specs.declared.frame.Body.TheVariants.{Ready, Return, Invoke}
 use Rattle.xa_frame.specs.Spelling.{spelled, all_spelled, HasSpelling, IsBody, IsData}
 use Rattle.xa_frame.proofs.FrameLemmas.{all_spelled-push}
 use Rattle.xa_child.specs.declared.child.Returned.{Returned}
@@ -64,13 +64,10 @@ pub next_spelling : HasSpelling next
 next_spelling = record { tag = omega arith; body = tt }
 
 answer_spelling : (tag : ℕ) (body : Body) → tag < 2 ^ 32 → IsBody body → All HasSpelling (answer_body tag body)
-answer_spelling tag (Ready name) low h = All-nil HasSpelling
-answer_spelling tag Next low h = All-nil HasSpelling
-answer_spelling tag (Return value code payload) low h = All-nil HasSpelling
 answer_spelling tag (Invoke service routine mode payload) low h =
     let first : HasSpelling (record { tag = tag; body = returned routine payload }) = record { tag = low; body = returned_body (bytes_eq routine (codes "ECHO")) (bytes_eq routine (codes "LEN")) (bytes_eq routine (codes "FAIL")) payload h.2 } in
     served_spelling (is_die routine) _ (two_spellings _ next first next_spelling)
-answer_spelling tag Shutdown low h = All-nil HasSpelling
+answer_spelling tag body low h = All-nil HasSpelling
 
 pub spelling-answer : (f : Frame) → HasSpelling f → All HasSpelling (answer f)
 spelling-answer f h = answer_spelling f.tag f.body h.tag h.body

@@ -115,7 +115,14 @@ pub fn said_to(frame: &Frame) -> Option<Returned<'_>>
         Body::Invoke(_, routine, _, payload) if !is_die(routine) => {
             Some(return_of(frame.tag, routine, payload))
         }
-        Body::Invoke(..) | Body::Ready(_) | Body::Next | Body::Return(..) | Body::Shutdown => None,
+        Body::Invoke(..)
+        | Body::Ready(_)
+        | Body::Next
+        | Body::Op(_)
+        | Body::Return(..)
+        | Body::Forward(..)
+        | Body::Reply(_)
+        | Body::Shutdown => None,
     }
 }
 
@@ -186,7 +193,12 @@ impl Child {
         match &frame.body {
             Body::Invoke(..) => frame.tag == self.following(),
             Body::Shutdown => frame.tag == 0,
-            Body::Ready(_) | Body::Next | Body::Return(..) => false,
+            Body::Ready(_)
+            | Body::Next
+            | Body::Op(_)
+            | Body::Return(..)
+            | Body::Forward(..)
+            | Body::Reply(_) => false,
         }
     }
 
@@ -199,7 +211,12 @@ impl Child {
                 self.ended = is_die(routine);
             }
             Body::Shutdown => self.ended = true,
-            Body::Ready(_) | Body::Next | Body::Return(..) => (),
+            Body::Ready(_)
+            | Body::Next
+            | Body::Op(_)
+            | Body::Return(..)
+            | Body::Forward(..)
+            | Body::Reply(_) => (),
         }
     }
 }

@@ -1,107 +1,126 @@
--- Data and bodies: what is read is spelled so, and what is spelled so is read.
-use Rattle.std.proofs.Common.{◌≡◌, ℕ, ◌^◌, ◌<◌, ◌≤◌, Bool, true, false, cond, leb, eqb, ◌&&◌, List, [], ◌∷◌, ◌++◌, length, Option, Some, None, refl, sym, ap, subst, ◌∙◌, arith, rules, not, ℤ, pos, negsuc}
-use Rattle.std.specs.Int.{w32, cast_signed, cast_unsigned}
-use Rattle.std.specs.Prelude.{FitsSigned}
-use Rattle.std.proofs.lemmas.Bool.{eqb-true, leb-true, and_parts}
-use Rattle.std.proofs.lemmas.Int.{to_z-of_z, of_z-to_z}
-use Rattle.std.proofs.Math.Facts.{sfits_to_z}
-use Rattle.std.specs.List.{list_all}
-use Rattle.std.proofs.lemmas.Option.{cond_some, same_Some}
-use Rattle.std.proofs.lemmas.List.{append-nil, nil_from_length, length-append}
-use Rattle.byteorder.specs.Endian.{big_bytes}
-use Rattle.xa_types.specs.Name.{IsName, is_graphic, begins_with_dot}
+-- Operations, replies and bodies: what is read is spelled so, and what is spelled so is read.
+use Rattle.std.proofs.Common.{◌≡◌, ℕ, ◌≤◌, List, ◌∷◌, ◌++◌, length, Option, Some, None, refl, sym, ap, subst, ◌∙◌, arith}
+use Rattle.std.proofs.lemmas.List.{length-append}
 use Rattle.xa_types.specs.declared.data.Data.{Data}
 use Rattle.xa_types.specs.declared.data.Data.TheVariants.{Absent, Octet, Struct}
-use Rattle.xa_types.specs.declared.call.Mode.{Mode}
-use Rattle.xa_types.specs.declared.call.Rval.{Rval}
+use Rattle.xa_types.specs.declared.data.Kind.{Kind}
+use Rattle.xa_types.specs.declared.data.Kind.TheVariants as data_kinds
+use Rattle.xa_types.specs.declared.call.Direction.{Direction}
+use Rattle.xa_types.specs.declared.call.Direction.TheVariants.{Neither}
+use Rattle.xa_types.specs.declared.call.Op.{Op}
+use Rattle.xa_types.specs.declared.call.Op.TheVariants as ops
+use Rattle.xa_types.specs.declared.reply.Answer.{Answer}
+use Rattle.xa_types.specs.declared.reply.Answer.TheVariants as answers
+use Rattle.xa_types.specs.declared.reply.Reply.{Reply}
+use Rattle.xa_types.specs.declared.reply.Reply.TheVariants as replies
 use Rattle.xa_frame.specs.declared.frame.Body.{Body}
-use Rattle.xa_frame.specs.declared.frame.Body.TheVariants.{Ready, Next, Return, Invoke, Shutdown}
+use Rattle.xa_frame.specs.declared.frame.Body.TheVariants as bodies
 use Rattle.xa_frame.specs.declared.header.FrameKind.{FrameKind}
 use Rattle.xa_frame.specs.declared.header.FrameKind.TheVariants as kinds
-use Rattle.xa_frame.specs.Spelling.{word, sized, data_octets, body_octets, rval_octet, mode_octet, IsData, IsBody}
-use Rattle.xa_frame.specs.Reading.{◌>>=◌, octet_at, number_at, word_at, name_of, rval_of, mode_of, sized_of, absent_of, octet_data_of, struct_of, data_after, data_of, ready_of, return_of, invoke_of, empty_of, body_of, most_octets}
-use Rattle.xa_frame.proofs.FieldLemmas.{IsBytes, bind_some, octet_takes, rval_takes, rval_again, mode_takes, mode_again, number_takes, number_again, word_takes, word_again, name_takes, name_again, sized_takes, sized_again}
+use Rattle.xa_frame.specs.Spelling.{word, sized, data_kind_octets, data_octets, mode_octet, op_octets, answer_octets, reply_octets, body_octets, IsWord, IsDataKind, IsData, IsOp, IsAnswer, IsReply, IsBody}
+use Rattle.xa_frame.specs.Reading.{said, called, acalled, got, got_any, connected, sent, received, prior, advertised, succeeded, failed, answered, evented, returned, forwarded, invoked, call_of, acall_of, get_of, get_any_of, cancel_of, connect_of, send_of, receive_of, disconnect_of, priority_of, advertise_of, unadvertise_of, tick_of, op_form, op_of, answer_form, answer_of, descriptor_of, now_of, answered_of, message_of, event_reply_of, fault_reply_of, reply_form, reply_of, return_of, forward_of, invoke_of, body_of, most_octets}
+use Rattle.xa_frame.proofs.FieldLemmas.{IsBytes, IsForm, nothing_is, last_is, before_is, said_takes, said_again, Spells, chosen, forms_are}
+use Rattle.xa_frame.proofs.PartLemmas.{truth_is, direction_is, rval_is, mode_is, fault_is, event_is, flags_are, number_is, signed_is, long_is, word_is, name_is, name_short, data_kind_is, data_is, coded_is}
 
--- the empty list, for a reader that wants no octets after its fields
-ended : {A : Type 0} (rest : List ℕ) (x y : A) → cond (eqb (length rest) 0) (Some x) None ≡ Some y → (rest ≡ []) × (x ≡ y)
-ended rest x y e =
-    let g = cond_some (eqb (length rest) 0) x y e in
-    (nil_from_length rest (eqb-true _ _ g.0), g.1)
+-- ---- operations
 
--- ---- data
+op_taken : (k : ℕ) (bytes : List ℕ) (x : Op) → IsBytes bytes → op_form k bytes ≡ Some x → Spells op_octets IsOp k bytes x
+unfolding call_of acall_of get_of get_any_of cancel_of connect_of send_of receive_of disconnect_of priority_of advertise_of unadvertise_of tick_of
+op_taken k bytes x fits =
+    chosen (before_is flags_are (before_is word_is (before_is data_kind_is data_is))) called op_octets IsOp 1 (λ v. refl) (λ v p. (p.1.0, p.1.1.0, p.1.1.1, refl)) k bytes x fits _
+    (chosen (before_is flags_are (before_is word_is data_is)) acalled op_octets IsOp 2 (λ v. refl) (λ v p. (p.1.0, p.1.1, refl, refl)) k bytes x fits _
+    (chosen (before_is flags_are (before_is long_is (last_is data_kind_is))) got op_octets IsOp 3 (λ v. refl) (λ v p. p.1) k bytes x fits _
+    (chosen (before_is flags_are (last_is data_kind_is)) got_any op_octets IsOp 4 (λ v. refl) (λ v p. p.1) k bytes x fits _
+    (chosen (last_is long_is) ops.Cancel op_octets IsOp 5 (λ v. refl) (λ v p. p) k bytes x fits _
+    (chosen (before_is flags_are (before_is direction_is (before_is word_is data_is))) connected op_octets IsOp 6 (λ v. refl) (λ v p. (p.1.1.0, p.1.1.1, refl)) k bytes x fits _
+    (chosen (before_is flags_are (before_is long_is (before_is truth_is data_is))) sent op_octets IsOp 7 (λ v. refl) (λ v p. (p.1.0, p.1.1.1)) k bytes x fits _
+    (chosen (before_is flags_are (last_is long_is)) received op_octets IsOp 8 (λ v. refl) (λ v p. p.1) k bytes x fits _
+    (chosen (last_is long_is) ops.Disconnect op_octets IsOp 9 (λ v. refl) (λ v p. p) k bytes x fits _
+    (chosen (before_is truth_is (last_is signed_is)) prior op_octets IsOp 10 (λ v. refl) (λ v p. p.1) k bytes x fits _
+    (chosen (before_is word_is (last_is word_is)) advertised op_octets IsOp 11 (λ v. refl) (λ v p. p) k bytes x fits _
+    (chosen (last_is word_is) ops.Unadvertise op_octets IsOp 12 (λ v. refl) (λ v p. p) k bytes x fits _
+    (chosen (last_is number_is) ops.Tick op_octets IsOp 13 (λ v. refl) (λ v p. p) k bytes x fits None (λ h. absurd cc)))))))))))))
 
-octet_data_takes : (bytes : List ℕ) (d : Data) → IsBytes bytes → octet_data_of bytes ≡ Some d → (1 ∷ bytes ≡ data_octets d) × IsData d
-unfolding octet_data_of
-octet_data_takes bytes d fits e =
-    let a = bind_some (sized_of bytes) (λ octets. Some (Octet octets)) d e in
-    let first = sized_takes bytes a.0 fits a.1 in
-    subst (λ (y : Data). (1 ∷ bytes ≡ data_octets y) × IsData y) (same_Some (Octet a.0) d a.2) (ap (λ (t : List ℕ). 1 ∷ t) first.0, first.1)
+op_again : (op : Op) → IsOp op → op_of (op_octets op) ≡ Some op
+unfolding op_of call_of acall_of get_of get_any_of cancel_of connect_of send_of receive_of disconnect_of priority_of advertise_of unadvertise_of tick_of
+op_again (ops.Call ask) h =
+    said_again (before_is flags_are (before_is word_is (before_is data_kind_is data_is))) called (ask.flags, (ask.service, (ask.expect, ask.payload))) (tt, (h.0, (h.1, h.2)))
+    ∙ ap (λ (d : Direction). Some (ops.Call (record { service = ask.service; payload = ask.payload; flags = ask.flags; expect = ask.expect; direction = d }))) (sym h.3)
+op_again (ops.Acall ask) h =
+    said_again (before_is flags_are (before_is word_is data_is)) acalled (ask.flags, (ask.service, ask.payload)) (tt, (h.0, h.1))
+    ∙ ap (λ (k : Option Kind). Some (ops.Acall (record { service = ask.service; payload = ask.payload; flags = ask.flags; expect = k; direction = Neither }))) (sym h.2) ∙ ap (λ (d : Direction). Some (ops.Acall (record { service = ask.service; payload = ask.payload; flags = ask.flags; expect = ask.expect; direction = d }))) (sym h.3)
+op_again (ops.Get descriptor flags expect) h = said_again (before_is flags_are (before_is long_is (last_is data_kind_is))) got (flags, (descriptor, expect)) (tt, h)
+op_again (ops.GetAny flags expect) h = said_again (before_is flags_are (last_is data_kind_is)) got_any (flags, expect) (tt, h)
+op_again (ops.Cancel descriptor) h = said_again (last_is long_is) ops.Cancel descriptor h
+op_again (ops.Connect ask) h =
+    said_again (before_is flags_are (before_is direction_is (before_is word_is data_is))) connected (ask.flags, (ask.direction, (ask.service, ask.payload))) (tt, (tt, (h.0, h.1)))
+    ∙ ap (λ (k : Option Kind). Some (ops.Connect (record { service = ask.service; payload = ask.payload; flags = ask.flags; expect = k; direction = ask.direction }))) (sym h.2)
+op_again (ops.Send descriptor flags recv_only payload) h = said_again (before_is flags_are (before_is long_is (before_is truth_is data_is))) sent (flags, (descriptor, (recv_only, payload))) (tt, (h.0, (tt, h.1)))
+op_again (ops.Receive descriptor flags) h = said_again (before_is flags_are (last_is long_is)) received (flags, descriptor) (tt, h)
+op_again (ops.Disconnect descriptor) h = said_again (last_is long_is) ops.Disconnect descriptor h
+op_again (ops.Priority absolute amount) h = said_again (before_is truth_is (last_is signed_is)) prior (absolute, amount) (tt, h)
+op_again (ops.Advertise service routine) h = said_again (before_is word_is (last_is word_is)) advertised (service, routine) h
+op_again (ops.Unadvertise service) h = said_again (last_is word_is) ops.Unadvertise service h
+op_again (ops.Tick ticks) h = said_again (last_is number_is) ops.Tick ticks h
 
-struct_takes : (bytes : List ℕ) (d : Data) → IsBytes bytes → struct_of bytes ≡ Some d → (2 ∷ bytes ≡ data_octets d) × IsData d
-unfolding struct_of
-struct_takes bytes d fits e =
-    let a = bind_some (word_at bytes) (λ w. name_of w.0 >>= λ subtype. sized_of w.1 >>= λ octets. Some (Struct subtype octets)) d e in
-    let b = bind_some (name_of a.0.0) (λ subtype. sized_of a.0.1 >>= λ octets. Some (Struct subtype octets)) d a.2 in
-    let c = bind_some (sized_of a.0.1) (λ octets. Some (Struct b.0 octets)) d b.2 in
-    let first = word_takes bytes a.0 fits a.1 in
-    let named = name_takes a.0.0 b.0 b.1 in
-    let second = sized_takes a.0.1 c.0 first.rest_fits c.1 in
-    let whole : 2 ∷ bytes ≡ data_octets (Struct b.0 c.0) =
-    ap (λ (t : List ℕ). 2 ∷ t) first.parts ∙ ap (λ (t : List ℕ). 2 ∷ (word a.0.0 ++ t)) second.0 ∙ ap (λ (t : List ℕ). 2 ∷ (word t ++ sized c.0)) named.1 in
-    subst (λ (y : Data). (2 ∷ bytes ≡ data_octets y) × IsData y) (same_Some (Struct b.0 c.0) d c.2) (whole, (named.0, second.1))
+pub op_is : IsForm op_of op_octets IsOp
+unfolding op_of
+op_is = forms_are op_form op_octets IsOp op_taken op_again
 
-absent_takes : (bytes : List ℕ) (d : Data) → absent_of bytes ≡ Some d → (0 ∷ bytes ≡ data_octets d) × IsData d
-absent_takes bytes d e =
-    let g = ended bytes Absent d e in
-    subst (λ (y : Data). (0 ∷ bytes ≡ data_octets y) × IsData y) g.1 (ap (λ (t : List ℕ). 0 ∷ t) g.0, tt)
+-- ---- replies
 
--- a step by the first octet
-stepped : (k n : ℕ) (bytes : List ℕ) (d : Data) (here others : Option Data) → (here ≡ Some d → (n ∷ bytes ≡ data_octets d) × IsData d) → (others ≡ Some d → (k ∷ bytes ≡ data_octets d) × IsData d)
-    → cond (eqb k n) here others ≡ Some d → (k ∷ bytes ≡ data_octets d) × IsData d
-stepped k n bytes d here others at_here at_others e = by_test k n bytes d here others (eqb k n) refl at_here at_others e where
-  by_test : (k n : ℕ) (bytes : List ℕ) (d : Data) (here others : Option Data) (b : Bool) → eqb k n ≡ b → (here ≡ Some d → (n ∷ bytes ≡ data_octets d) × IsData d) → (others ≡ Some d → (k ∷ bytes ≡ data_octets d) × IsData d)
-      → cond b here others ≡ Some d → (k ∷ bytes ≡ data_octets d) × IsData d
-  by_test k n bytes d here others true t at_here at_others e = subst (λ (m : ℕ). (m ∷ bytes ≡ data_octets d) × IsData d) (sym (eqb-true k n t)) (at_here e)
-  by_test k n bytes d here others false t at_here at_others e = at_others e
+answer_taken : (k : ℕ) (bytes : List ℕ) (x : Answer) → IsBytes bytes → answer_form k bytes ≡ Some x → Spells answer_octets IsAnswer k bytes x
+answer_taken k bytes x fits =
+    chosen coded_is succeeded answer_octets IsAnswer 0 (λ v. refl) (λ v p. p) k bytes x fits _
+    (chosen coded_is failed answer_octets IsAnswer 1 (λ v. refl) (λ v p. p) k bytes x fits _
+    (chosen (last_is fault_is) answers.Error answer_octets IsAnswer 2 (λ v. refl) (λ v p. tt) k bytes x fits None (λ h. absurd cc)))
 
-after_takes : (k : ℕ) (bytes : List ℕ) (d : Data) → IsBytes bytes → data_after k bytes ≡ Some d → (k ∷ bytes ≡ data_octets d) × IsData d
-after_takes k bytes d fits e =
-    stepped k 0 bytes d (absent_of bytes) _ (absent_takes bytes d)
-    (stepped k 1 bytes d (octet_data_of bytes) _ (octet_data_takes bytes d fits)
-    (stepped k 2 bytes d (struct_of bytes) None (struct_takes bytes d fits) (λ h. absurd cc))) e
+answer_again : (a : Answer) → IsAnswer a → answer_of (answer_octets a) ≡ Some a
+unfolding answer_of
+answer_again (answers.Success code payload) h = said_again coded_is succeeded (code, payload) h
+answer_again (answers.Failed code payload) h = said_again coded_is failed (code, payload) h
+answer_again (answers.Error fault) h = said_again (last_is fault_is) answers.Error fault tt
 
-pub data_takes : (bytes : List ℕ) (d : Data) → IsBytes bytes → data_of bytes ≡ Some d → (bytes ≡ data_octets d) × IsData d
-unfolding data_of
-data_takes bytes d fits e =
-    let a = bind_some (octet_at bytes) (λ kind. data_after kind.0 kind.1) d e in
-    let first = octet_takes bytes a.0 fits a.1 in
-    let second = after_takes a.0.0 a.0.1 d first.rest_fits a.2 in
-    (first.parts ∙ second.0, second.1)
+answer_is : IsForm answer_of answer_octets IsAnswer
+unfolding answer_of
+answer_is = forms_are answer_form answer_octets IsAnswer answer_taken answer_again
 
-pub data_again : (d : Data) → IsData d → data_of (data_octets d) ≡ Some d
-unfolding data_of octet_data_of struct_of
-data_again Absent h = refl
-data_again (Octet octets) h = ap (λ (r : Option (List ℕ)). r >>= λ o. Some (Octet o)) (sized_again octets h)
-data_again (Struct subtype octets) h =
-    ap (λ (r : Option (List ℕ × List ℕ)). r >>= λ w. name_of w.0 >>= λ s. sized_of w.1 >>= λ o. Some (Struct s o)) (word_again subtype (sized octets))
-    ∙ ap (λ (r : Option (List ℕ)). r >>= λ s. sized_of (sized octets) >>= λ o. Some (Struct s o)) (name_again subtype h.0)
-    ∙ ap (λ (r : Option (List ℕ)). r >>= λ o. Some (Struct subtype o)) (sized_again octets h.1)
+reply_taken : (k : ℕ) (bytes : List ℕ) (x : Reply) → IsBytes bytes → reply_form k bytes ≡ Some x → Spells reply_octets IsReply k bytes x
+unfolding descriptor_of now_of answered_of message_of event_reply_of fault_reply_of
+reply_taken k bytes x fits =
+    chosen nothing_is (λ _. replies.Done) reply_octets IsReply 0 (λ v. refl) (λ v p. tt) k bytes x fits _
+    (chosen (last_is long_is) replies.Descriptor reply_octets IsReply 1 (λ v. refl) (λ v p. p) k bytes x fits _
+    (chosen (last_is long_is) replies.Now reply_octets IsReply 2 (λ v. refl) (λ v p. p) k bytes x fits _
+    (chosen (before_is long_is answer_is) answered reply_octets IsReply 3 (λ v. refl) (λ v p. p) k bytes x fits _
+    (chosen data_is replies.Message reply_octets IsReply 4 (λ v. refl) (λ v p. p) k bytes x fits _
+    (chosen (before_is event_is coded_is) evented reply_octets IsReply 5 (λ v. refl) (λ v p. p.1) k bytes x fits _
+    (chosen (last_is fault_is) replies.Fault reply_octets IsReply 6 (λ v. refl) (λ v p. tt) k bytes x fits None (λ h. absurd cc)))))))
+
+reply_again : (r : Reply) → IsReply r → reply_of (reply_octets r) ≡ Some r
+unfolding reply_of descriptor_of now_of answered_of message_of event_reply_of fault_reply_of
+reply_again replies.Done h = refl
+reply_again (replies.Descriptor descriptor) h = said_again (last_is long_is) replies.Descriptor descriptor h
+reply_again (replies.Now now) h = said_again (last_is long_is) replies.Now now h
+reply_again (replies.Answered descriptor answer) h = said_again (before_is long_is answer_is) answered (descriptor, answer) h
+reply_again (replies.Message payload) h = said_again data_is replies.Message payload h
+reply_again (replies.Event event code payload) h = said_again (before_is event_is coded_is) evented (event, (code, payload)) (tt, h)
+reply_again (replies.Fault fault) h = said_again (last_is fault_is) replies.Fault fault tt
+
+pub reply_is : IsForm reply_of reply_octets IsReply
+unfolding reply_of
+reply_is = forms_are reply_form reply_octets IsReply reply_taken reply_again
 
 -- ---- bodies
 
 abbrev pub kind_is : Body → FrameKind
-kind_is (Ready name) = kinds.Ready
-kind_is Next = kinds.Next
-kind_is (Return value code payload) = kinds.Return
-kind_is (Invoke service routine mode payload) = kinds.Invoke
-kind_is Shutdown = kinds.Shutdown
-
-signed_fits : (n : ℕ) → n < 2 ^ 32 → FitsSigned w32 (cast_signed w32 n)
-signed_fits n lt = search (rules, sfits_to_z)
-
-code_fits : (z : ℤ) → FitsSigned w32 z → cast_unsigned w32 z < 2 ^ 32
-code_fits (pos n) h = omega (arith, h.sfits)
-code_fits (negsuc n) h = omega (arith, h.sfits)
+kind_is (bodies.Ready name) = kinds.Ready
+kind_is bodies.Next = kinds.Next
+kind_is (bodies.Op op) = kinds.Op
+kind_is (bodies.Return value code payload) = kinds.Return
+kind_is (bodies.Forward service payload) = kinds.Forward
+kind_is (bodies.Invoke service routine mode payload) = kinds.Invoke
+kind_is (bodies.Reply reply) = kinds.Reply
+kind_is bodies.Shutdown = kinds.Shutdown
 
 -- all of the octets are that body, which is of that kind
 pub record IsSpelled (kind : FrameKind) (bytes : List ℕ) (b : Body) : Type 0 where
@@ -109,109 +128,42 @@ pub record IsSpelled (kind : FrameKind) (bytes : List ℕ) (b : Body) : Type 0 w
   pub whole : bytes ≡ body_octets b
   pub sound : IsBody b
 
-ready_takes : (bytes : List ℕ) (b : Body) → IsBytes bytes → ready_of bytes ≡ Some b → IsSpelled kinds.Ready bytes b
-unfolding ready_of
-ready_takes bytes b fits e =
-    let a = bind_some (word_at bytes) (λ w. name_of w.0 >>= λ name. cond (eqb (length w.1) 0) (Some (Ready name)) None) b e in
-    let n = bind_some (name_of a.0.0) (λ name. cond (eqb (length a.0.1) 0) (Some (Ready name)) None) b a.2 in
-    let g = ended a.0.1 (Ready n.0) b n.2 in
-    let first = word_takes bytes a.0 fits a.1 in
-    let named = name_takes a.0.0 n.0 n.1 in
-    let whole : bytes ≡ word n.0 = first.parts ∙ ap (λ (t : List ℕ). word a.0.0 ++ t) g.0 ∙ append-nil (word a.0.0) ∙ ap word named.1 in
-    subst (IsSpelled kinds.Ready bytes) g.1 (record { kind_as = refl; whole = whole; sound = named.0 })
-
-next_takes : (bytes : List ℕ) (b : Body) → empty_of Next bytes ≡ Some b → IsSpelled kinds.Next bytes b
-next_takes bytes b e =
-    let g = ended bytes Next b e in
-    subst (IsSpelled kinds.Next bytes) g.1 (record { kind_as = refl; whole = g.0; sound = tt })
-
-shutdown_takes : (bytes : List ℕ) (b : Body) → empty_of Shutdown bytes ≡ Some b → IsSpelled kinds.Shutdown bytes b
-shutdown_takes bytes b e =
-    let g = ended bytes Shutdown b e in
-    subst (IsSpelled kinds.Shutdown bytes) g.1 (record { kind_as = refl; whole = g.0; sound = tt })
-
--- the fields of a RETURN, one after another
-return_spelled : (bytes r0 r1 : List ℕ) (o n : ℕ) (v : Rval) (d : Data) (b : Body) → n < 2 ^ 32 → IsData d
-    → bytes ≡ o ∷ r0 → o ≡ rval_octet v → r0 ≡ big_bytes 4 n ++ r1 → r1 ≡ data_octets d → Return v (cast_signed w32 n) d ≡ b → IsSpelled kinds.Return bytes b
-return_spelled bytes r0 r1 o n v d b fits sound e0 ev e1 e2 made =
-    let code : n ≡ cast_unsigned w32 (cast_signed w32 n) = sym (of_z-to_z w32 n fits) in
-    let whole : bytes ≡ body_octets (Return v (cast_signed w32 n) d) =
-    e0 ∙ ap (λ (k : ℕ). k ∷ r0) ev ∙ ap (λ (t : List ℕ). rval_octet v ∷ t) e1
-    ∙ ap (λ (t : List ℕ). rval_octet v ∷ (big_bytes 4 n ++ t)) e2 ∙ ap (λ (k : ℕ). rval_octet v ∷ (big_bytes 4 k ++ data_octets d)) code in
-    subst (IsSpelled kinds.Return bytes) made (record { kind_as = refl; whole = whole; sound = (signed_fits n fits, sound) })
-
-return_takes : (bytes : List ℕ) (b : Body) → IsBytes bytes → return_of bytes ≡ Some b → IsSpelled kinds.Return bytes b
-unfolding return_of
-return_takes bytes b fits e =
-    let o = bind_some (octet_at bytes) (λ value. rval_of value.0 >>= λ rval. number_at value.1 >>= λ code. data_of code.1 >>= λ payload. Some (Return rval (cast_signed w32 code.0) payload)) b e in
-    let v = bind_some (rval_of o.0.0) (λ rval. number_at o.0.1 >>= λ code. data_of code.1 >>= λ payload. Some (Return rval (cast_signed w32 code.0) payload)) b o.2 in
-    let n = bind_some (number_at o.0.1) (λ code. data_of code.1 >>= λ payload. Some (Return v.0 (cast_signed w32 code.0) payload)) b v.2 in
-    let d = bind_some (data_of n.0.1) (λ payload. Some (Return v.0 (cast_signed w32 n.0.0) payload)) b n.2 in
-    let t0 = octet_takes bytes o.0 fits o.1 in
-    let t1 = number_takes o.0.1 n.0 t0.rest_fits n.1 in
-    let t2 = data_takes n.0.1 d.0 t1.0.rest_fits d.1 in
-    return_spelled bytes o.0.1 n.0.1 o.0.0 n.0.0 v.0 d.0 b t1.1 t2.1 t0.parts (rval_takes o.0.0 v.0 v.1) t1.0.parts t2.0
-    (same_Some (Return v.0 (cast_signed w32 n.0.0) d.0) b d.2)
-
--- the fields of an INVOKE, one after another
-invoke_spelled : (bytes r0 r1 r2 w x s r : List ℕ) (o : ℕ) (m : Mode) (d : Data) (b : Body) → (IsName s) × (w ≡ s) → (IsName r) × (x ≡ r) → (r2 ≡ data_octets d) × IsData d
-    → bytes ≡ word w ++ r0 → r0 ≡ word x ++ r1 → r1 ≡ o ∷ r2 → o ≡ mode_octet m → Invoke s r m d ≡ b → IsSpelled kinds.Invoke bytes b
-invoke_spelled bytes r0 r1 r2 w x s r o m d b service routine payload e0 e1 e2 mode made =
-    let whole : bytes ≡ body_octets (Invoke s r m d) =
-    e0 ∙ ap (λ (t : List ℕ). word t ++ r0) service.1 ∙ ap (λ (t : List ℕ). word s ++ t) e1 ∙ ap (λ (t : List ℕ). word s ++ (word t ++ r1)) routine.1
-    ∙ ap (λ (t : List ℕ). word s ++ (word r ++ t)) e2 ∙ ap (λ (k : ℕ). word s ++ (word r ++ k ∷ r2)) mode ∙ ap (λ (t : List ℕ). word s ++ (word r ++ mode_octet m ∷ t)) payload.0 in
-    subst (IsSpelled kinds.Invoke bytes) made (record { kind_as = refl; whole = whole; sound = (service.0, routine.0, payload.1) })
-
-invoke_takes : (bytes : List ℕ) (b : Body) → IsBytes bytes → invoke_of bytes ≡ Some b → IsSpelled kinds.Invoke bytes b
-unfolding invoke_of
-invoke_takes bytes b fits e =
-    let w = bind_some (word_at bytes) (λ first. name_of first.0 >>= λ service. word_at first.1 >>= λ second. name_of second.0 >>= λ routine. octet_at second.1 >>= λ octet. mode_of octet.0 >>= λ mode. data_of octet.1 >>= λ payload. Some (Invoke service routine mode payload)) b e in
-    let s = bind_some (name_of w.0.0) (λ service. word_at w.0.1 >>= λ second. name_of second.0 >>= λ routine. octet_at second.1 >>= λ octet. mode_of octet.0 >>= λ mode. data_of octet.1 >>= λ payload. Some (Invoke service routine mode payload)) b w.2 in
-    let x = bind_some (word_at w.0.1) (λ second. name_of second.0 >>= λ routine. octet_at second.1 >>= λ octet. mode_of octet.0 >>= λ mode. data_of octet.1 >>= λ payload. Some (Invoke s.0 routine mode payload)) b s.2 in
-    let r = bind_some (name_of x.0.0) (λ routine. octet_at x.0.1 >>= λ octet. mode_of octet.0 >>= λ mode. data_of octet.1 >>= λ payload. Some (Invoke s.0 routine mode payload)) b x.2 in
-    let o = bind_some (octet_at x.0.1) (λ octet. mode_of octet.0 >>= λ mode. data_of octet.1 >>= λ payload. Some (Invoke s.0 r.0 mode payload)) b r.2 in
-    let m = bind_some (mode_of o.0.0) (λ mode. data_of o.0.1 >>= λ payload. Some (Invoke s.0 r.0 mode payload)) b o.2 in
-    let d = bind_some (data_of o.0.1) (λ payload. Some (Invoke s.0 r.0 m.0 payload)) b m.2 in
-    let t0 = word_takes bytes w.0 fits w.1 in
-    let t1 = word_takes w.0.1 x.0 t0.rest_fits x.1 in
-    let t2 = octet_takes x.0.1 o.0 t1.rest_fits o.1 in
-    invoke_spelled bytes w.0.1 x.0.1 o.0.1 w.0.0 x.0.0 s.0 r.0 o.0.0 m.0 d.0 b (name_takes w.0.0 s.0 s.1) (name_takes x.0.0 r.0 r.1) (data_takes o.0.1 d.0 t2.rest_fits d.1)
-    t0.parts t1.parts t2.parts (mode_takes o.0.0 m.0 m.1) (same_Some (Invoke s.0 r.0 m.0 d.0) b d.2)
+-- a body that is made of what all of the octets are
+spelled_as : {A : Type 0} {g : List ℕ → Option A} {s : A → List ℕ} {P : A → Type 0} (is : IsForm g s P) (kind : FrameKind) (to : A → Body) → ((v : A) → kind ≡ kind_is (to v)) → ((v : A) → s v ≡ body_octets (to v)) → ((v : A) → P v → IsBody (to v))
+    → (bytes : List ℕ) (b : Body) → IsBytes bytes → said to g bytes ≡ Some b → IsSpelled kind bytes b
+spelled_as is kind to of same sound bytes b fits e =
+    let v = said_takes is to bytes b fits e in
+    subst (IsSpelled kind bytes) v.3 (record { kind_as = of v.0; whole = v.1 ∙ same v.0; sound = sound v.0 v.2 })
 
 pub body_takes : (kind : FrameKind) (bytes : List ℕ) (b : Body) → IsBytes bytes → body_of kind bytes ≡ Some b → IsSpelled kind bytes b
-body_takes kinds.Ready bytes b fits e = ready_takes bytes b fits e
-body_takes kinds.Next bytes b fits e = next_takes bytes b e
-body_takes kinds.Return bytes b fits e = return_takes bytes b fits e
-body_takes kinds.Invoke bytes b fits e = invoke_takes bytes b fits e
-body_takes kinds.Shutdown bytes b fits e = shutdown_takes bytes b e
+unfolding return_of forward_of invoke_of
+body_takes kinds.Ready = spelled_as (last_is name_is) kinds.Ready bodies.Ready (λ v. refl) (λ v. refl) (λ v p. p)
+body_takes kinds.Next = spelled_as nothing_is kinds.Next (λ _. bodies.Next) (λ v. refl) (λ v. refl) (λ v p. tt)
+body_takes kinds.Op = spelled_as op_is kinds.Op bodies.Op (λ v. refl) (λ v. refl) (λ v p. p)
+body_takes kinds.Return = spelled_as (before_is rval_is coded_is) kinds.Return returned (λ v. refl) (λ v. refl) (λ v p. p.1)
+body_takes kinds.Forward = spelled_as (before_is word_is data_is) kinds.Forward forwarded (λ v. refl) (λ v. refl) (λ v p. p)
+body_takes kinds.Invoke = spelled_as (before_is name_is (before_is name_is (before_is mode_is data_is))) kinds.Invoke invoked (λ v. refl) (λ v. refl) (λ v p. (p.0, p.1.0, p.1.1.1))
+body_takes kinds.Reply = spelled_as reply_is kinds.Reply bodies.Reply (λ v. refl) (λ v. refl) (λ v p. p)
+body_takes kinds.Shutdown = spelled_as nothing_is kinds.Shutdown (λ _. bodies.Shutdown) (λ v. refl) (λ v. refl) (λ v p. tt)
 
 pub body_again : (b : Body) → IsBody b → body_of (kind_is b) (body_octets b) ≡ Some b
-unfolding ready_of return_of invoke_of
-body_again (Ready name) h =
-    ap (λ (t : List ℕ). word_at t >>= λ w. name_of w.0 >>= λ n. cond (eqb (length w.1) 0) (Some (Ready n)) None) (sym (append-nil (word name)))
-    ∙ ap (λ (r : Option (List ℕ × List ℕ)). r >>= λ w. name_of w.0 >>= λ n. cond (eqb (length w.1) 0) (Some (Ready n)) None) (word_again name [])
-    ∙ ap (λ (r : Option (List ℕ)). r >>= λ n. Some (Ready n)) (name_again name h)
-body_again Next h = refl
-body_again (Return value code payload) h =
-    ap (λ (r : Option Rval). r >>= λ v. number_at (big_bytes 4 (cast_unsigned w32 code) ++ data_octets payload) >>= λ n. data_of n.1 >>= λ d. Some (Return v (cast_signed w32 n.0) d)) (rval_again value)
-    ∙ ap (λ (r : Option (ℕ × List ℕ)). r >>= λ n. data_of n.1 >>= λ d. Some (Return value (cast_signed w32 n.0) d)) (number_again (cast_unsigned w32 code) (data_octets payload) (code_fits code h.0))
-    ∙ ap (λ (r : Option Data). r >>= λ d. Some (Return value (cast_signed w32 (cast_unsigned w32 code)) d)) (data_again payload h.1)
-    ∙ ap (λ (z : ℤ). Some (Return value z payload)) (to_z-of_z w32 code h.0)
-body_again (Invoke service routine mode payload) h =
-    ap (λ (r : Option (List ℕ × List ℕ)). r >>= λ first. name_of first.0 >>= λ s. word_at first.1 >>= λ second. name_of second.0 >>= λ t. octet_at second.1 >>= λ octet. mode_of octet.0 >>= λ m. data_of octet.1 >>= λ d. Some (Invoke s t m d)) (word_again service (word routine ++ mode_octet mode ∷ data_octets payload))
-    ∙ ap (λ (r : Option (List ℕ)). r >>= λ s. word_at (word routine ++ mode_octet mode ∷ data_octets payload) >>= λ second. name_of second.0 >>= λ t. octet_at second.1 >>= λ octet. mode_of octet.0 >>= λ m. data_of octet.1 >>= λ d. Some (Invoke s t m d)) (name_again service h.0)
-    ∙ ap (λ (r : Option (List ℕ × List ℕ)). r >>= λ second. name_of second.0 >>= λ t. octet_at second.1 >>= λ octet. mode_of octet.0 >>= λ m. data_of octet.1 >>= λ d. Some (Invoke service t m d)) (word_again routine (mode_octet mode ∷ data_octets payload))
-    ∙ ap (λ (r : Option (List ℕ)). r >>= λ t. mode_of (mode_octet mode) >>= λ m. data_of (data_octets payload) >>= λ d. Some (Invoke service t m d)) (name_again routine h.1)
-    ∙ ap (λ (r : Option Mode). r >>= λ m. data_of (data_octets payload) >>= λ d. Some (Invoke service routine m d)) (mode_again mode)
-    ∙ ap (λ (r : Option Data). r >>= λ d. Some (Invoke service routine mode d)) (data_again payload h.2)
-body_again Shutdown h = refl
+unfolding return_of forward_of invoke_of
+body_again (bodies.Ready name) h = said_again (last_is name_is) bodies.Ready name h
+body_again bodies.Next h = refl
+body_again (bodies.Op op) h = said_again op_is bodies.Op op h
+body_again (bodies.Return value code payload) h = said_again (before_is rval_is coded_is) returned (value, (code, payload)) (tt, h)
+body_again (bodies.Forward service payload) h = said_again (before_is word_is data_is) forwarded (service, payload) h
+body_again (bodies.Invoke service routine mode payload) h =
+    said_again (before_is name_is (before_is name_is (before_is mode_is data_is))) invoked (service, (routine, (mode, payload))) (h.0, (h.1, (tt, h.2)))
+body_again (bodies.Reply reply) h = said_again reply_is bodies.Reply reply h
+body_again bodies.Shutdown h = refl
 
 -- ---- lengths
 
-name_short : (name : List ℕ) → IsName name → length name ≤ 31
-name_short name named =
-    let sizes = and_parts (leb 1 (length name) && leb (length name) 31) (list_all is_graphic name && not (begins_with_dot name)) named in
-    leb-true _ _ (and_parts (leb 1 (length name)) (leb (length name) 31) sizes.0).1
+kind_short : (k : Option Kind) → IsDataKind k → length (data_kind_octets k) ≤ 33
+kind_short None h = omega arith
+kind_short (Some data_kinds.Octet) h = omega arith
+kind_short (Some (data_kinds.Struct name)) h = let s = name_short name h in omega arith
 
 data_short : (d : Data) → IsData d → length (data_octets d) ≤ 65_573
 data_short Absent h = omega arith
@@ -219,18 +171,57 @@ data_short (Octet octets) h = omega arith
 data_short (Struct subtype octets) h =
     let s = name_short subtype h.0 in
     let n = h.1 in
-    let e = length-append subtype (sized octets) in
-    omega (arith, s, n, e)
+    omega (arith, length-append subtype (sized octets))
+
+-- the fields of an ask
+ask_short : (service : List ℕ) (k : Option Kind) (payload : Data) → IsWord service → IsDataKind k → IsData payload → length (word service ++ (data_kind_octets k ++ data_octets payload)) ≤ 65_862
+ask_short service k payload h i j =
+    let s = kind_short k i in
+    let d = data_short payload j in
+    omega (arith, length-append service (data_kind_octets k ++ data_octets payload), length-append (data_kind_octets k) (data_octets payload))
+
+sent_short : (service : List ℕ) (payload : Data) → IsWord service → IsData payload → length (word service ++ data_octets payload) ≤ 65_829
+sent_short service payload h j = let d = data_short payload j in omega (arith, length-append service (data_octets payload))
+
+op_short : (op : Op) → IsOp op → length (op_octets op) ≤ 66_000
+op_short (ops.Call ask) h = let s = ask_short ask.service ask.expect ask.payload h.0 h.1 h.2 in omega arith
+op_short (ops.Acall ask) h = let s = sent_short ask.service ask.payload h.0 h.1 in omega arith
+op_short (ops.Get descriptor flags expect) h = let s = kind_short expect h.1 in omega arith
+op_short (ops.GetAny flags expect) h = let s = kind_short expect h in omega arith
+op_short (ops.Cancel descriptor) h = omega arith
+op_short (ops.Connect ask) h = let s = sent_short ask.service ask.payload h.0 h.1 in omega arith
+op_short (ops.Send descriptor flags recv_only payload) h = let s = data_short payload h.1 in omega arith
+op_short (ops.Receive descriptor flags) h = omega arith
+op_short (ops.Disconnect descriptor) h = omega arith
+op_short (ops.Priority absolute amount) h = omega arith
+op_short (ops.Advertise service routine) h = let s = h.0 in let t = h.1 in omega (arith, length-append service (word routine))
+op_short (ops.Unadvertise service) h = omega arith
+op_short (ops.Tick ticks) h = omega arith
+
+answer_short : (a : Answer) → IsAnswer a → length (answer_octets a) ≤ 65_578
+answer_short (answers.Success code payload) h = let s = data_short payload h.1 in omega arith
+answer_short (answers.Failed code payload) h = let s = data_short payload h.1 in omega arith
+answer_short (answers.Error fault) h = omega arith
+
+reply_short : (r : Reply) → IsReply r → length (reply_octets r) ≤ 66_000
+reply_short replies.Done h = omega arith
+reply_short (replies.Descriptor descriptor) h = omega arith
+reply_short (replies.Now now) h = omega arith
+reply_short (replies.Answered descriptor answer) h = let s = answer_short answer h.1 in omega arith
+reply_short (replies.Message payload) h = let s = data_short payload h in omega arith
+reply_short (replies.Event event code payload) h = let s = data_short payload h.1 in omega arith
+reply_short (replies.Fault fault) h = omega arith
 
 pub body_short : (b : Body) → IsBody b → length (body_octets b) ≤ most_octets (kind_is b)
-body_short (Ready name) h = let s = name_short name h in omega (arith, s)
-body_short Next h = omega arith
-body_short (Return value code payload) h = let s = data_short payload h.1 in omega (arith, s)
-body_short (Invoke service routine mode payload) h =
+body_short (bodies.Ready name) h = let s = name_short name h in omega arith
+body_short bodies.Next h = omega arith
+body_short (bodies.Op op) h = op_short op h
+body_short (bodies.Return value code payload) h = let s = data_short payload h.1 in omega arith
+body_short (bodies.Forward service payload) h = let s = sent_short service payload h.0 h.1 in omega arith
+body_short (bodies.Invoke service routine mode payload) h =
     let s = name_short service h.0 in
     let t = name_short routine h.1 in
     let d = data_short payload h.2 in
-    let e = length-append service (word routine ++ mode_octet mode ∷ data_octets payload) in
-    let f = length-append routine (mode_octet mode ∷ data_octets payload) in
-    omega (arith, s, t, d, e, f)
-body_short Shutdown h = omega arith
+    omega (arith, length-append service (word routine ++ mode_octet mode ∷ data_octets payload), length-append routine (mode_octet mode ∷ data_octets payload))
+body_short (bodies.Reply reply) h = reply_short reply h
+body_short bodies.Shutdown h = omega arith

@@ -1,18 +1,9 @@
--- A field that is read is the field that was written, and what was written is read again.
-use Rattle.std.proofs.Common.{◌≡◌, ℕ, suc, ◌+◌, ◌^◌, ◌<◌, ◌≤◌, Bool, true, false, cond, ltb, leb, eqb, ◌&&◌, List, [], ◌∷◌, ◌++◌, length, get_or, take, drop, Option, Some, None, refl, sym, ap, subst, ◌∙◌, append_assoc, arith, inl, inr}
-use Rattle.std.specs.Int.{w32, from_be_bytes}
-use Rattle.std.proofs.lemmas.Bool.{cases_lt, ltb-false, le-ltb, leb-true, le-leb, eqb-true, eq-eqb, and_parts, and_from, cond-true, cond-false}
+-- How fields are put together: what is read is spelled so, and what is spelled so is read.
+use Rattle.std.proofs.Common.{◌≡◌, ℕ, suc, ◌+◌, ◌<◌, Bool, true, false, cond, eqb, List, [], ◌∷◌, ◌++◌, length, get_or, take, drop, Option, Some, None, refl, sym, ap, subst, ◌∙◌, append_assoc, arith, inl, inr}
+use Rattle.std.proofs.lemmas.Bool.{cases_lt, eqb-true}
 use Rattle.std.proofs.lemmas.Option.{cond_some, same_Some}
-use Rattle.std.proofs.lemmas.List.{take_at, drop_at, take-append-drop, length-append, length-take, get_or-drop, get_or-take, get_or_past}
-use Rattle.std.proofs.lemmas.Nat.{be_bytes_4, from_be_bytes-to_be_bytes_4}
-use Rattle.byteorder.specs.Endian.{big_bytes}
-use Rattle.xa_types.specs.Name.{IsName, is_name}
-use Rattle.xa_types.specs.declared.call.Mode.{Mode}
-use Rattle.xa_types.specs.declared.call.Mode.TheVariants.{Reply, NoReply, ConvReceives, ConvSends}
-use Rattle.xa_types.specs.declared.call.Rval.{Rval}
-use Rattle.xa_types.specs.declared.call.Rval.TheVariants.{Success, Fail, Exit}
-use Rattle.xa_frame.specs.Spelling.{word, sized, rval_octet, mode_octet}
-use Rattle.xa_frame.specs.Reading.{◌>>=◌, octet_at, number_at, word_at, name_of, rval_of, mode_of, sized_of}
+use Rattle.std.proofs.lemmas.List.{append-nil, nil_from_length, length-take, get_or-drop, get_or-take, get_or_past}
+use Rattle.xa_frame.specs.Reading.{◌>>=◌, nothing, last, before, said, octet_at, octet_as, by_octet, pick}
 
 abbrev pub IsBytes : List ℕ → Type 0
 IsBytes bytes = (i : ℕ) → get_or bytes i 0 < 256
@@ -27,7 +18,7 @@ IsBytes-take n bytes h i =
       | inr le ↦ rw (get_or_past (take n bytes) i 0 (omega (arith, length-take n bytes))) (omega arith)
     ]
 
-IsBytes-rest : (b : ℕ) (bytes : List ℕ) → IsBytes (b ∷ bytes) → IsBytes bytes
+pub IsBytes-rest : (b : ℕ) (bytes : List ℕ) → IsBytes (b ∷ bytes) → IsBytes bytes
 IsBytes-rest b bytes h i = h (suc i)
 
 -- the value of a step that did not fail
@@ -48,6 +39,23 @@ pub record Takes (bytes text rest : List ℕ) : Type 0 where
 pub Takes-then : (a x b y c : List ℕ) → Takes a x b → Takes b y c → Takes a (x ++ y) c
 Takes-then a x b y c p q = record { parts = p.parts ∙ ap (λ (t : List ℕ). x ++ t) q.parts ∙ sym (append_assoc x y c); rest_fits = q.rest_fits }
 
+-- a reader reads the values that fit, each spelled so, and no others
+pub record IsField {A : Type 0} (read : List ℕ → Option (A × List ℕ)) (text : A → List ℕ) (Fits : A → Type 0) : Type 0 where
+  pub takes : (bytes : List ℕ) (x : A × List ℕ) → IsBytes bytes → read bytes ≡ Some x → Takes bytes (text x.0) x.1 × Fits x.0
+  pub again : (v : A) (rest : List ℕ) → Fits v → read (text v ++ rest) ≡ Some (v, rest)
+
+-- the same of all of the octets
+pub record IsForm {A : Type 0} (read : List ℕ → Option A) (text : A → List ℕ) (Fits : A → Type 0) : Type 0 where
+  pub takes : (bytes : List ℕ) (v : A) → IsBytes bytes → read bytes ≡ Some v → (bytes ≡ text v) × Fits v
+  pub again : (v : A) → Fits v → read (text v) ≡ Some v
+
+-- a test that decides which of two is read
+pub decided : {A R : Type 0} (k n : ℕ) (here others : Option A) (x : A) → (k ≡ n → here ≡ Some x → R) → (others ≡ Some x → R) → cond (eqb k n) here others ≡ Some x → R
+decided {A} {R} k n here others x this more e = by_test (eqb k n) refl e where
+  by_test : (b : Bool) → eqb k n ≡ b → cond b here others ≡ Some x → R
+  by_test true t e = this (eqb-true k n t) e
+  by_test false t e = more e
+
 -- ---- an octet
 
 pub octet_takes : (bytes : List ℕ) (x : ℕ × List ℕ) → IsBytes bytes → octet_at bytes ≡ Some x → Takes bytes (x.0 ∷ []) x.1
@@ -55,97 +63,93 @@ octet_takes [] x fits e = absurd cc
 octet_takes (b ∷ bytes) x fits e =
     subst (λ (y : ℕ × List ℕ). Takes (b ∷ bytes) (y.0 ∷ []) y.1) (same_Some (b, bytes) x e) (record { parts = refl; rest_fits = IsBytes-rest b bytes fits })
 
--- one of several values, by its octet
-pub picked : {A : Type 0} (f : A → ℕ) (o n : ℕ) (x v : A) (others : Option A) → f x ≡ n → (others ≡ Some v → o ≡ f v) → cond (eqb o n) (Some x) others ≡ Some v → o ≡ f v
-picked f o n x v others is more e = by_test f o n x v others (eqb o n) refl is more e where
-  by_test : {A : Type 0} (f : A → ℕ) (o n : ℕ) (x v : A) (others : Option A) (b : Bool) → eqb o n ≡ b → f x ≡ n → (others ≡ Some v → o ≡ f v) → cond b (Some x) others ≡ Some v → o ≡ f v
-  by_test f o n x v others true t is more e = eqb-true o n t ∙ sym is ∙ ap f (same_Some x v e)
-  by_test f o n x v others false t is more e = more e
+-- the value that was picked has that octet
+pub pick_takes : {A : Type 0} (f : A → ℕ) (vs : List A) (o : ℕ) (v : A) → pick f vs o ≡ Some v → o ≡ f v
+pick_takes f [] o v e = absurd cc
+pick_takes f (x ∷ vs) o v e = decided o (f x) (Some x) (pick f vs o) v (λ t h. t ∙ ap f (same_Some x v h)) (λ h. pick_takes f vs o v h) e
 
-pub rval_takes : (o : ℕ) (v : Rval) → rval_of o ≡ Some v → o ≡ rval_octet v
-rval_takes o v e =
-    picked rval_octet o 0 Success v _ refl (picked rval_octet o 1 Fail v _ refl (picked rval_octet o 2 Exit v None refl (λ h. absurd cc))) e
+pub octet_is : {A : Type 0} (of : ℕ → Option A) (f : A → ℕ) → ((o : ℕ) (v : A) → of o ≡ Some v → o ≡ f v) → ((v : A) → of (f v) ≡ Some v) → IsField (octet_as of) (λ v. f v ∷ []) (λ _. Unit {0})
+octet_is {A} of f takes again = record {
+  takes = λ bytes x fits e. taken bytes x fits e;
+  again = λ v rest h. ap (λ (r : Option A). r >>= λ w. Some (w, rest)) (again v);
+} where
+  taken : (bytes : List ℕ) (x : A × List ℕ) → IsBytes bytes → octet_as of bytes ≡ Some x → Takes bytes (f x.0 ∷ []) x.1 × Unit {0}
+  taken bytes x fits e =
+      let o = bind_some (octet_at bytes) (λ o. of o.0 >>= λ v. Some (v, o.1)) x e in
+      let v = bind_some (of o.0.0) (λ v. Some (v, o.0.1)) x o.2 in
+      let first = octet_takes bytes o.0 fits o.1 in
+      let here : Takes bytes (f v.0 ∷ []) o.0.1 = subst (λ (n : ℕ). Takes bytes (n ∷ []) o.0.1) (takes o.0.0 v.0 v.1) first in
+      (subst (λ (y : A × List ℕ). Takes bytes (f y.0 ∷ []) y.1) (same_Some (v.0, o.0.1) x v.2) here, tt)
 
-pub rval_again : (v : Rval) → rval_of (rval_octet v) ≡ Some v
-rval_again Success = refl
-rval_again Fail = refl
-rval_again Exit = refl
+-- ---- fields, one after another
 
-pub mode_takes : (o : ℕ) (v : Mode) → mode_of o ≡ Some v → o ≡ mode_octet v
-mode_takes o v e =
-    picked mode_octet o 0 Reply v _ refl (picked mode_octet o 1 NoReply v _ refl (picked mode_octet o 2 ConvReceives v _ refl (picked mode_octet o 3 ConvSends v None refl (λ h. absurd cc)))) e
+pub nothing_is : IsForm nothing (λ _. []) (λ _. Unit {0})
+nothing_is = record { takes = λ bytes v fits e. (nil_from_length bytes (eqb-true _ _ (cond_some (eqb (length bytes) 0) tt v e).0), tt); again = λ v h. refl }
 
-pub mode_again : (v : Mode) → mode_of (mode_octet v) ≡ Some v
-mode_again Reply = refl
-mode_again NoReply = refl
-mode_again ConvReceives = refl
-mode_again ConvSends = refl
+pub last_is : {A : Type 0} {f : List ℕ → Option (A × List ℕ)} {s : A → List ℕ} {P : A → Type 0} → IsField f s P → IsForm (last f) s P
+last_is {A} {f} {s} {P} is = record { takes = λ bytes v fits e. taken bytes v fits e; again = λ v h. found v h } where
+  taken : (bytes : List ℕ) (v : A) → IsBytes bytes → last f bytes ≡ Some v → (bytes ≡ s v) × P v
+  taken bytes v fits e =
+      let x = bind_some (f bytes) (λ x. cond (eqb (length x.1) 0) (Some x.0) None) v e in
+      let g = cond_some (eqb (length x.0.1) 0) x.0.0 v x.2 in
+      let t = is.takes bytes x.0 fits x.1 in
+      let end : x.0.1 ≡ [] = nil_from_length x.0.1 (eqb-true _ _ g.0) in
+      let all : bytes ≡ s x.0.0 = t.0.parts ∙ ap (λ (t : List ℕ). s x.0.0 ++ t) end ∙ append-nil (s x.0.0) in
+      subst (λ (y : A). (bytes ≡ s y) × P y) g.1 (all, t.1)
 
--- ---- a number
+  found : (v : A) → P v → last f (s v) ≡ Some v
+  found v h =
+      ap (last f) (sym (append-nil (s v)))
+      ∙ ap (λ (r : Option (A × List ℕ)). r >>= λ x. cond (eqb (length x.1) 0) (Some x.0) None) (is.again v [] h)
 
-pub number_takes : (bytes : List ℕ) (x : ℕ × List ℕ) → IsBytes bytes → number_at bytes ≡ Some x → Takes bytes (big_bytes 4 x.0) x.1 × (x.0 < 2 ^ 32)
-number_takes bytes x fits e =
-    let g = guard_some (ltb (length bytes) 4) (from_be_bytes w32 (take 4 bytes), drop 4 bytes) x e in
-    let long : 4 ≤ length bytes = ltb-false _ _ g.0 in
-    let front_fits = IsBytes-take 4 bytes fits in
-    let back : big_bytes 4 (from_be_bytes w32 (take 4 bytes)) ≡ take 4 bytes = be_bytes_4 (take 4 bytes) _ (omega (arith, length-take 4 bytes)) front_fits refl in
-    let whole : bytes ≡ big_bytes 4 (from_be_bytes w32 (take 4 bytes)) ++ drop 4 bytes = sym (take-append-drop 4 bytes) ∙ ap (λ (t : List ℕ). t ++ drop 4 bytes) (sym back) in
-    let below : from_be_bytes w32 (take 4 bytes) < 2 ^ 32 = omega (arith, front_fits 0, front_fits 1, front_fits 2, front_fits 3) in
-    subst (λ (y : ℕ × List ℕ). Takes bytes (big_bytes 4 y.0) y.1 × (y.0 < 2 ^ 32)) g.1 (record { parts = whole; rest_fits = IsBytes-drop 4 bytes fits }, below)
+pub before_is : {A B : Type 0} {f : List ℕ → Option (A × List ℕ)} {g : List ℕ → Option B} {s : A → List ℕ} {t : B → List ℕ} {P : A → Type 0} {Q : B → Type 0}
+    → IsField f s P → IsForm g t Q → IsForm (before f g) (λ v. s v.0 ++ t v.1) (λ v. P v.0 × Q v.1)
+before_is {A} {B} {f} {g} {s} {t} {P} {Q} p q = record { takes = λ bytes v fits e. taken bytes v fits e; again = λ v h. found v h } where
+  taken : (bytes : List ℕ) (v : A × B) → IsBytes bytes → before f g bytes ≡ Some v → (bytes ≡ s v.0 ++ t v.1) × (P v.0 × Q v.1)
+  taken bytes v fits e =
+      let a = bind_some (f bytes) (λ a. g a.1 >>= λ b. Some (a.0, b)) v e in
+      let b = bind_some (g a.0.1) (λ b. Some (a.0.0, b)) v a.2 in
+      let first = p.takes bytes a.0 fits a.1 in
+      let second = q.takes a.0.1 b.0 first.0.rest_fits b.1 in
+      subst (λ (y : A × B). (bytes ≡ s y.0 ++ t y.1) × (P y.0 × Q y.1)) (same_Some (a.0.0, b.0) v b.2)
+      (first.0.parts ∙ ap (λ (r : List ℕ). s a.0.0 ++ r) second.0, (first.1, second.1))
 
-pub number_again : (n : ℕ) (rest : List ℕ) → n < 2 ^ 32 → number_at (big_bytes 4 n ++ rest) ≡ Some (n, rest)
-number_again n rest lt =
-    cond-false (ltb (length (big_bytes 4 n ++ rest)) 4) None (Some (from_be_bytes w32 (take 4 (big_bytes 4 n ++ rest)), drop 4 (big_bytes 4 n ++ rest))) (le-ltb _ _ (omega arith))
-    ∙ ap (λ (k : ℕ). Some (k, rest)) (from_be_bytes-to_be_bytes_4 n lt)
+  found : (v : A × B) → P v.0 × Q v.1 → before f g (s v.0 ++ t v.1) ≡ Some v
+  found v h =
+      ap (λ (r : Option (A × List ℕ)). r >>= λ a. g a.1 >>= λ b. Some (a.0, b)) (p.again v.0 (t v.1) h.0)
+      ∙ ap (λ (r : Option B). r >>= λ b. Some (v.0, b)) (q.again v.1 h.1)
 
--- ---- words and names
+-- a form that says another value
+pub said_takes : {A B : Type 0} {g : List ℕ → Option A} {s : A → List ℕ} {P : A → Type 0} (is : IsForm g s P) (to : A → B) (bytes : List ℕ) (w : B) → IsBytes bytes → said to g bytes ≡ Some w
+    → (v : A) × (bytes ≡ s v) × P v × (to v ≡ w)
+said_takes {A} {B} {g} is to bytes w fits e =
+    let v = bind_some (g bytes) (λ v. Some (to v)) w e in
+    let t = is.takes bytes v.0 fits v.1 in
+    (v.0, t.0, t.1, same_Some (to v.0) w v.2)
 
-pub word_takes : (bytes : List ℕ) (x : List ℕ × List ℕ) → IsBytes bytes → word_at bytes ≡ Some x → Takes bytes (word x.0) x.1
-unfolding word_at
-word_takes bytes x fits e =
-    let a = bind_some (octet_at bytes) (λ n. cond (ltb (length n.1) n.0) None (Some (take n.0 n.1, drop n.0 n.1))) x e in
-    let n = a.0 in
-    let first = octet_takes bytes n fits a.1 in
-    let g = guard_some (ltb (length n.1) n.0) (take n.0 n.1, drop n.0 n.1) x a.2 in
-    let long : n.0 ≤ length n.1 = ltb-false _ _ g.0 in
-    let len : n.0 ≡ length (take n.0 n.1) = omega (arith, length-take n.0 n.1) in
-    let second : Takes n.1 (take n.0 n.1) (drop n.0 n.1) = record { parts = sym (take-append-drop n.0 n.1); rest_fits = IsBytes-drop n.0 n.1 first.rest_fits } in
-    let both = Takes-then bytes (n.0 ∷ []) n.1 (take n.0 n.1) (drop n.0 n.1) first second in
-    let whole : Takes bytes (word (take n.0 n.1)) (drop n.0 n.1) = subst (λ (k : ℕ). Takes bytes (k ∷ take n.0 n.1) (drop n.0 n.1)) len both in
-    subst (λ (y : List ℕ × List ℕ). Takes bytes (word y.0) y.1) g.1 whole
+pub said_again : {A B : Type 0} {g : List ℕ → Option A} {s : A → List ℕ} {P : A → Type 0} (is : IsForm g s P) (to : A → B) (v : A) → P v → said to g (s v) ≡ Some (to v)
+said_again {A} is to v h = ap (λ (r : Option A). r >>= λ w. Some (to w)) (is.again v h)
 
-pub word_again : (text rest : List ℕ) → word_at (word text ++ rest) ≡ Some (text, rest)
-unfolding word_at
-word_again text rest =
-    let long : ltb (length (text ++ rest)) (length text) ≡ false = le-ltb _ _ (omega (arith, length-append text rest)) in
-    rw (long, take_at text rest (length text) refl, drop_at text rest (length text) refl) refl
+-- ---- one of several forms
 
-pub name_takes : (octets name : List ℕ) → name_of octets ≡ Some name → IsName name × (octets ≡ name)
-name_takes octets name e =
-    let g = cond_some (is_name octets) octets name e in
-    (subst IsName g.1 g.0, g.1)
+-- what was read behind the first octet is spelled so
+abbrev pub Spells : {B : Type 0} (text : B → List ℕ) (Fits : B → Type 0) (k : ℕ) (bytes : List ℕ) (w : B) → Type 0
+Spells text Fits k bytes w = (k ∷ bytes ≡ text w) × Fits w
 
-pub name_again : (name : List ℕ) → IsName name → name_of name ≡ Some name
-name_again name named = cond-true (is_name name) (Some name) None named
+-- the form with the number n, or another of them
+pub chosen : {A B : Type 0} {g : List ℕ → Option A} {s : A → List ℕ} {P : A → Type 0} (is : IsForm g s P) (to : A → B) (text : B → List ℕ) (Fits : B → Type 0) (n : ℕ)
+    → ((v : A) → n ∷ s v ≡ text (to v)) → ((v : A) → P v → Fits (to v)) → (k : ℕ) (bytes : List ℕ) (w : B) → IsBytes bytes → (others : Option B) → (others ≡ Some w → Spells text Fits k bytes w)
+    → cond (eqb k n) (said to g bytes) others ≡ Some w → Spells text Fits k bytes w
+chosen {A} {B} {g} is to text Fits n same sound k bytes w fits others more e = decided k n (said to g bytes) others w here more e where
+  here : k ≡ n → said to g bytes ≡ Some w → Spells text Fits k bytes w
+  here t e =
+      let v = said_takes is to bytes w fits e in
+      subst (Spells text Fits k bytes) v.3 (ap (λ (m : ℕ). m ∷ bytes) t ∙ ap (λ (t : List ℕ). n ∷ t) v.1 ∙ same v.0, sound v.0 v.2)
 
--- ---- so many octets, and no others
-
-pub sized_takes : (bytes octets : List ℕ) → IsBytes bytes → sized_of bytes ≡ Some octets → (bytes ≡ sized octets) × (length octets ≤ 65_536)
-unfolding sized_of
-sized_takes bytes octets fits e =
-    let a = bind_some (number_at bytes) (λ n. cond (leb n.0 65_536 && eqb (length n.1) n.0) (Some n.1) None) octets e in
-    let n = a.0 in
-    let first = number_takes bytes n fits a.1 in
-    let g = cond_some (leb n.0 65_536 && eqb (length n.1) n.0) n.1 octets a.2 in
-    let tests = and_parts (leb n.0 65_536) (eqb (length n.1) n.0) g.0 in
-    let most : n.0 ≤ 65_536 = leb-true _ _ tests.0 in
-    let len : length n.1 ≡ n.0 = eqb-true _ _ tests.1 in
-    let whole : bytes ≡ sized n.1 = first.0.parts ∙ ap (λ (k : ℕ). big_bytes 4 k ++ n.1) (sym len) in
-    subst (λ (y : List ℕ). (bytes ≡ sized y) × (length y ≤ 65_536)) g.1 (whole, omega arith)
-
-pub sized_again : (octets : List ℕ) → length octets ≤ 65_536 → sized_of (sized octets) ≡ Some octets
-unfolding sized_of
-sized_again octets most =
-    let first = number_again (length octets) octets (omega arith) in
-    ap (λ (r : Option (ℕ × List ℕ)). r >>= λ n. cond (leb n.0 65_536 && eqb (length n.1) n.0) (Some n.1) None) first
-    ∙ cond-true (leb (length octets) 65_536 && eqb (length octets) (length octets)) (Some octets) None (and_from _ _ (le-leb _ _ most) (eq-eqb _ _ refl))
+-- a reader of forms, of each of which is shown that it is read so
+pub forms_are : {B : Type 0} (form : ℕ → List ℕ → Option B) (text : B → List ℕ) (Fits : B → Type 0) → ((k : ℕ) (bytes : List ℕ) (w : B) → IsBytes bytes → form k bytes ≡ Some w → Spells text Fits k bytes w)
+    → ((w : B) → Fits w → by_octet form (text w) ≡ Some w) → IsForm (by_octet form) text Fits
+forms_are {B} form text Fits taken again = record { takes = λ bytes w fits e. all bytes w fits e; again = again } where
+  all : (bytes : List ℕ) (w : B) → IsBytes bytes → by_octet form bytes ≡ Some w → (bytes ≡ text w) × Fits w
+  all [] w fits e = absurd cc
+  all (k ∷ bytes) w fits e = taken k bytes w (IsBytes-rest k bytes fits) e

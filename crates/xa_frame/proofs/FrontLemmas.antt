@@ -6,53 +6,54 @@ use Rattle.std.proofs.lemmas.List.{take-append-le, take_at, length-append, lengt
 use Rattle.byteorder.specs.Endian.{big_bytes}
 use Rattle.xa_frame.specs.declared.frame.Frame.{Frame}
 use Rattle.xa_frame.specs.declared.frame.Body.{Body}
-use Rattle.xa_frame.specs.declared.frame.Body.TheVariants.{Ready, Next, Return, Invoke, Shutdown}
+use Rattle.xa_frame.specs.declared.frame.Body.TheVariants as bodies
 use Rattle.xa_frame.specs.declared.header.FrameKind.{FrameKind}
 use Rattle.xa_frame.specs.declared.header.FrameKind.TheVariants as kinds
 use Rattle.xa_frame.specs.declared.header.Header.{Header}
 use Rattle.xa_frame.specs.Spelling.{header, kind_octet, body_octets, spelled, HasSpelling}
-use Rattle.xa_frame.specs.Reading.{◌>>=◌, octet_at, number_at, kind_of, most_octets, after_mark, header_at, body_of, Front, Whole, Partial, Malformed, whole_of, front_after, front_at, IsWhole, Stands, StandsFirst, IsFirst}
+use Rattle.xa_frame.specs.Reading.{◌>>=◌, octet_at, number_at, octet_of, all_kinds, kind_of, most_octets, after_mark, header_at, body_of, Front, Whole, Partial, Malformed, whole_of, front_after, front_at, IsWhole, Stands, StandsFirst, IsFirst}
 use Rattle.xa_frame.specs.Stream.{has_body, has_no_body, allows, LacksBody, IsPartial, Begins, IsMalformed}
 use Rattle.xa_frame.specs.Reader.{Incoming, Answered}
 use Rattle.xa_frame.specs.declared.reader.NextRefused.{NextRefused}
 use Rattle.xa_frame.specs.declared.reader.NextRefused.TheVariants.{BadFrame, NoMemory}
 use Rattle.std.specs.Prelude.{MatchResult}
-use Rattle.xa_frame.proofs.FieldLemmas.{IsBytes, IsBytes-take, bind_some, Takes, Takes-then, octet_takes, picked, number_takes, number_again}
+use Rattle.xa_frame.proofs.FieldLemmas.{IsBytes, IsBytes-take, bind_some, Takes, Takes-then, octet_takes, pick_takes}
+use Rattle.xa_frame.proofs.PartLemmas.{number_is}
 use Rattle.xa_frame.proofs.BodyLemmas.{kind_is, body_takes, body_again, body_short}
 
 -- ---- headers
 
-abbrev pub octet_of : FrameKind → ℕ
-octet_of kinds.Ready = 0x01
-octet_of kinds.Next = 0x02
-octet_of kinds.Return = 0x04
-octet_of kinds.Invoke = 0x11
-octet_of kinds.Shutdown = 0x13
-
 pub kind_takes : (o : ℕ) (k : FrameKind) → kind_of o ≡ Some k → o ≡ octet_of k
-kind_takes o k e =
-    picked octet_of o 0x01 kinds.Ready k _ refl (picked octet_of o 0x02 kinds.Next k _ refl (picked octet_of o 0x04 kinds.Return k _ refl
-    (picked octet_of o 0x11 kinds.Invoke k _ refl (picked octet_of o 0x13 kinds.Shutdown k None refl (λ h. absurd cc))))) e
+kind_takes o k e = pick_takes octet_of all_kinds o k e
 
 pub kind_again : (k : FrameKind) → kind_of (octet_of k) ≡ Some k
 kind_again kinds.Ready = refl
 kind_again kinds.Next = refl
+kind_again kinds.Op = refl
 kind_again kinds.Return = refl
+kind_again kinds.Forward = refl
 kind_again kinds.Invoke = refl
+kind_again kinds.Reply = refl
 kind_again kinds.Shutdown = refl
 
 pub kind_octets : (b : Body) → octet_of (kind_is b) ≡ kind_octet b
-kind_octets (Ready name) = refl
-kind_octets Next = refl
-kind_octets (Return value code payload) = refl
-kind_octets (Invoke service routine mode payload) = refl
-kind_octets Shutdown = refl
+kind_octets (bodies.Ready name) = refl
+kind_octets bodies.Next = refl
+kind_octets (bodies.Op op) = refl
+kind_octets (bodies.Return value code payload) = refl
+kind_octets (bodies.Forward service payload) = refl
+kind_octets (bodies.Invoke service routine mode payload) = refl
+kind_octets (bodies.Reply reply) = refl
+kind_octets bodies.Shutdown = refl
 
 pub most_is : (k : FrameKind) → most_octets k ≤ 66_000
 most_is kinds.Ready = omega arith
 most_is kinds.Next = omega arith
+most_is kinds.Op = omega arith
 most_is kinds.Return = omega arith
+most_is kinds.Forward = omega arith
 most_is kinds.Invoke = omega arith
+most_is kinds.Reply = omega arith
 most_is kinds.Shutdown = omega arith
 
 -- a header that was read from the front
@@ -114,8 +115,8 @@ header_takes bytes h fits e =
     let g = cond_some (leb s.0.0 (most_octets k.0)) (header_of k.0 s.0.0 t.0.0, t.0.1) h t.2 in
     let t0 = mark_takes bytes m.0 fits m.1 in
     let t1 = octet_takes m.0 o.0 t0.rest_fits o.1 in
-    let t2 = number_takes o.0.1 s.0 t1.rest_fits s.1 in
-    let t3 = number_takes s.0.1 t.0 t2.0.rest_fits t.1 in
+    let t2 = number_is.takes o.0.1 s.0 t1.rest_fits s.1 in
+    let t3 = number_is.takes s.0.1 t.0 t2.0.rest_fits t.1 in
     let all = joined bytes m.0 o.0.1 s.0.1 t.0.1 o.0.0 (octet_of k.0) s.0.0 t.0.0 (kind_takes o.0.0 k.0 k.1) t0 t1 t2.0 t3.0 in
     subst (λ (y : Header × List ℕ). IsHeader bytes y.0 y.1) g.1 (record { taken = all; most = leb-true _ _ g.0; tag_fits = t3.1 })
 
@@ -124,8 +125,8 @@ unfolding header_at after_mark
 header_again k size tag rest most tag_fits =
     let m = most_is k in
     ap (λ (r : Option FrameKind). r >>= kind_head (big_bytes 4 size ++ (big_bytes 4 tag ++ rest))) (kind_again k)
-    ∙ ap (λ (r : Option (ℕ × List ℕ)). r >>= sized_head k) (number_again size (big_bytes 4 tag ++ rest) (omega (arith, m)))
-    ∙ ap (λ (r : Option (ℕ × List ℕ)). r >>= headed k size) (number_again tag rest tag_fits)
+    ∙ ap (λ (r : Option (ℕ × List ℕ)). r >>= sized_head k) (number_is.again size (big_bytes 4 tag ++ rest) (omega (arith, m)))
+    ∙ ap (λ (r : Option (ℕ × List ℕ)). r >>= headed k size) (number_is.again tag rest tag_fits)
     ∙ cond-true (leb size (most_octets k)) (Some (header_of k size tag, rest)) None (le-leb _ _ most)
 
 -- ---- whole frames
@@ -204,6 +205,10 @@ no_other f g x y hf hg e =
 pub is_whole : (octets : List ℕ) (f : Frame) (more : List ℕ) → Begins octets f more → front_at octets ≡ Whole f (length (spelled f))
 is_whole octets f more h = ap front_at h.whole ∙ front_again f more h.spelling
 
+-- an octet that is this one, or one of the others
+one_of : {R : Type 0} (o n : ℕ) (others : Bool) → (o ≡ n → R) → (others ≡ true → R) → eqb o n || others ≡ true → R
+one_of {R} o n others here more h = elim (or_cases (eqb o n) others h) [ inl e ↦ here (eqb-true o n e) | inr e ↦ more e ]
+
 -- the kind that an octet of a sound header has
 allowed : (o size : ℕ) → allows o size ≡ true → (k : FrameKind) × (o ≡ octet_of k) × (size ≤ most_octets k)
 allowed o size h =
@@ -214,27 +219,23 @@ allowed o size h =
   where
     with_body_kind : (has_body o ≡ true) × (leb size 66_000 ≡ true) → (k : FrameKind) × (o ≡ octet_of k) × (size ≤ most_octets k)
     with_body_kind p =
-        elim (or_cases (eqb o 0x01) (eqb o 0x04 || eqb o 0x11) p.0) [
-          | inl e ↦ (kinds.Ready, eqb-true _ _ e, leb-true _ _ p.1)
-          | inr q ↦ elim (or_cases (eqb o 0x04) (eqb o 0x11) q) [
-            | inl e ↦ (kinds.Return, eqb-true _ _ e, leb-true _ _ p.1)
-            | inr e ↦ (kinds.Invoke, eqb-true _ _ e, leb-true _ _ p.1)
-          ]
-        ]
+        let most = leb-true _ _ p.1 in
+        one_of o 0x01 _ (λ e. (kinds.Ready, e, most)) (one_of o 0x03 _ (λ e. (kinds.Op, e, most)) (one_of o 0x04 _ (λ e. (kinds.Return, e, most))
+        (one_of o 0x05 _ (λ e. (kinds.Forward, e, most)) (one_of o 0x11 _ (λ e. (kinds.Invoke, e, most)) (λ e. (kinds.Reply, eqb-true o 0x12 e, most)))))) p.0
 
     without_body_kind : (has_no_body o ≡ true) × (eqb size 0 ≡ true) → (k : FrameKind) × (o ≡ octet_of k) × (size ≤ most_octets k)
     without_body_kind p =
         let none = eqb-true size 0 p.1 in
-        elim (or_cases (eqb o 0x02) (eqb o 0x13) p.0) [
-          | inl e ↦ (kinds.Next, eqb-true _ _ e, omega (arith, none))
-          | inr e ↦ (kinds.Shutdown, eqb-true _ _ e, omega (arith, none))
-        ]
+        one_of o 0x02 _ (λ e. (kinds.Next, e, omega (arith, none))) (λ e. (kinds.Shutdown, eqb-true o 0x13 e, omega (arith, none))) p.0
 
 allows_kind : (k : FrameKind) (size : ℕ) → size ≤ most_octets k → allows (octet_of k) size ≡ true
 allows_kind kinds.Ready size h = or_left _ _ (le-leb _ _ h)
 allows_kind kinds.Next size h = eq-eqb size 0 (omega (arith, h))
+allows_kind kinds.Op size h = or_left _ _ (le-leb _ _ h)
 allows_kind kinds.Return size h = or_left _ _ (le-leb _ _ h)
+allows_kind kinds.Forward size h = or_left _ _ (le-leb _ _ h)
 allows_kind kinds.Invoke size h = or_left _ _ (le-leb _ _ h)
+allows_kind kinds.Reply size h = or_left _ _ (le-leb _ _ h)
 allows_kind kinds.Shutdown size h = eq-eqb size 0 (omega (arith, h))
 
 header_short : (octets : List ℕ) (kind size tag : ℕ) (body : List ℕ) → LacksBody octets kind size tag body → front_at octets ≡ Partial

@@ -1,4 +1,5 @@
 pub mod FieldLemmas
+pub mod PartLemmas
 pub mod BodyLemmas
 pub mod FrontLemmas
 pub mod FrameLemmas

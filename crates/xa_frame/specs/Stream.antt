@@ -5,7 +5,7 @@ use Rattle.xa_frame.specs.Spelling.{header, spelled, HasSpelling}
 
 -- the kinds of frames with a body, of at most 66,000 octets, and those without
 abbrev pub has_body : ℕ → Bool
-has_body kind = (kind == 0x01) || ((kind == 0x04) || (kind == 0x11))
+has_body kind = (kind == 0x01) || ((kind == 0x03) || ((kind == 0x04) || ((kind == 0x05) || ((kind == 0x11) || (kind == 0x12)))))
 
 abbrev pub has_no_body : ℕ → Bool
 has_no_body kind = (kind == 0x02) || (kind == 0x13)

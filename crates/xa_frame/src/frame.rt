@@ -1,4 +1,4 @@
-use xa_types::{Data, Mode, Name, Rval};
+use xa_types::{Data, Mode, Name, Octets, Op, Reply, Rval};
 
 /// What a frame says.
 #[derive(Drop)]
@@ -7,10 +7,16 @@ pub enum Body {
     Ready(Name),
     /// A program asks for the next request.
     Next,
+    /// A service makes a call.
+    Op(Op),
     /// A service returns (XATMI, tpreturn).
     Return(Rval, i32, Data),
+    /// A service passes its request on (Tuxedo, tpforward): to that service, as it was written, with that data.
+    Forward(Octets, Data),
     /// A service is to run: its name, its routine, what it is invoked for, and what came with the request.
     Invoke(Name, Name, Mode, Data),
+    /// What a service's call is told.
+    Reply(Reply),
     /// A program is to end.
     Shutdown,
 }

@@ -14,8 +14,11 @@ pub const MARK: [u8; 3] = [0x58, 0x41, 0x01];
 pub enum FrameKind {
     Ready,
     Next,
+    Op,
     Return,
+    Forward,
     Invoke,
+    Reply,
     Shutdown,
 }
 
@@ -33,8 +36,11 @@ fn kind_of(octet: u8) -> Result<FrameKind, NoFrame>
     match octet {
         0x01 => Ok(FrameKind::Ready),
         0x02 => Ok(FrameKind::Next),
+        0x03 => Ok(FrameKind::Op),
         0x04 => Ok(FrameKind::Return),
+        0x05 => Ok(FrameKind::Forward),
         0x11 => Ok(FrameKind::Invoke),
+        0x12 => Ok(FrameKind::Reply),
         0x13 => Ok(FrameKind::Shutdown),
         _ => Err(NoFrame),
     }
@@ -44,8 +50,13 @@ fn most_octets(kind: FrameKind) -> u32
     ensures { result ≡ most_octets kind }
 {
     match kind {
-        FrameKind::Ready | FrameKind::Return | FrameKind::Invoke => 66_000,
         FrameKind::Next | FrameKind::Shutdown => 0,
+        FrameKind::Ready
+        | FrameKind::Op
+        | FrameKind::Return
+        | FrameKind::Forward
+        | FrameKind::Invoke
+        | FrameKind::Reply => 66_000,
     }
 }
 

@@ -1,116 +1,65 @@
 //! The body of a frame, and the frame that stands first.
 
 ghost use Rattle.std.specs.Prelude.{◌≡◌, ◌≤◌, ◌+◌, length, drop, IfErr};
-ghost use Rattle.xa_frame.specs.declared.reading.ReadError.TheVariants as errors;
-ghost use Rattle.xa_frame.specs.declared.frame.Body.TheVariants.{Next, Shutdown};
-ghost use Rattle.xa_frame.specs.Reading.{Reads, Makes, Stands, StandsFirst, data_of, octet_data_of, struct_of, absent_of, ready_of, return_of, invoke_of, empty_of, body_of, front_at};
+ghost use Rattle.xa_frame.specs.declared.fields.ReadError.TheVariants as errors;
+ghost use Rattle.xa_frame.specs.declared.frame.Body.TheVariants.{Ready, Next, Shutdown};
+ghost use Rattle.xa_frame.specs.Reading.{Makes, Stands, StandsFirst, last, name_at, nothing, said, return_of, forward_of, invoke_of, body_of, front_at};
 
-use crate::fields::{NoFrame, mode_of, name_of, number_at, octet_at, rval_of, sized_of, word_at};
+use crate::choices::{mode_of, rval_of};
+use crate::fields::{ReadError, ended, name_of, octet_at, signed_at, word_at};
 use crate::frame::{Body, Frame};
 use crate::header::{FrameKind, HEADER, header_at};
+use crate::op::op_of;
+use crate::payload::data_of;
 use crate::reader::NextRefused;
+use crate::reply::reply_of;
 use std::alloc::Global;
-use xa_types::{Data, NoMemory, Octets};
+use xa_types::Octets;
 
-/// Why no body is read. Memory runs out only where the octets are one.
-#[derive(Clone, Copy)]
-pub enum ReadError {
-    NoFrame,
-    NoMemory,
-}
-
-impl From<NoFrame> for ReadError {
-    ghost from_gives = { λ _ e. e ≡ errors.NoFrame };
-
-    fn from(_: NoFrame) -> Self {
-        ReadError::NoFrame
-    }
-}
-
-impl From<NoMemory> for ReadError {
-    ghost from_gives = { λ _ e. e ≡ errors.NoMemory };
-
-    fn from(_: NoMemory) -> Self {
-        ReadError::NoMemory
-    }
-}
-
-fn absent_of(octets: &[u8]) -> Result<Data, NoFrame>
-    ensures { Reads (λ x. x) result (absent_of octets.now) }
-{
-    if octets.is_empty() {
-        Ok(Data::Absent)
-    } else {
-        Err(NoFrame)
-    }
-}
-
-#[tactic(auto, unfolding(crate::specs::Reading::octet_data_of))]
-fn octet_data_of(alloc: Global, octets: &[u8]) -> Result<Data, ReadError>
-    ensures { Makes (λ x. x) result (octet_data_of octets.now) }
-{
-    let octets = sized_of(octets)?;
-    Ok(Data::Octet(Octets::of(alloc, octets)?))
-}
-
-#[tactic(auto, unfolding(crate::specs::Reading::struct_of))]
-fn struct_of(alloc: Global, octets: &[u8]) -> Result<Data, ReadError>
-    ensures { Makes (λ x. x) result (struct_of octets.now) }
-{
-    let (word, rest) = word_at(octets)?;
-    let subtype = name_of(word)?;
-    let octets = sized_of(rest)?;
-    Ok(Data::Struct(subtype, Octets::of(alloc, octets)?))
-}
-
-#[tactic(auto, unfolding(crate::specs::Reading::data_of))]
-fn data_of(alloc: Global, octets: &[u8]) -> Result<Data, ReadError>
-    ensures { Makes (λ x. x) result (data_of octets.now) }
-{
-    let (kind, rest) = octet_at(octets)?;
-    match kind {
-        0x00 => Ok(absent_of(rest)?),
-        0x01 => octet_data_of(alloc, rest),
-        0x02 => struct_of(alloc, rest),
-        _ => Err(ReadError::NoFrame),
-    }
-}
-
-#[tactic(auto, unfolding(crate::specs::Reading::ready_of))]
+#[tactic(auto, unfolding(crate::specs::Reading::name_at))]
 #[inline(never)]
 fn ready_of(octets: &[u8]) -> Result<Body, ReadError>
-    ensures body { Makes (λ x. x) result (ready_of octets.now) }
+    ensures body { Makes result (said Ready (last name_at) octets.now) }
     ensures why { IfErr result (λ why. why ≡ errors.NoFrame) }
 {
-    let (word, rest) = word_at(octets)?;
-    let name = name_of(word)?;
-    if !rest.is_empty() {
-        return Err(ReadError::NoFrame);
-    }
+    let (name, rest) = word_at(octets)?;
+    let name = name_of(name)?;
+    ended(rest)?;
     Ok(Body::Ready(name))
 }
 
 #[tactic(auto, unfolding(crate::specs::Reading::return_of))]
 #[inline(never)]
 fn return_of(alloc: Global, octets: &[u8]) -> Result<Body, ReadError>
-    ensures { Makes (λ x. x) result (return_of octets.now) }
+    ensures { Makes result (return_of octets.now) }
 {
     let (value, rest) = octet_at(octets)?;
     let value = rval_of(value)?;
-    let (code, rest) = number_at(rest)?;
+    let (code, rest) = signed_at(rest)?;
     let payload = data_of(alloc, rest)?;
-    Ok(Body::Return(value, code.cast_signed(), payload))
+    Ok(Body::Return(value, code, payload))
 }
 
-#[tactic(auto, unfolding(crate::specs::Reading::invoke_of))]
+#[tactic(auto, unfolding(crate::specs::Reading::forward_of))]
+#[inline(never)]
+fn forward_of(alloc: Global, octets: &[u8]) -> Result<Body, ReadError>
+    ensures { Makes result (forward_of octets.now) }
+{
+    let (service, rest) = word_at(octets)?;
+    let payload = data_of(alloc, rest)?;
+    let service = Octets::of(alloc, service)?;
+    Ok(Body::Forward(service, payload))
+}
+
+#[tactic(auto, unfolding(crate::specs::Reading::invoke_of, crate::specs::Reading::name_at))]
 #[inline(never)]
 fn invoke_of(alloc: Global, octets: &[u8]) -> Result<Body, ReadError>
-    ensures { Makes (λ x. x) result (invoke_of octets.now) }
+    ensures { Makes result (invoke_of octets.now) }
 {
-    let (first, rest) = word_at(octets)?;
-    let service = name_of(first)?;
-    let (second, rest) = word_at(rest)?;
-    let routine = name_of(second)?;
+    let (service, rest) = word_at(octets)?;
+    let service = name_of(service)?;
+    let (routine, rest) = word_at(rest)?;
+    let routine = name_of(routine)?;
     let (mode, rest) = octet_at(rest)?;
     let mode = mode_of(mode)?;
     let payload = data_of(alloc, rest)?;
@@ -119,37 +68,34 @@ fn invoke_of(alloc: Global, octets: &[u8]) -> Result<Body, ReadError>
 
 #[inline(never)]
 fn next_of(octets: &[u8]) -> Result<Body, ReadError>
-    ensures body { Makes (λ x. x) result (empty_of Next octets.now) }
+    ensures body { Makes result (said (λ _. Next) nothing octets.now) }
     ensures why { IfErr result (λ why. why ≡ errors.NoFrame) }
 {
-    if octets.is_empty() {
-        Ok(Body::Next)
-    } else {
-        Err(ReadError::NoFrame)
-    }
+    ended(octets)?;
+    Ok(Body::Next)
 }
 
 #[inline(never)]
 fn shutdown_of(octets: &[u8]) -> Result<Body, ReadError>
-    ensures body { Makes (λ x. x) result (empty_of Shutdown octets.now) }
+    ensures body { Makes result (said (λ _. Shutdown) nothing octets.now) }
     ensures why { IfErr result (λ why. why ≡ errors.NoFrame) }
 {
-    if octets.is_empty() {
-        Ok(Body::Shutdown)
-    } else {
-        Err(ReadError::NoFrame)
-    }
+    ended(octets)?;
+    Ok(Body::Shutdown)
 }
 
 /// The body of that kind that all of the octets are.
 fn body_of(alloc: Global, kind: FrameKind, octets: &[u8]) -> Result<Body, ReadError>
-    ensures { Makes (λ x. x) result (body_of kind octets.now) }
+    ensures { Makes result (body_of kind octets.now) }
 {
     match kind {
         FrameKind::Ready => ready_of(octets),
         FrameKind::Next => next_of(octets),
+        FrameKind::Op => op_of(alloc, octets),
         FrameKind::Return => return_of(alloc, octets),
+        FrameKind::Forward => forward_of(alloc, octets),
         FrameKind::Invoke => invoke_of(alloc, octets),
+        FrameKind::Reply => reply_of(alloc, octets),
         FrameKind::Shutdown => shutdown_of(octets),
     }
 }
@@ -179,17 +125,17 @@ fn front_at(
         return Ok(None);
     }
     let (octets, _) = rest.split_at(body_size);
-    let body = match body_of(alloc, header.kind, octets) {
-        Ok(body) => body,
-        Err(ReadError::NoFrame) => return Err(NextRefused::BadFrame(place)),
-        Err(ReadError::NoMemory) => return Err(NextRefused::NoMemory),
-    };
-    *size = HEADER + body_size;
-    let frame = Frame {
-        tag: header.tag,
-        body,
-    };
-    Ok(Some(frame))
+    match body_of(alloc, header.kind, octets) {
+        Ok(body) => {
+            *size = HEADER + body_size;
+            Ok(Some(Frame {
+                tag: header.tag,
+                body,
+            }))
+        }
+        Err(ReadError::NoFrame) => Err(NextRefused::BadFrame(place)),
+        Err(ReadError::NoMemory) => Err(NextRefused::NoMemory),
+    }
 }
 
 /// The same of the octets after so many.

@@ -1,10 +1,15 @@
 ghost use Rattle.std.specs.Prelude.{◌≡◌, ◌≤◌, ◌+◌, ◌++◌, length, IfOk, OnOk};
 ghost use Rattle.xa_types.specs.declared.call.Mode.{Mode};
-ghost use Rattle.xa_frame.specs.declared.frame.Body.TheVariants.{Return, Invoke};
-ghost use Rattle.xa_frame.specs.Spelling.{kind_octet, rval_octet, mode_octet, word, sized, data_octets, body_octets, header, spelled, IsData, IsBody, HasSpelling};
+ghost use Rattle.xa_frame.specs.declared.frame.Body.TheVariants.{Return, Forward, Invoke};
+ghost use Rattle.xa_frame.specs.Spelling.{kind_octet, data_octets, body_octets, header, spelled, IsData, IsBody, HasSpelling};
 
+use crate::choices::{mode_octet, rval_octet};
+use crate::fields::{put_word, word_len};
 use crate::frame::{Body, Frame};
 use crate::header::{HEADER, MARK};
+use crate::op::{op_len, put_op};
+use crate::payload::{data_len, put_data};
+use crate::reply::{put_coded, put_reply, reply_len};
 use std::alloc::Global;
 use xa_types::{Data, Mode, Name, NoMemory, Octets, Rval};
 
@@ -21,49 +26,12 @@ pub fn kind_octet(body: &Body) -> u8
     match body {
         Body::Ready(_) => 0x01,
         Body::Next => 0x02,
+        Body::Op(_) => 0x03,
         Body::Return(..) => RETURN,
+        Body::Forward(..) => 0x05,
         Body::Invoke(..) => INVOKE,
+        Body::Reply(_) => 0x12,
         Body::Shutdown => 0x13,
-    }
-}
-
-fn rval_octet(value: Rval) -> u8
-    ensures { result ≡ rval_octet value }
-{
-    match value {
-        Rval::Success => 0,
-        Rval::Fail => 1,
-        Rval::Exit => 2,
-    }
-}
-
-fn mode_octet(mode: Mode) -> u8
-    ensures { result ≡ mode_octet mode }
-{
-    match mode {
-        Mode::Reply => 0,
-        Mode::NoReply => 1,
-        Mode::ConvReceives => 2,
-        Mode::ConvSends => 3,
-    }
-}
-
-fn word_len(name: &Name) -> usize
-    ensures length { result ≡ length (word name.now) }
-    ensures few { result ≤ 32 }
-{
-    1 + name.octets().len()
-}
-
-fn data_len(payload: &Data) -> usize
-    requires { IsData payload.now }
-    ensures length { result ≡ length (data_octets payload.now) }
-    ensures few { result ≤ 65_573 }
-{
-    match payload {
-        Data::Absent => 1,
-        Data::Octet(octets) => 5 + octets.slice().len(),
-        Data::Struct(subtype, octets) => 5 + word_len(subtype) + octets.slice().len(),
     }
 }
 
@@ -80,7 +48,7 @@ fn invoke_len(service: &Name, routine: &Name, payload: &Data) -> usize
     ensures length { (mode : Mode) → result ≡ length (body_octets (Invoke service.now routine.now mode payload.now)) }
     ensures few { result ≤ 66_000 }
 {
-    word_len(service) + word_len(routine) + 1 + data_len(payload)
+    word_len(service.octets()) + word_len(routine.octets()) + 1 + data_len(payload)
 }
 
 fn body_len(body: &Body) -> usize
@@ -88,50 +56,13 @@ fn body_len(body: &Body) -> usize
     ensures { result ≡ length (body_octets body.now) }
 {
     match body {
-        Body::Ready(name) => word_len(name),
+        Body::Ready(name) => word_len(name.octets()),
         Body::Next | Body::Shutdown => 0,
+        Body::Op(op) => op_len(op),
         Body::Return(_, _, payload) => return_len(payload),
+        Body::Forward(service, payload) => word_len(service.slice()) + data_len(payload),
         Body::Invoke(service, routine, _, payload) => invoke_len(service, routine, payload),
-    }
-}
-
-fn put_word(out: &mut Vec<u8>, name: &Name) -> Result<(), NoMemory>
-    ensures { OnOk result (out.new.items ≡ out.old.items ++ word name.now) }
-{
-    let octets = name.octets();
-    out.push(octets.len() as u8)?;
-    out.extend_from_slice(octets)?;
-    Ok(())
-}
-
-fn put_sized(out: &mut Vec<u8>, octets: &Octets) -> Result<(), NoMemory>
-    requires { length octets.now ≤ 65_536 }
-    ensures { OnOk result (out.new.items ≡ out.old.items ++ sized octets.now) }
-{
-    let octets = octets.slice();
-    out.extend_from_slice(&(octets.len() as u32).to_be_bytes())?;
-    out.extend_from_slice(octets)?;
-    Ok(())
-}
-
-fn put_data(out: &mut Vec<u8>, payload: &Data) -> Result<(), NoMemory>
-    requires { IsData payload.now }
-    ensures { OnOk result (out.new.items ≡ out.old.items ++ data_octets payload.now) }
-{
-    match payload {
-        Data::Absent => {
-            out.push(0x00)?;
-            Ok(())
-        }
-        Data::Octet(octets) => {
-            out.push(0x01)?;
-            put_sized(out, octets)
-        }
-        Data::Struct(subtype, octets) => {
-            out.push(0x02)?;
-            put_word(out, subtype)?;
-            put_sized(out, octets)
-        }
+        Body::Reply(reply) => reply_len(reply),
     }
 }
 
@@ -140,7 +71,14 @@ fn put_return(out: &mut Vec<u8>, value: Rval, code: i32, payload: &Data) -> Resu
     ensures { OnOk result (out.new.items ≡ out.old.items ++ body_octets (Return value code payload.now)) }
 {
     out.push(rval_octet(value))?;
-    out.extend_from_slice(&code.to_be_bytes())?;
+    put_coded(out, code, payload)
+}
+
+fn put_forward(out: &mut Vec<u8>, service: &Octets, payload: &Data) -> Result<(), NoMemory>
+    requires { IsBody (Forward service.now payload.now) }
+    ensures { OnOk result (out.new.items ≡ out.old.items ++ body_octets (Forward service.now payload.now)) }
+{
+    put_word(out, service.slice())?;
     put_data(out, payload)
 }
 
@@ -154,8 +92,8 @@ fn put_invoke(
     requires { IsData payload.now }
     ensures { OnOk result (out.new.items ≡ out.old.items ++ body_octets (Invoke service.now routine.now mode payload.now)) }
 {
-    put_word(out, service)?;
-    put_word(out, routine)?;
+    put_word(out, service.octets())?;
+    put_word(out, routine.octets())?;
     out.push(mode_octet(mode))?;
     put_data(out, payload)
 }
@@ -165,12 +103,15 @@ fn put_body(out: &mut Vec<u8>, body: &Body) -> Result<(), NoMemory>
     ensures { OnOk result (out.new.items ≡ out.old.items ++ body_octets body.now) }
 {
     match body {
-        Body::Ready(name) => put_word(out, name),
+        Body::Ready(name) => put_word(out, name.octets()),
         Body::Next | Body::Shutdown => Ok(()),
+        Body::Op(op) => put_op(out, op),
         Body::Return(value, code, payload) => put_return(out, *value, *code, payload),
+        Body::Forward(service, payload) => put_forward(out, service, payload),
         Body::Invoke(service, routine, mode, payload) => {
             put_invoke(out, service, routine, *mode, payload)
         }
+        Body::Reply(reply) => put_reply(out, reply),
     }
 }
 
@@ -184,8 +125,8 @@ fn put_header(out: &mut Vec<u8>, kind: u8, size: u32, tag: u32) -> Result<(), No
     Ok(())
 }
 
-/// Puts the octets of a frame, whose data has at most 65,536 octets, at the end. Where memory runs out, nothing
-/// is said of what stands there.
+/// Puts the octets of a frame at the end. Its data has at most 65,536 octets and its words 255, and the format has a
+/// place for all that it holds. Where memory runs out, nothing is said of what stands there.
 pub fn append(out: &mut Vec<u8>, frame: &Frame) -> Result<(), NoMemory>
     requires { HasSpelling frame.now }
     ensures { OnOk result (out.new.items ≡ out.old.items ++ spelled frame.now) }
@@ -231,7 +172,7 @@ pub fn append_invoke(
     put_invoke(out, service, routine, mode, payload)
 }
 
-/// The octets of a frame, whose data has at most 65,536 octets.
+/// The octets of a frame, which is as for `append`.
 pub fn encode(alloc: Global, frame: &Frame) -> Result<Octets, NoMemory>
     requires { HasSpelling frame.now }
     ensures { IfOk result (λ octets. octets ≡ spelled frame.now) }

@@ -6,14 +6,45 @@ ghost use Rattle.xa_frame.specs.Spelling.{HasSpelling};
 use crate::rows::none_fails;
 use std::alloc::Global;
 use xa_frame::{Body, Frame, NextRefused, Reader, encode};
-use xa_types::{Data, Mode, Name, Rval};
+use xa_types::{
+    Answer, Ask, CallFlags, ConvEvent, Data, Direction, Fault, Kind, Mode, Name, Octets, Op, Reply,
+    Rval,
+};
 
-static SPELLINGS: [&[u8]; 6] = [
+static SPELLINGS: [&[u8]; 29] = [
+    // READY, NEXT
     b"XA\x01\x01\0\0\0\x03\0\0\0\0\x02S1",
     b"XA\x01\x02\0\0\0\0\0\0\0\0",
+    // OP: call, acall, get, getany, cancel, connect, send, recv, discon, prio, advertise, unadvertise, tick
+    b"XA\x01\x03\0\0\0\x0f\0\0\0\x05\x01\x05\x03A b\x02\x01S\x01\0\0\0\x01\x07",
+    b"XA\x01\x03\0\0\0\x05\0\0\0\x05\x02\x04\x01B\0",
+    b"XA\x01\x03\0\0\0\x0b\0\0\0\x05\x03\x01\x01\x02\x03\x04\x05\x06\x07\x08\x01",
+    b"XA\x01\x03\0\0\0\x03\0\0\0\x05\x04\x10\0",
+    b"XA\x01\x03\0\0\0\x09\0\0\0\x05\x05\0\0\0\0\0\0\0\x09",
+    b"XA\x01\x03\0\0\0\x0e\0\0\0\x05\x06\x08\x02\x01C\x02\x01S\0\0\0\x02\x07\x08",
+    b"XA\x01\x03\0\0\0\x11\0\0\0\x05\x07\x02\0\0\0\0\0\0\0\x03\x01\x01\0\0\0\x01\x07",
+    b"XA\x01\x03\0\0\0\x0a\0\0\0\x05\x08\x1f\0\0\0\0\0\0\0\x03",
+    b"XA\x01\x03\0\0\0\x09\0\0\0\x05\x09\x80\0\0\0\0\0\0\0",
+    b"XA\x01\x03\0\0\0\x06\0\0\0\x05\x0a\x01\xff\xff\xff\xfe",
+    b"XA\x01\x03\0\0\0\x04\0\0\0\x05\x0b\x01A\0",
+    b"XA\x01\x03\0\0\0\x05\0\0\0\x05\x0c\x03A b",
+    b"XA\x01\x03\0\0\0\x05\0\0\0\x05\x0d\0\0\x01\0",
+    // RETURN, FORWARD, INVOKE
     b"XA\x01\x04\0\0\0\x0b\0\0\0\x09\0\0\0\0\x05\x01\0\0\0\x01\x07",
     b"XA\x01\x04\0\0\0\x0d\0\0\0\x02\x01\xff\xff\xff\xfe\x02\x01S\0\0\0\x01\x07",
+    b"XA\x01\x05\0\0\0\x0a\0\0\0\x06\x03A b\x01\0\0\0\x01\x07",
     b"XA\x01\x11\0\0\0\x15\0\0\0\x01\x04ECHO\x04ECHO\0\x01\0\0\0\x05hello",
+    // REPLY: done, a descriptor, the time, three answers, a message, an event, an error
+    b"XA\x01\x12\0\0\0\x01\0\0\0\x07\0",
+    b"XA\x01\x12\0\0\0\x09\0\0\0\x07\x01\0\0\0\0\0\0\0\x09",
+    b"XA\x01\x12\0\0\0\x09\0\0\0\x07\x02\x01\x02\x03\x04\x05\x06\x07\x08",
+    b"XA\x01\x12\0\0\0\x14\0\0\0\x07\x03\0\0\0\0\0\0\0\0\0\0\0\0\x05\x01\0\0\0\x01\x07",
+    b"XA\x01\x12\0\0\0\x0f\0\0\0\x07\x03\0\0\0\0\0\0\0\x01\x01\xff\xff\xff\xfe\0",
+    b"XA\x01\x12\0\0\0\x0b\0\0\0\x07\x03\0\0\0\0\0\0\0\x02\x02\x0d",
+    b"XA\x01\x12\0\0\0\x07\0\0\0\x07\x04\x01\0\0\0\x01\x07",
+    b"XA\x01\x12\0\0\0\x0c\0\0\0\x07\x05\x04\0\0\0\x05\x01\0\0\0\x01\x07",
+    b"XA\x01\x12\0\0\0\x02\0\0\0\x07\x06\x0b",
+    // SHUTDOWN
     b"XA\x01\x13\0\0\0\0\0\0\0\0",
 ];
 
@@ -44,32 +75,77 @@ fn is_name(octets: &[u8]) -> bool {
     octets.len() <= 31 && !octets.is_empty() && !octets.starts_with(b".")
 }
 
-// What a frame is made of: a name, an octet of at most so much, a number of four octets, or data.
+// What a body is made of. A choice is an octet from one value to another.
 enum Field {
     Name,
-    Choice(u8),
+    Word,
+    Choice(u8, u8),
     Number,
+    Long,
+    Kind,
     Data,
+    Answer,
 }
 
-// What follows the header of a frame of that kind.
-fn fields_of(kind: u8) -> Option<&'static [Field]> {
+const FLAGS: Field = Field::Choice(0, 31);
+
+// What follows the number of an operation.
+fn fields_of_op(code: u8) -> Option<&'static [Field]> {
+    match code {
+        1 => Some(&[FLAGS, Field::Word, Field::Kind, Field::Data]),
+        2 => Some(&[FLAGS, Field::Word, Field::Data]),
+        3 => Some(&[FLAGS, Field::Long, Field::Kind]),
+        4 => Some(&[FLAGS, Field::Kind]),
+        5 | 9 => Some(&[Field::Long]),
+        6 => Some(&[FLAGS, Field::Choice(0, 3), Field::Word, Field::Data]),
+        7 => Some(&[FLAGS, Field::Long, Field::Choice(0, 1), Field::Data]),
+        8 => Some(&[FLAGS, Field::Long]),
+        10 => Some(&[Field::Choice(0, 1), Field::Number]),
+        11 => Some(&[Field::Word, Field::Word]),
+        12 => Some(&[Field::Word]),
+        13 => Some(&[Field::Number]),
+        _ => None,
+    }
+}
+
+// What follows the number of a reply.
+fn fields_of_reply(code: u8) -> Option<&'static [Field]> {
+    match code {
+        0 => Some(&[]),
+        1 | 2 => Some(&[Field::Long]),
+        3 => Some(&[Field::Long, Field::Answer]),
+        4 => Some(&[Field::Data]),
+        5 => Some(&[Field::Choice(1, 6), Field::Number, Field::Data]),
+        6 => Some(&[Field::Choice(1, 15)]),
+        _ => None,
+    }
+}
+
+// What follows the header of a frame of that kind, for OP and REPLY behind the first octet.
+fn fields_of(kind: u8, first: u8) -> Option<&'static [Field]> {
     match kind {
         0x01 => Some(&[Field::Name]),
         0x02 | 0x13 => Some(&[]),
-        0x04 => Some(&[Field::Choice(2), Field::Number, Field::Data]),
-        0x11 => Some(&[Field::Name, Field::Name, Field::Choice(3), Field::Data]),
+        0x03 => fields_of_op(first),
+        0x04 => Some(&[Field::Choice(0, 2), Field::Number, Field::Data]),
+        0x05 => Some(&[Field::Word, Field::Data]),
+        0x11 => Some(&[Field::Name, Field::Name, Field::Choice(0, 3), Field::Data]),
+        0x12 => fields_of_reply(first),
         _ => None,
     }
 }
 
 // The readers of a field answer what stands behind it.
 
-fn after_name(body: &[u8]) -> Option<&[u8]> {
+fn split_word(body: &[u8]) -> Option<(&[u8], &[u8])> {
     let [len, rest @ ..] = body else {
         return None;
     };
-    match rest.split_at_checked(usize::from(*len)) {
+    rest.split_at_checked(usize::from(*len))
+}
+
+fn after_name(body: &[u8]) -> Option<&[u8]> {
+    match split_word(body) {
         Some((name, rest)) if is_name(name) => Some(rest),
         _ => None,
     }
@@ -82,29 +158,58 @@ fn after_octets(body: &[u8]) -> Option<&[u8]> {
     }
 }
 
+fn after_kind(body: &[u8]) -> Option<&[u8]> {
+    match body {
+        [0 | 1, rest @ ..] => Some(rest),
+        [2, rest @ ..] => after_name(rest),
+        _ => None,
+    }
+}
+
 fn after_data(body: &[u8]) -> Option<&[u8]> {
     match body {
         [0, rest @ ..] => Some(rest),
-        [1, rest @ ..] => after_octets(rest),
-        [2, rest @ ..] => after_octets(after_name(rest)?),
+        [1 | 2, ..] => after_octets(after_kind(body)?),
+        _ => None,
+    }
+}
+
+fn after_choice(least: u8, most: u8, body: &[u8]) -> Option<&[u8]> {
+    match body {
+        [choice, rest @ ..] if least <= *choice && *choice <= most => Some(rest),
+        _ => None,
+    }
+}
+
+fn after_answer(body: &[u8]) -> Option<&[u8]> {
+    match body {
+        [0 | 1, rest @ ..] => after_data(rest.get(4..)?),
+        [2, rest @ ..] => after_choice(1, 15, rest),
         _ => None,
     }
 }
 
 fn after_field<'a>(field: &Field, body: &'a [u8]) -> Option<&'a [u8]> {
-    match (field, body) {
-        (Field::Name, _) => after_name(body),
-        (Field::Choice(most), [choice, rest @ ..]) if *choice <= *most => Some(rest),
-        (Field::Choice(_), _) => None,
-        (Field::Number, _) => body.get(4..),
-        (Field::Data, _) => after_data(body),
+    match field {
+        Field::Name => after_name(body),
+        Field::Word => Some(split_word(body)?.1),
+        Field::Choice(least, most) => after_choice(*least, *most, body),
+        Field::Number => body.get(4..),
+        Field::Long => body.get(8..),
+        Field::Kind => after_kind(body),
+        Field::Data => after_data(body),
+        Field::Answer => after_answer(body),
     }
 }
 
 // What stands behind the fields of a frame of that kind.
 fn after_fields(kind: u8, body: &[u8]) -> Option<&[u8]> {
-    let mut rest = body;
-    for field in fields_of(kind)? {
+    let (first, mut rest) = match (kind, body) {
+        (0x03 | 0x12, [first, rest @ ..]) => (*first, rest),
+        (0x03 | 0x12, []) => return None,
+        _ => (0, body),
+    };
+    for field in fields_of(kind, first)? {
         rest = after_field(field, rest)?;
     }
     Some(rest)
@@ -119,7 +224,7 @@ fn decode_body(kind: u8, tag: u64, body: &[u8]) -> Said {
 
 fn most_of(kind: u8) -> u64 {
     match kind {
-        0x01 | 0x04 | 0x11 => 66_000,
+        0x01 | 0x03 | 0x04 | 0x05 | 0x11 | 0x12 => 66_000,
         _ => 0,
     }
 }
@@ -143,8 +248,11 @@ fn kind(body: &Body) -> u8 {
     match body {
         Body::Ready(_) => 0x01,
         Body::Next => 0x02,
+        Body::Op(_) => 0x03,
         Body::Return(..) => 0x04,
+        Body::Forward(..) => 0x05,
         Body::Invoke(..) => 0x11,
+        Body::Reply(_) => 0x12,
         Body::Shutdown => 0x13,
     }
 }
@@ -243,9 +351,14 @@ fn is_data(data: &Data, subtype: Option<&[u8]>, octets: &[u8]) -> bool {
     }
 }
 
-fn is_answer(tag: u32, rval: Rval, code: i32, data: &Data) -> bool {
+// Whether data are X_OCTET with the octet 07.
+fn is_seven(data: &Data) -> bool {
+    is_data(data, None, &[7])
+}
+
+fn is_return(tag: u32, rval: Rval, code: i32, data: &Data) -> bool {
     match rval {
-        Rval::Success => tag == 9 && code == 5 && is_data(data, None, &[7]),
+        Rval::Success => tag == 9 && code == 5 && is_seven(data),
         Rval::Fail => tag == 2 && code == -2 && is_data(data, Some(b"S"), &[7]),
         Rval::Exit => false,
     }
@@ -255,12 +368,109 @@ fn is_echo(name: &Name) -> bool {
     name.octets() == b"ECHO".as_slice()
 }
 
+fn is_word(word: &Octets, octets: &[u8]) -> bool {
+    word.slice() == octets
+}
+
+// The flags in the order in which they are declared.
+fn flags_of(flags: CallFlags) -> [bool; 5] {
+    [
+        flags.no_block,
+        flags.no_time,
+        flags.no_reply,
+        flags.no_tran,
+        flags.sig_restart,
+    ]
+}
+
+fn is_call(ask: &Ask) -> bool {
+    let of_s = match &ask.expect {
+        Some(Kind::Struct(name)) => name.octets() == b"S".as_slice(),
+        _ => false,
+    };
+    of_s && flags_of(ask.flags) == [true, false, true, false, false]
+        && is_word(&ask.service, b"A b")
+        && matches!(ask.direction, Direction::Neither)
+        && is_seven(&ask.payload)
+}
+
+fn is_acall(ask: &Ask) -> bool {
+    flags_of(ask.flags) == [false, false, true, false, false]
+        && is_word(&ask.service, b"B")
+        && ask.expect.is_none()
+        && matches!(ask.direction, Direction::Neither)
+        && matches!(ask.payload, Data::Absent)
+}
+
+fn is_connect(ask: &Ask) -> bool {
+    flags_of(ask.flags) == [false, false, false, true, false]
+        && is_word(&ask.service, b"C")
+        && ask.expect.is_none()
+        && matches!(ask.direction, Direction::RecvOnly)
+        && is_data(&ask.payload, Some(b"S"), &[7, 8])
+}
+
+fn is_op(op: &Op) -> bool {
+    match op {
+        Op::Call(ask) => is_call(ask),
+        Op::Acall(ask) => is_acall(ask),
+        Op::Get(number, flags, expect) => {
+            *number == 0x0102_0304_0506_0708
+                && flags_of(*flags) == [true, false, false, false, false]
+                && matches!(expect, Some(Kind::Octet))
+        }
+        Op::GetAny(flags, expect) => {
+            flags_of(*flags) == [false, false, false, false, true] && expect.is_none()
+        }
+        Op::Cancel(number) => *number == 9,
+        Op::Connect(ask) => is_connect(ask),
+        Op::Send(number, flags, recv_only, data) => {
+            *number == 3
+                && flags_of(*flags) == [false, true, false, false, false]
+                && *recv_only
+                && is_seven(data)
+        }
+        Op::Receive(number, flags) => *number == 3 && flags_of(*flags) == [true; 5],
+        Op::Disconnect(number) => *number == 1 << 63,
+        Op::Priority(absolute, amount) => *absolute && *amount == -2,
+        Op::Advertise(service, routine) => is_word(service, b"A") && is_word(routine, b""),
+        Op::Unadvertise(service) => is_word(service, b"A b"),
+        Op::Tick(ticks) => *ticks == 256,
+    }
+}
+
+fn is_answer(number: u64, answer: &Answer) -> bool {
+    match answer {
+        Answer::Success(code, data) => number == 0 && *code == 5 && is_seven(data),
+        Answer::Failed(code, data) => number == 1 && *code == -2 && matches!(data, Data::Absent),
+        Answer::Error(fault) => number == 2 && matches!(fault, Fault::SvcErr),
+    }
+}
+
+fn is_reply(reply: &Reply) -> bool {
+    match reply {
+        Reply::Done => true,
+        Reply::Descriptor(number) => *number == 9,
+        Reply::Now(now) => *now == 0x0102_0304_0506_0708,
+        Reply::Answered(number, answer) => is_answer(*number, answer),
+        Reply::Message(data) => is_seven(data),
+        Reply::Event(event, code, data) => {
+            matches!(event, ConvEvent::SvcFail) && *code == 5 && is_seven(data)
+        }
+        Reply::Fault(fault) => matches!(fault, Fault::Match),
+    }
+}
+
 // Whether the frame says what its spelling is written out for.
 fn is_said(frame: &Frame) -> bool {
     match &frame.body {
         Body::Ready(name) => frame.tag == 0 && name.octets() == b"S1".as_slice(),
         Body::Next | Body::Shutdown => frame.tag == 0,
-        Body::Return(rval, code, data) => is_answer(frame.tag, *rval, *code, data),
+        Body::Op(op) => frame.tag == 5 && is_op(op),
+        Body::Return(rval, code, data) => is_return(frame.tag, *rval, *code, data),
+        Body::Forward(service, data) => {
+            frame.tag == 6 && is_word(service, b"A b") && is_seven(data)
+        }
         Body::Invoke(service, routine, mode, data) => {
             frame.tag == 1
                 && is_echo(service)
@@ -268,6 +478,7 @@ fn is_said(frame: &Frame) -> bool {
                 && *mode == Mode::Reply
                 && is_data(data, None, b"hello")
         }
+        Body::Reply(reply) => frame.tag == 7 && is_reply(reply),
     }
 }
 
@@ -287,14 +498,17 @@ fn first_not_read(alloc: Global) -> Option<usize> {
     None
 }
 
-// Version 2, an unknown kind, 66,001 octets, a NEXT with a body, an octet after the name, a name with a dot first.
-static BAD: [&[u8]; 6] = [
+// Version 2, an unknown kind, an OP without a number, 66,001 octets, a NEXT with a body, an octet after the name, a name
+// with a dot first, an octet after a REPLY's last field.
+static BAD: [&[u8]; 8] = [
     b"XA\x02\x02\0\0\0\0\0\0\0\0",
+    b"XA\x01\x06\0\0\0\0\0\0\0\0",
     b"XA\x01\x03\0\0\0\0\0\0\0\0",
     b"XA\x01\x01\0\x01\x01\xd1\0\0\0\0",
     b"XA\x01\x02\0\0\0\x01\0\0\0\0",
     b"XA\x01\x01\0\0\0\x04\0\0\0\0\x02S1!",
     b"XA\x01\x01\0\0\0\x03\0\0\0\0\x02.1",
+    b"XA\x01\x12\0\0\0\x02\0\0\0\x07\0\0",
 ];
 
 fn first_not_refused(alloc: Global) -> Option<usize> {

@@ -19,7 +19,7 @@ const SHORT: &[u8] = b"XA\x01\x04\0\0\0\x0f\0\0\0\x01\0\0\0\0\x07\x01\0\0\0\x05"
 // What the program says, the read of five octets that fails, or 0, and the code that is returned or why the life ends.
 type Said = (&'static [&'static [u8]], u64, Result<i32, StopCause>);
 
-static SAID: [Said; 14] = [
+static SAID: [Said; 16] = [
     (&[READY, NEXT, RETURN, NEXT], 0, Ok(7)),
     (&[], 0, Err(StopCause::EndOfInput)),
     (&[READY, NEXT, SHORT], 0, Err(StopCause::EndOfInput)),
@@ -61,6 +61,16 @@ static SAID: [Said; 14] = [
         &[READY, NEXT, RETURN, RETURN],
         0,
         Err(StopCause::OutOfTurn(0x04, 1)),
+    ),
+    (
+        &[READY, NEXT, b"XA\x01\x03\0\0\0\x05\0\0\0\x01\x0d\0\0\0\x01"],
+        0,
+        Err(StopCause::OutOfTurn(0x03, 1)),
+    ),
+    (
+        &[READY, NEXT, b"XA\x01\x05\0\0\0\x04\0\0\0\x01\x02TO\0"],
+        0,
+        Err(StopCause::OutOfTurn(0x05, 1)),
     ),
 ];
 
