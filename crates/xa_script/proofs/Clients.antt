@@ -1,11 +1,13 @@
 -- The clients of lines that are read: calls of the last one, and lines one after another.
-use Rattle.std.proofs.Common.{◌≡◌, ℕ, suc, ◌+◌, is_some, true, List, [], ◌∷◌, ◌++◌, length, drop, take, Option, Some, None, Ok, Err, refl, ap, sym, ◌∙◌, subst, append_assoc, append-nil, arith}
+use Rattle.std.proofs.Common.{◌≡◌, ℕ, suc, ◌+◌, is_some, Bool, true, false, cond, List, [], ◌∷◌, ◌++◌, length, drop, take, Option, Some, None, Ok, Err, refl, ap, sym, ◌∙◌, subst, append_assoc, append-nil, arith}
 use Rattle.xa_types.specs.declared.setup.Setup.{Setup}
 use Rattle.xa_types.specs.declared.call.Op.{Op}
 use Rattle.xa_script.specs.declared.calls.Verb.{Verb}
 use Rattle.xa_script.specs.declared.script.Client.{Client}
 use Rattle.xa_script.specs.declared.draft.Cause.{Cause}
+use Rattle.xa_script.specs.declared.draft.Cause.TheVariants.{NotServed}
 use Rattle.xa_script.specs.Calls.{op_of}
+use Rattle.xa_script.specs.Served.{is_served}
 use Rattle.xa_script.specs.Script.{Taken, client_with, with_call, with_op, called, and_then, with_line, read_all}
 use Rattle.xa_script.specs.Draft.{drafted}
 
@@ -30,3 +32,15 @@ pub behind_client : (setup : Setup) (done : List Client) (name : Option (List �
     → called setup (drafted done name ops) (Some verb) octets ≡ with_op (drafted done name ops) (op_of setup verb octets)
 behind_client setup done None ops verb octets begun = absurd cc
 behind_client setup done (Some name) ops verb octets begun = behind_last setup done (client_with name ops) verb octets
+
+-- a call that is read, taken and served is the last client's
+pub added : (setup : Setup) (done all : List Client) (name : Option (List ℕ)) (ops more : List Op) (verb : Verb) (octets : List ℕ) (op : Op) → is_some name ≡ true
+    → op_of setup verb octets ≡ Some (Some op) → is_served op ≡ true → more ≡ ops ++ op ∷ [] → drafted done name ops ≡ all
+    → ◌≡◌ {A = Taken} (Ok (drafted done name more)) (called setup all (Some verb) octets)
+added setup done all name ops more verb octets op begun read served is view =
+    let clients = drafted done name ops in
+    ap (λ now. Ok now) (one_call done name ops more op begun is)
+    ∙ ap (λ b. cond b (Ok (with_call clients op)) (Err NotServed)) (sym served)
+    ∙ ap (with_op clients) (sym read)
+    ∙ sym (behind_client setup done name ops verb octets begun)
+    ∙ ap (λ now. called setup now (Some verb) octets) view

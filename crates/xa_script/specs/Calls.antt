@@ -47,9 +47,9 @@ flagged flags word = if bytes_eq word (codes "noblock") then (if flags.no_block 
 -- `nochange KIND`, where such a call may have it and it doesn't stand already
 unfoldable pub nochange_at : Setup → Bool → Flags → List ℕ → Option (Flags × List ℕ)
 nochange_at setup buffered flags octets = if buffered && not (is_some flags.expect) then (do
-    word ← word_at octets
-    expect ← expect_of setup word.0
-    Some (record flags { expect = Some expect }, word.1)) else None
+  word ← word_at octets
+  expect ← expect_of setup word.0
+  Some (record flags { expect = Some expect }, word.1)) else None
 
 -- one flag more by that word, and what stands behind it
 unfoldable pub flag_by : Setup → Bool → Flags → List ℕ → List ℕ → Option (Flags × List ℕ)
@@ -60,9 +60,9 @@ flag_by setup buffered flags word octets = if bytes_eq word (codes "nochange") t
 unfoldable pub flags_from : ℕ → Setup → Bool → Flags → List ℕ → Option Flags
 flags_from zero setup buffered flags octets = no_more flags octets
 flags_from (suc n) setup buffered flags octets = if is_blank octets then Some flags else (do
-    word ← word_at octets
-    more ← flag_by setup buffered flags word.0 word.1
-    flags_from n setup buffered more.0 more.1)
+  word ← word_at octets
+  more ← flag_by setup buffered flags word.0 word.1
+  flags_from n setup buffered more.0 more.1)
 
 -- the flags that the rest of a line is: there are no more than octets
 unfoldable pub flags_of : Setup → Bool → List ℕ → Option Flags

@@ -60,9 +60,9 @@ one_more given found = if is_among (given_names given) found.0.name then None el
 unfoldable pub fields_from : ℕ → List Field → List ℕ → Option (List Field × List ℕ)
 fields_from zero given octets = Some (given, octets)
 fields_from (suc n) given octets = if has_field octets then (do
-    found ← field_at octets
-    more ← one_more given found
-    fields_from n more.0 more.1) else Some (given, octets)
+  found ← field_at octets
+  more ← one_more given found
+  fields_from n more.0 more.1) else Some (given, octets)
 
 -- SUBTYPE FIELD=VALUE ..: there are no more fields than octets
 unfoldable pub struct_at : Setup → List ℕ → Option (Option Data × List ℕ)

@@ -107,7 +107,11 @@ fn direction_of(word: &[u8]) -> Result<Direction, NoForm>
 fn no_more(op: Op, octets: &[u8]) -> Result<Option<Op>, NoForm>
     ensures { Reads (λ x. x) result (no_more (Some op) octets.now) }
 {
-    if is_blank(octets) { Ok(Some(op)) } else { Err(NoForm) }
+    if is_blank(octets) {
+        Ok(Some(op))
+    } else {
+        Err(NoForm)
+    }
 }
 
 // ---- calls
@@ -326,7 +330,12 @@ fn tick_of(octets: &[u8]) -> Result<Option<Op>, NoForm>
 }
 
 /// The call that the rest of a line of that kind is, if the setup takes each part.
-pub fn op_of(alloc: Global, setup: &Setup, verb: Verb, octets: &[u8]) -> Result<Option<Op>, ReadError>
+pub fn op_of(
+    alloc: Global,
+    setup: &Setup,
+    verb: Verb,
+    octets: &[u8],
+) -> Result<Option<Op>, ReadError>
     ensures { Makes (λ x. x) result (op_of setup.now verb octets.now) }
 {
     match verb {

@@ -73,7 +73,11 @@ fn client_of(octets: &[u8]) -> Result<&[u8], NoForm>
     ensures { Reads (λ x. x.now) result (client_of octets.now) }
 {
     let (word, rest) = word_at(octets)?;
-    if is_blank(rest) { Ok(word) } else { Err(NoForm) }
+    if is_blank(rest) {
+        Ok(word)
+    } else {
+        Err(NoForm)
+    }
 }
 
 /// What is read so far, seen as the list of its clients. Calls are added to the last one.

@@ -51,15 +51,45 @@ fn flagged(flags: CallFlags, word: &[u8]) -> Result<CallFlags, NoForm>
     ensures { Reads (λ x. x) result (flagged flags word.now) }
 {
     if word == b"noblock".as_slice() {
-        unless(flags.no_block, CallFlags { no_block: true, ..flags })
+        unless(
+            flags.no_block,
+            CallFlags {
+                no_block: true,
+                ..flags
+            },
+        )
     } else if word == b"notime".as_slice() {
-        unless(flags.no_time, CallFlags { no_time: true, ..flags })
+        unless(
+            flags.no_time,
+            CallFlags {
+                no_time: true,
+                ..flags
+            },
+        )
     } else if word == b"noreply".as_slice() {
-        unless(flags.no_reply, CallFlags { no_reply: true, ..flags })
+        unless(
+            flags.no_reply,
+            CallFlags {
+                no_reply: true,
+                ..flags
+            },
+        )
     } else if word == b"notran".as_slice() {
-        unless(flags.no_tran, CallFlags { no_tran: true, ..flags })
+        unless(
+            flags.no_tran,
+            CallFlags {
+                no_tran: true,
+                ..flags
+            },
+        )
     } else if word == b"sigrstrt".as_slice() {
-        unless(flags.sig_restart, CallFlags { sig_restart: true, ..flags })
+        unless(
+            flags.sig_restart,
+            CallFlags {
+                sig_restart: true,
+                ..flags
+            },
+        )
     } else {
         Err(NoForm)
     }
@@ -119,5 +149,9 @@ pub fn flags_of(setup: &Setup, buffered: bool, octets: &[u8]) -> Result<Flags, N
         let (word, behind) = word_at(rest)?;
         rest = flag_by(setup, buffered, &mut flags, word, behind)?;
     }
-    if is_blank(rest) { Ok(flags) } else { Err(NoForm) }
+    if is_blank(rest) {
+        Ok(flags)
+    } else {
+        Err(NoForm)
+    }
 }

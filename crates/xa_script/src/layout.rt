@@ -199,7 +199,12 @@ fn laid_out(alloc: Global, shape: &ShapeSetup, given: &[Field]) -> Result<Octets
 
 /// Data of that subtype with what is given, where it is configured and its shape takes that.
 #[tactic(auto, unfolding(crate::specs::Layout::struct_of))]
-pub fn struct_of(alloc: Global, setup: &Setup, subtype: &[u8], given: &[Field]) -> Result<Data, ReadError>
+pub fn struct_of(
+    alloc: Global,
+    setup: &Setup,
+    subtype: &[u8],
+    given: &[Field],
+) -> Result<Data, ReadError>
     ensures { Makes (λ x. x) result (struct_of setup.now subtype.now given.now) }
 {
     let Some(shape) = shape_named(setup, subtype) else {

@@ -195,7 +195,11 @@ fn fill_at(alloc: Global, octets: &[u8]) -> Result<Payload<'_>, ReadError>
 
 /// The data in front: `none`, `text "TEXT"`, `octet HEX`, `fill N HH`, or `c SUBTYPE FIELD=VALUE ..`.
 #[tactic(auto, unfolding(crate::specs::Payload::payload_at))]
-pub fn payload_at<'a>(alloc: Global, setup: &Setup, octets: &'a [u8]) -> Result<Payload<'a>, ReadError>
+pub fn payload_at<'a>(
+    alloc: Global,
+    setup: &Setup,
+    octets: &'a [u8],
+) -> Result<Payload<'a>, ReadError>
     ensures { Makes (λ x. (x.0, x.1.now)) result (payload_at setup.now octets.now) }
 {
     let (form, rest) = word_at(octets)?;
