@@ -4,7 +4,7 @@ use Rattle.std.specs.Prelude.{IfSome}
 use Rattle.std.proofs.lemmas.List.{append_cancel_left}
 use Rattle.xa_types.specs.declared.setup.Setup.{Setup}
 use Rattle.xa_link.specs.Told.{Rose, Grew}
-use Rattle.xa_link.specs.Reads.{HoldsMore}
+use Rattle.xa_link.specs.Reads.{Holds, HoldsMore}
 use Rattle.xa_events.specs.declared.event.Event.{Event}
 use Rattle.xa_stamp.specs.Home.{Notes}
 use Rattle.xa_script.specs.declared.script.Script.{Script}
