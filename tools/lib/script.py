@@ -51,7 +51,7 @@ class Line:
 
     def __init__(self, text, shapes):
         self.text, self.shapes, self.at = text, shapes, 0
-        self.not_taken, self.nochange = None, False
+        self.not_taken = None
 
     def skip(self):
         self.at = re.compile(rb" *").match(self.text, self.at).end()
@@ -151,7 +151,6 @@ class Line:
             flag = self.one_of("a flag, which stands once at most,", left)
             left = [each for each in left if each != flag]
             if flag == "nochange":
-                self.nochange = True
                 self.kind()
 
     def kind(self):
@@ -266,8 +265,8 @@ def line_faults(number, text, shapes, clients, begun):
         call = call_of(verb, line)
         if line.not_taken:
             raise line.not_taken
-        if verb != "call" or line.nochange:
-            raise Misread(NOT_SERVED, start + 1, f"'{'nochange' if verb == 'call' else verb}' isn't served yet", "")
+        if verb != "call":
+            raise Misread(NOT_SERVED, start + 1, f"'{verb}' isn't served yet", "")
         return [], call
     except Misread as misread:
         cause, column, wrong, guess = misread.args

@@ -1,5 +1,5 @@
--- The calls of a script are tpcalls without TPNOCHANGE, and are few.
-use Rattle.std.proofs.Common.{◌≡◌, ℕ, zero, suc, not, nat_le, is_some, Bool, true, false, cond, codes, Ok, Err, ◌++◌, ap, length-append, ◌+◌, ◌-◌, ◌<◌, ◌≤◌, ◌^◌, List, [], ◌∷◌, length, drop, Option, Some, None, inl, inr, refl, sym, subst, arith, length-drop}
+-- The calls of a script are tpcalls, and are few.
+use Rattle.std.proofs.Common.{◌≡◌, ℕ, zero, suc, not, nat_le, Bool, true, false, cond, codes, Ok, Err, ◌++◌, ap, length-append, ◌+◌, ◌-◌, ◌<◌, ◌≤◌, ◌^◌, List, [], ◌∷◌, length, drop, Option, Some, None, inl, inr, refl, sym, subst, arith, length-drop}
 use Rattle.std.specs.Prelude.{All, ⊤}
 use Rattle.std.specs.List.{position}
 use Rattle.std.specs.Str.Lines.{lines}
@@ -10,7 +10,6 @@ use Rattle.std.proofs.lemmas.Bool.{leb-false}
 use Rattle.xa_types.specs.Name.{is_name}
 use Rattle.xa_types.specs.Configured.{is_among}
 use Rattle.xa_types.specs.declared.setup.Setup.{Setup}
-use Rattle.xa_types.specs.declared.data.Kind.{Kind}
 use Rattle.xa_types.specs.declared.call.Op.{Op}
 use Rattle.xa_types.specs.declared.call.Op.TheVariants.{Call}
 use Rattle.xa_script.specs.declared.script.Client.{Client}
@@ -45,15 +44,11 @@ few_lines octets = lines_within (length octets) octets (omega arith)
 
 -- ---- the calls that are served
 
-no_kind : (kind : Option Kind) → not (is_some kind) ≡ true → kind ≡ None
-no_kind None served = refl
-no_kind (Some kind) served = absurd cc
-
 served_built : (op : Op) → is_served op ≡ true → IsBuiltOp op
-served_built (Call ask) served = no_kind ask.expect served
+served_built (Call ask) served = tt
 served_built op served = absurd cc
 
--- each call is a tpcall without a kind of buffer, and there are so many at most
+-- each call is a tpcall, and there are so many at most
 abbrev AreBuilt : ℕ → List Op → Type 0
 AreBuilt most ops = All IsBuiltOp ops × (length ops ≤ most)
 

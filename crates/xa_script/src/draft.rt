@@ -57,14 +57,11 @@ impl Cause {
     }
 }
 
-// Whether a domain serves the call: a tpcall without TPNOCHANGE.
+// Whether a domain serves the call: a tpcall.
 fn is_served(op: &Op) -> bool
     ensures { result ≡ is_served op.now }
 {
-    match op {
-        Op::Call(ask) => ask.expect.is_none(),
-        _ => false,
-    }
+    matches!(op, Op::Call(_))
 }
 
 // The one word behind `client`.
