@@ -1,5 +1,5 @@
 -- A request carried to its answer: its end at the server, what its client is told, and the server behind it.
-use Rattle.std.proofs.Common.{◌≡◌, ℕ, ◌+◌, Bool, true, false, List, ◌∷◌, ◌++◌, length, Option, Some, None, Result, Ok, Err, IsSomeAnd, inl, inr, refl, sym, ◌∙◌, ap, subst, arith}
+use Rattle.std.proofs.Common.{◌≡◌, ◌⊎◌, cond, ℕ, ◌+◌, Bool, true, false, List, ◌∷◌, ◌++◌, length, Option, Some, None, Result, Ok, Err, IsSomeAnd, inl, inr, refl, sym, ◌∙◌, ap, subst, arith}
 use Rattle.std.specs.Prelude.{slice_get, if◌then◌else◌}
 use Rattle.std.specs.List.{list_all}
 use Rattle.std.proofs.lemmas.Bool.{cases_eq}
@@ -9,6 +9,12 @@ use Rattle.xa_types.specs.declared.call.Ask.{Ask}
 use Rattle.xa_types.specs.declared.call.Op.TheVariants.{Call}
 use Rattle.xa_types.specs.declared.call.Rval.{Rval}
 use Rattle.xa_types.specs.declared.call.Rval.TheVariants.{Success, Fail, Exit as ExitValue}
+use Rattle.xa_types.specs.Kind.{kind_of}
+use Rattle.xa_types.specs.declared.data.Kind.{Kind}
+use Rattle.xa_types.specs.declared.data.Kind.TheVariants.{Octet as OctetKind, Struct as StructKind}
+use Rattle.xa_types.specs.declared.data.Data.{Data}
+use Rattle.xa_types.specs.declared.data.Data.TheVariants.{Absent, Octet as OctetData, Struct as StructData}
+use Rattle.xa_types.specs.declared.fault.Fault.TheVariants.{OType}
 use Rattle.xa_types.specs.declared.reply.Answer.{Answer}
 use Rattle.xa_types.specs.declared.reply.Answer.TheVariants.{Success as SuccessAnswer, Failed as FailedAnswer, Error}
 use Rattle.xa_types.specs.declared.setup.Setup.{Setup}
@@ -22,7 +28,7 @@ use Rattle.xa_events.specs.declared.event.Doing.TheVariants.{Off, Idle, Busy}
 use Rattle.xa_events.specs.declared.event.Outcome.{Outcome}
 use Rattle.xa_events.specs.declared.event.StopCause.{StopCause}
 use Rattle.xa_events.specs.declared.event.StopCause.TheVariants.{Exit}
-use Rattle.xa_events.specs.Answers.{IsAnswerTo, reply_of, answer_to}
+use Rattle.xa_events.specs.Answers.{IsAnswerTo, reply_of, answer_to, under_kind, kind_fits, has_kind, has_payload}
 use Rattle.xa_events.specs.Caller.{is_call_of}
 use Rattle.xa_events.specs.Calls.{FitsCall}
 use Rattle.xa_events.specs.Request.{Settlement, WasSettled, is_accept_of, is_settled_by}
@@ -178,10 +184,23 @@ freed_behind setup server name number (Some cause) pipe more past all known =
     stays_behind (λ (es : List Event). IsLife setup (first_life name (server + 1)) es (shown pipe)) is_retiring (λ e es is. life_idle setup (server + 1) e es (none_of_life (server + 1) e is) name (shown pipe)) more past all known
 
 -- without TPNOCHANGE the caller is told the reply
-reply_told : (answer : Answer) → answer_to None answer ≡ answer
-reply_told (SuccessAnswer code payload) = refl
-reply_told (FailedAnswer code payload) = refl
-reply_told (Error fault) = refl
+-- data that a buffer doesn't take has a kind
+by_buffer : (wanted : Kind) (payload : Data) (answer reply : Answer) → answer ≡ under_kind (Some wanted) payload reply
+    → (answer ≡ reply) ⊎ ((answer ≡ Error OType) × (has_kind (kind_of payload) ≡ true))
+by_buffer OctetKind Absent answer reply is = inl is
+by_buffer (StructKind name) Absent answer reply is = inl is
+by_buffer wanted (OctetData octets) answer reply is =
+    elim (kind_fits wanted (Some OctetKind)) as (λ b. answer ≡ cond b reply (Error OType) → (answer ≡ reply) ⊎ ((answer ≡ Error OType) × (has_kind (Some OctetKind) ≡ true))) [ true ↦ λ h. inl h | false ↦ λ h. inr (h, refl) ] is
+by_buffer wanted (StructData name octets) answer reply is =
+    elim (kind_fits wanted (Some (StructKind name))) as (λ b. answer ≡ cond b reply (Error OType) → (answer ≡ reply) ⊎ ((answer ≡ Error OType) × (has_kind (Some (StructKind name)) ≡ true))) [ true ↦ λ h. inl h | false ↦ λ h. inr (h, refl) ] is
+
+-- what is told is the reply, or TPEOTYPE of a reply with data
+is_answer : (expect : Option Kind) (reply answer : Answer) → answer ≡ answer_to expect reply → (answer ≡ reply) ⊎ ((answer ≡ Error OType) × (has_payload reply ≡ true))
+is_answer None (SuccessAnswer code payload) answer is = inl is
+is_answer (Some wanted) (SuccessAnswer code payload) answer is = by_buffer wanted payload answer (SuccessAnswer code payload) is
+is_answer None (FailedAnswer code payload) answer is = inl is
+is_answer (Some wanted) (FailedAnswer code payload) answer is = by_buffer wanted payload answer (FailedAnswer code payload) is
+is_answer expect (Error fault) answer is = inl is
 
 -- ---- the events of a life that ends
 
@@ -257,7 +276,7 @@ module _ {L : Type 0} (setup : Setup) (script : List ScriptClient) (server : ℕ
   -- ---- the answer
 
   module _ (client op : ℕ) (request : RequestId) (outcome : Outcome) (answer : Answer) (past : List Event) (old new : Domain L) (tells : Tells client op request answer old new)
-      (waits : IsSomeAnd (slice_get old.clients.items client) (IsWaiting op request)) (replies : answer ≡ reply_of (EndedBy outcome))
+      (waits : IsSomeAnd (slice_get old.clients.items client) (IsWaiting op request)) (expect : Option Kind) (replies : answer ≡ answer_to expect (reply_of (EndedBy outcome)))
       (told : (P : Settlement → Type 0) → P (EndedBy outcome) → WasSettled request P past) where
     tell_may : AnswerMay past (replied_of tells.by op request answer) tells.by
     tell_may =
@@ -268,7 +287,7 @@ module _ {L : Type 0} (setup : Setup) (script : List ScriptClient) (server : ℕ
           waits = is.waits;
           caller = is.its;
           same = sym is.calls;
-          told = told (IsAnswerTo answer) (inl replies);
+          told = told (IsAnswerTo answer) (is_answer expect (reply_of (EndedBy outcome)) answer replies);
         }
 
     abbrev pub its_answer : Event
@@ -280,13 +299,13 @@ module _ {L : Type 0} (setup : Setup) (script : List ScriptClient) (server : ℕ
         answer_holds setup (length script) past old new holds client (replied_of tells.by op request answer) tells.answers
         (subst (AnswerMay past (replied_of tells.by op request answer)) (sym by) tell_may)
 
-    module _ (ask : Ask) (plain : ask.expect ≡ None) (called : IsCallAt script client op ask) where
+    module _ (ask : Ask) (plain : expect ≡ ask.expect) (called : IsCallAt script client op ask) where
       answer_fits : Holds setup (length script) past old → (j : ℕ) (c : ScriptClient) → slice_get script j ≡ Some c → is_call_of (j + 1) its_answer ≡ true → FitsCall setup (length script) (j + 1) c.ops its_answer past
       answer_fits holds j c is call = elim (cases_eq j client) [
         | inl here ↦
             let by : slice_get old.clients.items j ≡ Some tells.by = ap (slice_get old.clients.items) here ∙ tells.stood in
             let asked : numbered op c.ops ≡ Some (Call ask) = some_is (slice_get script client) (λ (z : ScriptClient). numbered op z.ops ≡ Some (Call ask)) c (sym (ap (slice_get script) here) ∙ is) called in
-            let wanted : answer ≡ answer_to ask.expect (reply_of (EndedBy outcome)) = replies ∙ (sym (reply_told (reply_of (EndedBy outcome))) ∙ sym (ap (λ o. answer_to o (reply_of (EndedBy outcome))) plain)) in
+            let wanted : answer ≡ answer_to ask.expect (reply_of (EndedBy outcome)) = replies ∙ ap (λ o. answer_to o (reply_of (EndedBy outcome))) plain in
             fits_answer setup (length script) past old holds j tells.by by c.ops ask (replied_of tells.by op request answer) tell_may asked (told (λ settlement. answer ≡ answer_to ask.expect (reply_of settlement)) wanted)
         | inr differ ↦
             let id : tells.by.id.0 ≡ client + 1 = (holds.clients client tells.by tells.stood).id in

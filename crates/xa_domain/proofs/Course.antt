@@ -14,7 +14,7 @@ use Rattle.xa_events.specs.declared.event.Event.TheVariants.{Accept, Take, Answe
 use Rattle.xa_events.specs.declared.event.Doing.TheVariants.{Idle, Busy}
 use Rattle.xa_events.specs.declared.event.Outcome.{Outcome}
 use Rattle.xa_events.specs.declared.event.StopCause.{StopCause}
-use Rattle.xa_events.specs.Answers.{reply_of}
+use Rattle.xa_events.specs.Answers.{reply_of, answer_to}
 use Rattle.xa_events.specs.Request.{Settlement, WasSettled}
 use Rattle.xa_events.specs.Request.Settlement.{EndedBy}
 use Rattle.xa_events.specs.Server.{after_end}
@@ -156,7 +156,7 @@ module _ {L : Type 0} (setup : Setup) (client op version : ℕ) (ask : Ask) (row
       pub told_up : cause ≡ None → IsSomeAnd (slice_get told.servers.items server) IsUp
       told_up none = subst (λ (c : Option StopCause). IsSomeAnd (slice_get told.servers.items server) (IsBehind c)) none told_between.does
 
-      module _ (replies : answer ≡ reply_of (EndedBy outcome)) (plain : ask.expect ≡ None) (script : List ScriptClient) (past : List Event) (configured : is_configured setup ≡ true) (none : NoneRestarts setup) (stands : Stands setup script past old)
+      module _ (replies : answer ≡ answer_to ask.expect (reply_of (EndedBy outcome))) (script : List ScriptClient) (past : List Event) (configured : is_configured setup ≡ true) (none : NoneRestarts setup) (stands : Stands setup script past old)
           (called : IsCallAt script client op ask) (serves : RowServes setup past old client version ask row) where
         settled_so : (P : Settlement → Type 0) → P (EndedBy outcome) → WasSettled request P (ended_events script past configured none stands called serves)
         settled_so P holds_so = settle_told setup script server request outcome (heard_events past) heard ended (first_holds script past configured none stands called serves) (first_under script past configured none stands called serves)
@@ -166,11 +166,11 @@ module _ {L : Type 0} (setup : Setup) (client op version : ℕ) (ask : Ask) (row
         told_events = AnswerEvent (replied_of tells.by op request answer) ∷ ended_events script past configured none stands called serves
 
         pub told_holds : Holds setup (length script) told_events told
-        told_holds = tell_holds setup script server client op request outcome answer (ended_events script past configured none stands called serves) ended told tells ended_between.waits replies settled_so
+        told_holds = tell_holds setup script server client op request outcome answer (ended_events script past configured none stands called serves) ended told tells ended_between.waits ask.expect replies settled_so
             (ended_holds script past configured none stands called serves)
 
         told_known : IsSettled setup script server x.by.name x.by.life cause told_events told
-        told_known = tell_known setup script server client op request outcome answer (ended_events script past configured none stands called serves) ended told tells ended_between.waits replies settled_so ask plain called x.by.name x.by.life cause
+        told_known = tell_known setup script server client op request outcome answer (ended_events script past configured none stands called serves) ended told tells ended_between.waits ask.expect replies settled_so ask refl called x.by.name x.by.life cause
             (ended_known script past configured none stands called serves)
 
         -- where the life ended with the request

@@ -25,7 +25,7 @@ use Rattle.xa_events.specs.declared.event.Outcome.{Outcome}
 use Rattle.xa_events.specs.declared.event.Doing.TheVariants.{Off, Idle, Busy, Dying}
 use Rattle.xa_events.specs.declared.event.StopCause.{StopCause}
 use Rattle.xa_events.specs.declared.event.StopCause.TheVariants.{Exit}
-use Rattle.xa_events.specs.Answers.{reply_of}
+use Rattle.xa_events.specs.Answers.{reply_of, answer_to}
 use Rattle.xa_events.specs.Request.Settlement.{EndedBy}
 use Rattle.xa_events.specs.Cases.{is_failure, is_starved}
 use Rattle.xa_events.specs.Server.{after_end, is_shutdown}
@@ -192,14 +192,14 @@ pub record Tells {L : Type 0} (client op : ℕ) (request : RequestId) (answer : 
   pub stood : slice_get old.clients.items client ≡ Some by
   pub answers : Answers client (replied_of by op request answer) old new
 
--- both, with the answer that befits the end
-pub record Concludes {L : Type 0} (client op server : ℕ) (request : RequestId) (outcome : Outcome) (cause : Option StopCause) (old new : Domain L) : Type 0 where
+-- both, with the answer that befits the end and the TPNOCHANGE buffer, if there is one
+pub record Concludes {L : Type 0} (client op server : ℕ) (request : RequestId) (expect : Option Kind) (outcome : Outcome) (cause : Option StopCause) (old new : Domain L) : Type 0 where
   pub ended : Domain L
   pub settles : Settles server request outcome cause old ended
   pub numbered : IsNumbered ended
   pub served : IsServed ended
   pub answer : Answer
-  pub replies : answer ≡ reply_of (EndedBy outcome)
+  pub replies : answer ≡ answer_to expect (reply_of (EndedBy outcome))
   pub tells : Tells client op request answer ended new
 
 -- the program said NEXT, or the life ended by that cause as NEXT was to come

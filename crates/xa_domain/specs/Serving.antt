@@ -99,9 +99,9 @@ pub record IsCarried {L S : Type 0} (tells : LinkTells L) (shows : S → Starter
 
 -- ---- how serving ends
 
--- a script whose calls are built: each is a tpcall without TPNOCHANGE
+-- a script whose calls are built: each is a tpcall
 abbrev pub IsBuiltOp : Op → Type 0
-IsBuiltOp (Call ask) = ask.expect ≡ None
+IsBuiltOp (Call ask) = ⊤
 IsBuiltOp op = ⊥
 
 -- no server restarts

@@ -6,7 +6,7 @@ ghost use Rattle.xa_types.specs.Kind.{field_size, is_sound};
 ghost use Rattle.xa_types.specs.declared.setup.Setup.{Setup};
 ghost use Rattle.xa_types.specs.declared.call.Ask.{Ask};
 ghost use Rattle.xa_frame.specs.Spelling.{IsData};
-ghost use Rattle.xa_events.specs.Answers.{reply_of};
+ghost use Rattle.xa_events.specs.Answers.{reply_of, answer_to, under_kind, kind_fits};
 ghost use Rattle.xa_events.specs.Calls.{is_invalid_call};
 ghost use Rattle.xa_events.specs.Request.Settlement.{EndedBy};
 ghost use Rattle.xa_pipe.specs.Life.{outcome_by};
@@ -25,7 +25,7 @@ use std::alloc::Global;
 use xa_events::{Accepted, Ended, Evidence, Outcome, Refused, Replied, StopCause, Taken};
 use xa_link::Link;
 use xa_pipe::Return;
-use xa_route::{admits, place_of_shape, priority};
+use xa_route::{admits, is_same, place_of_shape, priority};
 use xa_tables::{Domain, Halt, LIFE};
 use xa_types::{
     Answer, Ask, Data, Fault, FieldKind, FieldSetup, Kind, Mode, Name, NoMemory, QueueId,
@@ -149,13 +149,47 @@ fn cause_heard(heard: &Result<Return, StopCause>) -> Option<StopCause>
     }
 }
 
-// What the client is told of a request that ended so.
-fn reply_to(alloc: Global, outcome: &Outcome) -> Result<Answer, NoMemory>
-    ensures { IfOk result (λ answer. answer ≡ reply_of (EndedBy outcome.now)) }
+// Whether a buffer of that kind takes data of this kind; data without a kind is absent, and fits every buffer.
+fn kind_fits(wanted: &Kind, kind: &Option<Kind>) -> bool
+    ensures { result ≡ kind_fits wanted.now kind.now }
+{
+    match kind {
+        None => true,
+        Some(Kind::Octet) => matches!(wanted, Kind::Octet),
+        Some(Kind::Struct(subtype)) => match wanted {
+            Kind::Octet => false,
+            Kind::Struct(wanted) => is_same(wanted, subtype),
+        },
+    }
+}
+
+// The answer with that data, or TPEOTYPE where a TPNOCHANGE buffer doesn't take the data.
+fn under_kind(expect: &Option<Kind>, payload: &Data, answer: Answer) -> Answer
+    ensures { result ≡ under_kind expect.now payload.now answer }
+{
+    match expect {
+        Some(wanted) if !kind_fits(wanted, &payload.kind()) => Answer::Error(Fault::OType),
+        _ => answer,
+    }
+}
+
+// What the client is told of a request that ended so, with that TPNOCHANGE buffer, if it has one.
+fn reply_to(
+    alloc: Global,
+    expect: &Option<Kind>,
+    outcome: &Outcome,
+) -> Result<Answer, NoMemory>
+    ensures { IfOk result (λ answer. answer ≡ answer_to expect.now (reply_of (EndedBy outcome.now))) }
 {
     match outcome {
-        Outcome::Returned(code, payload) => Ok(Answer::Success(*code, payload.copy(alloc)?)),
-        Outcome::Failed(code, payload) => Ok(Answer::Failed(*code, payload.copy(alloc)?)),
+        Outcome::Returned(code, payload) => {
+            let answer = Answer::Success(*code, payload.copy(alloc)?);
+            Ok(under_kind(expect, payload, answer))
+        }
+        Outcome::Failed(code, payload) => {
+            let answer = Answer::Failed(*code, payload.copy(alloc)?);
+            Ok(under_kind(expect, payload, answer))
+        }
         Outcome::BadReturn | Outcome::BadForward(_) | Outcome::Died => {
             Ok(Answer::Error(Fault::SvcErr))
         }
@@ -396,6 +430,7 @@ fn conclude<L: Link>(
     op: u32,
     server: usize,
     request: RequestId,
+    expect: &Option<Kind>,
     outcome: Outcome,
     cause: Option<StopCause>,
 ) -> Result<(), Halt>
@@ -406,11 +441,11 @@ fn conclude<L: Link>(
     requires fits { MayEndWith outcome cause }
     ensures numbered { IsNumbered domain.new }
     ensures attempts { attempts domain.new ≡ attempts domain.old }
-    ensures done { OnOk result (Concludes client op server request outcome cause domain.old domain.new) }
+    ensures done { OnOk result (Concludes client op server request expect.now outcome cause domain.old domain.new) }
     ensures failed { IfErr result (λ halt. (setup : Setup) (count : ℕ) (past : List Event) → is_configured setup ≡ true → NoneRestarts setup → Holds setup count past domain.old
         → may_end_here setup outcome ≡ true → IsHalted setup count halt domain.new) }
 {
-    let Ok(answer) = reply_to(alloc, &outcome) else {
+    let Ok(answer) = reply_to(alloc, expect, &outcome) else {
         // By a call, as below: at the exit of a `?` each kind of outcome would be proved anew.
         drop(outcome);
         return Err(Halt::NoMemory);
@@ -439,7 +474,6 @@ fn carry<L: Link>(
     requires ready { IsReady domain.old }
     requires configured { is_configured setup.now ≡ true }
     requires turn { IsSomeAnd (slice_get domain.old.clients.items client) (λ x. (op ≡ x.op + 1) × (x.left ≡ false)) }
-    requires expects { ask.now.expect ≡ None }
     requires up { IsSomeAnd (slice_get domain.old.servers.items server) (λ x. (x.doing ≡ Idle (record { 0 = 1 })) × (x.queue ≡ row.now.queue)) }
     requires sound { is_sound setup.now ask.now.payload ≡ true }
     ensures numbered { IsNumbered domain.new }
@@ -454,7 +488,17 @@ fn carry<L: Link>(
     let Heard { request, back } = exchange(alloc, domain, client, op, ask, version, row, server)?;
     let cause = cause_heard(&back);
     let outcome = outcome_heard(setup, back);
-    conclude(alloc, domain, client, op, server, request, outcome, cause)?;
+    conclude(
+        alloc,
+        domain,
+        client,
+        op,
+        server,
+        request,
+        &ask.expect,
+        outcome,
+        cause,
+    )?;
     if cause.is_some() {
         return Ok(());
     }
@@ -473,7 +517,6 @@ pub fn call<L: Link>(
     requires ready { IsReady domain.old }
     requires configured { is_configured setup.now ≡ true }
     requires turn { IsSomeAnd (slice_get domain.old.clients.items client) (λ x. (op ≡ x.op + 1) × (x.left ≡ false)) }
-    requires expects { ask.now.expect ≡ None }
     ensures numbered { IsNumbered domain.new }
     ensures attempts { attempts domain.new ≡ attempts domain.old }
     ensures ready { OnOk result (IsReady domain.new) }

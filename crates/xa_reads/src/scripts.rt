@@ -7,6 +7,7 @@ use xa_script::{Script, read};
 const MOST: usize = 1_048_576;
 
 const CONFIGURATION: &[u8] = b"
+shape = [{ name = 'entry', fields = ['account int', 'amount long', 'memo string 16'] }]
 queue = [{ name = 'Q' }]
 server = [{ name = 'S', queue = 'Q' }]
 service = [{ name = 'ECHO', queues = ['Q'] }]
@@ -20,7 +21,7 @@ fn calls(script: &Script) -> usize {
     calls
 }
 
-/// Reads the octets so often as one script, for one queue, server and service, and answers how many calls it has.
+/// Reads the octets so often as one script, for one shape, queue, server and service, and answers how many calls it has.
 pub fn read_script(alloc: Global, octets: &[u8], times: u32) -> Result<usize, Refused> {
     if octets.len() > MOST {
         return Err(Refused::TooLong);

@@ -43,7 +43,6 @@ carry-requires g c =
       ready = looks_up_ready c.args.client c.in-Some.service c.look_up-version.result c.args.domain.now c.look_up-version.new.self c.look_up-version.ensures c.requires.ready;
       configured = c.requires.configured;
       turn = looks_up_turn c.args.client c.in-Some.service c.look_up-version.result c.args.domain.now c.look_up-version.new.self c.look_up-version.ensures (λ op left. (c.args.op ≡ op + 1) × (left ≡ false)) c.requires.turn;
-      expects = c.requires.expects;
       up = free_is c.look_up-version.new.self (looks_up_ready c.args.client c.in-Some.service c.look_up-version.result c.args.domain.now c.look_up-version.new.self c.look_up-version.ensures c.requires.ready) c.in-ByRow.row c.in-Some-idle_server.server (sym c.idle_server.ensures ∙ c.in-Some-idle_server.is);
       sound = sound_call c.args.setup.now c.args.ask.now c.in-Some.ensures.0;
     }

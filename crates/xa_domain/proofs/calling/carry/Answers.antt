@@ -57,7 +57,7 @@ returns-then-is_some g c =
       called = told_made c.args.setup.now c.args.client c.args.op c.args.version c.args.ask.now c.args.row.now c.args.server c.in_ok-request.field-0.request c.in_ok-request.field-0.back c.outcome_heard-outcome.result c.cause_heard-cause.result c.args.domain.now c.exchange.new.domain
           c.requires.ready c.requires.turn c.requires.up c.in_ok-request.ensures.done c.outcome_heard-outcome.ensures c.cause_heard-cause.ensures c.in_ok-request.ensures.lost c.in_ok-conclude.ensures.done.ended c.in_ok-conclude.ensures.done.settles c.in_ok-conclude.ensures.done.numbered c.in_ok-conclude.ensures.done.served c.in_ok-conclude.ensures.done.answer c.conclude.new.domain c.in_ok-conclude.ensures.done.tells;
       goes = λ script past none stands called serves. over_goes c.args.setup.now c.args.client c.args.op c.args.version c.args.ask.now c.args.row.now c.args.server c.in_ok-request.field-0.request c.in_ok-request.field-0.back c.outcome_heard-outcome.result c.cause_heard-cause.result c.args.domain.now c.exchange.new.domain
-          c.requires.ready c.requires.turn c.requires.up c.in_ok-request.ensures.done c.outcome_heard-outcome.ensures c.cause_heard-cause.ensures c.in_ok-request.ensures.lost c.in_ok-conclude.ensures.done.ended c.in_ok-conclude.ensures.done.settles c.in_ok-conclude.ensures.done.numbered c.in_ok-conclude.ensures.done.served c.in_ok-conclude.ensures.done.answer c.conclude.new.domain c.in_ok-conclude.ensures.done.tells c.in_ok-conclude.ensures.done.replies c.requires.expects script past c.requires.configured none stands called serves (some_tested c.cause_heard-cause.result c.is_some.result c.is_some.ensures c.if-is_some.true);
+          c.requires.ready c.requires.turn c.requires.up c.in_ok-request.ensures.done c.outcome_heard-outcome.ensures c.cause_heard-cause.ensures c.in_ok-request.ensures.lost c.in_ok-conclude.ensures.done.ended c.in_ok-conclude.ensures.done.settles c.in_ok-conclude.ensures.done.numbered c.in_ok-conclude.ensures.done.served c.in_ok-conclude.ensures.done.answer c.conclude.new.domain c.in_ok-conclude.ensures.done.tells c.in_ok-conclude.ensures.done.replies script past c.requires.configured none stands called serves (some_tested c.cause_heard-cause.result c.is_some.result c.is_some.ensures c.if-is_some.true);
       failed = tt;
     }
 
@@ -82,9 +82,9 @@ returns g c =
       called = on_ok_both c.free.result (λ frees served. freed_made c.args.setup.now c.args.client c.args.op c.args.version c.args.ask.now c.args.row.now c.args.server c.in_ok-request.field-0.request c.in_ok-request.field-0.back c.outcome_heard-outcome.result c.cause_heard-cause.result c.args.domain.now c.exchange.new.domain
           c.requires.ready c.requires.turn c.requires.up c.in_ok-request.ensures.done c.outcome_heard-outcome.ensures c.cause_heard-cause.ensures c.in_ok-request.ensures.lost c.in_ok-conclude.ensures.done.ended c.in_ok-conclude.ensures.done.settles c.in_ok-conclude.ensures.done.numbered c.in_ok-conclude.ensures.done.served c.in_ok-conclude.ensures.done.answer c.conclude.new.domain c.in_ok-conclude.ensures.done.tells (none_tested c.cause_heard-cause.result c.is_some.result c.is_some.ensures c.if-is_some.false) c.free.new.domain frees c.free.ensures.numbered served) c.free.ensures.done c.free.ensures.served;
       goes = on_ok_both c.free.result (λ frees served script past none stands called serves. freed_goes c.args.setup.now c.args.client c.args.op c.args.version c.args.ask.now c.args.row.now c.args.server c.in_ok-request.field-0.request c.in_ok-request.field-0.back c.outcome_heard-outcome.result c.cause_heard-cause.result c.args.domain.now c.exchange.new.domain
-          c.requires.ready c.requires.turn c.requires.up c.in_ok-request.ensures.done c.outcome_heard-outcome.ensures c.cause_heard-cause.ensures c.in_ok-request.ensures.lost c.in_ok-conclude.ensures.done.ended c.in_ok-conclude.ensures.done.settles c.in_ok-conclude.ensures.done.numbered c.in_ok-conclude.ensures.done.served c.in_ok-conclude.ensures.done.answer c.conclude.new.domain c.in_ok-conclude.ensures.done.tells c.in_ok-conclude.ensures.done.replies c.requires.expects script past c.requires.configured none stands called serves (none_tested c.cause_heard-cause.result c.is_some.result c.is_some.ensures c.if-is_some.false) c.free.new.domain frees c.free.ensures.numbered) c.free.ensures.done c.free.ensures.served;
+          c.requires.ready c.requires.turn c.requires.up c.in_ok-request.ensures.done c.outcome_heard-outcome.ensures c.cause_heard-cause.ensures c.in_ok-request.ensures.lost c.in_ok-conclude.ensures.done.ended c.in_ok-conclude.ensures.done.settles c.in_ok-conclude.ensures.done.numbered c.in_ok-conclude.ensures.done.served c.in_ok-conclude.ensures.done.answer c.conclude.new.domain c.in_ok-conclude.ensures.done.tells c.in_ok-conclude.ensures.done.replies script past c.requires.configured none stands called serves (none_tested c.cause_heard-cause.result c.is_some.result c.is_some.ensures c.if-is_some.false) c.free.new.domain frees c.free.ensures.numbered) c.free.ensures.done c.free.ensures.served;
       failed = IfErr-weaker c.free.result _ _ (λ halt failed script past none stands called serves. failed c.args.setup.now (length script) _ c.requires.configured none (told_holds c.args.setup.now c.args.client c.args.op c.args.version c.args.ask.now c.args.row.now c.args.server c.in_ok-request.field-0.request c.in_ok-request.field-0.back c.outcome_heard-outcome.result c.cause_heard-cause.result c.args.domain.now c.exchange.new.domain
-          c.requires.ready c.requires.turn c.requires.up c.in_ok-request.ensures.done c.outcome_heard-outcome.ensures c.cause_heard-cause.ensures c.in_ok-request.ensures.lost c.in_ok-conclude.ensures.done.ended c.in_ok-conclude.ensures.done.settles c.in_ok-conclude.ensures.done.numbered c.in_ok-conclude.ensures.done.served c.in_ok-conclude.ensures.done.answer c.conclude.new.domain c.in_ok-conclude.ensures.done.tells c.in_ok-conclude.ensures.done.replies c.requires.expects script past c.requires.configured none stands called serves)) c.free.ensures.failed;
+          c.requires.ready c.requires.turn c.requires.up c.in_ok-request.ensures.done c.outcome_heard-outcome.ensures c.cause_heard-cause.ensures c.in_ok-request.ensures.lost c.in_ok-conclude.ensures.done.ended c.in_ok-conclude.ensures.done.settles c.in_ok-conclude.ensures.done.numbered c.in_ok-conclude.ensures.done.served c.in_ok-conclude.ensures.done.answer c.conclude.new.domain c.in_ok-conclude.ensures.done.tells c.in_ok-conclude.ensures.done.replies script past c.requires.configured none stands called serves)) c.free.ensures.failed;
     }
 
 pub returns-in_err-request : goal.returns-in_err-request

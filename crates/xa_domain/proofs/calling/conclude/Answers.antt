@@ -38,7 +38,7 @@ returns-in-Ok-settle g c =
           c.tell.ensures.done c.tell.ensures.kept;
       attempts = either_way c.tell.result _ _ _ (λ tells. attempts_kept ended told (tells_keep c.args.client c.args.op c.args.server c.args.request c.in-Ok.answer ended told tells).places) (λ kept. attempts_kept ended told kept) c.tell.ensures.done c.tell.ensures.kept
           ∙ its.attempts;
-      done = on_ok_weaker {Q = Concludes c.args.client c.args.op c.args.server c.args.request c.args.outcome c.args.cause c.args.domain.now told} c.tell.result
+      done = on_ok_weaker {Q = Concludes c.args.client c.args.op c.args.server c.args.request c.args.expect.now c.args.outcome c.args.cause c.args.domain.now told} c.tell.result
           (λ tells. record { ended = ended; settles = its.done; numbered = its.numbered; served = its.served; answer = c.in-Ok.answer; replies = c.in-Ok.ensures; tells = tells }) c.tell.ensures.done;
       failed = IfErr-weaker c.tell.result _ _ (λ halt failed setup count past configured none holds may. failed setup count _ (its.done.holds setup count past configured none holds may).holds) c.tell.ensures.failed;
     }

@@ -27,13 +27,11 @@ overflow_add-number g c = omega arith
 pub call-requires : goal.call-requires
 call-requires g c =
     let at = c.loop-op in
-    let built : IsBuiltOp c.op-item.result = subst IsBuiltOp (sym c.op-item.is) (c.requires.built at.op-index c.op-item.result c.loop-op-test.true) in
     record {
       ready = at.invariant.makes.ready;
       configured = c.requires.configured;
       turn = subst (λ (n : ℕ). IsSomeAnd (slice_get at.domain.clients.items c.args.client) (λ (x : Client). (n + 1 ≡ x.op + 1) × (x.left ≡ false))) (sym at.invariant.counted)
           (next_turn c.args.setup.now c.args.client at.op-index c.args.ops.now c.args.domain.now at.domain at.domain at.invariant.makes);
-      expects = subst IsBuiltOp c.in-Call.is built;
     }
 
 pub loop-op-preserved : goal.loop-op-preserved
