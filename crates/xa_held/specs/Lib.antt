@@ -1,0 +1,5 @@
+pub mod Notes
+pub mod Kept
+pub mod Steps
+pub mod Visits
+pub mod Inner

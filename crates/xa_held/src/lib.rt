@@ -1,0 +1,11 @@
+//! Queues and the board as a lock guards them, and one function for each step there: enter, one call, leave. Each says what
+//! its pass knew before, what it knows after, and which event was noted with which stamp.
+#![tactic(auto)]
+
+mod cargo;
+mod kept_queue;
+mod queues;
+
+pub use cargo::Cargo;
+pub use kept_queue::{KeptQueue, QueueNote, Setting};
+pub use queues::{AtQueue, close_at, down_at, gone_at, put_at, sweep_at, take_at};
