@@ -15,7 +15,7 @@ use Rattle.xa_lock.specs.declared.pass.Page.{Page}
 use Rattle.xa_lock.specs.Pages.{GrewBy, Knows, page_seeing, page_leaving}
 use Rattle.xa_queue.specs.declared.entry.Entry.{Entry}
 use Rattle.xa_queue.specs.declared.told.GivenUp.{GivenUp}
-use Rattle.xa_queue.specs.declared.told.Noted.{Noted}
+use Rattle.xa_stamp.specs.declared.told.Noted.{Noted}
 use Rattle.xa_queue.specs.declared.told.Outgoing.{Outgoing}
 use Rattle.xa_queue.specs.declared.queue.PutRefused.{PutRefused}
 use Rattle.xa_queue.specs.declared.queue.Taken.{Taken}

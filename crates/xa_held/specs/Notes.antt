@@ -8,7 +8,7 @@ use Rattle.xa_events.specs.declared.event.Event.{Event}
 use Rattle.xa_events.specs.declared.event.Event.TheVariants.{Gone}
 use Rattle.xa_events.specs.Queue.{is_down}
 use Rattle.xa_lock.specs.declared.makers.Made.{Made}
-use Rattle.xa_queue.specs.declared.told.Noted.{Noted}
+use Rattle.xa_stamp.specs.declared.told.Noted.{Noted}
 use Rattle.xa_queue.specs.Queue.{gives_up, has_server}
 use Rattle.xa_held.specs.declared.kept_queue.QueueNote.{QueueNote}
 use Rattle.xa_held.specs.declared.kept_queue.QueueNote.TheVariants.{Opened, By}

@@ -9,7 +9,7 @@ use Rattle.xa_events.specs.declared.event.Event.{Event}
 use Rattle.xa_events.specs.declared.event.Event.TheVariants.{Gone, Down, Close}
 use Rattle.xa_lock.specs.declared.makers.Made.{Made}
 use Rattle.xa_queue.specs.declared.entry.Entry.{Entry}
-use Rattle.xa_queue.specs.declared.told.Noted.{Noted}
+use Rattle.xa_stamp.specs.declared.told.Noted.{Noted}
 use Rattle.xa_queue.specs.declared.told.GivenUp.{GivenUp}
 use Rattle.xa_queue.specs.declared.told.Outgoing.{Outgoing}
 use Rattle.xa_queue.specs.declared.queue.PutRefused.{PutRefused}

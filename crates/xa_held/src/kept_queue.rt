@@ -17,7 +17,8 @@ use std::snapshot::Snapshot;
 use xa_cell::Cells;
 use xa_events::Event;
 use xa_lock::{Chronicle, Made};
-use xa_queue::{Entry, GivenUp, Noted, Outgoing, PutRefused, Queue, Rest, Taken};
+use xa_queue::{Entry, GivenUp, Outgoing, PutRefused, Queue, Rest, Taken};
+use xa_stamp::Noted;
 use xa_types::{CallerId, Generation, QueueId, ServerId, Stamp, Worn};
 
 /// What a queue is from its beginning to its end: its number, how many may wait, its servers, how many clients there are,

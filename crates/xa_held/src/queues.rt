@@ -15,7 +15,8 @@ use crate::kept_queue::{KeptQueue, QueueNote};
 use std::sync::Wait;
 use xa_events::Event;
 use xa_lock::{Guarded, LockPass};
-use xa_queue::{Entry, GivenUp, Noted, Outgoing, PutRefused, Taken};
+use xa_queue::{Entry, GivenUp, Outgoing, PutRefused, Taken};
+use xa_stamp::Noted;
 use xa_types::{CallerId, Generation, ServerId, Stamp, Worn};
 
 /// What a step at a queue answers, and the pass, which has left.
