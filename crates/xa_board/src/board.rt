@@ -132,7 +132,8 @@ impl Board {
         })
     }
 
-    fn version(&self) -> u64
+    /// The number of its changes, which is less than 2^63.
+    pub fn version(&self) -> u64
         ensures value { result ≡ version_of self.now }
         ensures bound { result < 2 ^ 63 }
         ensures board { ReadsAsNoted self.now }

@@ -1,3 +1,4 @@
 pub mod Front
 pub mod Keeping
 pub mod Passing
+pub mod Boards

@@ -3,9 +3,11 @@
 #![tactic(auto)]
 
 mod cargo;
+mod kept_board;
 mod kept_queue;
 mod queues;
 
 pub use cargo::Cargo;
+pub use kept_board::{BoardNote, Clearing, KeptBoard, Look};
 pub use kept_queue::{KeptQueue, QueueNote, Setting};
 pub use queues::{AtQueue, close_at, down_at, gone_at, put_at, sweep_at, take_at};
