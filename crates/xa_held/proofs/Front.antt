@@ -1,5 +1,5 @@
 -- What was seen of a queue's events holds of all of them.
-use Rattle.std.proofs.Common.{◌≡◌, ℕ, ◌==◌, Bool, true, List, [], ◌∷◌, ◌++◌, map, reverse, refl, sym, ap, ◌∙◌}
+use Rattle.std.proofs.Common.{◌≡◌, ℕ, ◌==◌, Bool, true, false, cond, List, [], ◌∷◌, ◌++◌, map, reverse, refl, sym, ap, ◌∙◌}
 use Rattle.std.specs.List.{flat_map, list_any}
 use Rattle.std.specs.Cmp.Derive.{both_true}
 use Rattle.std.proofs.lemmas.Bool.{and_parts, or_left}
@@ -10,14 +10,16 @@ use Rattle.xa_events.specs.declared.event.Event.{Event}
 use Rattle.xa_events.specs.Queue.{is_down, is_down_of}
 use Rattle.xa_stamp.specs.declared.home.Stamped.{Stamped}
 use Rattle.xa_lock.specs.declared.makers.Made.{Made}
-use Rattle.xa_lock.specs.Makers.{noted_in}
-use Rattle.xa_lock.specs.Pages.{StartsWith}
+use Rattle.xa_lock.specs.declared.pass.Page.{Page}
+use Rattle.xa_lock.specs.Makers.{noted_in, maker_of as made_maker}
+use Rattle.xa_lock.specs.Pages.{StartsWith, Knows, entries_by}
 use Rattle.xa_queue.specs.Queue.{IsSound, gives_up, has_server, all_gone, none_left}
 use Rattle.xa_queue.proofs.Waiting.{list_any-reverse}
 use Rattle.xa_held.specs.declared.kept_queue.QueueNote.{QueueNote}
-use Rattle.xa_held.specs.declared.kept_queue.QueueNote.TheVariants.{By}
-use Rattle.xa_held.specs.Notes.{event_in, events_in, gone_in, is_down_in}
-use Rattle.xa_held.specs.Kept.{Kept, notes_of}
+use Rattle.xa_held.specs.declared.kept_queue.QueueNote.TheVariants.{Opened, By}
+use Rattle.xa_held.specs.declared.kept_queue.Setting.{Setting}
+use Rattle.xa_held.specs.Notes.{event_in, events_in, gone_in, is_down_in, maker_of, made_of, made_page}
+use Rattle.xa_held.specs.Kept.{Kept, setting_of, notes_of}
 
 abbrev pub note : {A : Type 0} → Made → QueueNote A
 note {A} = λ m. By m
@@ -56,3 +58,30 @@ module _ {A D : Type 0} where
 
   pub is_fallen : (k : Kept A D) → IsSound k.queue → is_down_in k.queue.id.0 (notes_of k) ≡ true → k.queue.down ≡ true
   is_fallen k sound down = sound.fallen ∙ ap (λ l. is_down k.queue.id.0 (reverse l)) (sym (events_in-notes A k.queue.entries)) ∙ down
+
+-- ---- the events with their makers
+
+made_in-notes : (A : Type 0) (entries : List Made) → flat_map (made_of {A = A}) (map (note {A = A}) entries) ≡ entries
+made_in-notes A [] = refl
+made_in-notes A (m ∷ entries) = ap (λ (l : List Made). m ∷ l) (made_in-notes A entries)
+
+-- those of one maker are those of its entries
+made_in-by : (A : Type 0) (maker : ℕ) (entries : List Made) → flat_map (made_of {A = A}) (entries_by maker_of maker (map (note {A = A}) entries)) ≡ entries_by made_maker maker entries
+made_in-by A maker [] = refl
+made_in-by A maker (m ∷ entries) = cond-made (m.maker.0 == maker) m (entries_by maker_of maker (map (note {A = A}) entries)) ∙ ap (λ (l : List Made). cond (m.maker.0 == maker) (m ∷ l) l) (made_in-by A maker entries)
+  where
+    cond-made : (b : Bool) (m : Made) (notes : List (QueueNote A)) → flat_map (made_of {A = A}) (cond b (note {A = A} m ∷ notes) notes) ≡ cond b (m ∷ flat_map (made_of {A = A}) notes) (flat_map (made_of {A = A}) notes)
+    cond-made true m notes = refl
+    cond-made false m notes = refl
+
+cond-opened : {A : Type 0} (b : Bool) (s : Setting A) (notes : List (QueueNote A)) → flat_map (made_of {A = A}) (cond b (Opened s ∷ notes) notes) ≡ flat_map (made_of {A = A}) notes
+cond-opened true s notes = refl
+cond-opened false s notes = refl
+
+pub knows_events : {A D : Type 0} (p : Page (QueueNote A)) (k : Kept A D) → Knows maker_of p (notes_of k) → Knows made_maker (made_page p) k.queue.entries
+knows_events {A} {D} p k knows =
+    let made : List (QueueNote A) → List Made = λ notes. flat_map (made_of {A = A}) notes in
+    let own : entries_by made_maker p.maker k.queue.entries ≡ made p.own =
+    sym (made_in-by A p.maker k.queue.entries) ∙ sym (cond-opened (0 == p.maker) (setting_of k) (entries_by maker_of p.maker (map (note {A = A}) k.queue.entries))) ∙ ap made knows.0 in
+    let seen : k.queue.entries ≡ made p.seen ++ made knows.1.0 = sym (made_in-notes A k.queue.entries) ∙ ap made knows.1.1 ∙ flat_map-append (made_of {A = A}) p.seen knows.1.0 in
+    (own, (made knows.1.0, seen))

@@ -1,4 +1,5 @@
 pub mod Front
 pub mod Keeping
 pub mod Passing
-pub mod Boards
+pub mod Climbing
+pub mod BoardPassing

@@ -6,3 +6,4 @@ pub mod Inner
 pub mod Board
 pub mod BoardSteps
 pub mod InnerBoard
+pub mod BoardVisits

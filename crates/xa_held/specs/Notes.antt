@@ -8,6 +8,8 @@ use Rattle.xa_events.specs.declared.event.Event.{Event}
 use Rattle.xa_events.specs.declared.event.Event.TheVariants.{Gone}
 use Rattle.xa_events.specs.Queue.{is_down}
 use Rattle.xa_lock.specs.declared.makers.Made.{Made}
+use Rattle.xa_lock.specs.declared.pass.Page.{Page}
+use Rattle.xa_lock.specs.Pages.{page}
 use Rattle.xa_stamp.specs.declared.told.Noted.{Noted}
 use Rattle.xa_queue.specs.Queue.{gives_up, has_server}
 use Rattle.xa_held.specs.declared.kept_queue.QueueNote.{QueueNote}
@@ -34,6 +36,14 @@ module _ {A : Type 0} where
   abbrev pub maker_of : QueueNote A → ℕ
   maker_of (Opened setting) = 0
   maker_of (By made) = made.maker.0
+
+  abbrev pub made_of : QueueNote A → List Made
+  made_of (Opened setting) = []
+  made_of (By made) = made ∷ []
+
+  -- the events of a pass's page with their makers
+  abbrev pub made_page : Page (QueueNote A) → Page Made
+  made_page p = page p.maker (flat_map made_of p.own) (flat_map made_of p.seen)
 
   abbrev pub event_in : QueueNote A → List Event
   event_in (Opened setting) = []

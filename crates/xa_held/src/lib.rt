@@ -2,11 +2,14 @@
 //! its pass knew before, what it knows after, and which event was noted with which stamp.
 #![tactic(auto)]
 
+mod boards;
 mod cargo;
 mod kept_board;
 mod kept_queue;
+pub mod laws;
 mod queues;
 
+pub use boards::{AtBoard, advertise_at, clear_at, look_up_at, withdraw_at};
 pub use cargo::Cargo;
 pub use kept_board::{BoardNote, Clearing, KeptBoard, Look};
 pub use kept_queue::{KeptQueue, QueueNote, Setting};

@@ -5,7 +5,7 @@ use Rattle.xa_held.specs.declared.kept_board.BoardNote.TheVariants.{Looked}
 use Rattle.xa_held.specs.Board.{Held, raised, Turns}
 use Rattle.xa_board.specs.Changes.{rows_on}
 use Rattle.xa_held.specs.InnerBoard.{held_of, note_of}
-use Rattle.xa_held.proofs.Boards.{sound_look, no_row}
+use Rattle.xa_held.proofs.Climbing.{sound_look, no_row}
 use Rattle.xa_held.proofs.kept_board.KeptBoard.clear.Goals as goal
 
 pub invariant_of-self : goal.invariant_of-self

@@ -6,7 +6,7 @@ use Rattle.xa_board.specs.Changes.{next_change, without}
 use Rattle.xa_held.specs.Board.{Held}
 use Rattle.xa_held.specs.BoardSteps.{withdrawal}
 use Rattle.xa_held.specs.InnerBoard.{held_of, note_of}
-use Rattle.xa_held.proofs.Boards.{sound_change}
+use Rattle.xa_held.proofs.Climbing.{sound_change}
 use Rattle.xa_held.proofs.kept_board.KeptBoard.withdraw.Goals as goal
 
 pub invariant_of-self-2 : goal.invariant_of-self-2
