@@ -1,6 +1,6 @@
 -- Changes of the board: what each leaves, and why it is refused (XATMI, tpadvertise and tpunadvertise; withdrawing all rows of a queue is this
 -- project's own).
-use Rattle.std.specs.Prelude.{ℕ, ◌+◌, ◌^◌, ◌==◌, nat_lt, max, Bool, not, if◌then◌else◌, List, [], ◌∷◌, ◌++◌, length, Option, Some, None}
+use Rattle.std.specs.Prelude.{ℕ, ◌+◌, ◌^◌, ◌==◌, nat_lt, Bool, not, if◌then◌else◌, List, [], ◌∷◌, ◌++◌, length, Option, Some, None}
 use Rattle.std.specs.List.{filter}
 use Rattle.std.specs.Option.{option_or}
 use Rattle.std.specs.Str.{bytes_eq}
@@ -10,13 +10,14 @@ use Rattle.xa_types.specs.Rows.{is_row_of, row_of}
 use Rattle.xa_events.specs.declared.event.Event.{Event}
 use Rattle.xa_events.specs.declared.event.Event.TheVariants.{Withdraw}
 use Rattle.xa_stamp.specs.declared.home.Stamped.{Stamped}
+use Rattle.xa_stamp.specs.Home.{larger_of, with_event}
 use Rattle.xa_board.specs.declared.board.BoardRefused.{BoardRefused}
 use Rattle.xa_board.specs.declared.board.BoardRefused.TheVariants.{Match, NoEnt, Full, Worn}
-use Rattle.xa_board.specs.Board.{Standing, version_of, stamp_of}
+use Rattle.xa_board.specs.Board.{Standing, version_of}
 
 -- the larger of a stamp that was seen and of the last one
 abbrev pub larger : Stamp → Standing → ℕ
-larger seen board = max seen.0 (stamp_of board)
+larger seen board = larger_of seen board.first board.entries
 
 -- the version and the stamp of the next change
 abbrev pub next_change : Stamp → Standing → ℕ × Stamp
@@ -25,7 +26,7 @@ next_change seen board = (version_of board + 1, record { 0 = larger seen board +
 -- the board once this event is noted, with these rows
 abbrev pub changed : Standing → Stamp → Event → List Row → Standing
 changed board stamp event rows =
-    record { first = board.first; entries = board.entries ++ record { stamp = stamp; event = event } ∷ []; rows = rows }
+    record { first = board.first; entries = with_event stamp event board.entries; rows = rows }
 
 -- the rows without that of the service on the queue
 abbrev pub without : List ℕ → ℕ → List Row → List Row

@@ -1,5 +1,5 @@
 // The board: its rows, and its changes as they are noted.
-ghost use Rattle.std.specs.Prelude.{◌≡◌, ◌+◌, ◌-◌, ◌^◌, ◌≤◌, ◌<◌, ◌⊎◌, [], ◌++◌, ◌∷◌, max, length, Some, None, IfOk, IfErr, OnOk, OnErr};
+ghost use Rattle.std.specs.Prelude.{◌≡◌, ◌+◌, ◌-◌, ◌^◌, ◌≤◌, ◌<◌, ◌⊎◌, [], ◌++◌, ◌∷◌, max, length, slice_get, option_map, Some, None, IfOk, IfErr, OnOk, OnErr};
 ghost use Rattle.xa_types.specs.Rows.{row_of};
 ghost use Rattle.xa_events.specs.declared.event.Event.TheVariants.{Advertise, Withdraw};
 ghost use Rattle.xa_stamp.specs.Home.{last_stamp};
@@ -9,11 +9,12 @@ ghost use Rattle.xa_board.specs.Reader.{Finds};
 ghost use Rattle.xa_board.specs.declared.board.BoardRefused.TheVariants as refusals;
 
 use crate::Reader;
-use crate::rows::{count_on, is_same, put, row_of, take_out, take_out_all};
+use crate::rows::{count_on, first_on, is_same, put, row_of, take_out, take_out_all};
 use std::alloc::Global;
 use std::marker::Model;
+use std::snapshot::Snapshot;
 use xa_events::{Advertised, Event, Withdrawn};
-use xa_stamp::{Home, Stamped};
+use xa_stamp::{Home, Noted, Stamped};
 use xa_types::{CallerId, Name, NoMemory, QueueId, Row, Stamp, Worn};
 
 /// How many rows may stand.
@@ -47,6 +48,13 @@ impl From<Worn> for BoardRefused {
     fn from(worn: Worn) -> Self {
         BoardRefused::Worn(worn.0)
     }
+}
+
+/// A change that was made: the version behind it, and its event.
+#[derive(Drop)]
+pub struct Changed {
+    pub version: u64,
+    pub noted: Noted,
 }
 
 /// The board: the rows that stand, at most 256, in the order in which they were advertised, and the home in which its
@@ -124,7 +132,8 @@ impl Board {
         })
     }
 
-    fn version(&self) -> u64
+    /// The number of its changes, which is less than 2^63.
+    pub fn version(&self) -> u64
         ensures value { result ≡ version_of self.now }
         ensures bound { result < 2 ^ 63 }
         ensures board { ReadsAsNoted self.now }
@@ -154,18 +163,20 @@ impl Board {
     }
 
     /// Advertises a service on a queue: the row stands last, in place of one of its service and queue. `seen` is at most
-    /// 2^63, and the change has one more than the larger of it and of the last stamp. Answers the version and the stamp.
+    /// 2^63, and the change has one more than the larger of it and of the last stamp. Answers the version and the event with its stamp.
     pub fn advertise(
         &mut self,
         seen: Stamp,
         by: CallerId,
         op: u32,
         row: Row,
-    ) -> Result<(u64, Stamp), BoardRefused>
+    ) -> Result<Changed, BoardRefused>
         requires { seen.0 ≤ 2 ^ 63 }
-        ensures value { IfOk result (λ done. done ≡ next_change seen self.old) }
-        ensures changed { IfOk result (λ done. self.new ≡ changed self.old done.1
-            (Advertise (record { by = by; op = op; service = row.service; queue = row.queue; routine = row.routine; version = done.0 }))
+        ensures value { IfOk result (λ done. (done.version, done.noted.stamp) ≡ next_change seen self.old) }
+        ensures noted { IfOk result (λ done. done.noted.event.value ≡
+            Advertise (record { by = by; op = op; service = row.service; queue = row.queue; routine = row.routine; version = done.version })) }
+        ensures changed { IfOk result (λ done. self.new ≡ changed self.old done.noted.stamp
+            (Advertise (record { by = by; op = op; service = row.service; queue = row.queue; routine = row.routine; version = done.version }))
             (without row.service row.queue.0 self.old.rows ++ row ∷ [])) }
         ensures allowed { OnOk result (advertise_refused seen row self.old ≡ None) }
         ensures refused { IfErr result (λ why. (advertise_refused seen row self.old ≡ Some why) ⊎ (why ≡ refusals.NoMemory)) }
@@ -185,9 +196,12 @@ impl Board {
             version,
         };
         self.home.reserve(1)?;
-        let stamp = self.home.note(seen, Event::Advertise(advertised))?;
+        let event = Event::Advertise(advertised);
+        let told = Snapshot::of(&event);
+        let stamp = self.home.note(seen, event)?;
         put(&mut self.rows, row);
-        Ok((version, stamp))
+        let noted = Noted { stamp, event: told };
+        Ok(Changed { version, noted })
     }
 
     /// Withdraws a service from a queue. `seen` and the answer are as for `advertise`.
@@ -198,11 +212,13 @@ impl Board {
         op: u32,
         service: &Name,
         queue: QueueId,
-    ) -> Result<(u64, Stamp), BoardRefused>
+    ) -> Result<Changed, BoardRefused>
         requires { seen.0 ≤ 2 ^ 63 }
-        ensures value { IfOk result (λ done. done ≡ next_change seen self.old) }
-        ensures changed { IfOk result (λ done. self.new ≡ changed self.old done.1
-            (Withdraw (record { by = by; op = op; service = service.now; queue = queue; version = done.0 }))
+        ensures value { IfOk result (λ done. (done.version, done.noted.stamp) ≡ next_change seen self.old) }
+        ensures noted { IfOk result (λ done. done.noted.event.value ≡
+            Withdraw (record { by = by; op = op; service = service.now; queue = queue; version = done.version })) }
+        ensures changed { IfOk result (λ done. self.new ≡ changed self.old done.noted.stamp
+            (Withdraw (record { by = by; op = op; service = service.now; queue = queue; version = done.version }))
             (without service.now queue.0 self.old.rows)) }
         ensures allowed { OnOk result (withdraw_refused seen service.now queue.0 self.old ≡ None) }
         ensures refused { IfErr result (λ why. (withdraw_refused seen service.now queue.0 self.old ≡ Some why) ⊎ (why ≡ refusals.NoMemory)) }
@@ -221,9 +237,12 @@ impl Board {
             version,
         };
         self.home.reserve(1)?;
-        let stamp = self.home.note(seen, Event::Withdraw(withdrawn))?;
+        let event = Event::Withdraw(withdrawn);
+        let told = Snapshot::of(&event);
+        let stamp = self.home.note(seen, event)?;
         take_out(&mut self.rows, service, queue);
-        Ok((version, stamp))
+        let noted = Noted { stamp, event: told };
+        Ok(Changed { version, noted })
     }
 
     /// The domain withdraws each row of a queue, in the board's order, one change each. Answers the stamp of the last of
@@ -247,6 +266,14 @@ impl Board {
         let stamp = note_withdrawals(&mut self.home, larger, &self.rows, queue);
         take_out_all(&mut self.rows, queue);
         Ok(stamp)
+    }
+
+    /// The service of the first row of a queue. It takes no memory.
+    pub fn service_on(&self, queue: QueueId) -> Option<Name>
+        ensures value { result ≡ option_map (λ row. row.service) (slice_get (rows_on queue.0 self.now.rows) 0) }
+        ensures board { ReadsAsNoted self.now }
+    {
+        first_on(&self.rows, queue)
     }
 
     /// Looks a service up: the reader finds its rows, for conversations or those that aren't, of the version that is

@@ -6,5 +6,5 @@ pub mod laws;
 mod reader;
 mod rows;
 
-pub use board::{Board, BoardRefused};
+pub use board::{Board, BoardRefused, Changed};
 pub use reader::Reader;

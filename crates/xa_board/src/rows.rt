@@ -1,5 +1,5 @@
 // The rows that stand on the board.
-ghost use Rattle.std.specs.Prelude.{◌≡◌, ◌≤◌, ◌<◌, ◌&&◌, [], ◌∷◌, ◌++◌, vec_len, vec_capacity, length, filter, not};
+ghost use Rattle.std.specs.Prelude.{◌≡◌, ◌≤◌, ◌<◌, ◌&&◌, [], ◌∷◌, ◌++◌, vec_len, vec_capacity, length, slice_get, option_map, filter, not};
 ghost use Rattle.std.specs.Option.{option_copied};
 ghost use Rattle.std.specs.Str.{bytes_eq};
 ghost use Rattle.xa_types.specs.Rows.{is_row_of, row_of, same_truth};
@@ -71,6 +71,18 @@ pub fn count_on(rows: &[Row], queue: QueueId) -> u32
         }
     }
     count
+}
+
+/// The service of the first row of a queue.
+pub fn first_on(rows: &[Row], queue: QueueId) -> Option<Name>
+    ensures { result ≡ option_map (λ row. row.service) (slice_get (rows_on queue.0 rows.now) 0) }
+{
+    for row in rows {
+        if row.queue.0 == queue.0 {
+            return Some(row.service);
+        }
+    }
+    None
 }
 
 fn is_seen(row: &Row, service: &Name, conversational: bool) -> bool

@@ -1,6 +1,6 @@
 //! A home whose entries have their makers beside them, so that a lock can guard it.
-ghost use Rattle.std.specs.Prelude.{◌≡◌, ◌+◌, ◌^◌, ◌≤◌, ◌<◌, ◌∷◌, ◌++◌, [], max, length, MatchResult, IfOk, OnOk, OnErr, IsOk};
-ghost use Rattle.xa_stamp.specs.Home.{Rises, last_stamp};
+ghost use Rattle.std.specs.Prelude.{◌≡◌, ◌+◌, ◌^◌, ◌≤◌, ◌<◌, ◌∷◌, ◌++◌, [], length, MatchResult, IfOk, OnOk, OnErr, IsOk};
+ghost use Rattle.xa_stamp.specs.Home.{Rises, last_stamp, larger_of, IsOneMore, IsSpent};
 ghost use Rattle.xa_lock.specs.Pages.{GrewBy};
 ghost use Rattle.xa_lock.specs.Makers.{maker_of, noted_in, made_by};
 
@@ -81,8 +81,8 @@ impl Kept {
     pub fn next_stamp(&self, seen: Stamp) -> Result<Stamp, Worn>
         requires { seen.0 ≤ 2 ^ 63 }
         ensures { MatchResult result
-            (λ stamp. (stamp.0 ≡ max seen.0 (last_stamp self.now.first (noted_in self.now.entries)) + 1) × (stamp.0 ≤ 2 ^ 63))
-            (λ worn. (worn.0.0 ≡ 2 ^ 63) × (max seen.0 (last_stamp self.now.first (noted_in self.now.entries)) ≡ 2 ^ 63)) }
+            (IsOneMore (larger_of seen self.now.first (noted_in self.now.entries)))
+            (IsSpent (larger_of seen self.now.first (noted_in self.now.entries))) }
     {
         self.home.next_stamp(seen)
     }
@@ -107,8 +107,8 @@ impl Kept {
         requires seen { seen.0 ≤ 2 ^ 63 }
         requires room { 0 < self.old.room }
         ensures stamp { MatchResult result
-            (λ stamp. (stamp.0 ≡ max seen.0 (last_stamp self.old.first (noted_in self.old.entries)) + 1) × (stamp.0 ≤ 2 ^ 63))
-            (λ worn. (worn.0.0 ≡ 2 ^ 63) × (max seen.0 (last_stamp self.old.first (noted_in self.old.entries)) ≡ 2 ^ 63)) }
+            (IsOneMore (larger_of seen self.old.first (noted_in self.old.entries)))
+            (IsSpent (larger_of seen self.old.first (noted_in self.old.entries))) }
         ensures entries { IfOk result (λ stamp. self.new.entries ≡ self.old.entries ++ made_by maker (record { stamp = stamp; event = event } ∷ [])) }
         ensures grew { GrewBy maker_of maker.0 self.old.entries self.new.entries }
         ensures first { self.new.first ≡ self.old.first }

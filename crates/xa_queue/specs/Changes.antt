@@ -1,5 +1,5 @@
 -- Changes of a queue: what each leaves, and why it is refused (this project's own; the order of takes is that of `IsNext`).
-use Rattle.std.specs.Prelude.{◌≡◌, ℕ, ◌+◌, ◌<◌, ◌^◌, ◌==◌, max, Bool, true, false, if◌then◌else◌, List, [], ◌∷◌, ◌++◌, length, Option, Some, None}
+use Rattle.std.specs.Prelude.{◌≡◌, ℕ, ◌+◌, ◌<◌, ◌^◌, ◌==◌, Bool, true, false, if◌then◌else◌, List, [], ◌∷◌, ◌++◌, length, Option, Some, None}
 use Rattle.xa_types.specs.declared.ids.QueueId.{QueueId}
 use Rattle.xa_types.specs.declared.ids.ServerId.{ServerId}
 use Rattle.xa_types.specs.declared.ids.CallerId.{CallerId}
@@ -9,10 +9,10 @@ use Rattle.xa_types.specs.declared.stamp.Worn.{Worn}
 use Rattle.xa_events.specs.declared.event.Event.{Event}
 use Rattle.xa_events.specs.declared.event.Event.TheVariants.{Accept, Take, Forward, Sweep}
 use Rattle.xa_stamp.specs.declared.home.Stamped.{Stamped}
-use Rattle.xa_stamp.specs.Home.{last_stamp}
+use Rattle.xa_stamp.specs.Home.{larger_of}
 use Rattle.xa_lock.specs.Makers.{noted_in}
 use Rattle.xa_queue.specs.declared.entry.Entry.{Entry}
-use Rattle.xa_queue.specs.declared.told.Noted.{Noted}
+use Rattle.xa_stamp.specs.declared.told.Noted.{Noted}
 use Rattle.xa_queue.specs.declared.told.Outgoing.{Outgoing}
 use Rattle.xa_queue.specs.declared.queue.Refusal.{Refusal}
 use Rattle.xa_queue.specs.declared.queue.Refusal.TheVariants as refusals
@@ -34,7 +34,7 @@ module _ {C : Type 0} where
 
   -- the larger of a stamp that was seen and of the last one
   abbrev pub larger : Stamp → Standing C → ℕ
-  larger seen queue = max seen.0 (last_stamp queue.first (noted_in queue.entries))
+  larger seen queue = larger_of seen queue.first (noted_in queue.entries)
 
   -- the stamp of the next event
   abbrev pub next_stamp : Stamp → Standing C → Stamp

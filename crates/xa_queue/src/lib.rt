@@ -12,4 +12,4 @@ mod told;
 pub use entry::Entry;
 pub use queue::{PutRefused, Queue, Refusal, Taken};
 pub use rest::Rest;
-pub use told::{GivenUp, Noted, Outgoing};
+pub use told::{GivenUp, Outgoing};

@@ -10,13 +10,12 @@ ghost use Rattle.xa_queue.specs.declared.queue.Refusal.TheVariants as refusals;
 use crate::entry::Entry;
 use crate::line::Line;
 use crate::rest::Rest;
-use crate::told::{GivenUp, Noted, Outgoing};
+use crate::told::{GivenUp, Outgoing};
 use std::alloc::Global;
 use std::marker::Model;
-use std::snapshot::Snapshot;
 use xa_events::{Event, Swept};
 use xa_lock::Kept;
-use xa_stamp::Home;
+use xa_stamp::{Home, Noted};
 use xa_types::{CallerId, Generation, NoMemory, QueueId, ServerId, Stamp, Worn};
 
 // How many events of a queue may come beside those of its entries and servers: an entry's own and its take, that it goes
@@ -89,18 +88,6 @@ fn all_gone(gone: &[ServerId], servers: &[ServerId]) -> bool
     ensures { result ≡ all_gone gone.now servers.now }
 {
     servers.iter().all(|server| has_server(gone, *server))
-}
-
-// The event with its stamp, to be told.
-fn noted(stamp: Stamp, event: &Event) -> Noted
-    requires { stamp.0 ≤ 2 ^ 63 }
-    ensures stamp { result.stamp ≡ stamp }
-    ensures event { result.event.value ≡ event.now }
-{
-    Noted {
-        stamp,
-        event: Snapshot::of(event),
-    }
 }
 
 impl<C> Queue<C> {
@@ -257,7 +244,7 @@ impl<C> Queue<C> {
             k,
         };
         let event = Event::Take(taken);
-        let noted = noted(stamp, &event);
+        let noted = Noted::of(stamp, &event);
         self.kept.add(stamp, maker, event);
         self.takes = k;
         Ok(Taken::Request(Outgoing { entry, noted }))
@@ -275,7 +262,7 @@ impl<C> Queue<C> {
     {
         let stamp = self.kept.next_stamp(seen)?;
         let event = Event::Gone(server);
-        let noted = noted(stamp, &event);
+        let noted = Noted::of(stamp, &event);
         self.kept.add(stamp, maker, event);
         self.gone.push_reserved(server);
         let last = all_gone(&self.gone, &self.servers);
@@ -292,7 +279,7 @@ impl<C> Queue<C> {
     {
         let stamp = self.kept.next_stamp(seen)?;
         let event = Event::Down(self.id);
-        let noted = noted(stamp, &event);
+        let noted = Noted::of(stamp, &event);
         self.kept.add(stamp, maker, event);
         self.down = true;
         Ok(noted)
@@ -317,7 +304,7 @@ impl<C> Queue<C> {
             queue: self.id,
         };
         let event = Event::Sweep(swept);
-        let noted = noted(stamp, &event);
+        let noted = Noted::of(stamp, &event);
         self.kept.add(stamp, maker, event);
         Ok(Some(Outgoing { entry, noted }))
     }
@@ -331,7 +318,7 @@ impl<C> Queue<C> {
     {
         let stamp = self.kept.next_stamp(seen)?;
         let event = Event::Close(self.id);
-        let noted = noted(stamp, &event);
+        let noted = Noted::of(stamp, &event);
         self.kept.add(stamp, maker, event);
         self.closed = true;
         Ok(noted)

@@ -1,18 +1,6 @@
 // What a queue tells of an event that it notes.
-ghost use Rattle.std.specs.Prelude.{◌^◌, ◌≤◌};
-
 use crate::entry::Entry;
-use std::snapshot::Snapshot;
-use xa_events::Event;
-use xa_types::Stamp;
-
-/// An event that was noted, as contracts see it, and its stamp, which is at most 2^63. The event takes no octets.
-#[derive(Drop)]
-pub struct Noted {
-    pub stamp: Stamp,
-    pub event: Snapshot<Event>,
-    ghost bound: { stamp.0 ≤ 2 ^ 63 },
-}
+use xa_stamp::Noted;
 
 /// An entry that leaves a queue, and the event of it that was noted.
 pub struct Outgoing<C> {

@@ -1,6 +1,6 @@
 //! A home: where the events of one object or of one caller are noted, each with its stamp.
-ghost use Rattle.std.specs.Prelude.{◌≡◌, ◌+◌, ◌-◌, ◌^◌, ◌≤◌, ◌<◌, ◌∷◌, ◌++◌, [], max, OnOk, OnErr, IfOk, IfErr, IsOk, MatchResult};
-ghost use Rattle.xa_stamp.specs.Home.{Rises, last_stamp};
+ghost use Rattle.std.specs.Prelude.{◌≡◌, ◌+◌, ◌-◌, ◌^◌, ◌≤◌, ◌<◌, [], OnOk, OnErr, IfOk, IfErr, IsOk, MatchResult};
+ghost use Rattle.xa_stamp.specs.Home.{Rises, last_stamp, larger_of, IsOneMore, IsSpent, with_event};
 
 use std::alloc::Global;
 use std::marker::Model;
@@ -86,8 +86,8 @@ impl Home {
     pub fn next_stamp(&self, seen: Stamp) -> Result<Stamp, Worn>
         requires { seen.0 ≤ 2 ^ 63 }
         ensures { MatchResult result
-            (λ stamp. (stamp.0 ≡ max seen.0 (last_stamp self.now.first self.now.entries) + 1) × (stamp.0 ≤ 2 ^ 63))
-            (λ worn. (worn.0.0 ≡ 2 ^ 63) × (max seen.0 (last_stamp self.now.first self.now.entries) ≡ 2 ^ 63)) }
+            (IsOneMore (larger_of seen self.now.first self.now.entries))
+            (IsSpent (larger_of seen self.now.first self.now.entries)) }
     {
         Stamp::after(seen, self.last())
     }
@@ -97,7 +97,7 @@ impl Home {
         requires later { last_stamp self.old.first self.old.entries < stamp.0 }
         requires bound { stamp.0 ≤ 2 ^ 63 }
         requires room { 0 < self.old.room }
-        ensures entries { self.new.entries ≡ self.old.entries ++ (record { stamp = stamp; event = event }) ∷ [] }
+        ensures entries { self.new.entries ≡ with_event stamp event self.old.entries }
         ensures first { self.new.first ≡ self.old.first }
         ensures room { self.old.room ≤ self.new.room + 1 }
     {
@@ -109,11 +109,11 @@ impl Home {
     pub fn note(&mut self, seen: Stamp, event: Event) -> Result<Stamp, Worn>
         requires seen { seen.0 ≤ 2 ^ 63 }
         requires room { 0 < self.old.room }
-        ensures stamp { IfOk result (λ stamp. (stamp.0 ≡ max seen.0 (last_stamp self.old.first self.old.entries) + 1) × (stamp.0 ≤ 2 ^ 63)) }
-        ensures entries { IfOk result (λ stamp. self.new.entries ≡ self.old.entries ++ (record { stamp = stamp; event = event }) ∷ []) }
+        ensures stamp { IfOk result (IsOneMore (larger_of seen self.old.first self.old.entries)) }
+        ensures entries { IfOk result (λ stamp. self.new.entries ≡ with_event stamp event self.old.entries) }
         ensures first { self.new.first ≡ self.old.first }
         ensures room { self.old.room ≤ self.new.room + 1 }
-        ensures worn { IfErr result (λ worn. (worn.0.0 ≡ 2 ^ 63) × (max seen.0 (last_stamp self.old.first self.old.entries) ≡ 2 ^ 63)) }
+        ensures worn { IfErr result (IsSpent (larger_of seen self.old.first self.old.entries)) }
         ensures kept { OnErr result (self.new ≡ self.old) }
     {
         match self.next_stamp(seen) {

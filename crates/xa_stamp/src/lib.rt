@@ -4,6 +4,8 @@
 mod home;
 pub mod laws;
 mod merging;
+mod told;
 
 pub use home::{Home, Stamped};
 pub use merging::{Place, Record, merge};
+pub use told::Noted;

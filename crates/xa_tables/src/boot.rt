@@ -62,8 +62,8 @@ fn advertise(
 {
     let row = row_for(setup, queue, service.name, service.routine);
     match board.advertise(latest.stamp(), CallerId(0), 0, row) {
-        Ok((_, stamp)) => {
-            latest.raise(stamp);
+        Ok(done) => {
+            latest.raise(done.noted.stamp);
             Ok(())
         }
         Err(why) => match why {

@@ -1,7 +1,7 @@
 //! The board: what its changes and its lookups are told, each change at the end of stamps, and 256 rows.
 use crate::rows::none_fails;
 use std::alloc::Global;
-use xa_board::{Board, BoardRefused, Reader};
+use xa_board::{Board, BoardRefused, Changed, Reader};
 use xa_types::{Accepts, CallerId, Name, QueueId, Row, Stamp};
 
 const END: u64 = 1 << 63;
@@ -88,9 +88,9 @@ fn is_refused(why: BoardRefused, told: Told) -> bool {
     }
 }
 
-fn is_done(answer: Result<(u64, Stamp), BoardRefused>, told: Told) -> bool {
+fn is_done(answer: Result<Changed, BoardRefused>, told: Told) -> bool {
     match answer {
-        Ok((_, stamp)) => matches!(told, Told::Done(want) if stamp.0 == want),
+        Ok(done) => matches!(told, Told::Done(want) if done.noted.stamp.0 == want),
         Err(why) => is_refused(why, told),
     }
 }

@@ -21,5 +21,5 @@ unreachable-requires c =
 pub returns-in-Ok-clause-done : goal.returns-in-Ok-clause-done
 returns-in-Ok-clause-done c =
     let value = c.in-Ok.ensures.value in
-    advertises c.args.setup.now c.args.service.now c.args.queue.0 c.row_for-row.result c.row_for-row.ensures c.args.board.now c.advertise.new.self c.args.latest.now c.raise.new.self c.stamp.result c.in-Ok.stamp c.in-Ok.field-0-0
+    advertises c.args.setup.now c.args.service.now c.args.queue.0 c.row_for-row.result c.row_for-row.ensures c.args.board.now c.advertise.new.self c.args.latest.now c.raise.new.self c.stamp.result c.in-Ok.done.noted.stamp c.in-Ok.done.version
     c.requires.may c.stamp.ensures.value (ap (λ (d : ℕ × Stamp). d.0) value) (ap (λ (d : ℕ × Stamp). d.1.0) value) c.in-Ok.ensures.changed c.advertise.ensures.board c.raise.ensures

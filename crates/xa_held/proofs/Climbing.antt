@@ -1,0 +1,94 @@
+-- A board under a lock stays as it is kept.
+use Rattle.std.proofs.Common.{◌≡◌, ℕ, ◌+◌, ◌<◌, ◌≤◌, ◌^◌, max, List, [], ◌∷◌, ◌++◌, refl, sym, ap, ◌∙◌, subst, arith, append-nil, None}
+use Rattle.std.specs.Prelude.{option_map, slice_get}
+use Rattle.std.specs.List.{All}
+use Rattle.std.proofs.lemmas.Grind.{flat_map-append}
+use Rattle.std.proofs.lemmas.List.{map-append}
+use Rattle.std.proofs.lemmas.List.Elements.{All-nil, All-cons}
+use Rattle.xa_types.specs.declared.ids.CallerId.{CallerId}
+use Rattle.xa_types.specs.declared.stamp.Stamp.{Stamp}
+use Rattle.xa_types.specs.declared.row.Row.{Row}
+use Rattle.xa_events.specs.declared.event.Event.{Event}
+use Rattle.xa_stamp.specs.declared.home.Stamped.{Stamped}
+use Rattle.xa_stamp.specs.declared.told.Noted.{Noted}
+use Rattle.xa_stamp.proofs.Stamps.{last_stamp-push}
+use Rattle.xa_lock.specs.declared.makers.Made.{Made}
+use Rattle.xa_lock.specs.Makers.{noted_in}
+use Rattle.xa_board.specs.Board.{Standing, stamp_of}
+use Rattle.xa_board.specs.Changes.{larger}
+use Rattle.xa_held.specs.declared.kept_board.BoardNote.{BoardNote}
+use Rattle.xa_held.specs.declared.kept_board.BoardNote.TheVariants.{By, Looked}
+use Rattle.xa_held.specs.Board.{Held, IsSoundBoard, Climbs, top, made_of, made_in, raised}
+use Rattle.xa_held.specs.BoardSteps.{change, Makes}
+
+Climbs-append : (least : ℕ) (notes more : List BoardNote) → Climbs least notes → Climbs (top least notes) more → Climbs least (notes ++ more)
+Climbs-append least [] more climbs on = on
+Climbs-append least (By m ∷ rest) more climbs on = (climbs.0, Climbs-append m.noted.stamp.0 rest more climbs.1 on)
+Climbs-append least (Looked l ∷ rest) more climbs on = (climbs.0, Climbs-append l.stamp.0 rest more climbs.1 on)
+
+Climbs-behind : (least : ℕ) (notes more : List BoardNote) → Climbs least (notes ++ more) → Climbs (top least notes) more
+Climbs-behind least [] more climbs = climbs
+Climbs-behind least (By m ∷ rest) more climbs = Climbs-behind m.noted.stamp.0 rest more climbs.1
+Climbs-behind least (Looked l ∷ rest) more climbs = Climbs-behind l.stamp.0 rest more climbs.1
+
+top-append : (least : ℕ) (notes more : List BoardNote) → top least (notes ++ more) ≡ top (top least notes) more
+top-append least [] more = refl
+top-append least (By m ∷ rest) more = top-append m.noted.stamp.0 rest more
+top-append least (Looked l ∷ rest) more = top-append l.stamp.0 rest more
+
+-- all changes have greater stamps
+above : (least bound : ℕ) (notes : List BoardNote) → bound ≤ least → Climbs least notes → All (λ (m : Made). bound < m.noted.stamp.0) (made_in notes)
+above least bound [] low climbs = All-nil (λ (m : Made). bound < m.noted.stamp.0)
+above least bound (By m ∷ rest) low climbs = All-cons (λ (m : Made). bound < m.noted.stamp.0) m (made_in rest) (omega (arith, climbs.0, low)) (above m.noted.stamp.0 bound rest (omega (arith, climbs.0, low)) climbs.1)
+above least bound (Looked l ∷ rest) low climbs = above l.stamp.0 bound rest (omega (arith, climbs.0, low)) climbs.1
+
+-- behind a look all changes have greater stamps
+pub behind-look : (least : ℕ) (front rest : List BoardNote) (maker : CallerId) (stamp : Stamp) → Climbs least (front ++ Looked (record { maker = maker; stamp = stamp }) ∷ rest) → All (λ (m : Made). stamp.0 < m.noted.stamp.0) (made_in rest)
+behind-look least front rest maker stamp climbs =
+    let on = Climbs-behind least front (Looked (record { maker = maker; stamp = stamp }) ∷ rest) climbs in
+    above stamp.0 stamp.0 rest (omega arith) on.1
+
+-- no first one is there
+pub no_row : (rows : List Row) → None ≡ option_map (λ (row : Row). row.service) (slice_get rows 0) → rows ≡ []
+no_row [] none = refl
+no_row (row ∷ rest) none = absurd (cc none)
+
+made_in-append : (notes more : List BoardNote) → made_in (notes ++ more) ≡ made_in notes ++ made_in more
+made_in-append notes more = flat_map-append made_of notes more
+
+module _ (seen : Stamp) (old new : Held) (sound : IsSoundBoard old) where
+  -- a change is made
+  pub sound_change : (version : ℕ) (maker : CallerId) (noted : Noted) (event : Event) (rows : List Row) → Makes seen version noted event rows old new → noted.stamp.0 ≤ 2 ^ 63 → new.notes ≡ old.notes ++ change maker noted → IsSoundBoard new
+  sound_change version maker noted event rows makes bound notes =
+      let m : Made = record { maker = maker; noted = record { stamp = noted.stamp; event = noted.event.value } } in
+      let bare : Made → Stamped = λ (z : Made). z.noted in
+      let later : noted.stamp.0 ≡ larger (raised seen old) old.board + 1 = ap (λ (d : ℕ × Stamp). d.1.0) makes.next in
+      let first : new.board.first ≡ old.board.first = ap (λ (s : Standing). s.first) makes.board in
+      let entries : new.board.entries ≡ old.board.entries ++ record { stamp = noted.stamp; event = event } ∷ [] = ap (λ (s : Standing). s.entries) makes.board in
+      let above' : old.last.0 < noted.stamp.0 = omega (arith, later) in
+      let last : new.last.0 ≡ noted.stamp.0 = ap (λ (s : Stamp). s.0) makes.last in
+      record {
+        noted = ap (λ l. noted_in (made_in l)) notes ∙ ap noted_in (made_in-append old.notes (change maker noted)) ∙ map-append bare (made_in old.notes) (m ∷ [])
+            ∙ ap (λ l. l ++ m.noted ∷ []) sound.noted ∙ ap (λ (e : Event). old.board.entries ++ record { stamp = noted.stamp; event = e } ∷ []) makes.event_is ∙ sym entries;
+        climbs = subst (λ (f : Stamp). Climbs f.0 new.notes) (sym first) (subst (Climbs old.board.first.0) (sym notes)
+            (Climbs-append old.board.first.0 old.notes (By m ∷ []) sound.climbs (omega (arith, sound.latest, above'), tt)));
+        latest = ap (λ (f : Stamp). top f.0 new.notes) first ∙ ap (top old.board.first.0) notes ∙ top-append old.board.first.0 old.notes (By m ∷ []) ∙ sym last;
+        bound = omega (arith, last, bound);
+        behind = let is : stamp_of new.board ≡ noted.stamp.0 = ap (λ (s : Standing). stamp_of s) makes.board ∙ last_stamp-push old.board.first old.board.entries (record { stamp = noted.stamp; event = event }) in omega (arith, is, last);
+      }
+
+  -- no row stands
+  pub sound_look : (maker : CallerId) (stamp : Stamp) → stamp ≡ raised seen old → seen.0 ≤ 2 ^ 63 → new.board ≡ old.board → new.last ≡ stamp → new.notes ≡ old.notes ++ Looked (record { maker = maker; stamp = stamp }) ∷ [] → IsSoundBoard new
+  sound_look maker stamp is low board last' notes =
+      let look : List BoardNote = Looked (record { maker = maker; stamp = stamp }) ∷ [] in
+      let first : new.board.first ≡ old.board.first = ap (λ (s : Standing). s.first) board in
+      let high : stamp.0 ≡ max seen.0 old.last.0 = ap (λ (s : Stamp). s.0) is in
+      let last : new.last.0 ≡ stamp.0 = ap (λ (s : Stamp). s.0) last' in
+      record {
+        noted = ap (λ l. noted_in (made_in l)) notes ∙ ap noted_in (made_in-append old.notes look ∙ append-nil (made_in old.notes)) ∙ sound.noted ∙ sym (ap (λ (s : Standing). s.entries) board);
+        climbs = subst (λ (f : Stamp). Climbs f.0 new.notes) (sym first) (subst (Climbs old.board.first.0) (sym notes)
+            (Climbs-append old.board.first.0 old.notes look sound.climbs (omega (arith, sound.latest, high), tt)));
+        latest = ap (λ (f : Stamp). top f.0 new.notes) first ∙ ap (top old.board.first.0) notes ∙ top-append old.board.first.0 old.notes look ∙ sym last;
+        bound = omega (arith, last, high, low, sound.bound);
+        behind = let same : stamp_of new.board ≡ stamp_of old.board = ap (λ (s : Standing). stamp_of s) board in omega (arith, same, last, high, sound.behind);
+      }

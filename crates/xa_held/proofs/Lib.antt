@@ -1,0 +1,5 @@
+pub mod Front
+pub mod Keeping
+pub mod Passing
+pub mod Climbing
+pub mod BoardPassing

@@ -1,0 +1,27 @@
+use Rattle.std.proofs.Common.{sym, ap, ◌∙◌, subst}
+use Rattle.xa_lock.specs.Pages.{Knows, page_seeing}
+use Rattle.xa_lock.specs.Known.{known, found}
+use Rattle.xa_board.specs.Board.{ReadsAsNoted}
+use Rattle.xa_held.specs.Board.{Held, IsSoundBoard, maker_of}
+use Rattle.xa_held.proofs.BoardPassing.{withdraw_grown, withdraw_visits}
+use Rattle.xa_held.proofs.boards.withdraw_at.Goals as goal
+
+pub leave-requires-clause-grew : goal.leave-requires-clause-grew
+leave-requires-clause-grew g c =
+    let p = known c.args.pass in
+    let q = found c.enter-held.result in
+    let old : Held = c.value.result.now in
+    let sees = c.enter-held.ensures.found ∙ ap (λ (z : Held). page_seeing p z.notes) (sym c.value.ensures.value) in
+    let knows = subst (λ (z : Held). Knows maker_of p z.notes) (sym c.value.ensures.value) c.enter-held.ensures.knows in
+    withdraw_grown p q old c.withdraw-answer.new.self sees knows c.args.seen c.args.maker c.requires.maker c.args.by c.args.op c.args.service.now c.args.queue c.withdraw-answer.result c.withdraw-answer.ensures
+
+pub returns-clause-withdrawn : goal.returns-clause-withdrawn
+returns-clause-withdrawn g c =
+    let p = known c.args.pass in
+    let q = found c.enter-held.result in
+    let old : Held = c.value.result.now in
+    let sees = c.enter-held.ensures.found ∙ ap (λ (z : Held). page_seeing p z.notes) (sym c.value.ensures.value) in
+    let knows = subst (λ (z : Held). Knows maker_of p z.notes) (sym c.value.ensures.value) c.enter-held.ensures.knows in
+    let sound = subst (λ (z : Held). IsSoundBoard z) c.get.ensures c.version-version.ensures.sound in
+    let reads = subst (λ (z : Held). ReadsAsNoted z.board) c.get.ensures c.version-version.ensures.reads in
+    withdraw_visits p q old c.withdraw-answer.new.self sees knows (known c.leave.result) c.leave.ensures.known sound reads c.args.seen c.args.maker c.args.by c.args.op c.args.service.now c.args.queue c.withdraw-answer.result c.withdraw-answer.ensures

@@ -1,0 +1,13 @@
+-- How a queue under a lock is kept. No public contract rests on this file.
+use Rattle.std.specs.List.{All}
+use Rattle.xa_held.specs.declared.kept_queue.KeptQueue.TheInside.{Inside}
+use Rattle.xa_held.specs.Notes.{IsOwn}
+use Rattle.xa_held.specs.Kept.{Kept, IsRight}
+
+module _ {A D : Type 0} where
+  abbrev pub kept_of : Inside A D → Kept A D
+  kept_of k = record { queue = k.queue; clients = k.clients; cells = k.cells.value }
+
+  pub record IsKept (k : Inside A D) : Type 0 where
+    pub right : All (IsRight k.cells.value) k.queue.waiting
+    pub owners : All (IsOwn k.clients) k.queue.entries

@@ -1,0 +1,120 @@
+// One step at the locked board, with a worker's pass.
+ghost use Rattle.std.specs.Prelude.{◌≡◌, ◌≤◌, ◌^◌, [], max};
+ghost use Rattle.xa_lock.specs.Known.{known, IsPassOf};
+ghost use Rattle.xa_board.specs.Board.{version_of};
+ghost use Rattle.xa_board.specs.Reader.{Finds};
+ghost use Rattle.xa_held.specs.BoardSteps.{AdvertisedAs, WithdrewAs, ClearedAs};
+ghost use Rattle.xa_held.specs.BoardVisits.{BoardVisits};
+
+use crate::kept_board::{BoardNote, Clearing, KeptBoard};
+use std::sync::Wait;
+use xa_board::{BoardRefused, Changed, Reader};
+use xa_lock::{Guarded, LockPass};
+use xa_types::{CallerId, Name, QueueId, Row, Stamp};
+
+/// What a step at the board answers, and the pass, which has left.
+pub struct AtBoard<R> {
+    pub pass: LockPass<BoardNote>,
+    pub answer: R,
+}
+
+/// Advertises a service at the locked board, in the work of that maker.
+pub fn advertise_at<W: Wait>(
+    rt: &W,
+    board: &Guarded<KeptBoard>,
+    pass: LockPass<BoardNote>,
+    seen: Stamp,
+    maker: CallerId,
+    by: CallerId,
+    op: u32,
+    row: Row,
+) -> AtBoard<Result<Changed, BoardRefused>>
+    requires lock { IsPassOf board.now pass }
+    requires maker { (known pass).maker ≡ maker.0 }
+    requires seen { seen.0 ≤ 2 ^ 63 }
+    ensures lock { IsPassOf board.now result.pass }
+    ensures advertised { AdvertisedAs (BoardVisits (known pass) (known result.pass)) seen maker by op row result.answer }
+{
+    let mut held = board.enter(rt, pass);
+    let answer = held.value().advertise(seen, maker, by, op, row);
+    let _version = held.get().version();
+    AtBoard {
+        pass: board.leave(held),
+        answer,
+    }
+}
+
+/// Withdraws a service at the locked board, in the work of that maker.
+pub fn withdraw_at<W: Wait>(
+    rt: &W,
+    board: &Guarded<KeptBoard>,
+    pass: LockPass<BoardNote>,
+    seen: Stamp,
+    maker: CallerId,
+    by: CallerId,
+    op: u32,
+    service: &Name,
+    queue: QueueId,
+) -> AtBoard<Result<Changed, BoardRefused>>
+    requires lock { IsPassOf board.now pass }
+    requires maker { (known pass).maker ≡ maker.0 }
+    requires seen { seen.0 ≤ 2 ^ 63 }
+    ensures lock { IsPassOf board.now result.pass }
+    ensures withdrawn { WithdrewAs (BoardVisits (known pass) (known result.pass)) seen maker by op service.now queue result.answer }
+{
+    let mut held = board.enter(rt, pass);
+    let answer = held.value().withdraw(seen, maker, by, op, service, queue);
+    let _version = held.get().version();
+    AtBoard {
+        pass: board.leave(held),
+        answer,
+    }
+}
+
+/// The domain withdraws the first row of a queue at the locked board, in the work of that maker, or it is seen that no row
+/// of it stands.
+pub fn clear_at<W: Wait>(
+    rt: &W,
+    board: &Guarded<KeptBoard>,
+    pass: LockPass<BoardNote>,
+    seen: Stamp,
+    maker: CallerId,
+    queue: QueueId,
+) -> AtBoard<Result<Clearing, BoardRefused>>
+    requires lock { IsPassOf board.now pass }
+    requires maker { (known pass).maker ≡ maker.0 }
+    requires seen { seen.0 ≤ 2 ^ 63 }
+    ensures lock { IsPassOf board.now result.pass }
+    ensures cleared { ClearedAs (BoardVisits (known pass) (known result.pass)) seen maker queue result.answer }
+{
+    let mut held = board.enter(rt, pass);
+    let answer = held.value().clear(seen, maker, queue);
+    let _version = held.get().version();
+    AtBoard {
+        pass: board.leave(held),
+        answer,
+    }
+}
+
+/// Looks a service up at the locked board: the reader finds its rows, and the version is answered.
+pub fn look_up_at<W: Wait>(
+    rt: &W,
+    board: &Guarded<KeptBoard>,
+    pass: LockPass<BoardNote>,
+    reader: &mut Reader,
+    name: &Name,
+    conversational: bool,
+) -> AtBoard<u64>
+    requires lock { IsPassOf board.now pass }
+    ensures lock { IsPassOf board.now result.pass }
+    ensures found { BoardVisits (known pass) (known result.pass) [] (λ old new. (new ≡ old) × (result.answer ≡ version_of old.board) × Finds old.board name.now conversational reader.new.found) }
+    ensures least { reader.new.least ≡ max reader.old.least result.answer }
+{
+    let held = board.enter(rt, pass);
+    let answer = held.get().lookup(reader, name, conversational);
+    let _version = held.get().version();
+    AtBoard {
+        pass: board.leave(held),
+        answer,
+    }
+}

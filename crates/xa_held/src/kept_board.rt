@@ -1,0 +1,192 @@
+// The board as a lock guards it.
+ghost use Rattle.std.specs.Prelude.{◌≡◌, ◌^◌, ◌≤◌, [], max};
+ghost use Rattle.xa_board.specs.Board.{ReadsAsNoted, version_of};
+ghost use Rattle.xa_board.specs.Reader.{Finds};
+ghost use Rattle.xa_held.specs.Board.{IsSoundBoard, Turns};
+ghost use Rattle.xa_held.specs.BoardSteps.{AdvertisedAs, WithdrewAs, ClearedAs};
+
+use http_server::Log;
+use std::marker::Model;
+use std::snapshot::Snapshot;
+use xa_board::{Board, BoardRefused, Changed, Reader};
+use xa_events::Event;
+use xa_lock::{Chronicle, Made};
+use xa_stamp::{Home, Noted};
+use xa_types::{CallerId, Name, QueueId, Row, Stamp};
+
+/// A worker that found no row of a queue on the board, and the stamp that all later changes are behind.
+#[derive(Clone, Copy)]
+pub struct Look {
+    pub maker: CallerId,
+    pub stamp: Stamp,
+}
+
+/// An entry of the board's home as its lock knows it: a change, or such a look. No value of it is made.
+pub enum BoardNote {
+    By(Made),
+    Looked(Look),
+}
+
+// What a look or a change is kept as, beside the event: of a look that of the queue that goes down.
+#[derive(Clone, Copy)]
+pub(crate) enum Mark {
+    Changed(Look),
+    Looked(Look),
+}
+
+/// What came of a step that clears the board of a queue: the domain withdrew its first row, or no row of it stands, and all
+/// later changes have greater stamps than this one, which is at most 2^63.
+#[derive(Drop)]
+pub enum Clearing {
+    Withdrew(Noted),
+    Clear(Stamp),
+}
+
+/// The board, whose changes and looks have their makers. These take no octets.
+#[derive(Drop)]
+pub struct KeptBoard {
+    board: Board,
+    last: Stamp,
+    notes: Log<Mark, Snapshot<Event>>,
+}
+
+impl Model for KeptBoard {
+    ghost use Rattle.xa_held.specs.Board.{Held};
+
+    ghost Value = { Held };
+
+    ghost use Rattle.xa_held.specs.InnerBoard.{held_of, IsHeld};
+
+    ghost view = { held_of };
+
+    ghost invariant = { IsHeld };
+}
+
+impl Chronicle for KeptBoard {
+    ghost use Rattle.xa_held.specs.Board.{maker_of};
+
+    type Entry = BoardNote;
+
+    ghost entries = { λ held. held.notes };
+
+    ghost maker = { maker_of };
+}
+
+// The event for which a worker looks.
+fn down_of(queue: QueueId) -> Snapshot<Event> {
+    Snapshot::of(&Event::Down(queue))
+}
+
+impl KeptBoard {
+    /// A board on which nothing was changed yet, whose changes have stamps behind this one.
+    pub fn of(board: Board, first: Stamp) -> KeptBoard
+        requires entries { board.entries ≡ [] }
+        requires first { board.first ≡ first }
+        requires bound { first.0 ≤ 2 ^ 63 }
+        ensures { result ≡ record { board = board; last = first; notes = [] } }
+    {
+        KeptBoard {
+            board,
+            last: first,
+            notes: Log::new(),
+        }
+    }
+
+    /// Advertises a service on a queue, as the board does, in the work of that maker. The stamp is behind all looks too.
+    pub fn advertise(
+        &mut self,
+        seen: Stamp,
+        maker: CallerId,
+        by: CallerId,
+        op: u32,
+        row: Row,
+    ) -> Result<Changed, BoardRefused>
+        requires { seen.0 ≤ 2 ^ 63 }
+        ensures { AdvertisedAs (Turns self.old self.new) seen maker by op row result }
+    {
+        let seen = Stamp(seen.0.max(self.last.0));
+        let changed = self.board.advertise(seen, by, op, row)?;
+        let stamp = changed.noted.stamp;
+        let mark = Mark::Changed(Look { maker, stamp });
+        self.notes = self.notes.and(&mark, &changed.noted.event);
+        self.last = stamp;
+        Ok(changed)
+    }
+
+    /// Withdraws a service from a queue, as the board does. The stamp is as for `advertise`.
+    pub fn withdraw(
+        &mut self,
+        seen: Stamp,
+        maker: CallerId,
+        by: CallerId,
+        op: u32,
+        service: &Name,
+        queue: QueueId,
+    ) -> Result<Changed, BoardRefused>
+        requires { seen.0 ≤ 2 ^ 63 }
+        ensures { WithdrewAs (Turns self.old self.new) seen maker by op service.now queue result }
+    {
+        let seen = Stamp(seen.0.max(self.last.0));
+        let changed = self.board.withdraw(seen, by, op, service, queue)?;
+        let stamp = changed.noted.stamp;
+        let mark = Mark::Changed(Look { maker, stamp });
+        self.notes = self.notes.and(&mark, &changed.noted.event);
+        self.last = stamp;
+        Ok(changed)
+    }
+
+    /// The domain withdraws the first row of a queue, in the work of that maker. Where no row of it stands the last stamp is
+    /// raised to `seen`, so that all later changes are behind it.
+    pub fn clear(
+        &mut self,
+        seen: Stamp,
+        maker: CallerId,
+        queue: QueueId,
+    ) -> Result<Clearing, BoardRefused>
+        requires { seen.0 ≤ 2 ^ 63 }
+        ensures { ClearedAs (Turns self.old self.new) seen maker queue result }
+    {
+        let Some(service) = self.board.service_on(queue) else {
+            let stamp = Stamp(seen.0.max(self.last.0));
+            let mark = Mark::Looked(Look { maker, stamp });
+            self.notes = self.notes.and(&mark, &down_of(queue));
+            self.last = stamp;
+            return Ok(Clearing::Clear(stamp));
+        };
+        let changed = self.withdraw(seen, maker, CallerId(0), 0, &service, queue)?;
+        Ok(Clearing::Withdrew(changed.noted))
+    }
+
+    /// Looks a service up, as the board does.
+    pub fn lookup(&self, reader: &mut Reader, name: &Name, conversational: bool) -> u64
+        ensures value { result ≡ version_of self.now.board }
+        ensures found { Finds self.now.board name.now conversational reader.new.found }
+        ensures least { reader.new.least ≡ max reader.old.least result }
+    {
+        self.board.lookup(reader, name, conversational)
+    }
+
+    /// The number of its changes.
+    pub fn version(&self) -> u64
+        ensures value { result ≡ version_of self.now.board }
+        ensures sound { IsSoundBoard self.now }
+        ensures reads { ReadsAsNoted self.now.board }
+    {
+        self.board.version()
+    }
+
+    /// The changes as they were noted.
+    pub fn home(self) -> Home
+        ensures first { result.first ≡ self.board.first }
+        ensures entries { result.entries ≡ self.board.entries }
+        ensures sound { IsSoundBoard self }
+        ensures reads { ReadsAsNoted self.board }
+    {
+        let KeptBoard {
+            board,
+            last: _,
+            notes: _,
+        } = self;
+        board.home()
+    }
+}
