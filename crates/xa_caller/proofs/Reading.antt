@@ -177,6 +177,12 @@ reads_prepared setup view op n least phase phase' draft idle is reads =
     let r = subst (Reads setup view op n least) idle reads in
     subst (Reads setup view op n least) (sym is) (record { called = r.called; just = r.just; accepted = r.accepted; descriptors = r.descriptors; floor = r.floor; stands = r.stands; stays = r.stays; unset = r.unset; unconnected = r.unconnected })
 
+-- nor does one that is aimed anew
+pub reads_redrawn : (setup : Setup) (view : CallerView) (op n least : ℕ) (phase phase' : Phase) (draft redrawn : Draft) → phase ≡ Prepared draft → phase' ≡ Prepared redrawn → Reads setup view op n least phase → Reads setup view op n least phase'
+reads_redrawn setup view op n least phase phase' draft redrawn was is reads =
+    let r = subst (Reads setup view op n least) was reads in
+    subst (Reads setup view op n least) (sym is) (record { called = r.called; just = r.just; accepted = r.accepted; descriptors = r.descriptors; floor = r.floor; stands = r.stands; stays = r.stays; unset = r.unset; unconnected = r.unconnected })
+
 pub unready_from : (setup : Setup) (op : ℕ) (payload : Data) (found : FoundRows) (unready : Unready) (new old : Standing) → find (λ (row : Row). is_accepted setup row.accepts (kind_of payload)) found.rows ≡ None → TurnsDown op found unready new old → UnreadyAs setup op payload found unready new old
 unready_from setup op payload found (Refused stamp) new old none turned = (none, turned)
 unready_from setup op payload found (Full count) new old none turned = absurd turned

@@ -4,3 +4,4 @@ pub mod Caller
 pub mod Changes
 pub mod Kept
 pub mod Serving
+pub mod Unsent

@@ -101,7 +101,13 @@ fn two_copies(alloc: Global, payload: &Data) -> Result<Copies, NoMemory>
     Ok(Copies { sent, kept })
 }
 
-fn accepted_by(op: u32, request: RequestId, version: u64, row: &Row, payload: Data) -> Accepted
+pub(crate) fn accepted_by(
+    op: u32,
+    request: RequestId,
+    version: u64,
+    row: &Row,
+    payload: Data,
+) -> Accepted
     ensures { result ≡ accepted_by op request version row.now payload }
 {
     Accepted {
@@ -118,7 +124,12 @@ fn accepted_by(op: u32, request: RequestId, version: u64, row: &Row, payload: Da
     }
 }
 
-fn entry_by(request: RequestId, row: &Row, payload: Data, ticket: Ticket<Filling>) -> Entry<Cargo>
+pub(crate) fn entry_by(
+    request: RequestId,
+    row: &Row,
+    payload: Data,
+    ticket: Ticket<Filling>,
+) -> Entry<Cargo>
     ensures { result ≡ entry_by request row.now payload ticket }
 {
     Entry {
@@ -188,7 +199,7 @@ fn draft_by(
     }
 }
 
-fn take_out(phase: &mut Phase) -> Phase
+pub(crate) fn take_out(phase: &mut Phase) -> Phase
     ensures { (result ≡ phase.old) × (phase.new ≡ phases.Idle) }
 {
     mem::replace(phase, Phase::Idle)
@@ -203,14 +214,14 @@ fn end(phase: Phase)
     }
 }
 
-fn set(phase: &mut Phase, next: Phase)
+pub(crate) fn set(phase: &mut Phase, next: Phase)
     requires { phase.old ≡ phases.Idle }
     ensures { phase.new ≡ next }
 {
     end(mem::replace(phase, next));
 }
 
-fn draft_in(phase: Phase) -> Draft
+pub(crate) fn draft_in(phase: Phase) -> Draft
     requires { IsPrepared phase }
     ensures { phase ≡ phases.Prepared result }
 {
@@ -416,25 +427,6 @@ impl Caller {
         self.sent += 1;
         self.least = version;
         set(&mut self.phase, Phase::Sent(asked));
-    }
-
-    /// No queue accepted the request that was prepared: its cell is given back.
-    pub fn unsent(&mut self, cells: &Cells<Filling>, note: Note, ticket: Ticket<Filling>)
-        requires cells { IsSeatOf cells.now self.old.seat × IsTicketOf cells.now ticket }
-        requires prepared { IsPreparedAt ticket.cell self.old.phase }
-        ensures cells { SameSeat cells.now self.old.seat self.new.seat }
-        ensures seat { known self.new.seat ≡ withdrawn ticket.cell (known self.old.seat) }
-        ensures made { self.new ≡ record self.old { seat = self.new.seat; phase = phases.Idle } }
-    {
-        let Note = note;
-        let Draft {
-            asked,
-            op: _,
-            version: _,
-            event: _,
-        } = draft_in(take_out(&mut self.phase));
-        let Open { request: _, place } = asked;
-        cells.withdraw(&mut self.seat, place, ticket);
     }
 
     /// Looks for the answer to its request, and is told it where it has come.
