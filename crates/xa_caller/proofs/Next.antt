@@ -1,5 +1,5 @@
 -- Of each event that a caller notes: it meets what is asked of the caller's own events.
-use Rattle.std.proofs.Common.{◌≡◌, ℕ, ◌+◌, ◌<◌, ◌≤◌, if◌then◌else◌, Bool, true, List, [], ◌∷◌, length, Option, Some, None, inl, inr, refl, sym, ◌∙◌, ap, subst, arith}
+use Rattle.std.proofs.Common.{false, ◌≡◌, ℕ, ◌+◌, ◌<◌, ◌≤◌, if◌then◌else◌, ◌||◌, not, Bool, true, List, [], ◌∷◌, length, Option, Some, None, inl, inr, refl, sym, ◌∙◌, ap, subst, arith}
 use Rattle.std.specs.List.{All, find}
 use Rattle.std.proofs.lemmas.List.Elements.{All-head, All-tail}
 use Rattle.std.proofs.lemmas.Bool.{cases_Bool}
@@ -20,6 +20,9 @@ use Rattle.xa_events.specs.declared.event.Refused.{Refused as RefusedCall}
 use Rattle.xa_events.specs.Caller.{is_client, is_active, descriptor_limit, accepted, last_op, just_accepted, least_version, open_descriptors, next_priority}
 use Rattle.xa_events.specs.Cases.{IsNextCall, HasRoom, asked_priority, priority_by, ShowsItself, IsOwnEvidence}
 use Rattle.xa_events.specs.Words.{has}
+use Rattle.xa_events.specs.Calls.{is_invalid_ask, is_invalid_call}
+use Rattle.xa_types.specs.Name.{is_name}
+use Rattle.xa_types.specs.declared.call.Ask.{Ask}
 use Rattle.xa_events.proofs.WordsLemmas.{same_request_of}
 use Rattle.xa_work.specs.Work.{Standing as Working, IsNext, theirs}
 use Rattle.xa_caller.specs.declared.phase.Open.{Open}
@@ -50,7 +53,7 @@ refuses_next c sound may r by next shows own = record {
   };
 }
 
-some_limit : (clients caller : ℕ) → 0 < descriptor_limit clients caller
+pub some_limit : (clients caller : ℕ) → 0 < descriptor_limit clients caller
 some_limit clients caller = elim (cases_Bool (is_client clients caller)) [
   | inl y ↦ subst (λ n. 0 < n) (sym (ap (λ b. if b then 50 else 16) y)) (omega arith)
   | inr n ↦ subst (λ n. 0 < n) (sym (ap (λ b. if b then 50 else 16) n)) (omega arith)
@@ -119,3 +122,15 @@ found-all p P (y ∷ ys) x is all =
       | inl here ↦ subst P (cc (sym (ap (λ b. if b then Some y else find p ys) here) ∙ is)) (All-head P y ys all)
       | inr apart ↦ found-all p P ys x (sym (ap (λ b. if b then Some y else find p ys) apart) ∙ is) (All-tail P y ys all)
     ]
+
+neither : (a b : Bool) → (a || b) ≡ false → (a ≡ false) × (b ≡ false)
+neither true b none = cc none
+neither false b none = (refl, none)
+
+is_so : (b : Bool) → not b ≡ false → b ≡ true
+is_so true h = refl
+is_so false h = cc h
+
+-- a call that isn't invalid sends sound data
+pub sound_ask : (setup : Setup) (ask : Ask) → is_invalid_call setup ask ≡ false → is_sound setup ask.payload ≡ true
+sound_ask setup ask valid = is_so (is_sound setup ask.payload) (neither (not (is_name ask.service)) (not (is_sound setup ask.payload)) (neither (is_invalid_ask setup ask) ask.flags.no_reply valid).0).1

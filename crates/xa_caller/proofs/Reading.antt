@@ -1,5 +1,5 @@
 -- A caller's tables are what its events say also with one event more: a lemma for each kind of event.
-use Rattle.std.proofs.Common.{◌≡◌, ℕ, ◌+◌, ◌<◌, ◌≤◌, ◌==◌, ◌&&◌, if◌then◌else◌, true, false, not, cond, List, [], ◌∷◌, ◌++◌, Option, Some, None, refl, sym, ◌∙◌, ap, subst, arith, eq-eqb}
+use Rattle.std.proofs.Common.{◌≡◌, ℕ, ◌+◌, ◌<◌, ◌≤◌, ◌==◌, ◌&&◌, if◌then◌else◌, true, false, not, cond, List, [], ◌∷◌, ◌++◌, Option, Some, None, inl, refl, sym, ◌∙◌, ap, subst, arith, eq-eqb}
 use Rattle.std.specs.Prelude.{nat_lt, IfSome}
 use Rattle.std.proofs.lemmas.Bool.{and_from, lt-ltb}
 use Rattle.xa_types.specs.declared.setup.Setup.{Setup}
@@ -36,10 +36,10 @@ use Rattle.xa_types.specs.declared.row.Row.{Row}
 use Rattle.xa_types.specs.Found.{FoundRows}
 use Rattle.xa_types.specs.Kind.{kind_of, is_accepted}
 use Rattle.xa_caller.specs.declared.phase.Draft.{Draft}
-use Rattle.xa_caller.specs.declared.phase.Phase.TheVariants.{Prepared}
-use Rattle.xa_caller.specs.declared.outcomes.Unready.{Unready}
-use Rattle.xa_caller.specs.declared.outcomes.Unready.TheVariants.{Refused, Full, Halt}
-use Rattle.xa_caller.specs.Changes.{TurnsDown, UnreadyAs}
+use Rattle.xa_caller.specs.declared.phase.Phase.TheVariants.{Prepared, Lost}
+use Rattle.xa_caller.specs.declared.outcomes.Stop.{Stop as StopOf}
+use Rattle.xa_caller.specs.declared.outcomes.Stop.TheVariants.{Refused, Halt}
+use Rattle.xa_caller.specs.Changes.{TurnsDown, StopsAs}
 use Rattle.xa_caller.specs.Caller.{Standing, Reads, view_of}
 
 -- the view of all that the worker noted, with one event more
@@ -183,7 +183,18 @@ reads_redrawn setup view op n least phase phase' draft redrawn was is reads =
     let r = subst (Reads setup view op n least) was reads in
     subst (Reads setup view op n least) (sym is) (record { called = r.called; just = r.just; accepted = r.accepted; descriptors = r.descriptors; floor = r.floor; stands = r.stands; stays = r.stays; unset = r.unset; unconnected = r.unconnected })
 
-pub unready_from : (setup : Setup) (op : ℕ) (payload : Data) (found : FoundRows) (unready : Unready) (new old : Standing) → find (λ (row : Row). is_accepted setup row.accepts (kind_of payload)) found.rows ≡ None → TurnsDown op found unready new old → UnreadyAs setup op payload found unready new old
-unready_from setup op payload found (Refused stamp) new old none turned = (none, turned)
-unready_from setup op payload found (Full count) new old none turned = absurd turned
-unready_from setup op payload found (Halt halt) new old none turned = turned
+-- nor does an answer that is lost
+pub reads_lost : (setup : Setup) (view : CallerView) (op n least : ℕ) (phase phase' : Phase) (sent : Open) → phase ≡ Sent sent → phase' ≡ Lost sent.request → Reads setup view op n least phase → Reads setup view op n least phase'
+reads_lost setup view op n least phase phase' sent was is reads =
+    let r = subst (Reads setup view op n least) was reads in
+    subst (Reads setup view op n least) (sym is) (record { called = r.called; just = r.just; accepted = r.accepted; descriptors = r.descriptors; floor = r.floor; stands = r.stands; stays = r.stays; unset = r.unset; unconnected = r.unconnected })
+
+-- nor does one that no queue took
+pub reads_unsent : (setup : Setup) (view : CallerView) (op n least : ℕ) (phase phase' : Phase) (draft : Draft) → phase ≡ Prepared draft → phase' ≡ Idle → Reads setup view op n least phase → Reads setup view op n least phase'
+reads_unsent setup view op n least phase phase' draft was is reads =
+    let r = subst (Reads setup view op n least) was reads in
+    subst (Reads setup view op n least) (sym is) (record { called = r.called; just = r.just; accepted = r.accepted; descriptors = r.descriptors; floor = r.floor; stands = r.stands; stays = r.stays; unset = r.unset; unconnected = r.unconnected })
+
+pub stops_from : (setup : Setup) (op : ℕ) (payload : Data) (found : FoundRows) (stop : StopOf) (new old : Standing) → find (λ (row : Row). is_accepted setup row.accepts (kind_of payload)) found.rows ≡ None → TurnsDown op found stop new old → StopsAs setup op payload found stop new old
+stops_from setup op payload found (Refused stamp) new old none turned = inl (none, turned)
+stops_from setup op payload found (Halt halt) new old none turned = turned

@@ -1,5 +1,5 @@
 -- What each call of a caller leaves (this project's own).
-use Rattle.std.specs.Prelude.{◌≡◌, ◌≢◌, ◌⊎◌, ℕ, ◌+◌, ◌-◌, ◌≤◌, ◌^◌, max, true, false, Option, Some, None, Result, Ok, Err, [], ◌∷◌}
+use Rattle.std.specs.Prelude.{◌≡◌, ◌≢◌, ◌⊎◌, ℕ, ◌+◌, ◌-◌, ◌≤◌, ◌^◌, max, true, false, Option, Some, None, IsSome, Result, Ok, Err, [], ◌∷◌}
 use Rattle.std.specs.List.{find}
 use Rattle.xa_types.specs.declared.stamp.Stamp.{Stamp}
 use Rattle.xa_types.specs.declared.data.Data.{Data}
@@ -11,26 +11,28 @@ use Rattle.xa_types.specs.Kind.{kind_of, is_accepted}
 use Rattle.xa_events.specs.declared.event.Event.{Event}
 use Rattle.xa_events.specs.declared.event.Event.TheVariants.{Accept, Answer, Refuse, Leave}
 use Rattle.xa_events.specs.declared.event.Evidence.{Evidence}
-use Rattle.xa_events.specs.declared.event.Evidence.TheVariants.{Version}
+use Rattle.xa_events.specs.declared.event.Evidence.TheVariants.{Version, Cells}
 use Rattle.xa_types.specs.declared.setup.Setup.{Setup}
-use Rattle.xa_types.specs.declared.fault.Fault.TheVariants.{NoEnt, IType}
+use Rattle.xa_types.specs.declared.fault.Fault.TheVariants.{NoEnt, IType, Limit}
 use Rattle.xa_events.specs.Answers.{answer_to}
 use Rattle.xa_events.specs.Caller.{version_in, is_client}
 use Rattle.xa_cell.specs.Views.{at}
 use Rattle.xa_cell.specs.Known.{known}
 use Rattle.xa_cell.specs.Calls.{TookAs}
 use Rattle.xa_cell.specs.Changes.{looked}
-use Rattle.xa_cell.specs.declared.cells.Cells.{Cells}
+use Rattle.xa_cell.specs.declared.cells.Cells.{Cells as CellsOf}
+use Rattle.xa_cell.specs.declared.tokens.Seat.{Seat}
 use Rattle.xa_cell.specs.Calls.{Began, AllTaken}
 use Rattle.xa_work.specs.declared.work.Halt.{Halt}
+use Rattle.xa_work.specs.declared.work.Halt.TheVariants.{Worn}
 use Rattle.xa_work.specs.Work.{Standing as Working, noted, seeing, HaltsAt}
 use Rattle.xa_caller.specs.declared.cargo.Filling.{Filling}
 use Rattle.xa_caller.specs.declared.phase.Open.{Open}
 use Rattle.xa_caller.specs.declared.phase.Draft.{Draft}
 use Rattle.xa_caller.specs.declared.phase.Phase.TheVariants.{Idle, Prepared, Sent, Lost}
 use Rattle.xa_caller.specs.declared.outcomes.Prepared.{Prepared as Made}
-use Rattle.xa_caller.specs.declared.outcomes.Unready.{Unready}
-use Rattle.xa_caller.specs.declared.outcomes.Unready.TheVariants as unready
+use Rattle.xa_caller.specs.declared.outcomes.Stop.{Stop}
+use Rattle.xa_caller.specs.declared.outcomes.Stop.TheVariants as stops
 use Rattle.xa_caller.specs.declared.outcomes.Step.{Step}
 use Rattle.xa_caller.specs.declared.outcomes.Step.TheVariants as steps
 use Rattle.xa_caller.specs.Phases.{least_by}
@@ -63,7 +65,7 @@ LeavesAs (Some halt) new old = (is_client old.clients old.id.0 ≡ true) × Halt
 -- ---- prepare
 
 -- the cell of the caller that the request got, and what it is put on a queue with
-pub record Prepares (setup : Setup) (cells : Cells Filling) (op : ℕ) (payload : Data) (found : FoundRows) (prepared : Made) (new old : Standing) : Type 0 where
+pub record Prepares (setup : Setup) (cells : CellsOf Filling) (op : ℕ) (payload : Data) (found : FoundRows) (prepared : Made) (new old : Standing) : Type 0 where
   pub row : Row
   pub chosen : find (λ (row : Row). is_accepted setup row.accepts (kind_of payload)) found.rows ≡ Some row
   pub draft : Draft
@@ -73,22 +75,28 @@ pub record Prepares (setup : Setup) (cells : Cells Filling) (op : ℕ) (payload 
   pub began : Began cells (record { caller = old.work.id; number = old.sent + 1 }) old.seat new.seat draft.asked.place prepared.entry.cargo.ticket
   pub made : new ≡ record old { work = record old.work { room = max old.work.room 1 }; seat = new.seat; phase = Prepared draft }
 
-abbrev pub refusal : Result Stamp Halt → Unready
-refusal (Ok stamp) = unready.Refused stamp
-refusal (Err halt) = unready.Halt halt
+abbrev pub stop : Result Stamp Halt → Stop
+stop (Ok stamp) = stops.Refused stamp
+stop (Err halt) = stops.Halt halt
 
 -- no row was found, or none that takes the kind of the data; where memory or stamps came to their end nothing changes
-abbrev pub TurnsDown : ℕ → FoundRows → Unready → Standing → Standing → Type 0
-TurnsDown op found (unready.Refused stamp) new old = ((found.rows ≡ []) × Refuses op NoEnt (Version found.version) stamp new old)
+abbrev pub TurnsDown : ℕ → FoundRows → Stop → Standing → Standing → Type 0
+TurnsDown op found (stops.Refused stamp) new old = ((found.rows ≡ []) × Refuses op NoEnt (Version found.version) stamp new old)
     ⊎ ((found.rows ≢ []) × Refuses op IType (Version found.version) stamp new old)
-TurnsDown op found (unready.Full count) new old = ⊥
-TurnsDown op found (unready.Halt halt) new old = HaltsAt old.work.stamp halt × (new ≡ old)
+TurnsDown op found (stops.Halt halt) new old = HaltsAt old.work.stamp halt × (new ≡ old)
 
--- why no request is made: no row that was found takes the kind of the data, all cells are in use, or memory or stamps came to their end
-abbrev pub UnreadyAs : Setup → ℕ → Data → FoundRows → Unready → Standing → Standing → Type 0
-UnreadyAs setup op payload found (unready.Refused stamp) new old = (find (λ (row : Row). is_accepted setup row.accepts (kind_of payload)) found.rows ≡ None) × TurnsDown op found (unready.Refused stamp) new old
-UnreadyAs setup op payload found (unready.Full count) new old = (count ≡ old.seat.count) × AllTaken old.seat new.seat × (new ≡ record old { work = record old.work { room = max old.work.room 1 }; seat = new.seat })
-UnreadyAs setup op payload found (unready.Halt halt) new old = HaltsAt old.work.stamp halt × (new ≡ old)
+-- all cells were looked at, and none was free
+pub record Limits (op : ℕ) (stamp : Stamp) (new old : Standing) : Type 0 where
+  pub seat : Seat Filling
+  pub taken : AllTaken old.seat seat
+  pub refuses : Refuses op Limit (Cells old.seat.count) stamp new (record old { work = record old.work { room = max old.work.room 1 }; seat = seat })
+
+-- why no request is made: no row that was found takes the kind of the data, or else all cells are in use, or memory or stamps came to their end
+abbrev pub StopsAs : Setup → ℕ → Data → FoundRows → Stop → Standing → Standing → Type 0
+StopsAs setup op payload found (stops.Refused stamp) new old =
+    ((find (λ (row : Row). is_accepted setup row.accepts (kind_of payload)) found.rows ≡ None) × TurnsDown op found (stops.Refused stamp) new old)
+    ⊎ (IsSome (find (λ (row : Row). is_accepted setup row.accepts (kind_of payload)) found.rows) × Limits op stamp new old)
+StopsAs setup op payload found (stops.Halt halt) new old = HaltsAt old.work.stamp halt × (new ≡ old)
 
 -- ---- sent
 
@@ -110,8 +118,18 @@ pub record Answers (expect : Option Kind) (stamp : Stamp) (new old : Standing) :
   pub noted : Notes stamp (Answer (record { by = old.work.id; op = old.op; request = sent.request; answer = answer_to expect filling.answer }))
       (record old { work = record (seeing filling.stamp old.work) { room = old.work.room - 1 }; seat = new.seat; phase = Idle }) new
 
+-- the answer was taken from the cell, and stamps had come to their end: nothing was noted, and it is lost
+pub record Loses (halt : Halt) (new old : Standing) : Type 0 where
+  pub sent : Open
+  pub was : old.phase ≡ Sent sent
+  pub filling : Filling
+  pub took : TookAs sent.place.cell filling (looked sent.place.cell 0 (known old.seat)) (known new.seat)
+  pub worn : (seeing filling.stamp old.work).stamp.0 ≡ 2 ^ 63
+  pub last : halt ≡ Worn (seeing filling.stamp old.work).stamp
+  pub made : new ≡ record old { work = seeing filling.stamp old.work; seat = new.seat; phase = Lost sent.request }
+
 -- what a look at the reply comes to; at the last stamp the answer is lost
 abbrev pub StepsAs : Option Kind → Step → Standing → Standing → Type 0
 StepsAs expect (steps.Told stamp) new old = Answers expect stamp new old
-StepsAs expect steps.Wait new old = new ≡ record old { seat = new.seat }
-StepsAs expect (steps.Halt halt) new old = (sent : Open) × (old.phase ≡ Sent sent) × (new.phase ≡ Lost sent.request) × (new.work.own ≡ old.work.own)
+StepsAs expect steps.Wait new old = (sent : Open) × (old.phase ≡ Sent sent) × (known new.seat ≡ looked sent.place.cell 1 (known old.seat)) × (new ≡ record old { seat = new.seat })
+StepsAs expect (steps.Halt halt) new old = Loses halt new old

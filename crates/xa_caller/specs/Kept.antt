@@ -1,5 +1,5 @@
 -- How a caller is kept. No public contract rests on this file.
-use Rattle.std.specs.Prelude.{◌≡◌, ℕ, ◌+◌, ◌≤◌, true, None}
+use Rattle.std.specs.Prelude.{◌≡◌, ℕ, ◌+◌, ◌<◌, ◌≤◌, true, [], None}
 use Rattle.xa_types.specs.declared.ids.CallerId.{CallerId}
 use Rattle.xa_types.specs.declared.setup.Setup.{Setup}
 use Rattle.xa_types.specs.declared.call.Mode.TheVariants.{Reply}
@@ -7,7 +7,11 @@ use Rattle.xa_types.specs.Kind.{is_sound}
 use Rattle.xa_events.specs.declared.event.Event.TheVariants.{Accept}
 use Rattle.xa_events.specs.declared.event.Accepted.{Accepted}
 use Rattle.xa_events.specs.Cases.{priority_by}
+use Rattle.xa_events.specs.Caller.{descriptor_limit}
+use Rattle.xa_cell.specs.declared.tokens.Seat.{Seat}
+use Rattle.xa_cell.specs.Views.{at}
 use Rattle.xa_cell.specs.Known.{known}
+use Rattle.xa_caller.specs.declared.cargo.Filling.{Filling}
 use Rattle.xa_cell.specs.Places.{OpenAre}
 use Rattle.xa_caller.specs.declared.caller.Caller.TheInside.{Inside}
 use Rattle.xa_caller.specs.declared.phase.Draft.{Draft}
@@ -34,6 +38,11 @@ pub record IsDraft (setup : Setup) (id : CallerId) (op sent least : ℕ) (draft 
   pub recent : least ≤ draft.version
   pub priority : accepted.priority ≡ priority_by setup accepted.service None
 
+-- the caller has as many cells as it may have descriptors, and those where no place is open are free
+pub record IsSeated (clients : ℕ) (id : CallerId) (seat : Seat Filling) : Type 0 where
+  pub limit : seat.count ≡ descriptor_limit clients id.0
+  pub free : (k : ℕ) → seat.first ≤ k → k < seat.first + seat.count → (at k (known seat)).asked ≡ [] → 1 ≤ (at k (known seat)).settled
+
 -- what holds of where the call stands: a draft is of the next request, and a request is the caller's own, with room for its answer
 abbrev pub Holds : Setup → CallerId → ℕ → ℕ → ℕ → ℕ → Phase → Type 0
 Holds setup id room op sent least Idle = Unit {0}
@@ -45,4 +54,5 @@ pub record IsKept (c : Inside) : Type 0 where
   pub sound : IsSound (standing_of c)
   pub holds : Holds c.work.setup c.work.id c.work.room c.op c.sent c.least c.phase
   pub places : OpenAre (places_in c.phase) (known c.seat)
+  pub seated : IsSeated c.work.clients c.work.id c.seat
   pub few : c.sent ≤ c.work.stamp.0

@@ -33,10 +33,6 @@ use Rattle.xa_caller.specs.Drafts.{accepted_by, entry_by}
 use Rattle.xa_caller.specs.Caller.{Standing}
 use Rattle.xa_caller.specs.Changes.{Refuses}
 
-abbrev pub stop : Result Stamp Halt → Stop
-stop (Ok stamp) = stops.Refused stamp
-stop (Err halt) = stops.Halt halt
-
 abbrev pub step : Result Stamp Halt → Step
 step (Ok stamp) = steps.Told stamp
 step (Err halt) = steps.Halt halt

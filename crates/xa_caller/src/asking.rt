@@ -8,7 +8,8 @@ ghost use Rattle.xa_caller.specs.declared.phase.Phase.TheVariants as phases;
 ghost use Rattle.xa_caller.specs.declared.phase.Draft.{Draft as Drafted};
 ghost use Rattle.xa_caller.specs.Caller.{MayCall, AreRowsOf};
 ghost use Rattle.xa_caller.specs.Phases.{IsPreparedAt, IsOfVersion};
-ghost use Rattle.xa_caller.specs.Unsent.{ChecksAs, AimsAs, MayBe, UnsentAs, stop, step, aimed_at};
+ghost use Rattle.xa_caller.specs.Unsent.{ChecksAs, AimsAs, MayBe, UnsentAs, step, aimed_at};
+ghost use Rattle.xa_caller.specs.Changes.{stop};
 
 use crate::caller::{Caller, accepted_by, draft_in, set, take_out};
 use crate::cargo::{Cargo, Filling};
@@ -32,7 +33,7 @@ struct GivenBack {
     version: u64,
 }
 
-fn stop(refused: Result<Stamp, Halt>) -> Stop
+pub(crate) fn stop(refused: Result<Stamp, Halt>) -> Stop
     ensures { result ≡ stop refused }
 {
     match refused {

@@ -2,10 +2,10 @@
 ghost use Rattle.std.specs.Prelude.{◌≡◌, ◌+◌, ◌≤◌, ◌<◌, ◌^◌, true, false, max, [], None, Some, IfOk, IfErr, IfSome, OnOk, OnErr};
 ghost use Rattle.std.specs.List.{find};
 ghost use Rattle.xa_types.specs.Configured.{is_configured};
-ghost use Rattle.xa_types.specs.Kind.{is_sound};
+ghost use Rattle.xa_events.specs.Calls.{is_invalid_call};
 ghost use Rattle.xa_events.specs.Cases.{ShowsItself, IsOwnEvidence};
 ghost use Rattle.xa_events.specs.Board.{boot};
-ghost use Rattle.xa_events.specs.Caller.{version_in};
+ghost use Rattle.xa_events.specs.Caller.{version_in, descriptor_limit};
 ghost use Rattle.xa_cell.specs.Known.{known, IsSeatOf, SameSeat, IsNew};
 ghost use Rattle.xa_cell.specs.Known.{IsTicketOf};
 ghost use Rattle.xa_cell.specs.Changes.{withdrawn};
@@ -14,14 +14,15 @@ ghost use Rattle.xa_events.specs.declared.event.Event.TheVariants.{Accept};
 ghost use Rattle.xa_cell.specs.Calls.{Began, AllTaken};
 ghost use Rattle.xa_cell.specs.Places.{Stand, Opens};
 ghost use Rattle.xa_caller.specs.Drafts.{accepted_by, entry_by};
-ghost use Rattle.xa_caller.specs.Changes.{refusal};
+ghost use Rattle.xa_caller.specs.Changes.{stop};
 ghost use Rattle.xa_caller.specs.Phases.{IsPrepared, IsPreparedAt, IsSent, least_by};
 ghost use Rattle.xa_caller.specs.declared.phase.Phase.TheVariants as phases;
 ghost use Rattle.xa_work.specs.Work.{HaltsAt, seeing, theirs};
 
+use crate::asking::stop;
 use crate::cargo::{Cargo, Filling};
 use crate::choosing::first_row;
-use crate::outcomes::{Note, Prepared, Step, Unready};
+use crate::outcomes::{Note, Prepared, Step, Stop};
 use crate::phase::{Draft, Open, Phase};
 use crate::telling::told;
 use std::alloc::Global;
@@ -33,7 +34,7 @@ use xa_events::{Accepted, Event, Evidence, Refused, Replied};
 use xa_queue::Entry;
 use xa_route::priority;
 use xa_types::{
-    CallerId, Data, Fault, Found, Kind, Mode, Name, NoMemory, RequestId, Row, Setup, Stamp,
+    Ask, CallerId, Data, Fault, Found, Kind, Mode, NoMemory, RequestId, Row, Setup, Stamp,
 };
 use xa_work::{Halt, Work};
 
@@ -144,15 +145,6 @@ pub(crate) fn entry_by(
     }
 }
 
-fn refusal(refused: Result<Stamp, Halt>) -> Unready
-    ensures { result ≡ refusal refused }
-{
-    match refused {
-        Ok(stamp) => Unready::Refused(stamp),
-        Err(halt) => Unready::Halt(halt),
-    }
-}
-
 // A request with a cell.
 struct Drafted {
     draft: Draft,
@@ -243,13 +235,14 @@ fn sent_in(phase: Phase) -> Open
 
 impl Caller {
     ghost use Rattle.xa_caller.specs.Caller.{IsSound, MayCall, AreRowsOf};
-    ghost use Rattle.xa_caller.specs.Changes.{Refuses, Prepares, UnreadyAs, TurnsDown, Sends, StepsAs, LeavesAs};
+    ghost use Rattle.xa_caller.specs.Changes.{Refuses, Prepares, StopsAs, TurnsDown, Sends, StepsAs, LeavesAs};
 
     /// A caller that has noted nothing. It reads no version of the board before `least`, which the boot had made.
     pub fn new(work: Work, seat: Seat<Filling>, least: u64) -> Caller
         requires work { work.own ≡ [] }
         requires seat { IsNew seat.first seat.count (known seat) }
         requires least { boot work.setup ≤ least }
+        requires cells { seat.count ≡ descriptor_limit work.clients work.id.0 }
         ensures { result ≡ record { work = work; seat = seat; op = 0; sent = 0; least = least; phase = phases.Idle } }
     {
         Caller {
@@ -328,30 +321,29 @@ impl Caller {
         setup: &Setup,
         cells: &Cells<Filling>,
         op: u32,
-        service: &Name,
-        payload: &Data,
+        ask: &Ask,
         found: &Found,
-    ) -> Result<Prepared, Unready>
+    ) -> Result<Prepared, Stop>
         requires setup { (setup.now ≡ self.old.work.setup) × (is_configured setup.now ≡ true) }
         requires cells { IsSeatOf cells.now self.old.seat }
         requires active { MayCall self.old }
         requires idle { self.old.phase ≡ phases.Idle }
         requires turn { op ≡ self.old.op + 1 }
-        requires sound { is_sound setup.now payload.now ≡ true }
-        requires rows { AreRowsOf setup.now service.now found.now.rows }
+        requires valid { is_invalid_call setup.now ask.now ≡ false }
+        requires rows { AreRowsOf setup.now ask.now.service found.now.rows }
         requires recent { self.old.least ≤ found.now.version }
-        ensures ok { IfOk result (λ prepared. Prepares setup.now cells.now op payload.now found.now prepared self.new self.old) }
-        ensures unready { IfErr result (λ unready. UnreadyAs setup.now op payload.now found.now unready self.new self.old) }
+        ensures ok { IfOk result (λ prepared. Prepares setup.now cells.now op ask.now.payload found.now prepared self.new self.old) }
+        ensures stopped { IfErr result (λ stop. StopsAs setup.now op ask.now.payload found.now stop self.new self.old) }
         ensures cells { SameSeat cells.now self.old.seat self.new.seat }
     {
-        let Some(row) = first_row(setup, found, payload) else {
+        let Some(row) = first_row(setup, found, &ask.payload) else {
             return Err(self.turn_down(op, found));
         };
-        let Ok(copies) = two_copies(alloc, payload) else {
-            return Err(Unready::Halt(Halt::NoMemory));
+        let Ok(copies) = two_copies(alloc, &ask.payload) else {
+            return Err(Stop::Halt(Halt::NoMemory));
         };
         if self.work.reserve(1).is_err() {
-            return Err(Unready::Halt(Halt::NoMemory));
+            return Err(Stop::Halt(Halt::NoMemory));
         }
         let request = self.next_request();
         match draft_by(
@@ -363,7 +355,7 @@ impl Caller {
             &row,
             copies,
         ) {
-            Err(full) => Err(Unready::Full(full)),
+            Err(full) => Err(stop(self.refuse(op, Fault::Limit, Evidence::Cells(full)))),
             Ok(drafted) => {
                 let Drafted {
                     draft,
@@ -381,7 +373,7 @@ impl Caller {
     }
 
     // Its call is refused, since no row of those that were found serves it.
-    fn turn_down(&mut self, op: u32, found: &Found) -> Unready
+    fn turn_down(&mut self, op: u32, found: &Found) -> Stop
         requires active { MayCall self.old }
         requires idle { self.old.phase ≡ phases.Idle }
         requires turn { op ≡ self.old.op + 1 }
@@ -391,9 +383,9 @@ impl Caller {
         let _itself = self.id();
         let evidence = Evidence::Version(found.version);
         if found.rows.is_empty() {
-            return refusal(self.refuse(op, Fault::NoEnt, evidence));
+            return stop(self.refuse(op, Fault::NoEnt, evidence));
         }
-        refusal(self.refuse(op, Fault::IType, evidence))
+        stop(self.refuse(op, Fault::IType, evidence))
     }
 
     // Its next request.

@@ -13,6 +13,6 @@ mod telling;
 
 pub use caller::{Caller, Left};
 pub use cargo::{Cargo, Filling};
-pub use outcomes::{Aimed, Note, Prepared, Step, Stop, Unready, Why};
+pub use outcomes::{Aimed, Note, Prepared, Step, Stop, Why};
 pub use phase::{Draft, Open, Phase};
 pub use sound::is_sound;

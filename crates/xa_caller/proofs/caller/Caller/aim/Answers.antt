@@ -17,7 +17,7 @@ use Rattle.xa_caller.specs.declared.phase.Phase.TheVariants.{Prepared}
 use Rattle.xa_caller.specs.Drafts.{accepted_by}
 use Rattle.xa_caller.specs.Phases.{places_in, just_in, open_in}
 use Rattle.xa_caller.specs.Caller.{Standing, AreRowsOf}
-use Rattle.xa_caller.specs.Kept.{standing_of, Holds}
+use Rattle.xa_caller.specs.Kept.{standing_of, Holds, IsSeated}
 use Rattle.xa_caller.specs.Unsent.{AimsAt}
 use Rattle.xa_caller.proofs.Next.{row-priority}
 use Rattle.xa_caller.proofs.Reading.{reads_redrawn}
@@ -59,6 +59,7 @@ invariant_of-self c =
         },
       );
       places = subst (λ p. OpenAre (places_in p) (known c.self.inside.seat)) (sym now) (subst (λ p. OpenAre (places_in p) (known c.self.inside.seat)) was i.places);
+      seated = i.seated;
       few = i.few;
     }
 

@@ -8,5 +8,6 @@ invariant_of-result c = record {
   sound = record { reads = reads_nothing c.args.work c.args.least c.requires.work c.requires.least };
   holds = tt;
   places = none_open c.requires.seat;
+  seated = record { limit = c.requires.cells; free = λ k low high none. let settled = c.requires.seat.own k low high in omega (arith, settled) };
   few = omega arith;
 }

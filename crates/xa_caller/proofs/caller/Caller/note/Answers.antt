@@ -4,7 +4,7 @@ use Rattle.xa_stamp.specs.declared.home.Stamped.{Stamped}
 use Rattle.xa_work.specs.Work.{Standing as Working, IsNext, noted_here}
 use Rattle.xa_caller.specs.declared.phase.Phase.TheVariants.{Idle}
 use Rattle.xa_caller.specs.Caller.{Standing, Reads, IsSound, view_of}
-use Rattle.xa_caller.specs.Kept.{standing_of, Holds}
+use Rattle.xa_caller.specs.Kept.{standing_of, Holds, IsSeated}
 use Rattle.xa_caller.specs.Serving.{raised, version_ended}
 use Rattle.xa_caller.proofs.Reading.{view-more, reads_served}
 use Rattle.xa_caller.proofs.caller.Caller.note.Goals as goal
@@ -27,5 +27,6 @@ invariant_of-self-2 c =
       });
       holds = subst (Holds c.note.new.self.setup c.note.new.self.id c.note.new.self.room s.op s.sent c.raised-least.result) (sym idle) tt;
       places = i.places;
+      seated = subst (λ (v : Working). IsSeated v.clients v.id s.seat) (sym made) i.seated;
       few = omega (arith, i.few, higher, c.in_ok-stamp.ensures.stamp);
     }

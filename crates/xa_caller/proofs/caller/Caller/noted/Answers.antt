@@ -4,7 +4,7 @@ use Rattle.xa_events.specs.Views.{CallerView}
 use Rattle.xa_stamp.specs.declared.home.Stamped.{Stamped}
 use Rattle.xa_work.specs.Work.{Standing as Working, IsNext, noted}
 use Rattle.xa_caller.specs.Caller.{Standing, Reads, IsSound, view_of}
-use Rattle.xa_caller.specs.Kept.{standing_of, Holds}
+use Rattle.xa_caller.specs.Kept.{standing_of, Holds, IsSeated}
 use Rattle.xa_caller.proofs.Reading.{view-more, reads_aside}
 use Rattle.xa_caller.proofs.caller.Caller.noted.Goals as goal
 
@@ -25,5 +25,6 @@ invariant_of-self c =
       });
       holds = subst (λ (v : Working). Holds v.setup v.id v.room s.op s.sent s.least s.phase) (sym made) i.holds;
       places = i.places;
+      seated = subst (λ (v : Working). IsSeated v.clients v.id s.seat) (sym made) i.seated;
       few = omega (arith, i.few, higher, later);
     }

@@ -10,13 +10,13 @@ use Rattle.xa_caller.specs.declared.phase.Phase.{Phase}
 use Rattle.xa_caller.specs.declared.phase.Phase.TheVariants.{Idle, Prepared}
 use Rattle.xa_caller.specs.Phases.{places_in}
 use Rattle.xa_caller.specs.Caller.{Standing, IsSound, view_of}
-use Rattle.xa_caller.specs.Kept.{standing_of, Holds, IsKept}
-use Rattle.xa_caller.proofs.Keeping.{more_room, on_err}
+use Rattle.xa_caller.specs.Kept.{standing_of, Holds, IsSeated, IsKept}
+use Rattle.xa_caller.proofs.Keeping.{more_room, on_err, seated-stand, seated-but, finds_free}
 use Rattle.std.proofs.Common.{max, None}
 use Rattle.xa_types.specs.declared.row.Row.{Row}
 use Rattle.xa_types.specs.Rows.{row_for}
 use Rattle.xa_events.specs.Cases.{priority_by}
-use Rattle.xa_caller.proofs.Next.{row-priority, found-all}
+use Rattle.xa_caller.proofs.Next.{row-priority, found-all, sound_ask}
 use Rattle.xa_events.specs.declared.event.Accepted.{Accepted}
 use Rattle.xa_work.proofs.Noting.{on_ok}
 use Rattle.xa_cell.proofs.OpenPlaces.{one_more_open}
@@ -28,17 +28,27 @@ use Rattle.xa_cell.specs.Calls.{Began}
 use Rattle.xa_caller.specs.Drafts.{accepted_by, entry_by}
 use Rattle.xa_caller.specs.declared.phase.Draft.{Draft}
 use Rattle.xa_caller.specs.Changes.{Prepares}
-use Rattle.xa_caller.proofs.Reading.{unready_from, reads_prepared}
+use Rattle.xa_caller.proofs.Reading.{stops_from, reads_prepared}
 use Rattle.xa_caller.proofs.caller.Caller.prepare.Goals as goal
 
-pub returns-in_default-clause-unready : goal.returns-in_default-clause-unready
-returns-in_default-clause-unready c = unready_from c.args.setup.now c.args.op c.args.payload.now c.args.found.now c.turn_down.result c.turn_down.new.self c.args.self.now (sym c.first_row.ensures ∙ c.in_default.is) c.turn_down.ensures
+pub returns-in_default-clause-stopped : goal.returns-in_default-clause-stopped
+returns-in_default-clause-stopped c = stops_from c.args.setup.now c.args.op c.args.ask.now.payload c.args.found.now c.turn_down.result c.turn_down.new.self c.args.self.now (sym c.first_row.ensures ∙ c.in_default.is) c.turn_down.ensures
 
 pub invariant_of-self : goal.invariant_of-self
 invariant_of-self c = subst (λ (v : Working). IsKept (record c.self.inside { work = v })) (sym (on_err c.reserve.result (sym c.is_err.ensures.value ∙ c.if-is_err.true) c.reserve.ensures.kept)) c.self.invariant
 
 pub invariant_of-self-2 : goal.invariant_of-self-2
 invariant_of-self-2 c = more_room c.self.inside c.reserve.new.self 1 c.self.invariant (on_ok c.reserve.result (sym c.is_err.ensures.value ∙ c.if-is_err.false) c.reserve.ensures.ok)
+
+pub refuse-requires-clause-shows : goal.refuse-requires-clause-shows
+refuse-requires-clause-shows c =
+    let idle = ap (λ (t : Standing). t.phase) c.self.view_is ∙ c.requires.idle in
+    absurd (finds_free c.self.inside.work.clients c.self.inside.work.id c.self.inside.seat c.draft_by.new.seat c.self.invariant.seated (subst (λ p. OpenAre (places_in p) (known c.self.inside.seat)) idle c.self.invariant.places) c.in-Err.ensures.full.1)
+
+pub returns-in-Err-clause-stopped : goal.returns-in-Err-clause-stopped
+returns-in-Err-clause-stopped c =
+    let idle = ap (λ (t : Standing). t.phase) c.self.view_is ∙ c.requires.idle in
+    absurd (finds_free c.self.inside.work.clients c.self.inside.work.id c.self.inside.seat c.draft_by.new.seat c.self.invariant.seated (subst (λ p. OpenAre (places_in p) (known c.self.inside.seat)) idle c.self.invariant.places) c.in-Err.ensures.full.1)
 
 pub invariant_of-self-in-Err : goal.invariant_of-self-in-Err
 invariant_of-self-in-Err c =
@@ -52,6 +62,7 @@ invariant_of-self-in-Err c =
       sound = subst (λ (v : Working). IsSound (record s { work = v; seat = c.draft_by.new.seat })) (sym made) (record { reads = i.sound.reads });
       holds = subst (Holds c.reserve.new.self.setup c.reserve.new.self.id c.reserve.new.self.room s.op s.sent s.least) (sym idle) tt;
       places = still_open i.places c.in-Err.ensures.full.2;
+      seated = subst (λ (v : Working). IsSeated v.clients v.id c.draft_by.new.seat) (sym made) (seated-stand c.args.cells.now w.clients w.id c.self.inside.seat c.draft_by.new.seat c.draft_by.ensures.cells i.seated c.in-Err.ensures.full.2);
       few = omega (arith, i.few, same);
     }
 
@@ -89,14 +100,16 @@ invariant_of-self-in-Ok-draft_by c =
           request = sym asked;
           mine = mine;
           mode = refl;
-          sound = ap (is_sound w.setup) c.in-Ok.ensures.0 ∙ ap (λ (t : Setup). is_sound t c.args.payload.now) setup ∙ c.requires.sound;
+          sound = ap (is_sound w.setup) c.in-Ok.ensures.0 ∙ ap (λ (t : Setup). is_sound t c.args.ask.now.payload) setup ∙ sound_ask c.args.setup.now c.args.ask.now c.requires.valid;
           version = sym drawn;
           recent = omega (arith, low, c.requires.recent, version, drawn);
-          priority = subst (λ (t : Setup). c.in-Some.row.priority ≡ priority_by t c.in-Some.row.service None) (sym setup) (row-priority c.args.setup.now c.args.service.now c.in-Some.row (found-all (λ (row : Row). is_accepted c.args.setup.now row.accepts (kind_of c.args.payload.now)) (λ (row : Row). row ≡ row_for c.args.setup.now c.args.service.now row.queue.0 row.routine) c.args.found.now.rows c.in-Some.row (sym c.first_row.ensures ∙ c.in-Some.is) c.requires.rows));
+          priority = subst (λ (t : Setup). c.in-Some.row.priority ≡ priority_by t c.in-Some.row.service None) (sym setup) (row-priority c.args.setup.now c.args.ask.now.service c.in-Some.row (found-all (λ (row : Row). is_accepted c.args.setup.now row.accepts (kind_of c.args.ask.now.payload)) (λ (row : Row). row ≡ row_for c.args.setup.now c.args.ask.now.service row.queue.0 row.routine) c.args.found.now.rows c.in-Some.row (sym c.first_row.ensures ∙ c.in-Some.is) c.requires.rows));
         },
       ));
       places = subst (λ p. OpenAre (places_in p) (known c.draft_by.new.seat)) (sym now)
           (subst (λ r. OpenAre ((drafted.draft.asked.place.cell, r) ∷ []) (known c.draft_by.new.seat)) (sym asked) (one_more_open (subst (λ p. OpenAre (places_in p) (known c.self.inside.seat)) idle i.places) e.opens));
+      seated = subst (λ (v : Working). IsSeated v.clients v.id c.draft_by.new.seat) (sym made)
+          (seated-but c.args.cells.now w.clients w.id c.self.inside.seat c.draft_by.new.seat c.draft_by.ensures.cells i.seated drafted.draft.asked.place.cell (λ none. cc (none, e.opens.asked)) e.opens.others);
       few = omega (arith, i.few, same);
     }
 
@@ -111,7 +124,7 @@ returns-in-Ok-draft_by-clause-ok c =
     let mine : c.next_request-request.result ≡ m = c.next_request-request.ensures ∙ ap (λ (v : Working). record { caller = v.id; number = s.sent + 1 }) made in
     let event : RequestId → ℕ → Data → Event = λ r v d. Accept (accepted_by c.args.op r v c.in-Some.row d) in
     let seat = c.draft_by.new.seat in
-    subst (Prepares c.args.setup.now c.args.cells.now c.args.op c.args.payload.now c.args.found.now _ _) c.self.view_is (record {
+    subst (Prepares c.args.setup.now c.args.cells.now c.args.op c.args.ask.now.payload c.args.found.now _ _) c.self.view_is (record {
       row = c.in-Some.row;
       chosen = sym c.first_row.ensures ∙ c.in-Some.is;
       draft = drafted.draft;

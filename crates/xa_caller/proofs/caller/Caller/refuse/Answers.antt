@@ -8,7 +8,7 @@ use Rattle.xa_caller.specs.declared.phase.Phase.TheVariants.{Idle}
 use Rattle.xa_caller.specs.Caller.{Standing, Reads, IsSound, MayCall, view_of}
 use Rattle.xa_caller.proofs.Next.{refuses_next}
 use Rattle.xa_events.specs.Cases.{ShowsItself, IsOwnEvidence}
-use Rattle.xa_caller.specs.Kept.{standing_of, Holds}
+use Rattle.xa_caller.specs.Kept.{standing_of, Holds, IsSeated}
 use Rattle.xa_caller.proofs.Reading.{view-more, reads_refused}
 use Rattle.std.specs.Prelude.{IfSome}
 use Rattle.xa_events.specs.Caller.{version_in}
@@ -44,5 +44,6 @@ invariant_of-self-2 c =
       });
       holds = subst (Holds c.note_anew.new.self.setup c.note_anew.new.self.id c.note_anew.new.self.room c.args.op s.sent c.least_by-least.result) (sym idle) tt;
       places = i.places;
+      seated = subst (λ (v : Working). IsSeated v.clients v.id s.seat) (sym made) i.seated;
       few = omega (arith, i.few, higher, c.in_ok-stamp.ensures.stamp);
     }

@@ -11,7 +11,7 @@ use Rattle.xa_caller.specs.declared.phase.Phase.TheVariants.{Prepared, Sent}
 use Rattle.xa_caller.specs.Phases.{open_in, places_in}
 use Rattle.xa_caller.specs.Caller.{Standing, Reads, IsSound, MayCall, view_of}
 use Rattle.xa_caller.proofs.Next.{accepts_next}
-use Rattle.xa_caller.specs.Kept.{standing_of, Holds}
+use Rattle.xa_caller.specs.Kept.{standing_of, Holds, IsSeated}
 use Rattle.xa_caller.proofs.Reading.{view-more, reads_accepted}
 use Rattle.xa_caller.proofs.caller.Caller.sent.Goals as goal
 
@@ -50,5 +50,6 @@ invariant_of-self c =
       holds = subst (λ (v : Working). Holds v.setup v.id v.room draft.op (s.sent + 1) draft.version c.set.new.phase) (sym made) (subst (Holds w.setup w.id w.room draft.op (s.sent + 1) draft.version) (sym now)
           (held.0, ap (λ (r : RequestId). r.caller) (sym d.request ∙ d.mine), omega (arith, d.next, d.of_draft)));
       places = subst (λ p. OpenAre (places_in p) (known c.self.inside.seat)) (sym now) (subst (λ p. OpenAre (places_in p) (known c.self.inside.seat)) was i.places);
+      seated = subst (λ (v : Working). IsSeated v.clients v.id s.seat) (sym made) i.seated;
       few = omega (arith, i.few, higher, later);
     }
