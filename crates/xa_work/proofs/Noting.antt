@@ -2,9 +2,9 @@
 use Rattle.std.proofs.Common.{◌≡◌, ℕ, ◌<◌, ◌≤◌, ◌^◌, true, false, List, [], ◌∷◌, ◌++◌, inl, inr, refl, sym, ◌∙◌, ap, subst, arith, eq-eqb, ne_eqb}
 use Rattle.std.proofs.Common.{Result, Ok, Err}
 use Rattle.std.proofs.lemmas.Bool.{false≢true}
-use Rattle.std.specs.Prelude.{OnOk, is_err}
+use Rattle.std.specs.Prelude.{OnOk, is_err, map, reverse}
 use Rattle.std.specs.List.{filter}
-use Rattle.std.proofs.lemmas.List.{append-nil}
+use Rattle.std.proofs.lemmas.List.{append-nil, reverse-append}
 use Rattle.std.proofs.lemmas.List.Elements.{All-push, filter-append}
 use Rattle.xa_types.specs.declared.setup.Setup.{Setup}
 use Rattle.xa_events.specs.declared.event.Event.{Event}
@@ -19,7 +19,7 @@ use Rattle.xa_stamp.specs.Home.{last_stamp}
 use Rattle.xa_stamp.proofs.Stamps.{Rises-push}
 use Rattle.xa_crew.specs.Seen.{past_in}
 use Rattle.xa_crew.specs.Crew.{no_stamp, MayNote, IsOfDomain, stands_at}
-use Rattle.xa_crew.proofs.Lists.{filter-yes, filter-no, past_in-append}
+use Rattle.xa_crew.proofs.Lists.{filter-yes, filter-no, past_in-append, map-reverse}
 use Rattle.xa_work.specs.Work.{Standing, IsSound, IsNext, theirs, noted}
 
 -- one event more is the worker's
@@ -80,3 +80,9 @@ domain_elsewhere setup clients worker _ d = absurd d
 pub on_ok : {X Y P : Type 0} (r : Result X Y) → is_err r ≡ false → OnOk r P → P
 on_ok (Ok x) fine holds = holds
 on_ok (Err y) fine holds = absurd (false≢true (sym fine))
+
+-- what holds of each with those before it holds also with one more, where it does of that one
+pub each-more : (P : Stamped → List Event → Type 0) (own : List Stamped) (x : Stamped) → AtEach (λ (y : Stamped) older. P y (map (λ (z : Stamped). z.event) older)) (reverse own) → P x (past_in own)
+    → AtEach (λ (y : Stamped) older. P y (map (λ (z : Stamped). z.event) older)) (reverse (own ++ x ∷ []))
+each-more P own x each here =
+    subst (AtEach (λ (y : Stamped) older. P y (map (λ (z : Stamped). z.event) older))) (sym (reverse-append own (x ∷ []))) (subst (P x) (sym (map-reverse (λ (y : Stamped). y.event) own)) here, each)
