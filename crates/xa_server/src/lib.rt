@@ -1,0 +1,13 @@
+//! A server's slot: it takes requests and ends them, and is started again as its rule says. Its contracts speak of its own
+//! worker's events alone.
+#![tactic(auto)]
+
+mod cargo;
+mod closing;
+pub mod laws;
+mod noting;
+mod slot;
+
+pub use cargo::{Cargo, Filling};
+pub use closing::{Closing, Given};
+pub use slot::{Last, ServerSlot};
