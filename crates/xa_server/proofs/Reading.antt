@@ -1,5 +1,5 @@
 -- A slot's tables are what its events say also with one event more: a lemma for each kind of event.
-use Rattle.std.proofs.Common.{◌≡◌, ℕ, ◌+◌, ◌-◌, ◌<◌, ◌≤◌, ◌==◌, ◌||◌, max, inl, inr, if◌then◌else◌, cond, Bool, true, false, List, [], ◌∷◌, ◌++◌, length, Option, Some, None, refl, sym, ◌∙◌, ap, subst, arith, eq-eqb, eqb-true}
+use Rattle.std.proofs.Common.{◌≡◌, ℕ, ◌+◌, ◌-◌, ◌<◌, ◌≤◌, ◌==◌, ◌||◌, ◌&&◌, ℤ, max, inl, inr, if◌then◌else◌, cond, Bool, true, false, List, [], ◌∷◌, ◌++◌, length, Option, Some, None, refl, sym, ◌∙◌, ap, subst, arith, eq-eqb, eqb-true}
 use Rattle.std.specs.Prelude.{IsSomeAnd}
 use Rattle.std.specs.List.{cons_option, filter_map}
 use Rattle.std.proofs.lemmas.Bool.{false≢true, cond_both}
@@ -18,14 +18,20 @@ use Rattle.xa_events.specs.declared.event.Stopped.{Stopped}
 use Rattle.xa_events.specs.declared.event.Outcome.{Outcome}
 use Rattle.xa_events.specs.declared.event.Outcome.TheVariants.{Returned, Failed, BadReturn, BadForward, Died, Starved}
 use Rattle.xa_events.specs.declared.event.StopCause.{StopCause}
-use Rattle.xa_events.specs.declared.event.StopCause.TheVariants.{Exit}
+use Rattle.xa_events.specs.declared.event.StopCause.TheVariants as causes
+use Rattle.xa_events.specs.Finishing.{returned, return_by}
+use Rattle.xa_types.specs.declared.call.Rval.{Rval}
+use Rattle.xa_types.specs.declared.call.Rval.TheVariants.{Success, Fail, Exit}
+use Rattle.xa_types.specs.declared.data.Data.{Data}
+use Rattle.xa_types.specs.declared.setup.Setup.{Setup}
+use Rattle.xa_types.specs.Kind.{is_sound}
 use Rattle.xa_events.specs.declared.event.Doing.{Doing}
 use Rattle.xa_events.specs.declared.event.Doing.TheVariants.{Off, Idle, Busy, Dying}
 use Rattle.xa_events.specs.Homes.{worker_of}
 use Rattle.xa_events.specs.Words.{added, without, greatest}
 use Rattle.xa_events.specs.State.{caller_of}
 use Rattle.xa_events.specs.Server.{starts, start_in, after_end, doing_after, outcome_in, is_shutdown, is_shutdown_stop, doing, was_shut_down, last_outcome, may_start, may_start_as}
-use Rattle.xa_events.specs.Cases.{may_end_so, idle_stops, dying_stops, is_return, StartWorker, TakeWorker, EndWorker, GoneWorker, StopWorker}
+use Rattle.xa_events.specs.Cases.{may_end_so, idle_stops, dying_stops, is_return, is_starved, StartWorker, TakeWorker, EndWorker, GoneWorker, StopWorker}
 use Rattle.xa_events.specs.Caller.{open_descriptors, opens_descriptor, closes_descriptor, tick_in, ticks, tick_floor, least_version, version_of}
 use Rattle.xa_events.specs.Conversation.{connections, opens_connection, closes_connection}
 use Rattle.xa_events.specs.Views.{newer, ServerView, server_view, server_after}
@@ -38,7 +44,7 @@ use Rattle.xa_work.proofs.Noting.{theirs-more}
 use Rattle.xa_server.specs.declared.slot.ServerSlot.{ServerSlot}
 use Rattle.xa_server.specs.declared.slot.Last.{Last}
 use Rattle.xa_server.specs.declared.slot.Last.TheVariants as lasts
-use Rattle.xa_server.specs.Doings.{last_by, last_of, room_for, InHand, IdleStops}
+use Rattle.xa_server.specs.Doings.{life_in, last_by, last_of, room_for, IsBusy, InHand, outcome_of, is_death, DyingStops, MayStop}
 use Rattle.xa_server.specs.Slot.{Reads, IsWorkerOf, Stand, Tables, Stands, view_of}
 use Rattle.xa_server.specs.Noting.{with_room}
 use Rattle.xa_server.specs.declared.cargo.Cargo.{Cargo}
@@ -285,3 +291,203 @@ module _ (slot : ServerSlot) (w : Standing) (stands : Stands slot w) where
             (omega (arith, few, later)) (omega (arith, ready, room));
         hand = refl;
       }
+
+-- ---- ends
+
+idle_as : (cause : StopCause) (o : Option Outcome) → (cause ≡ causes.Exit → last_of o ≡ lasts.Badly) → idle_stops cause o ≡ true
+idle_as causes.Exit (Some (Failed code payload)) only = refl
+idle_as causes.Exit (Some BadReturn) only = refl
+idle_as causes.Exit (Some (Returned code payload)) only = absurd (cc (only refl))
+idle_as causes.Exit (Some (BadForward version)) only = absurd (cc (only refl))
+idle_as causes.Exit (Some Died) only = absurd (cc (only refl))
+idle_as causes.Exit (Some Starved) only = absurd (cc (only refl))
+idle_as causes.Exit None only = absurd (cc (only refl))
+idle_as cause o only = refl
+
+dying_as : (cause : StopCause) (o : Option Outcome) (last : Last) → last_of o ≡ last → DyingStops cause last → dying_stops cause o ≡ true
+dying_as cause (Some Died) last is may = subst (DyingStops cause) (sym is) may
+dying_as cause (Some Starved) last is may = subst (DyingStops cause) (sym is) may
+dying_as cause (Some (Returned code payload)) last is may = absurd (subst (DyingStops cause) (sym is) may)
+dying_as cause (Some (Failed code payload)) last is may = absurd (subst (DyingStops cause) (sym is) may)
+dying_as cause (Some BadReturn) last is may = absurd (subst (DyingStops cause) (sym is) may)
+dying_as cause (Some (BadForward version)) last is may = absurd (subst (DyingStops cause) (sym is) may)
+dying_as cause None last is may = absurd (subst (DyingStops cause) (sym is) may)
+
+
+of_end : (clients : ℕ) (e : Ended) → IsServers e.server clients (End e)
+of_end clients e = record { its = refl; opens = λ caller. refl; closes = λ caller. refl; connects = λ caller. refl; disconnects = λ caller. refl }
+
+of_stop : (clients : ℕ) (x : Stopped) → IsServers x.server clients (Stop x)
+of_stop clients x = record { its = refl; opens = λ caller. refl; closes = λ caller. refl; connects = λ caller. refl; disconnects = λ caller. refl }
+
+of_gone : (clients : ℕ) (server : ServerId) → IsServers server clients (Gone server)
+of_gone clients server = record { its = refl; opens = λ caller. refl; closes = λ caller. refl; connects = λ caller. refl; disconnects = λ caller. refl }
+
+pub room_after : (o : Outcome) (g : Generation) → room_for (after_end o g) ≤ 2
+room_after (Returned code payload) g = omega arith
+room_after (Failed code payload) g = omega arith
+room_after BadReturn g = omega arith
+room_after (BadForward version) g = omega arith
+room_after Died g = omega arith
+room_after Starved g = omega arith
+
+module _ (slot : ServerSlot) (w : Standing) (tables : Tables slot w) where
+  pub may_ended : (e : Ended) → e.server ≡ slot.server → slot.doing ≡ Busy e.generation e.request → may_end_so w.setup e.outcome ≡ true → version_of e.outcome ≡ None → IsNext w (End e)
+  unfolding doing
+  may_ended e its busy may none = record {
+    its = ap (λ (s : ServerId). w.clients + s.0) its ∙ tables.worker.number;
+    met = subst (λ (s : ServerId). EndWorker w.setup w.clients (record e { server = s }) (theirs w)) (sym its) (record {
+      busy = tables.reads.moved ∙ busy;
+      may = may;
+      unconnected = λ is. ap (λ c. connections c (theirs w)) tables.worker.number ∙ tables.worker.unconnected;
+      not_older = λ version read. absurd (cc (none, read));
+    });
+  }
+
+  pub ended_tables : (e : Ended) (stamp : Stamp) (room : ℕ) → e.server ≡ slot.server → w.stamp.0 < stamp.0 → room_for (after_end e.outcome e.generation) ≤ room
+      → Tables (record slot { doing = after_end e.outcome e.generation; last = last_by e.outcome }) (more (record { stamp = stamp; event = End e }) room w)
+  ended_tables e stamp room its later fits =
+      let few = tables.few in
+      stand-more slot.server slot.restarts slot.restarts w (record { stamp = stamp; event = End e }) room tables.worker refl refl refl
+          (subst (λ (s : ServerId). IsServers s w.clients (End e)) its (of_end w.clients e)) slot.made (after_end e.outcome e.generation) (last_by e.outcome) slot.gone slot.shut
+          (reads_ended slot.server.0 (view_of slot.server w) slot.made slot.restarts.starts slot.doing slot.last slot.gone slot.shut tables.reads e (ap (λ (s : ServerId). s.0) its))
+          (omega (arith, few, later)) fits
+
+  none_open : open_descriptors (caller_of w.clients slot.server.0) (theirs w) ≡ []
+  none_open = ap (λ c. open_descriptors c (theirs w)) tables.worker.number ∙ tables.worker.none
+
+  none_connected : connections (caller_of w.clients slot.server.0) (theirs w) ≡ []
+  none_connected = ap (λ c. connections c (theirs w)) tables.worker.number ∙ tables.worker.unconnected
+
+  stops : (cause : StopCause) (d : Doing) (last : Last) → slot.doing ≡ d → slot.last ≡ last → MayStop cause d last → StopWorker w.clients (record { server = slot.server; generation = life_in d; cause = cause }) (theirs w)
+  unfolding doing last_outcome
+  stops cause (Idle g) last is ended may = record { alive = inl (tables.reads.moved ∙ is, idle_as cause _ (λ exit. tables.reads.ended ∙ ended ∙ may exit)); none = none_open; unconnected = none_connected }
+  stops cause (Dying g) last is ended may = record { alive = inr (tables.reads.moved ∙ is, dying_as cause _ last (tables.reads.ended ∙ ended) may); none = none_open; unconnected = none_connected }
+  stops cause Off last is ended may = absurd may
+  stops cause (Busy g request) last is ended may = absurd may
+
+  pub may_stopped : (cause : StopCause) → MayStop cause slot.doing slot.last → IsNext w (Stop (record { server = slot.server; generation = life_in slot.doing; cause = cause }))
+  may_stopped cause may = record { its = tables.worker.number; met = stops cause slot.doing slot.last refl refl may }
+
+  pub stopped_tables : (cause : StopCause) (life : Generation) (stamp : Stamp) (room : ℕ) → w.stamp.0 < stamp.0
+      → Tables (record slot { doing = Off; last = lasts.Nothing; shut = is_shutdown cause }) (more (record { stamp = stamp; event = Stop (record { server = slot.server; generation = life; cause = cause }) }) room w)
+  stopped_tables cause life stamp room later =
+      let few = tables.few in
+      let x : Stopped = record { server = slot.server; generation = life; cause = cause } in
+      stand-more slot.server slot.restarts slot.restarts w (record { stamp = stamp; event = Stop x }) room tables.worker refl refl refl
+          (of_stop w.clients x) slot.made Off lasts.Nothing slot.gone (is_shutdown cause)
+          (reads_stopped slot.server.0 (view_of slot.server w) slot.made slot.restarts.starts slot.doing slot.last slot.gone slot.shut tables.reads x refl)
+          (omega (arith, few, later)) (omega arith)
+
+  pub may_gone : (tick : ℕ) → MayBeGivenUp tick slot w → IsNext w (Gone slot.server)
+  unfolding doing was_shut_down
+  may_gone tick may = record {
+    its = tables.worker.number;
+    met = record {
+      off = tables.reads.moved ∙ may.off;
+      not_shut_down = tables.reads.stopped ∙ may.up;
+      no_restart = subst (λ c. may_start w.setup slot.server.0 (starts slot.server.0 (theirs w)) (tick_floor w.clients c (theirs w)) ≡ false) (sym tables.worker.number)
+          (ruled slot w tables (tick_floor w.clients w.id.0 (theirs w)) ∙ no_earlier slot.restarts (tick_floor w.clients w.id.0 (theirs w)) tick may.floor may.no_restart);
+    };
+  }
+
+  pub gone_tables : (stamp : Stamp) → w.stamp.0 < stamp.0 → Tables (record slot { gone = true }) (noted (record { stamp = stamp; event = Gone slot.server }) w)
+  gone_tables stamp later =
+      let few = tables.few in
+      stand-more slot.server slot.restarts slot.restarts w (record { stamp = stamp; event = Gone slot.server }) w.room tables.worker refl refl refl
+          (of_gone w.clients slot.server) slot.made slot.doing slot.last true slot.shut
+          (reads_gone slot.server.0 (view_of slot.server w) slot.made slot.restarts.starts slot.doing slot.last slot.gone slot.shut tables.reads slot.server refl)
+          (omega (arith, few, later)) tables.ready
+
+-- ---- how a request ends
+
+kept_so : (b : Bool) → b ≡ b && true
+kept_so true = refl
+kept_so false = refl
+
+-- what a return becomes where no connection is open
+pub return_is : (setup : Setup) (open_connections : List RequestId) (sound : Bool) (value : Rval) (code : ℤ) (payload : Data) → open_connections ≡ [] → sound ≡ is_sound setup payload
+    → (if sound then returned value code payload else BadReturn) ≡ return_by setup open_connections value code payload
+return_is setup open_connections sound value code payload none is =
+    ap (λ b. if b then returned value code payload else BadReturn) (is ∙ kept_so (is_sound setup payload)) ∙ ap (λ l. return_by setup l value code payload) (sym none)
+
+pub return_may : (setup : Setup) (sound : Bool) (value : Rval) (code : ℤ) (payload : Data) → sound ≡ is_sound setup payload
+    → (may_end_so setup (if sound then returned value code payload else BadReturn) ≡ true) × (version_of (if sound then returned value code payload else BadReturn) ≡ None)
+return_may setup true Success code payload is = (sym is, refl)
+return_may setup true Fail code payload is = (sym is, refl)
+return_may setup true Exit code payload is = (sym is, refl)
+return_may setup false value code payload is = (refl, refl)
+
+-- a life that ends by a death may stop with its cause
+pub death_stops : (cause : StopCause) → is_death cause ≡ true → DyingStops cause (last_by (outcome_of cause))
+death_stops causes.Shutdown death = absurd (false≢true death)
+death_stops causes.Exit death = absurd (false≢true death)
+death_stops causes.Starved death = refl
+death_stops causes.EndOfInput death = refl
+death_stops causes.ReadFault death = refl
+death_stops causes.WriteFault death = refl
+death_stops (causes.BadBytes place) death = refl
+death_stops (causes.OutOfTurn kind tag) death = refl
+
+pub no_exit : (cause : StopCause) → is_death cause ≡ true → cause ≡ causes.Exit → ⊥
+no_exit cause death is = false≢true (subst (λ c. is_death c ≡ true) is death)
+
+-- ---- what a slot is after each end
+
+-- the request that the server is busy with
+pub holding : (d : Doing) (hand : Option (Entry Cargo)) → InHand d hand → IsBusy d → (entry : Entry Cargo) × (hand ≡ Some entry) × (d ≡ Busy (life_in d) entry.request)
+holding (Busy g request) (Some entry) same busy = (entry, refl, ap (Busy g) (sym same))
+holding (Busy g request) None same busy = absurd same
+holding Off hand same busy = absurd busy
+holding (Idle g) hand same busy = absurd busy
+holding (Dying g) hand same busy = absurd busy
+
+hand_after : (o : Outcome) (g : Generation) → InHand (after_end o g) None
+hand_after (Returned code payload) g = refl
+hand_after (Failed code payload) g = refl
+hand_after BadReturn g = refl
+hand_after (BadForward version) g = refl
+hand_after Died g = tt
+hand_after Starved g = tt
+
+dies_as : (b : Bool) (g : Generation) → after_end (cond b Starved Died) g ≡ Dying g
+dies_as true g = refl
+dies_as false g = refl
+
+pub bad_ends : (setup : Setup) (b : Bool) → (may_end_so setup (cond b Starved Died) ≡ true) × (version_of (cond b Starved Died) ≡ None)
+bad_ends setup true = (refl, refl)
+bad_ends setup false = (refl, refl)
+
+-- the end of that request
+abbrev pub end_of : ServerSlot → Entry Cargo → Outcome → Ended
+end_of slot entry outcome = record { request = entry.request; server = slot.server; generation = life_in slot.doing; outcome = outcome }
+
+module _ (slot : ServerSlot) (w : Standing) (stands : Stands slot w) where
+  pub finished_stands : (entry : Entry Cargo) (outcome : Outcome) (stamp : Stamp) → stamp.0 ≡ w.stamp.0 + 1
+      → Stands (record slot { doing = after_end outcome (life_in slot.doing); hand = None; last = last_by outcome }) (noted_here (record { stamp = stamp; event = End (end_of slot entry outcome) }) (with_room 3 w))
+  finished_stands entry outcome stamp next = record {
+    tables = ended_tables slot w stands.tables (end_of slot entry outcome) stamp (max w.room 3 - 1) refl (omega (arith, next)) (omega (arith, room_after outcome (life_in slot.doing), le-max_right w.room 3));
+    hand = hand_after outcome (life_in slot.doing);
+  }
+
+  pub lost_stands : (entry : Entry Cargo) (cause : StopCause) (stamp : Stamp) → slot.doing ≡ Busy (life_in slot.doing) entry.request → stamp.0 ≡ w.stamp.0 + 1
+      → Stands (record slot { doing = Dying (life_in slot.doing); last = last_by (outcome_of cause) }) (noted_here (record { stamp = stamp; event = End (end_of slot entry (outcome_of cause)) }) w)
+  lost_stands entry cause stamp busy next =
+      let g = life_in slot.doing in
+      let dying = dies_as (is_starved cause) g in
+      let ready = stands.tables.ready in
+      let room = ap room_for busy in
+      let fits = ap room_for dying in
+      let x : Stamped = record { stamp = stamp; event = End (end_of slot entry (outcome_of cause)) } in
+      record {
+        tables = subst (λ (d : Doing). Stand slot.server slot.restarts slot.made d (last_by (outcome_of cause)) slot.gone slot.shut (noted_here x w)) dying
+            (ended_tables slot w stands.tables (end_of slot entry (outcome_of cause)) stamp (w.room - 1) refl (omega (arith, next)) (omega (arith, fits, ready, room)));
+        hand = tt;
+      }
+
+  pub stopped_stands : (cause : StopCause) (life : Generation) (stamp : Stamp) → slot.hand ≡ None → stamp.0 ≡ w.stamp.0 + 1
+      → Stands (record slot { doing = Off; last = lasts.Nothing; shut = is_shutdown cause }) (noted_here (record { stamp = stamp; event = Stop (record { server = slot.server; generation = life; cause = cause }) }) w)
+  stopped_stands cause life stamp free next = record { tables = stopped_tables slot w stands.tables cause life stamp (w.room - 1) (omega (arith, next)); hand = free }
+
+  pub gone_stands : (stamp : Stamp) → w.stamp.0 < stamp.0 → Stands (record slot { gone = true }) (noted (record { stamp = stamp; event = Gone slot.server }) w)
+  gone_stands stamp later = record { tables = gone_tables slot w stands.tables stamp later; hand = stands.hand }

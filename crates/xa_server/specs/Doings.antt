@@ -61,6 +61,19 @@ is_death cause = cond (is_starved cause) true (is_failure cause)
 abbrev pub outcome_of : StopCause → Outcome
 outcome_of cause = cond (is_starved cause) outcomes.Starved outcomes.Died
 
--- with which cause an idle server may stop, by how its last request ended
-abbrev pub IdleStops : StopCause → Last → Type 0
-IdleStops cause last = cause ≡ Exit → last ≡ Badly
+-- with which cause a server that dies may stop
+abbrev pub DyingStops : StopCause → Last → Type 0
+DyingStops cause Died = is_failure cause ≡ true
+DyingStops cause Starved = is_starved cause ≡ true
+DyingStops cause _ = ⊥
+
+-- with which cause a life may end, by how its last request ended
+abbrev pub MayStop : StopCause → Doing → Last → Type 0
+MayStop cause (Idle generation) last = cause ≡ Exit → last ≡ Badly
+MayStop cause (Dying generation) last = DyingStops cause last
+MayStop cause _ last = ⊥
+
+abbrev pub IsAlive : Doing → Type 0
+IsAlive (Idle generation) = Unit {0}
+IsAlive (Busy generation request) = Unit {0}
+IsAlive _ = ⊥

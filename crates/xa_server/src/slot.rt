@@ -1,18 +1,30 @@
 // The slot of a server.
-ghost use Rattle.std.specs.Prelude.{◌≡◌, ◌+◌, ◌≤◌, ◌<◌, ◌^◌, ◌∷◌, [], Some, None, IfOk, IfErr, OnErr, IsNone, IsSome};
+ghost use Rattle.std.specs.Prelude.{◌≡◌, ◌+◌, ◌≤◌, ◌<◌, ◌^◌, ◌∷◌, [], Some, None, IfOk, IfErr, OnErr, IsSome, MatchOption, if◌then◌else◌};
 ghost use Rattle.xa_restart.specs.Rule.{may_start_by, IsLast};
 ghost use Rattle.xa_events.specs.declared.event.Doing.TheVariants as doings;
-ghost use Rattle.xa_work.specs.Work.{noted};
-ghost use Rattle.xa_server.specs.Doings.{life_in};
+ghost use Rattle.xa_work.specs.Work.{noted, theirs};
+ghost use Rattle.xa_types.specs.Kind.{is_sound};
+ghost use Rattle.xa_events.specs.declared.event.Outcome.TheVariants.{BadReturn};
+ghost use Rattle.xa_events.specs.Conversation.{connections};
+ghost use Rattle.xa_events.specs.Finishing.{returned, return_by};
+ghost use Rattle.xa_events.specs.Server.{after_end, is_shutdown};
+ghost use Rattle.xa_events.specs.Answers.{reply_of};
+ghost use Rattle.xa_events.specs.Request.Settlement.{SweptAway};
+ghost use Rattle.xa_events.specs.declared.event.Event.TheVariants.{Gone};
+ghost use Rattle.xa_server.specs.Doings.{life_in, last_by, outcome_of, is_death, IsBusy, InHand, MayStop};
+ghost use Rattle.xa_queue.specs.declared.entry.Entry.{Entry};
+ghost use Rattle.xa_server.specs.declared.cargo.Cargo.{Cargo};
 
 use crate::cargo::Cargo;
+use crate::closing::{Closing, close, reply_to};
 use crate::noting::note_anew;
+use std::alloc::Global;
 use std::mem;
 use std::snapshot::Snapshot;
-use xa_events::{Doing, Event, Started};
+use xa_events::{Doing, Ended, Event, Outcome, Started, StopCause, Stopped};
 use xa_queue::Entry;
 use xa_restart::Lives;
-use xa_types::{Generation, ServerId, Stamp};
+use xa_types::{Answer, Data, Fault, Generation, Rval, ServerId, Stamp, Worn};
 use xa_work::{Halt, Work};
 
 /// How the request ended that the server ended last, where it has done nothing since.
@@ -51,6 +63,69 @@ fn life_in(doing: Doing) -> Generation
     }
 }
 
+fn last_by(outcome: &Outcome) -> Last
+    ensures { result ≡ last_by outcome.now }
+{
+    match outcome {
+        Outcome::Returned(..) | Outcome::BadForward(_) => Last::Well,
+        Outcome::Failed(..) | Outcome::BadReturn => Last::Badly,
+        Outcome::Died => Last::Died,
+        Outcome::Starved => Last::Starved,
+    }
+}
+
+// What the server does once its request ended so.
+fn after_end(outcome: &Outcome, generation: Generation) -> Doing
+    ensures { result ≡ after_end outcome.now generation }
+{
+    match outcome {
+        Outcome::Died | Outcome::Starved => Doing::Dying(generation),
+        Outcome::Returned(..) | Outcome::Failed(..) | Outcome::BadReturn | Outcome::BadForward(_) => {
+            Doing::Idle(generation)
+        }
+    }
+}
+
+// How a request ends by a return; TPEXIT fails as TPFAIL does.
+fn outcome_by(sound: bool, value: Rval, code: i32, payload: Data) -> Outcome
+    ensures { result ≡ (if sound then returned value code payload else BadReturn) }
+{
+    if !sound {
+        drop(payload);
+        return Outcome::BadReturn;
+    }
+    match value {
+        Rval::Success => Outcome::Returned(code, payload),
+        Rval::Fail | Rval::Exit => Outcome::Failed(code, payload),
+    }
+}
+
+fn outcome_of(cause: &StopCause) -> Outcome
+    ensures { result ≡ outcome_of cause.now }
+{
+    match cause {
+        StopCause::Starved => Outcome::Starved,
+        _ => Outcome::Died,
+    }
+}
+
+fn is_shutdown(cause: &StopCause) -> bool
+    ensures { result ≡ is_shutdown cause.now }
+{
+    matches!(cause, StopCause::Shutdown)
+}
+
+fn take_out(hand: &mut Option<Entry<Cargo>>) -> Entry<Cargo>
+    requires { IsSome hand.old }
+    ensures was { hand.old ≡ Some result }
+    ensures now { hand.new ≡ None }
+{
+    match mem::replace(hand, None) {
+        Some(entry) => entry,
+        None => unreachable!(),
+    }
+}
+
 fn put_in(hand: &mut Option<Entry<Cargo>>, entry: Entry<Cargo>)
     requires { hand.old ≡ None }
     ensures { hand.new ≡ Some entry }
@@ -66,7 +141,7 @@ impl ServerSlot {
     ghost use Rattle.xa_server.specs.declared.slot.Last.TheVariants as lasts;
     ghost use Rattle.xa_server.specs.Noting.{HaltsWith};
     ghost use Rattle.xa_server.specs.Slot.{Stands};
-    ghost use Rattle.xa_server.specs.Changes.{MayStart, Starts, FailsToStart, IsTakeOf, with_start};
+    ghost use Rattle.xa_server.specs.Changes.{MayStart, Starts, FailsToStart, MayBeGivenUp, IsTakeOf, Ends, Closes, Finishes, Stops, IsWorn, with_start};
 
     /// A server that was never started.
     pub fn new(server: ServerId, restarts: Lives) -> ServerSlot
@@ -160,5 +235,132 @@ impl ServerSlot {
         self.doing = Doing::Busy(life_in(self.doing), entry.request);
         put_in(&mut self.hand, entry);
         self.last = Last::Nothing;
+    }
+
+    /// The service returned, with data that is sound or isn't: the request in hand ends, and its caller is to be told. At a
+    /// halt it stays in hand.
+    pub fn finish_return(
+        &mut self,
+        alloc: Global,
+        caller: &mut Work,
+        sound: bool,
+        value: Rval,
+        code: i32,
+        payload: Data,
+    ) -> Result<Closing, Halt>
+        requires stands { Stands self.old caller.old }
+        requires busy { IsBusy self.old.doing }
+        requires sound { sound ≡ is_sound caller.old.setup payload }
+        ensures ok { IfOk result (λ closing. Finishes (return_by caller.old.setup (connections caller.old.id.0 (theirs caller.old)) value code payload) closing self.new self.old caller.new caller.old) }
+        ensures stands { Stands self.new caller.new }
+        ensures halted { IfErr result (HaltsWith 3 caller.new caller.old) }
+        ensures kept { OnErr result (self.new ≡ self.old) }
+    {
+        let outcome = outcome_by(sound, value, code, payload);
+        let Ok(answer) = reply_to(alloc, &outcome) else {
+            drop(outcome);
+            return Err(Halt::NoMemory);
+        };
+        let doing = after_end(&outcome, life_in(self.doing));
+        let last = last_by(&outcome);
+        let ended = self.end_with(outcome);
+        let stamp = note_anew(caller, 3, Event::End(ended))?;
+        self.doing = doing;
+        self.last = last;
+        Ok(close(take_out(&mut self.hand), answer, stamp))
+    }
+
+    // The end of the request in hand.
+    fn end_with(&self, outcome: Outcome) -> Ended
+        requires hand { InHand self.now.doing self.now.hand }
+        requires busy { IsBusy self.now.doing }
+        ensures { (entry : Entry Cargo) → self.now.hand ≡ Some entry → result ≡ record { request = entry.request; server = self.now.server; generation = life_in self.now.doing; outcome = outcome } }
+    {
+        match self.doing {
+            Doing::Busy(generation, request) => Ended {
+                request,
+                server: self.server,
+                generation,
+                outcome,
+            },
+            _ => unreachable!(),
+        }
+    }
+
+    // The life ends with a request in hand, in room that was made before. The request stays in hand.
+    fn lose(&mut self, caller: &mut Work, cause: StopCause) -> Result<Stamp, Worn>
+        requires stands { Stands self.old caller.old }
+        requires busy { IsBusy self.old.doing }
+        requires death { is_death cause ≡ true }
+        ensures ok { IfOk result (λ stamp. Ends (outcome_of cause) stamp self.new self.old caller.new caller.old) }
+        ensures stands { Stands self.new caller.new }
+        ensures worn { IfErr result (λ worn. IsWorn worn caller.old) }
+        ensures kept { OnErr result ((self.new ≡ self.old) × (caller.new ≡ caller.old)) }
+    {
+        let outcome = outcome_of(&cause);
+        let doing = Doing::Dying(life_in(self.doing));
+        let last = last_by(&outcome);
+        let ended = self.end_with(outcome);
+        let stamp = caller.note(Event::End(ended))?;
+        self.doing = doing;
+        self.last = last;
+        Ok(stamp)
+    }
+
+    /// Its life ends: it was told to end, or said so by TPEXIT. The room was made before.
+    pub fn stopped(&mut self, caller: &mut Work, cause: StopCause) -> Result<Stamp, Worn>
+        requires stands { Stands self.old caller.old }
+        requires may { MayStop cause self.old.doing self.old.last }
+        requires free { self.old.hand ≡ None }
+        ensures ok { IfOk result (λ stamp. Stops cause stamp self.new self.old caller.new caller.old) }
+        ensures stands { Stands self.new caller.new }
+        ensures worn { IfErr result (λ worn. IsWorn worn caller.old) }
+        ensures kept { OnErr result ((self.new ≡ self.old) × (caller.new ≡ caller.old)) }
+    {
+        let stopped = Stopped {
+            server: self.server,
+            generation: life_in(self.doing),
+            cause,
+        };
+        let stamp = caller.note(Event::Stop(stopped))?;
+        self.doing = Doing::Off;
+        self.last = Last::Nothing;
+        self.shut = is_shutdown(&cause);
+        Ok(stamp)
+    }
+
+    /// Its queue gave it up, with that stamp, since no start may be made at that tick.
+    pub fn given_up(&mut self, caller: &mut Work, tick: u64, stamp: Stamp, gone: Snapshot<Event>)
+        requires stands { Stands self.old caller.old }
+        requires may { MayBeGivenUp tick self.old caller.old }
+        requires gone { gone.value ≡ Gone self.old.server }
+        requires later { caller.old.stamp.0 < stamp.0 }
+        requires bound { stamp.0 ≤ 2 ^ 63 }
+        ensures slot { self.new ≡ record self.old { gone = true } }
+        ensures noted { caller.new ≡ noted (record { stamp = stamp; event = gone.value }) caller.old }
+        ensures stands { Stands self.new caller.new }
+    {
+        let _at = tick;
+        caller.noted(stamp, gone);
+        self.gone = true;
+    }
+
+    /// What the caller of a request is to be told that was swept from the server's queue with that stamp.
+    pub fn swept(&self, entry: Entry<Cargo>, stamp: Stamp) -> Closing
+        ensures { result ≡ record { ticket = entry.cargo.ticket; answer = reply_of SweptAway; stamp = stamp } }
+    {
+        close(entry, Answer::Error(Fault::System), stamp)
+    }
+
+    /// What the caller of the request in hand is to be told at a halt: nothing is noted, and it is told as if the request
+    /// had been swept.
+    pub fn give_up(&mut self) -> Option<Closing>
+        ensures closing { MatchOption result (self.old.hand ≡ None) (Closes (reply_of SweptAway) (record { 0 = 0 }) self.old.hand) }
+        ensures slot { self.new ≡ record self.old { hand = None } }
+    {
+        match mem::replace(&mut self.hand, None) {
+            Some(entry) => Some(close(entry, Answer::Error(Fault::System), Stamp(0))),
+            None => None,
+        }
     }
 }
