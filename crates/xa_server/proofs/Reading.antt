@@ -2,7 +2,7 @@
 use Rattle.std.proofs.Common.{◌≡◌, ℕ, ◌+◌, ◌-◌, ◌<◌, ◌≤◌, ◌==◌, ◌||◌, ◌&&◌, ℤ, max, inl, inr, if◌then◌else◌, cond, Bool, true, false, List, [], ◌∷◌, ◌++◌, length, Option, Some, None, refl, sym, ◌∙◌, ap, subst, arith, eq-eqb, eqb-true}
 use Rattle.std.specs.Prelude.{IsSomeAnd}
 use Rattle.std.specs.List.{cons_option, filter_map}
-use Rattle.std.proofs.lemmas.Bool.{false≢true, cond_both}
+use Rattle.std.proofs.lemmas.Bool.{false≢true}
 use Rattle.std.proofs.Math.Nat.{le-max_left, le-max_right, max-le}
 use Rattle.xa_types.specs.declared.ids.Generation.{Generation}
 use Rattle.xa_types.specs.declared.ids.RequestId.{RequestId}
@@ -31,8 +31,8 @@ use Rattle.xa_events.specs.Homes.{worker_of}
 use Rattle.xa_events.specs.Words.{added, without, greatest}
 use Rattle.xa_events.specs.State.{caller_of}
 use Rattle.xa_events.specs.Server.{starts, start_in, after_end, doing_after, outcome_in, is_shutdown, is_shutdown_stop, doing, was_shut_down, last_outcome, may_start, may_start_as}
-use Rattle.xa_events.specs.Cases.{may_end_so, idle_stops, dying_stops, is_return, is_starved, StartWorker, TakeWorker, EndWorker, GoneWorker, StopWorker}
-use Rattle.xa_events.specs.Caller.{open_descriptors, opens_descriptor, closes_descriptor, tick_in, ticks, tick_floor, least_version, version_of}
+use Rattle.xa_events.specs.Cases.{may_end_so, idle_stops, dying_stops, is_starved, StartWorker, TakeWorker, EndWorker, StopWorker}
+use Rattle.xa_events.specs.Caller.{open_descriptors, opens_descriptor, closes_descriptor, tick_in, ticks, tick_floor, version_of}
 use Rattle.xa_events.specs.Conversation.{connections, opens_connection, closes_connection}
 use Rattle.xa_events.specs.Views.{newer, ServerView, server_view, server_after}
 use Rattle.xa_events.proofs.Owns.{server_more}
@@ -47,7 +47,7 @@ use Rattle.xa_server.specs.declared.slot.Last.TheVariants as lasts
 use Rattle.xa_server.specs.Doings.{life_in, last_by, last_of, room_for, IsBusy, InHand, outcome_of, is_death, DyingStops, MayStop}
 use Rattle.xa_server.specs.Slot.{Reads, IsWorkerOf, Stand, Tables, Stands, view_of}
 use Rattle.xa_server.specs.Noting.{with_room}
-use Rattle.xa_server.specs.declared.cargo.Cargo.{Cargo}
+use Rattle.xa_caller.specs.declared.cargo.Cargo.{Cargo}
 use Rattle.xa_queue.specs.declared.entry.Entry.{Entry}
 use Rattle.xa_types.specs.declared.stamp.Stamp.{Stamp}
 use Rattle.xa_server.specs.Changes.{MayStart, MayBeGivenUp, with_start}
@@ -287,7 +287,7 @@ module _ (slot : ServerSlot) (w : Standing) (stands : Stands slot w) where
         tables = stand-more slot.server slot.restarts slot.restarts w x w.room before.worker refl refl refl
             (subst (λ (s : ServerId). IsServers s w.clients (Take t)) its (of_take w.clients t)) slot.made (Busy t.generation entry.request) lasts.Nothing slot.gone slot.shut
             (subst (λ (r : RequestId). Reads (server_after slot.server.0 (Take t) (view_of slot.server w)) slot.made slot.restarts.starts (Busy t.generation r) lasts.Nothing slot.gone slot.shut) same
-              (reads_taken slot.server.0 (view_of slot.server w) slot.made slot.restarts.starts slot.doing slot.last slot.gone slot.shut before.reads t (ap (λ (s : ServerId). s.0) its)))
+            (reads_taken slot.server.0 (view_of slot.server w) slot.made slot.restarts.starts slot.doing slot.last slot.gone slot.shut before.reads t (ap (λ (s : ServerId). s.0) its)))
             (omega (arith, few, later)) (omega (arith, ready, room));
         hand = refl;
       }
@@ -312,7 +312,6 @@ dying_as cause (Some (Failed code payload)) last is may = absurd (subst (DyingSt
 dying_as cause (Some BadReturn) last is may = absurd (subst (DyingStops cause) (sym is) may)
 dying_as cause (Some (BadForward version)) last is may = absurd (subst (DyingStops cause) (sym is) may)
 dying_as cause None last is may = absurd (subst (DyingStops cause) (sym is) may)
-
 
 of_end : (clients : ℕ) (e : Ended) → IsServers e.server clients (End e)
 of_end clients e = record { its = refl; opens = λ caller. refl; closes = λ caller. refl; connects = λ caller. refl; disconnects = λ caller. refl }
@@ -349,9 +348,9 @@ module _ (slot : ServerSlot) (w : Standing) (tables : Tables slot w) where
   ended_tables e stamp room its later fits =
       let few = tables.few in
       stand-more slot.server slot.restarts slot.restarts w (record { stamp = stamp; event = End e }) room tables.worker refl refl refl
-          (subst (λ (s : ServerId). IsServers s w.clients (End e)) its (of_end w.clients e)) slot.made (after_end e.outcome e.generation) (last_by e.outcome) slot.gone slot.shut
-          (reads_ended slot.server.0 (view_of slot.server w) slot.made slot.restarts.starts slot.doing slot.last slot.gone slot.shut tables.reads e (ap (λ (s : ServerId). s.0) its))
-          (omega (arith, few, later)) fits
+      (subst (λ (s : ServerId). IsServers s w.clients (End e)) its (of_end w.clients e)) slot.made (after_end e.outcome e.generation) (last_by e.outcome) slot.gone slot.shut
+      (reads_ended slot.server.0 (view_of slot.server w) slot.made slot.restarts.starts slot.doing slot.last slot.gone slot.shut tables.reads e (ap (λ (s : ServerId). s.0) its))
+      (omega (arith, few, later)) fits
 
   none_open : open_descriptors (caller_of w.clients slot.server.0) (theirs w) ≡ []
   none_open = ap (λ c. open_descriptors c (theirs w)) tables.worker.number ∙ tables.worker.none
@@ -375,9 +374,9 @@ module _ (slot : ServerSlot) (w : Standing) (tables : Tables slot w) where
       let few = tables.few in
       let x : Stopped = record { server = slot.server; generation = life; cause = cause } in
       stand-more slot.server slot.restarts slot.restarts w (record { stamp = stamp; event = Stop x }) room tables.worker refl refl refl
-          (of_stop w.clients x) slot.made Off lasts.Nothing slot.gone (is_shutdown cause)
-          (reads_stopped slot.server.0 (view_of slot.server w) slot.made slot.restarts.starts slot.doing slot.last slot.gone slot.shut tables.reads x refl)
-          (omega (arith, few, later)) (omega arith)
+      (of_stop w.clients x) slot.made Off lasts.Nothing slot.gone (is_shutdown cause)
+      (reads_stopped slot.server.0 (view_of slot.server w) slot.made slot.restarts.starts slot.doing slot.last slot.gone slot.shut tables.reads x refl)
+      (omega (arith, few, later)) (omega arith)
 
   pub may_gone : (tick : ℕ) → MayBeGivenUp tick slot w → IsNext w (Gone slot.server)
   unfolding doing was_shut_down
@@ -395,9 +394,9 @@ module _ (slot : ServerSlot) (w : Standing) (tables : Tables slot w) where
   gone_tables stamp later =
       let few = tables.few in
       stand-more slot.server slot.restarts slot.restarts w (record { stamp = stamp; event = Gone slot.server }) w.room tables.worker refl refl refl
-          (of_gone w.clients slot.server) slot.made slot.doing slot.last true slot.shut
-          (reads_gone slot.server.0 (view_of slot.server w) slot.made slot.restarts.starts slot.doing slot.last slot.gone slot.shut tables.reads slot.server refl)
-          (omega (arith, few, later)) tables.ready
+      (of_gone w.clients slot.server) slot.made slot.doing slot.last true slot.shut
+      (reads_gone slot.server.0 (view_of slot.server w) slot.made slot.restarts.starts slot.doing slot.last slot.gone slot.shut tables.reads slot.server refl)
+      (omega (arith, few, later)) tables.ready
 
 -- ---- how a request ends
 
@@ -450,7 +449,7 @@ hand_after (BadForward version) g = refl
 hand_after Died g = tt
 hand_after Starved g = tt
 
-dies_as : (b : Bool) (g : Generation) → after_end (cond b Starved Died) g ≡ Dying g
+pub dies_as : (b : Bool) (g : Generation) → after_end (cond b Starved Died) g ≡ Dying g
 dies_as true g = refl
 dies_as false g = refl
 

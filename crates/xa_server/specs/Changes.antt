@@ -1,5 +1,5 @@
 -- What each call of a slot asks and leaves (this project's own). A call changes the slot and its worker's work: `new` and `old` are the work.
-use Rattle.std.specs.Prelude.{◌≡◌, ◌⊎◌, ℕ, ◌+◌, ◌≤◌, ◌^◌, ◌∷◌, true, false, Option, Some, None}
+use Rattle.std.specs.Prelude.{◌≡◌, ◌⊎◌, ℕ, ◌+◌, ◌≤◌, ◌∷◌, true, false, Option, Some, None}
 use Rattle.xa_types.specs.declared.ids.RequestId.{RequestId}
 use Rattle.xa_types.specs.declared.ids.Generation.{Generation}
 use Rattle.xa_types.specs.declared.stamp.Stamp.{Stamp}
@@ -16,11 +16,11 @@ use Rattle.xa_events.specs.declared.event.Doing.{Doing}
 use Rattle.xa_types.specs.declared.stamp.Worn.{Worn}
 use Rattle.xa_types.specs.declared.reply.Answer.{Answer}
 use Rattle.xa_queue.specs.declared.entry.Entry.{Entry}
-use Rattle.xa_server.specs.declared.cargo.Cargo.{Cargo}
+use Rattle.xa_caller.specs.declared.cargo.Cargo.{Cargo}
 use Rattle.xa_server.specs.declared.closing.Closing.{Closing}
 use Rattle.xa_restart.specs.Rule.{may_start_by}
 use Rattle.xa_work.specs.Work.{Standing, theirs}
-use Rattle.xa_server.specs.Noting.{Notes, with_room}
+use Rattle.xa_server.specs.Noting.{Notes, IsWorn, with_room}
 use Rattle.xa_server.specs.declared.slot.ServerSlot.{ServerSlot}
 use Rattle.xa_server.specs.declared.slot.Last.TheVariants.{Nothing}
 use Rattle.xa_server.specs.Doings.{last_by, life_in, outcome_of}
@@ -79,7 +79,7 @@ pub record Ends (outcome : Outcome) (stamp : Stamp) (slot' slot : ServerSlot) (n
 pub record Closes (answer : Answer) (stamp : Stamp) (hand : Option (Entry Cargo)) (closing : Closing) : Type 0 where
   pub entry : Entry Cargo
   pub in_hand : hand ≡ Some entry
-  pub is : closing ≡ record { ticket = entry.cargo.ticket; answer = answer; stamp = stamp }
+  pub is : closing ≡ record { ticket = Some entry.cargo.ticket; answer = answer; stamp = stamp }
 
 -- the request in hand ended so, with room made before, and its caller is to be told
 pub record Finishes (outcome : Outcome) (closing : Closing) (slot' slot : ServerSlot) (new old : Standing) : Type 0 where
@@ -93,11 +93,6 @@ pub record Finishes (outcome : Outcome) (closing : Closing) (slot' slot : Server
 pub record Stops (cause : StopCause) (stamp : Stamp) (slot' slot : ServerSlot) (new old : Standing) : Type 0 where
   pub noted : Notes stamp (Stop (record { server = slot.server; generation = life_in slot.doing; cause = cause })) new old
   pub left : slot' ≡ record slot { doing = Off; last = Nothing; shut = is_shutdown cause }
-
--- the stamp is the last one, and the event that would be next isn't noted
-pub record IsWorn (worn : Worn) (old : Standing) : Type 0 where
-  pub at_end : old.stamp.0 ≡ 2 ^ 63
-  pub tells : worn.0.0 ≡ 2 ^ 63
 
 -- the life of a server that is busy ends: its request ended, and its life behind that
 pub record DiesBusy (cause : StopCause) (closing : Closing) (slot' slot : ServerSlot) (new old : Standing) : Type 0 where

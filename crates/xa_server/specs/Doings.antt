@@ -1,5 +1,5 @@
 -- What a server does, and with which cause its life may end (this project's own).
-use Rattle.std.specs.Prelude.{◌≡◌, ℕ, Bool, true, false, cond, Option, Some, None}
+use Rattle.std.specs.Prelude.{◌≡◌, ℕ, Bool, true, cond, Option, Some, None}
 use Rattle.xa_types.specs.declared.ids.Generation.{Generation}
 use Rattle.xa_events.specs.declared.event.Doing.{Doing}
 use Rattle.xa_events.specs.declared.event.Doing.TheVariants.{Off, Idle, Busy, Dying}
@@ -9,7 +9,7 @@ use Rattle.xa_events.specs.declared.event.StopCause.{StopCause}
 use Rattle.xa_events.specs.declared.event.StopCause.TheVariants.{Exit}
 use Rattle.xa_events.specs.Cases.{is_failure, is_starved}
 use Rattle.xa_queue.specs.declared.entry.Entry.{Entry}
-use Rattle.xa_server.specs.declared.cargo.Cargo.{Cargo}
+use Rattle.xa_caller.specs.declared.cargo.Cargo.{Cargo}
 use Rattle.xa_server.specs.declared.slot.Last.{Last}
 use Rattle.xa_server.specs.declared.slot.Last.TheVariants.{Nothing, Well, Badly, Died, Starved}
 

@@ -1,6 +1,7 @@
 -- An event at a worker's own home (this project's own).
 use Rattle.std.specs.Prelude.{◌≡◌, ℕ, ◌+◌, ◌≤◌, ◌^◌, max}
 use Rattle.xa_types.specs.declared.stamp.Stamp.{Stamp}
+use Rattle.xa_types.specs.declared.stamp.Worn.{Worn as Last}
 use Rattle.xa_events.specs.declared.event.Event.{Event}
 use Rattle.xa_work.specs.declared.work.Halt.{Halt}
 use Rattle.xa_work.specs.declared.work.Halt.TheVariants.{NoMemory, Worn}
@@ -20,3 +21,8 @@ pub record Notes (stamp : Stamp) (event : Event) (new old : Standing) : Type 0 w
 abbrev pub HaltsWith : ℕ → Standing → Standing → Halt → Type 0
 HaltsWith n new old NoMemory = new ≡ old
 HaltsWith n new old (Worn last) = (new ≡ with_room n old) × (old.stamp.0 ≡ 2 ^ 63) × (last.0 ≡ 2 ^ 63)
+
+-- the stamp is the last one, and the event that would be next isn't noted
+pub record IsWorn (worn : Last) (old : Standing) : Type 0 where
+  pub at_end : old.stamp.0 ≡ 2 ^ 63
+  pub tells : worn.0.0 ≡ 2 ^ 63

@@ -1,5 +1,5 @@
 -- What a caller is told, and the end that stands behind it (this project's own).
-use Rattle.std.specs.Prelude.{◌≡◌, ℕ, ◌≤◌, Option, Some, None}
+use Rattle.std.specs.Prelude.{◌≡◌, Option, Some, None}
 use Rattle.xa_types.specs.declared.stamp.Stamp.{Stamp}
 use Rattle.xa_types.specs.declared.reply.Answer.{Answer}
 use Rattle.xa_cell.specs.declared.tokens.Ticket.{Ticket}
@@ -7,7 +7,7 @@ use Rattle.xa_cell.specs.declared.view.View.{View}
 use Rattle.xa_cell.specs.declared.filler.Filled.{Filled}
 use Rattle.xa_cell.specs.declared.filler.Filled.TheVariants as fills
 use Rattle.xa_cell.specs.Calls.{FilledAs}
-use Rattle.xa_server.specs.declared.cargo.Filling.{Filling}
+use Rattle.xa_caller.specs.declared.cargo.Filling.{Filling}
 use Rattle.xa_server.specs.declared.closing.Closing.{Closing}
 use Rattle.xa_server.specs.declared.closing.Given.{Given}
 use Rattle.xa_server.specs.declared.closing.Given.TheVariants.{Delivered, Dropped, Nothing}

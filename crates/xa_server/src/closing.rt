@@ -1,17 +1,16 @@
 // The end of a request, which its caller has to be told.
-ghost use Rattle.std.specs.Prelude.{◌≡◌, ◌≤◌, ◌^◌, IfOk, IfSome};
+ghost use Rattle.std.specs.Prelude.{◌≡◌, ◌≤◌, Some, IfOk, IfSome};
 ghost use Rattle.xa_events.specs.Answers.{reply_of};
 ghost use Rattle.xa_events.specs.Request.Settlement.{EndedBy};
 ghost use Rattle.xa_cell.specs.Known.{known, IsSeatOf, IsTicketOf, SameSeat};
 ghost use Rattle.xa_server.specs.Told.{GivenAs};
 
-use crate::cargo::{Cargo, Filling};
 use std::alloc::Global;
-use xa_cell::{Cells, Filled, Seat, Ticket};
+use xa_caller::{Caller, Cargo, Filling};
+use xa_cell::{Cells, Filled, Ticket};
 use xa_events::Outcome;
 use xa_queue::Entry;
 use xa_types::{Answer, Fault, NoMemory, Stamp};
-use xa_work::Work;
 
 /// What the caller of a request is to be told, and the stamp of the event by which the request ended: it ends in `give`.
 pub struct Closing {
@@ -44,7 +43,7 @@ pub(crate) fn reply_to(alloc: Global, outcome: &Outcome) -> Result<Answer, NoMem
 
 // The answer to the request of that entry, which ended with that stamp.
 pub(crate) fn close(entry: Entry<Cargo>, answer: Answer, stamp: Stamp) -> Closing
-    ensures { result ≡ record { ticket = entry.cargo.ticket; answer = answer; stamp = stamp } }
+    ensures { result ≡ record { ticket = Some entry.cargo.ticket; answer = answer; stamp = stamp } }
 {
     let Entry {
         request: _,
@@ -54,14 +53,12 @@ pub(crate) fn close(entry: Entry<Cargo>, answer: Answer, stamp: Stamp) -> Closin
     let Cargo {
         service: _,
         routine: _,
-        mode: _,
-        hop: _,
         payload,
         ticket,
     } = cargo;
     drop(payload);
     Closing {
-        ticket,
+        ticket: Some(ticket),
         answer,
         stamp,
     }
@@ -70,12 +67,12 @@ pub(crate) fn close(entry: Entry<Cargo>, answer: Answer, stamp: Stamp) -> Closin
 impl Closing {
     /// Fills the cell of the caller, or drops the answer where its place was given up. The filling has the greatest stamp
     /// that the worker noted or saw by now, so whoever is told finds all that the worker noted. It takes no memory.
-    pub fn give(self, caller: &Work, cells: &Cells<Filling>, seat: &mut Seat<Filling>) -> Given
-        requires seat { IsSeatOf cells.now seat.old }
-        requires ticket { IfSome self.ticket (IsTicketOf cells.now) }
-        requires later { self.stamp.0 ≤ caller.now.stamp.0 }
-        ensures seat { SameSeat cells.now seat.old seat.new }
-        ensures given { GivenAs self caller.now.stamp (known seat.old) (known seat.new) result }
+    pub fn give(self, caller: &mut Caller, cells: &Cells<Filling>) -> Given
+        requires cells { IsSeatOf cells.now caller.old.seat × IfSome self.ticket (IsTicketOf cells.now) }
+        requires later { self.stamp.0 ≤ caller.old.work.stamp.0 }
+        ensures cells { SameSeat cells.now caller.old.seat caller.new.seat }
+        ensures given { GivenAs self caller.old.work.stamp (known caller.old.seat) (known caller.new.seat) result }
+        ensures caller { caller.new ≡ record caller.old { seat = caller.new.seat } }
     {
         let Closing {
             ticket,
@@ -86,7 +83,7 @@ impl Closing {
             return Given::Nothing;
         };
         let stamp = caller.stamp();
-        match cells.fill(seat, ticket, Filling { answer, stamp }) {
+        match caller.fill(cells, ticket, Filling { answer, stamp }) {
             Filled::Delivered => Given::Delivered,
             Filled::Dropped(_) => Given::Dropped,
         }

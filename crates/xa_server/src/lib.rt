@@ -2,12 +2,10 @@
 //! worker's events alone.
 #![tactic(auto)]
 
-mod cargo;
 mod closing;
 pub mod laws;
 mod noting;
 mod slot;
 
-pub use cargo::{Cargo, Filling};
 pub use closing::{Closing, Given};
 pub use slot::{Last, ServerSlot};

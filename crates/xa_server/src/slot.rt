@@ -3,29 +3,30 @@ ghost use Rattle.std.specs.Prelude.{◌≡◌, ◌+◌, ◌≤◌, ◌<◌, ◌^
 ghost use Rattle.xa_restart.specs.Rule.{may_start_by, IsLast};
 ghost use Rattle.xa_events.specs.declared.event.Doing.TheVariants as doings;
 ghost use Rattle.xa_work.specs.Work.{noted, theirs};
+ghost use Rattle.xa_caller.specs.declared.phase.Phase.TheVariants as phases;
 ghost use Rattle.xa_types.specs.Kind.{is_sound};
 ghost use Rattle.xa_events.specs.declared.event.Outcome.TheVariants.{BadReturn};
 ghost use Rattle.xa_events.specs.Conversation.{connections};
 ghost use Rattle.xa_events.specs.Finishing.{returned, return_by};
 ghost use Rattle.xa_events.specs.Server.{after_end, is_shutdown};
 ghost use Rattle.xa_events.specs.Answers.{reply_of};
-ghost use Rattle.xa_events.specs.Request.Settlement.{SweptAway};
+ghost use Rattle.xa_events.specs.Request.Settlement.{EndedBy, SweptAway};
 ghost use Rattle.xa_events.specs.declared.event.Event.TheVariants.{Gone};
-ghost use Rattle.xa_server.specs.Doings.{life_in, last_by, outcome_of, is_death, IsBusy, InHand, MayStop};
+ghost use Rattle.xa_server.specs.Doings.{life_in, last_by, outcome_of, is_death, IsAlive, IsBusy, InHand, MayStop};
 ghost use Rattle.xa_queue.specs.declared.entry.Entry.{Entry};
-ghost use Rattle.xa_server.specs.declared.cargo.Cargo.{Cargo};
+ghost use Rattle.xa_caller.specs.declared.cargo.Cargo.{Cargo};
 
-use crate::cargo::Cargo;
 use crate::closing::{Closing, close, reply_to};
-use crate::noting::note_anew;
+use crate::noting::{note_anew, note_in_room};
 use std::alloc::Global;
 use std::mem;
 use std::snapshot::Snapshot;
+use xa_caller::{Caller, Cargo};
 use xa_events::{Doing, Ended, Event, Outcome, Started, StopCause, Stopped};
 use xa_queue::Entry;
 use xa_restart::Lives;
 use xa_types::{Answer, Data, Fault, Generation, Rval, ServerId, Stamp, Worn};
-use xa_work::{Halt, Work};
+use xa_work::Halt;
 
 /// How the request ended that the server ended last, where it has done nothing since.
 #[derive(Clone, Copy, PartialEq, Eq)]
@@ -80,9 +81,8 @@ fn after_end(outcome: &Outcome, generation: Generation) -> Doing
 {
     match outcome {
         Outcome::Died | Outcome::Starved => Doing::Dying(generation),
-        Outcome::Returned(..) | Outcome::Failed(..) | Outcome::BadReturn | Outcome::BadForward(_) => {
-            Doing::Idle(generation)
-        }
+        Outcome::Returned(..) | Outcome::Failed(..) | Outcome::BadReturn | Outcome::BadForward(_) =>
+            { Doing::Idle(generation) }
     }
 }
 
@@ -106,6 +106,16 @@ fn outcome_of(cause: &StopCause) -> Outcome
     match cause {
         StopCause::Starved => Outcome::Starved,
         _ => Outcome::Died,
+    }
+}
+
+// What the caller is told of a request whose life ended so.
+fn death_reply(cause: &StopCause) -> Answer
+    ensures { result ≡ reply_of (EndedBy (outcome_of cause.now)) }
+{
+    match cause {
+        StopCause::Starved => Answer::Error(Fault::NoMemory),
+        _ => Answer::Error(Fault::SvcErr),
     }
 }
 
@@ -139,9 +149,9 @@ fn put_in(hand: &mut Option<Entry<Cargo>>, entry: Entry<Cargo>)
 impl ServerSlot {
     ghost use Rattle.std.specs.Prelude.{true, false};
     ghost use Rattle.xa_server.specs.declared.slot.Last.TheVariants as lasts;
-    ghost use Rattle.xa_server.specs.Noting.{HaltsWith};
+    ghost use Rattle.xa_server.specs.Noting.{HaltsWith, IsWorn};
     ghost use Rattle.xa_server.specs.Slot.{Stands};
-    ghost use Rattle.xa_server.specs.Changes.{MayStart, Starts, FailsToStart, MayBeGivenUp, IsTakeOf, Ends, Closes, Finishes, Stops, IsWorn, with_start};
+    ghost use Rattle.xa_server.specs.Changes.{MayStart, Starts, FailsToStart, MayBeGivenUp, IsTakeOf, Ends, Closes, Finishes, Stops, Dies, DiesBusy, DiesWorn, with_start};
 
     /// A server that was never started.
     pub fn new(server: ServerId, restarts: Lives) -> ServerSlot
@@ -167,8 +177,8 @@ impl ServerSlot {
     }
 
     // Its next life, started at that tick.
-    fn next(&self, caller: &Work, tick: u64) -> Started
-        requires { self.now.made ≤ caller.now.stamp.0 }
+    fn next(&self, caller: &Caller, tick: u64) -> Started
+        requires { self.now.made ≤ caller.now.work.stamp.0 }
         ensures { result ≡ record { server = self.now.server; generation = record { 0 = self.now.made + 1 }; tick = tick } }
     {
         let _bound = caller.stamp();
@@ -191,12 +201,14 @@ impl ServerSlot {
     }
 
     /// It was started, by a clock that shows this tick. There is room then for all that its end notes.
-    pub fn started(&mut self, caller: &mut Work, tick: u64) -> Result<Generation, Halt>
-        requires stands { Stands self.old caller.old }
-        requires may { MayStart tick self.old caller.old }
-        ensures ok { IfOk result (λ life. Starts tick life self.new self.old caller.new caller.old) }
-        ensures stands { Stands self.new caller.new }
-        ensures halted { IfErr result (HaltsWith 3 caller.new caller.old) }
+    pub fn started(&mut self, caller: &mut Caller, tick: u64) -> Result<Generation, Halt>
+        requires stands { Stands self.old caller.old.work }
+        requires idle { caller.old.phase ≡ phases.Idle }
+        requires may { MayStart tick self.old caller.old.work }
+        ensures ok { IfOk result (λ life. Starts tick life self.new self.old caller.new.work caller.old.work) }
+        ensures stands { Stands self.new caller.new.work }
+        ensures rest { caller.new ≡ record caller.old { work = caller.new.work } }
+        ensures halted { IfErr result (HaltsWith 3 caller.new.work caller.old.work) }
         ensures kept { OnErr result (self.new ≡ self.old) }
     {
         let started = self.next(caller, tick);
@@ -207,12 +219,14 @@ impl ServerSlot {
     }
 
     /// Its start failed, by a clock that shows this tick.
-    pub fn start_failed(&mut self, caller: &mut Work, tick: u64) -> Result<Generation, Halt>
-        requires stands { Stands self.old caller.old }
-        requires may { MayStart tick self.old caller.old }
-        ensures ok { IfOk result (λ life. FailsToStart tick life self.new self.old caller.new caller.old) }
-        ensures stands { Stands self.new caller.new }
-        ensures halted { IfErr result (HaltsWith 1 caller.new caller.old) }
+    pub fn start_failed(&mut self, caller: &mut Caller, tick: u64) -> Result<Generation, Halt>
+        requires stands { Stands self.old caller.old.work }
+        requires idle { caller.old.phase ≡ phases.Idle }
+        requires may { MayStart tick self.old caller.old.work }
+        ensures ok { IfOk result (λ life. FailsToStart tick life self.new self.old caller.new.work caller.old.work) }
+        ensures stands { Stands self.new caller.new.work }
+        ensures rest { caller.new ≡ record caller.old { work = caller.new.work } }
+        ensures halted { IfErr result (HaltsWith 1 caller.new.work caller.old.work) }
         ensures kept { OnErr result (self.new ≡ self.old) }
     {
         let started = self.next(caller, tick);
@@ -222,14 +236,22 @@ impl ServerSlot {
     }
 
     /// It took a request from its queue, with that stamp.
-    pub fn begin(&mut self, caller: &mut Work, entry: Entry<Cargo>, stamp: Stamp, taken: Snapshot<Event>)
-        requires stands { Stands self.old caller.old }
+    pub fn begin(
+        &mut self,
+        caller: &mut Caller,
+        entry: Entry<Cargo>,
+        stamp: Stamp,
+        taken: Snapshot<Event>,
+    )
+        requires stands { Stands self.old caller.old.work }
+        requires idle { caller.old.phase ≡ phases.Idle }
         requires taken { IsTakeOf entry.request taken.value self.old }
-        requires later { caller.old.stamp.0 < stamp.0 }
+        requires later { caller.old.work.stamp.0 < stamp.0 }
         requires bound { stamp.0 ≤ 2 ^ 63 }
         ensures slot { self.new ≡ record self.old { doing = doings.Busy (life_in self.old.doing) entry.request; hand = Some entry; last = lasts.Nothing } }
-        ensures noted { caller.new ≡ noted (record { stamp = stamp; event = taken.value }) caller.old }
-        ensures stands { Stands self.new caller.new }
+        ensures noted { caller.new.work ≡ noted (record { stamp = stamp; event = taken.value }) caller.old.work }
+        ensures stands { Stands self.new caller.new.work }
+        ensures rest { caller.new ≡ record caller.old { work = caller.new.work } }
     {
         caller.noted(stamp, taken);
         self.doing = Doing::Busy(life_in(self.doing), entry.request);
@@ -242,18 +264,20 @@ impl ServerSlot {
     pub fn finish_return(
         &mut self,
         alloc: Global,
-        caller: &mut Work,
+        caller: &mut Caller,
         sound: bool,
         value: Rval,
         code: i32,
         payload: Data,
     ) -> Result<Closing, Halt>
-        requires stands { Stands self.old caller.old }
+        requires stands { Stands self.old caller.old.work }
+        requires idle { caller.old.phase ≡ phases.Idle }
         requires busy { IsBusy self.old.doing }
-        requires sound { sound ≡ is_sound caller.old.setup payload }
-        ensures ok { IfOk result (λ closing. Finishes (return_by caller.old.setup (connections caller.old.id.0 (theirs caller.old)) value code payload) closing self.new self.old caller.new caller.old) }
-        ensures stands { Stands self.new caller.new }
-        ensures halted { IfErr result (HaltsWith 3 caller.new caller.old) }
+        requires sound { sound ≡ is_sound caller.old.work.setup payload }
+        ensures ok { IfOk result (λ closing. Finishes (return_by caller.old.work.setup (connections caller.old.work.id.0 (theirs caller.old.work)) value code payload) closing self.new self.old caller.new.work caller.old.work) }
+        ensures stands { Stands self.new caller.new.work }
+        ensures rest { caller.new ≡ record caller.old { work = caller.new.work } }
+        ensures halted { IfErr result (HaltsWith 3 caller.new.work caller.old.work) }
         ensures kept { OnErr result (self.new ≡ self.old) }
     {
         let outcome = outcome_by(sound, value, code, payload);
@@ -288,41 +312,45 @@ impl ServerSlot {
     }
 
     // The life ends with a request in hand, in room that was made before. The request stays in hand.
-    fn lose(&mut self, caller: &mut Work, cause: StopCause) -> Result<Stamp, Worn>
-        requires stands { Stands self.old caller.old }
+    fn lose(&mut self, caller: &mut Caller, cause: StopCause) -> Result<Stamp, Worn>
+        requires stands { Stands self.old caller.old.work }
+        requires idle { caller.old.phase ≡ phases.Idle }
         requires busy { IsBusy self.old.doing }
         requires death { is_death cause ≡ true }
-        ensures ok { IfOk result (λ stamp. Ends (outcome_of cause) stamp self.new self.old caller.new caller.old) }
-        ensures stands { Stands self.new caller.new }
-        ensures worn { IfErr result (λ worn. IsWorn worn caller.old) }
-        ensures kept { OnErr result ((self.new ≡ self.old) × (caller.new ≡ caller.old)) }
+        ensures ok { IfOk result (λ stamp. Ends (outcome_of cause) stamp self.new self.old caller.new.work caller.old.work) }
+        ensures stands { Stands self.new caller.new.work }
+        ensures rest { caller.new ≡ record caller.old { work = caller.new.work } }
+        ensures worn { IfErr result (λ worn. IsWorn worn caller.old.work) }
+        ensures kept { OnErr result ((self.new ≡ self.old) × (caller.new.work ≡ caller.old.work)) }
     {
         let outcome = outcome_of(&cause);
         let doing = Doing::Dying(life_in(self.doing));
         let last = last_by(&outcome);
         let ended = self.end_with(outcome);
-        let stamp = caller.note(Event::End(ended))?;
+        let stamp = note_in_room(caller, Event::End(ended))?;
         self.doing = doing;
         self.last = last;
         Ok(stamp)
     }
 
     /// Its life ends: it was told to end, or said so by TPEXIT. The room was made before.
-    pub fn stopped(&mut self, caller: &mut Work, cause: StopCause) -> Result<Stamp, Worn>
-        requires stands { Stands self.old caller.old }
+    pub fn stopped(&mut self, caller: &mut Caller, cause: StopCause) -> Result<Stamp, Worn>
+        requires stands { Stands self.old caller.old.work }
+        requires idle { caller.old.phase ≡ phases.Idle }
         requires may { MayStop cause self.old.doing self.old.last }
         requires free { self.old.hand ≡ None }
-        ensures ok { IfOk result (λ stamp. Stops cause stamp self.new self.old caller.new caller.old) }
-        ensures stands { Stands self.new caller.new }
-        ensures worn { IfErr result (λ worn. IsWorn worn caller.old) }
-        ensures kept { OnErr result ((self.new ≡ self.old) × (caller.new ≡ caller.old)) }
+        ensures ok { IfOk result (λ stamp. Stops cause stamp self.new self.old caller.new.work caller.old.work) }
+        ensures stands { Stands self.new caller.new.work }
+        ensures rest { caller.new ≡ record caller.old { work = caller.new.work } }
+        ensures worn { IfErr result (λ worn. IsWorn worn caller.old.work) }
+        ensures kept { OnErr result ((self.new ≡ self.old) × (caller.new.work ≡ caller.old.work)) }
     {
         let stopped = Stopped {
             server: self.server,
             generation: life_in(self.doing),
             cause,
         };
-        let stamp = caller.note(Event::Stop(stopped))?;
+        let stamp = note_in_room(caller, Event::Stop(stopped))?;
         self.doing = Doing::Off;
         self.last = Last::Nothing;
         self.shut = is_shutdown(&cause);
@@ -330,15 +358,17 @@ impl ServerSlot {
     }
 
     /// Its queue gave it up, with that stamp, since no start may be made at that tick.
-    pub fn given_up(&mut self, caller: &mut Work, tick: u64, stamp: Stamp, gone: Snapshot<Event>)
-        requires stands { Stands self.old caller.old }
-        requires may { MayBeGivenUp tick self.old caller.old }
+    pub fn given_up(&mut self, caller: &mut Caller, tick: u64, stamp: Stamp, gone: Snapshot<Event>)
+        requires stands { Stands self.old caller.old.work }
+        requires idle { caller.old.phase ≡ phases.Idle }
+        requires may { MayBeGivenUp tick self.old caller.old.work }
         requires gone { gone.value ≡ Gone self.old.server }
-        requires later { caller.old.stamp.0 < stamp.0 }
+        requires later { caller.old.work.stamp.0 < stamp.0 }
         requires bound { stamp.0 ≤ 2 ^ 63 }
         ensures slot { self.new ≡ record self.old { gone = true } }
-        ensures noted { caller.new ≡ noted (record { stamp = stamp; event = gone.value }) caller.old }
-        ensures stands { Stands self.new caller.new }
+        ensures noted { caller.new.work ≡ noted (record { stamp = stamp; event = gone.value }) caller.old.work }
+        ensures stands { Stands self.new caller.new.work }
+        ensures rest { caller.new ≡ record caller.old { work = caller.new.work } }
     {
         let _at = tick;
         caller.noted(stamp, gone);
@@ -347,7 +377,7 @@ impl ServerSlot {
 
     /// What the caller of a request is to be told that was swept from the server's queue with that stamp.
     pub fn swept(&self, entry: Entry<Cargo>, stamp: Stamp) -> Closing
-        ensures { result ≡ record { ticket = entry.cargo.ticket; answer = reply_of SweptAway; stamp = stamp } }
+        ensures { result ≡ record { ticket = Some entry.cargo.ticket; answer = reply_of SweptAway; stamp = stamp } }
     {
         close(entry, Answer::Error(Fault::System), stamp)
     }
@@ -361,6 +391,52 @@ impl ServerSlot {
         match mem::replace(&mut self.hand, None) {
             Some(entry) => Some(close(entry, Answer::Error(Fault::System), Stamp(0))),
             None => None,
+        }
+    }
+
+    /// The life ends by itself, or for want of memory: a request in hand ends, and then the life, in room that was made
+    /// before. Whoever waits for the request is to be told. It takes no memory.
+    pub fn died(&mut self, caller: &mut Caller, cause: StopCause) -> Result<Closing, Worn>
+        requires stands { Stands self.old caller.old.work }
+        requires idle { caller.old.phase ≡ phases.Idle }
+        requires alive { IsAlive self.old.doing }
+        requires death { is_death cause ≡ true }
+        ensures ok { IfOk result (λ closing. Dies cause closing self.new self.old caller.new.work caller.old.work) }
+        ensures stands { Stands self.new caller.new.work }
+        ensures rest { caller.new ≡ record caller.old { work = caller.new.work } }
+        ensures worn { IfErr result (λ worn. DiesWorn cause worn self.new self.old caller.new.work caller.old.work) }
+    {
+        match self.doing {
+            Doing::Busy(..) => self.die_busy(caller, cause),
+            _ => {
+                let stamp = self.stopped(caller, cause)?;
+                Ok(Closing {
+                    ticket: None,
+                    answer: Answer::Error(Fault::SvcErr),
+                    stamp,
+                })
+            }
+        }
+    }
+
+    fn die_busy(&mut self, caller: &mut Caller, cause: StopCause) -> Result<Closing, Worn>
+        requires stands { Stands self.old caller.old.work }
+        requires idle { caller.old.phase ≡ phases.Idle }
+        requires busy { IsBusy self.old.doing }
+        requires death { is_death cause ≡ true }
+        ensures ok { IfOk result (λ closing. DiesBusy cause closing self.new self.old caller.new.work caller.old.work) }
+        ensures stands { Stands self.new caller.new.work }
+        ensures rest { caller.new ≡ record caller.old { work = caller.new.work } }
+        ensures worn { IfErr result (λ worn. DiesWorn cause worn self.new self.old caller.new.work caller.old.work) }
+    {
+        let stamp = self.lose(caller, cause)?;
+        let entry = take_out(&mut self.hand);
+        match self.stopped(caller, cause) {
+            Ok(_) => Ok(close(entry, death_reply(&cause), stamp)),
+            Err(worn) => {
+                put_in(&mut self.hand, entry);
+                Err(worn)
+            }
         }
     }
 }
