@@ -1,5 +1,5 @@
 -- Starts that are too old count no more.
-use Rattle.std.proofs.Common.{◌≡◌, ℕ, ◌+◌, ◌-◌, ◌<◌, ◌≤◌, ◌&&◌, max, Bool, true, false, cond, ◌==◌, nat_lt, List, [], ◌∷◌, ◌++◌, map, reverse, length, Some, refl, sym, ◌∙◌, ap, arith, add_comm, ltb-true, lt-ltb, ne_eqb}
+use Rattle.std.proofs.Common.{◌≡◌, ℕ, ◌+◌, ◌-◌, ◌<◌, ◌≤◌, ◌&&◌, max, Bool, true, false, cond, ◌==◌, nat_lt, List, [], ◌∷◌, ◌++◌, map, reverse, length, Some, refl, sym, ◌∙◌, ap, subst, arith, add_comm, ltb-true, lt-ltb, ne_eqb}
 use Rattle.std.specs.List.{filter, count_by}
 use Rattle.std.proofs.lemmas.Bool.{false≢true, cond_both, and_parts}
 use Rattle.std.proofs.lemmas.List.{map-append, reverse-append}
@@ -8,6 +8,7 @@ use Rattle.std.proofs.Math.Nat.{le-max_left, le-max_right}
 use Rattle.xa_types.specs.declared.setup.ServerSetup.{ServerSetup}
 use Rattle.xa_events.specs.Words.{count, greatest}
 use Rattle.xa_events.specs.Server.{may_start_as}
+use Rattle.xa_events.proofs.WordsLemmas.{count_yes, count_grows}
 use Rattle.xa_restart.specs.Rule.{Standing, IsRuleOf, IsLast, may_start_by}
 use Rattle.xa_restart.specs.Within.{is_within}
 use Rattle.xa_restart.specs.Kept.{is_nil, Recalls}
@@ -97,12 +98,42 @@ room_by restart maxgen grace recent starts now recalls may last false some =
     let same = recalls.same now last in
     omega (arith, few, same, le-max_right 1 maxgen)
 
-rule_of : (server : ServerSetup) (lives : Standing) (now : ℕ) (starts : List ℕ) → IsRuleOf server lives → may_start_as (Some server) starts now ≡ may_start_by (record lives { starts = starts }) now
+rule_of : (server : ServerSetup) (lives : Standing) (now : ℕ) (starts : List ℕ) → IsRuleOf server lives.restart lives.maxgen lives.grace → may_start_as (Some server) starts now ≡ may_start_by (record lives { starts = starts }) now
 rule_of server lives now [] rule = refl
 rule_of server lives now (last ∷ earlier) rule =
     ap (λ restart. restart && nat_lt (count (λ tick. nat_lt (now - tick) server.grace) (last ∷ earlier)) server.maxgen) rule.restart
     ∙ ap (λ grace. lives.restart && nat_lt (count (λ tick. nat_lt (now - tick) grace) (last ∷ earlier)) server.maxgen) rule.grace
     ∙ ap (λ maxgen. lives.restart && nat_lt (count (λ tick. nat_lt (now - tick) lives.grace) (last ∷ earlier)) maxgen) rule.maxgen
 
-pub rule_is : (server : ServerSetup) (lives : Standing) (now : ℕ) → IsRuleOf server lives → may_start_as (Some server) lives.starts now ≡ may_start_by lives now
+pub rule_is : (server : ServerSetup) (lives : Standing) (now : ℕ) → IsRuleOf server lives.restart lives.maxgen lives.grace → may_start_as (Some server) lives.starts now ≡ may_start_by lives now
 rule_is server lives now rule = rule_of server lives now lives.starts rule
+
+flag : (b : Bool) → (b ≡ true → ⊥) → b ≡ false
+flag true never = absurd (never refl)
+flag false never = refl
+
+not_less : (a b : ℕ) → (a < b → ⊥) → nat_lt a b ≡ false
+not_less a b never = flag (nat_lt a b) (λ less. never (ltb-true a b less))
+
+-- what passes the second test passes the first
+count_fewer : (p q : ℕ → Bool) → ((x : ℕ) → q x ≡ true → p x ≡ true) → (xs : List ℕ) → count q xs ≤ count p xs
+count_fewer p q wider [] = omega arith
+count_fewer p q wider (x ∷ xs) =
+    let rest = count_fewer p q wider xs in
+    cond_both (q x) (count q xs + 1) (count q xs) (λ m. m ≤ count p (x ∷ xs))
+        (λ found. subst (λ n. count q xs + 1 ≤ n) (sym (count_yes p x xs (wider x found))) (omega (arith, rest)))
+        (λ none. omega (arith, rest, count_grows p x xs))
+
+more_no : (restart : Bool) (a b most : ℕ) → a ≤ b → restart && nat_lt a most ≡ false → restart && nat_lt b most ≡ false
+more_no true a b most more full = not_less b most (λ fewer. absurd (false≢true (sym full ∙ lt-ltb a most (omega (arith, fewer, more)))))
+more_no false a b most more full = refl
+
+earlier_by : (restart : Bool) (maxgen grace : ℕ) (starts : List ℕ) (earlier now : ℕ) → earlier ≤ now → may_start_by (record { restart = restart; maxgen = maxgen; grace = grace; starts = starts }) now ≡ false
+    → may_start_by (record { restart = restart; maxgen = maxgen; grace = grace; starts = starts }) earlier ≡ false
+earlier_by restart maxgen grace [] earlier now before no_start = absurd (false≢true (sym no_start))
+earlier_by restart maxgen grace (last ∷ rest) earlier now before no_start =
+    more_no restart (count (is_within grace now) (last ∷ rest)) (count (is_within grace earlier) (last ∷ rest)) maxgen
+      (count_fewer (is_within grace earlier) (is_within grace now) (λ start. within_earlier grace earlier now start before) (last ∷ rest)) no_start
+
+pub no_earlier : (lives : Standing) (earlier now : ℕ) → earlier ≤ now → may_start_by lives now ≡ false → may_start_by lives earlier ≡ false
+no_earlier lives earlier now before no_start = earlier_by lives.restart lives.maxgen lives.grace lives.starts earlier now before no_start

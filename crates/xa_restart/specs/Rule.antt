@@ -16,11 +16,11 @@ pub record Standing : Type 0 where
 abbrev pub IsLast : ℕ → List ℕ → Type 0
 IsLast now starts = greatest 0 starts ≤ now
 
--- the server is configured so
-pub record IsRuleOf (server : ServerSetup) (lives : Standing) : Type 0 where
-  pub restart : server.restart ≡ lives.restart
-  pub maxgen : server.maxgen ≡ lives.maxgen
-  pub grace : server.grace ≡ lives.grace
+-- the server is configured with this RESTART, MAXGEN and GRACE
+pub record IsRuleOf (server : ServerSetup) (restarts : Bool) (most within : ℕ) : Type 0 where
+  pub restart : server.restart ≡ restarts
+  pub maxgen : server.maxgen ≡ most
+  pub grace : server.grace ≡ within
 
 -- some server that is configured so
 abbrev pub server_of : Standing → ServerSetup

@@ -4,5 +4,5 @@
 mod laws;
 mod lives;
 
-pub use laws::rule_is_the_machines;
+pub use laws::{no_start_is_earlier, rule_is_the_machines};
 pub use lives::Lives;

@@ -1,0 +1,111 @@
+-- The ends behind what seats filled.
+use Rattle.std.proofs.Common.{◌≡◌, ℕ, zero, suc, ◌≤◌, true, List, [], ◌∷◌, ◌++◌, Option, Some, None, if◌then◌else◌, refl, sym, ◌∙◌, ap, subst, arith}
+use Rattle.std.specs.Prelude.{IsSomeAnd, slice_set}
+use Rattle.std.specs.List.{All, Contains}
+use Rattle.std.proofs.lemmas.List.Elements.{All-push, All-weaker, Contains-push, Contains-append_left}
+use Rattle.xa_types.specs.declared.stamp.Stamp.{Stamp}
+use Rattle.xa_types.specs.declared.ids.RequestId.{RequestId}
+use Rattle.xa_types.specs.declared.reply.Answer.{Answer}
+use Rattle.xa_events.specs.declared.event.Ended.{Ended}
+use Rattle.xa_events.specs.declared.event.Event.TheVariants.{End}
+use Rattle.xa_events.specs.declared.event.Outcome.{Outcome}
+use Rattle.xa_events.specs.Answers.{reply_of}
+use Rattle.xa_events.specs.Request.{Settlement, settlement_in}
+use Rattle.xa_events.specs.Request.Settlement.{EndedBy}
+use Rattle.xa_events.proofs.WordsLemmas.{same_request_of}
+use Rattle.xa_stamp.specs.declared.home.Stamped.{Stamped}
+use Rattle.xa_queue.specs.declared.entry.Entry.{Entry}
+use Rattle.xa_cell.specs.declared.tokens.Ticket.{Ticket}
+use Rattle.xa_cell.specs.declared.view.Fill.{Fill}
+use Rattle.xa_cell.specs.declared.view.Opening.{Opening}
+use Rattle.xa_cell.specs.declared.view.Part.{Part}
+use Rattle.xa_cell.specs.declared.view.View.{View}
+use Rattle.xa_cell.specs.declared.filler.Filled.{Filled}
+use Rattle.xa_cell.specs.declared.filler.Filled.TheVariants as fills
+use Rattle.xa_cell.specs.Views.{nth, at, fill}
+use Rattle.xa_cell.specs.Changes.{filled, dropped}
+use Rattle.xa_cell.specs.Known.{named}
+use Rattle.xa_cell.specs.Calls.{Settles as SettlesCell}
+use Rattle.xa_caller.specs.declared.cargo.Cargo.{Cargo}
+use Rattle.xa_caller.specs.declared.cargo.Filling.{Filling}
+use Rattle.xa_work.specs.Work.{Standing}
+use Rattle.xa_server.specs.declared.slot.ServerSlot.{ServerSlot}
+use Rattle.xa_server.specs.declared.closing.Closing.{Closing}
+use Rattle.xa_server.specs.declared.closing.Given.{Given}
+use Rattle.xa_server.specs.Changes.{Ends, Closes}
+use Rattle.xa_server.specs.Doings.{life_in}
+use Rattle.xa_server.specs.Told.{Settles, Spent, GivenTo, GivenAs, EndedFor, FilledByEnds, Backs, IsBacked, NamesIts}
+use Rattle.xa_server.proofs.Reading.{end_of}
+
+-- a part is set, and what holds of it and of all others holds of each
+set_each : (P : Part Filling → Type 0) (ps : List (Part Filling)) (k : ℕ) (p : Part Filling) → ((j : ℕ) → P (nth ps j)) → P p → (j : ℕ) → P (nth (slice_set ps k p) j)
+set_each P [] k p each is j = each j
+set_each P (q ∷ ps) zero p each is zero = is
+set_each P (q ∷ ps) zero p each is (suc j) = each (suc j)
+set_each P (q ∷ ps) (suc k) p each is zero = each zero
+set_each P (q ∷ ps) (suc k) p each is (suc j) = set_each P ps k p (λ i. each (suc i)) is j
+
+module _ (entries : List Stamped) where
+  by_ends : Part Filling → Type 0
+  by_ends p = All (EndedFor entries) p.filled
+
+  settled_so : (k : ℕ) (o : Opening) (filling : Filling) (v w : View Filling) (outcome : Filled Filling) → SettlesCell k o filling v w outcome → EndedFor entries (fill o filling) → FilledByEnds entries v → FilledByEnds entries w
+  unfolding by_ends
+  settled_so k o filling v w fills.Delivered is ended each j =
+      subst (λ (u : View Filling). by_ends (at j u)) (sym is)
+      (set_each by_ends v.parts k (record (at k v) { filled = (at k v).filled ++ fill o filling ∷ [] }) each (All-push (EndedFor entries) (at k v).filled (fill o filling) (each k) ended) j)
+  settled_so k o filling v w (fills.Dropped back) is ended each j =
+      subst (λ (u : View Filling). by_ends (at j u)) (sym is.1) (set_each by_ends v.parts k (record (at k v) { dropped = (at k v).dropped ++ o.number ∷ [] }) each (each k) j)
+
+  given_so : (ticket : Option (Ticket Filling)) (answer : Answer) (first stamp : Stamp) (v w : View Filling) (became : Given) → GivenTo ticket answer stamp v w became → first.0 ≤ stamp.0 → Backs entries ticket answer first → FilledByEnds entries v → FilledByEnds entries w
+  given_so None answer first stamp v w became is later backs each = subst (FilledByEnds entries) (sym is.1) each
+  given_so (Some ticket) answer first stamp v w became spent later backs each =
+      let o = spent.filled.0 in
+      let settles = backs.2 o spent.filled.1 in
+      let by = settles.by in
+      let stamped = ap (λ (s : Stamp). s.0) spent.stamped in
+      settled_so ticket.cell o spent.filling v w spent.outcome spent.filled.2
+      (backs.0, backs.1, record { by = omega (arith, by, later, stamped); tells = subst (λ (a : Answer). IsSomeAnd (settlement_in o.request backs.0.event) (λ (how : Settlement). a ≡ reply_of how)) (sym spent.says) settles.tells }) each
+
+pub given_ended : (entries : List Stamped) (closing : Closing) (stamp : Stamp) (v w : View Filling) (became : Given) → GivenAs closing stamp v w became → closing.stamp.0 ≤ stamp.0 → IsBacked entries closing → FilledByEnds entries v → FilledByEnds entries w
+given_ended entries closing stamp v w became is later backs each = given_so entries closing.ticket closing.answer closing.stamp stamp v w became is later backs each
+
+-- ---- what a slot closes
+
+settles_end : (e : Ended) (request : RequestId) → request ≡ e.request → IsSomeAnd (settlement_in request (End e)) (λ (how : Settlement). reply_of (EndedBy e.outcome) ≡ reply_of how)
+settles_end e request is = subst (λ b. IsSomeAnd (if b then Some (EndedBy e.outcome) else None) (λ (how : Settlement). reply_of (EndedBy e.outcome) ≡ reply_of how)) (sym (same_request_of e.request request (sym is))) refl
+
+names_it : (hand : Option (Entry Cargo)) (entry : Entry Cargo) → hand ≡ Some entry → NamesIts hand → (o : Opening) → named entry.cargo.ticket ≡ o ∷ [] → o.request ≡ entry.request
+names_it hand entry is names = subst NamesIts is names
+
+same_entry : (a b : Entry Cargo) (hand : Option (Entry Cargo)) → hand ≡ Some a → hand ≡ Some b → a ≡ b
+same_entry a b hand x y = ap (entry_in a) (sym x ∙ y)
+  where
+    entry_in : Entry Cargo → Option (Entry Cargo) → Entry Cargo
+    entry_in default (Some entry) = entry
+    entry_in default None = default
+
+pub backed : (outcome : Outcome) (stamp : Stamp) (closing : Closing) (after before : ServerSlot) (new old : Standing) → Ends outcome stamp after before new old → Closes (reply_of (EndedBy outcome)) stamp before.hand closing → NamesIts before.hand → IsBacked new.own closing
+backed outcome stamp closing after before new old ends closes names =
+    let e : Ended = end_of before ends.entry outcome in
+    let x : Stamped = record { stamp = stamp; event = End e } in
+    let own : new.own ≡ old.own ++ x ∷ [] = ap (λ (w : Standing). w.own) ends.noted.made in
+    let same : ends.entry ≡ closes.entry = same_entry ends.entry closes.entry before.hand ends.in_hand closes.in_hand in
+    subst (IsBacked new.own) (sym closes.is) (
+      x,
+      subst (λ (l : List Stamped). Contains l x) (sym own) (Contains-push old.own x),
+      λ o named_so.
+          record { by = omega arith; tells = settles_end e o.request (names_it before.hand closes.entry closes.in_hand names o named_so ∙ ap (λ (entry : Entry Cargo). entry.request) (sym same)) },
+    )
+
+-- ---- further entries
+
+pub fillings_stay : (entries further : List Stamped) (view : View Filling) → FilledByEnds entries view → FilledByEnds (entries ++ further) view
+fillings_stay entries further view each k = All-weaker (EndedFor entries) (EndedFor (entries ++ further)) (λ fill ended. (ended.0, Contains-append_left entries further ended.0 ended.1, ended.2)) (at k view).filled (each k)
+
+closing_stays : (entries further : List Stamped) (ticket : Option (Ticket Filling)) (answer : Answer) (stamp : Stamp) → Backs entries ticket answer stamp → Backs (entries ++ further) ticket answer stamp
+closing_stays entries further None answer stamp backs = tt
+closing_stays entries further (Some ticket) answer stamp backs = (backs.0, Contains-append_left entries further backs.0 backs.1, backs.2)
+
+pub closings_stay : (entries further : List Stamped) (closing : Closing) → IsBacked entries closing → IsBacked (entries ++ further) closing
+closings_stay entries further closing backs = closing_stays entries further closing.ticket closing.answer closing.stamp backs

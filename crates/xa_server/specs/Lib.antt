@@ -1,0 +1,5 @@
+pub mod Doings
+pub mod Noting
+pub mod Slot
+pub mod Changes
+pub mod Told

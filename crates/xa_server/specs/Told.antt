@@ -1,0 +1,74 @@
+-- What a caller is told, and the end that stands behind it (this project's own).
+use Rattle.std.specs.Prelude.{◌≡◌, ℕ, ◌≤◌, List, [], ◌∷◌, Option, Some, None, IsSomeAnd}
+use Rattle.std.specs.List.{All, Contains}
+use Rattle.xa_types.specs.declared.stamp.Stamp.{Stamp}
+use Rattle.xa_types.specs.declared.ids.RequestId.{RequestId}
+use Rattle.xa_events.specs.Answers.{reply_of}
+use Rattle.xa_events.specs.Request.{settlement_in}
+use Rattle.xa_stamp.specs.declared.home.Stamped.{Stamped}
+use Rattle.xa_queue.specs.declared.entry.Entry.{Entry}
+use Rattle.xa_cell.specs.declared.view.Opening.{Opening}
+use Rattle.xa_cell.specs.declared.view.Fill.{Fill}
+use Rattle.xa_cell.specs.Views.{at}
+use Rattle.xa_cell.specs.Known.{named}
+use Rattle.xa_caller.specs.declared.cargo.Cargo.{Cargo}
+use Rattle.xa_types.specs.declared.reply.Answer.{Answer}
+use Rattle.xa_cell.specs.declared.tokens.Ticket.{Ticket}
+use Rattle.xa_cell.specs.declared.view.View.{View}
+use Rattle.xa_cell.specs.declared.filler.Filled.{Filled}
+use Rattle.xa_cell.specs.declared.filler.Filled.TheVariants as fills
+use Rattle.xa_cell.specs.Calls.{FilledAs}
+use Rattle.xa_caller.specs.declared.cargo.Filling.{Filling}
+use Rattle.xa_server.specs.declared.closing.Closing.{Closing}
+use Rattle.xa_server.specs.declared.closing.Given.{Given}
+use Rattle.xa_server.specs.declared.closing.Given.TheVariants.{Delivered, Dropped, Nothing}
+
+-- what became of an answer, by what became of its filling
+abbrev pub given_by : Filled Filling → Given
+given_by fills.Delivered = Delivered
+given_by (fills.Dropped filling) = Dropped
+
+-- the ticket was spent on a filling with that answer and that stamp
+pub record Spent (ticket : Ticket Filling) (answer : Answer) (stamp : Stamp) (v w : View Filling) (given : Given) : Type 0 where
+  pub filling : Filling
+  pub says : filling.answer ≡ answer
+  pub stamped : filling.stamp ≡ stamp
+  pub outcome : Filled Filling
+  pub filled : FilledAs ticket filling v w outcome
+  pub told : given ≡ given_by outcome
+
+-- where there is no ticket nothing was done
+abbrev pub GivenTo : Option (Ticket Filling) → Answer → Stamp → View Filling → View Filling → Given → Type 0
+GivenTo (Some ticket) answer stamp v w given = Spent ticket answer stamp v w given
+GivenTo None answer stamp v w given = (given ≡ Nothing) × (w ≡ v)
+
+abbrev pub GivenAs : Closing → Stamp → View Filling → View Filling → Given → Type 0
+GivenAs closing stamp v w given = GivenTo closing.ticket closing.answer stamp v w given
+
+-- ---- the ends behind what seats filled
+
+-- the entry settled that request, no later than that stamp, and the answer tells how
+pub record Settles (request : RequestId) (answer : Answer) (stamp : Stamp) (entry : Stamped) : Type 0 where
+  pub by : entry.stamp.0 ≤ stamp.0
+  pub tells : IsSomeAnd (settlement_in request entry.event) (λ how. answer ≡ reply_of how)
+
+-- one of these entries ended or swept the request of that filling
+abbrev pub EndedFor : List Stamped → Fill Filling → Type 0
+EndedFor entries fill = (entry : Stamped) × Contains entries entry × Settles fill.opening.request fill.answer.answer fill.answer.stamp entry
+
+-- each filling that the seat knows itself to have made has its end or its sweep among these entries
+abbrev pub FilledByEnds : List Stamped → View Filling → Type 0
+FilledByEnds entries view = (k : ℕ) → All (EndedFor entries) (at k view).filled
+
+-- one of these entries ended or swept the request that the ticket names
+abbrev pub Backs : List Stamped → Option (Ticket Filling) → Answer → Stamp → Type 0
+Backs entries (Some ticket) answer stamp = (entry : Stamped) × Contains entries entry × ((o : Opening) → named ticket ≡ o ∷ [] → Settles o.request answer stamp entry)
+Backs entries None answer stamp = Unit {0}
+
+abbrev pub IsBacked : List Stamped → Closing → Type 0
+IsBacked entries closing = Backs entries closing.ticket closing.answer closing.stamp
+
+-- the ticket of the entry in hand names its request
+abbrev pub NamesIts : Option (Entry Cargo) → Type 0
+NamesIts None = Unit {0}
+NamesIts (Some entry) = (o : Opening) → named entry.cargo.ticket ≡ o ∷ [] → o.request ≡ entry.request

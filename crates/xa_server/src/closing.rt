@@ -1,0 +1,91 @@
+// The end of a request, which its caller has to be told.
+ghost use Rattle.std.specs.Prelude.{◌≡◌, ◌≤◌, Some, IfOk, IfSome};
+ghost use Rattle.xa_events.specs.Answers.{reply_of};
+ghost use Rattle.xa_events.specs.Request.Settlement.{EndedBy};
+ghost use Rattle.xa_cell.specs.Known.{known, IsSeatOf, IsTicketOf, SameSeat};
+ghost use Rattle.xa_server.specs.Told.{GivenAs};
+
+use std::alloc::Global;
+use xa_caller::{Caller, Cargo, Filling};
+use xa_cell::{Cells, Filled, Ticket};
+use xa_events::Outcome;
+use xa_queue::Entry;
+use xa_types::{Answer, Fault, NoMemory, Stamp};
+
+/// What the caller of a request is to be told, and the stamp of the event by which the request ended: it ends in `give`.
+pub struct Closing {
+    pub ticket: Option<Ticket<Filling>>,
+    pub answer: Answer,
+    pub stamp: Stamp,
+}
+
+/// What became of an answer: it came to its caller, its caller had given its place up, or nobody waits for one.
+#[derive(Clone, Copy, Debug, PartialEq, Eq)]
+pub enum Given {
+    Delivered,
+    Dropped,
+    Nothing,
+}
+
+// What the caller is told of a request that ended so.
+pub(crate) fn reply_to(alloc: Global, outcome: &Outcome) -> Result<Answer, NoMemory>
+    ensures { IfOk result (λ answer. answer ≡ reply_of (EndedBy outcome.now)) }
+{
+    match outcome {
+        Outcome::Returned(code, payload) => Ok(Answer::Success(*code, payload.copy(alloc)?)),
+        Outcome::Failed(code, payload) => Ok(Answer::Failed(*code, payload.copy(alloc)?)),
+        Outcome::BadReturn | Outcome::BadForward(_) | Outcome::Died => {
+            Ok(Answer::Error(Fault::SvcErr))
+        }
+        Outcome::Starved => Ok(Answer::Error(Fault::NoMemory)),
+    }
+}
+
+// The answer to the request of that entry, which ended with that stamp.
+pub(crate) fn close(entry: Entry<Cargo>, answer: Answer, stamp: Stamp) -> Closing
+    ensures { result ≡ record { ticket = Some entry.cargo.ticket; answer = answer; stamp = stamp } }
+{
+    let Entry {
+        request: _,
+        priority: _,
+        cargo,
+    } = entry;
+    let Cargo {
+        service: _,
+        routine: _,
+        payload,
+        ticket,
+    } = cargo;
+    drop(payload);
+    Closing {
+        ticket: Some(ticket),
+        answer,
+        stamp,
+    }
+}
+
+impl Closing {
+    /// Fills the cell of the caller, or drops the answer where its place was given up. The filling has the greatest stamp
+    /// that the worker noted or saw by now, so whoever is told finds all that the worker noted. It takes no memory.
+    pub fn give(self, caller: &mut Caller, cells: &Cells<Filling>) -> Given
+        requires cells { IsSeatOf cells.now caller.old.seat × IfSome self.ticket (IsTicketOf cells.now) }
+        requires later { self.stamp.0 ≤ caller.old.work.stamp.0 }
+        ensures cells { SameSeat cells.now caller.old.seat caller.new.seat }
+        ensures given { GivenAs self caller.old.work.stamp (known caller.old.seat) (known caller.new.seat) result }
+        ensures caller { caller.new ≡ record caller.old { seat = caller.new.seat } }
+    {
+        let Closing {
+            ticket,
+            answer,
+            stamp: _,
+        } = self;
+        let Some(ticket) = ticket else {
+            return Given::Nothing;
+        };
+        let stamp = caller.stamp();
+        match caller.fill(cells, ticket, Filling { answer, stamp }) {
+            Filled::Delivered => Given::Delivered,
+            Filled::Dropped(_) => Given::Dropped,
+        }
+    }
+}

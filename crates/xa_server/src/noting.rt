@@ -1,0 +1,45 @@
+// An event at the own home of the server's caller, with the room that it needs.
+ghost use Rattle.std.specs.Prelude.{◌≡◌, ◌<◌, None, IfOk, IfErr, OnErr};
+ghost use Rattle.xa_work.specs.Work.{IsNext};
+ghost use Rattle.xa_caller.specs.declared.phase.Phase.TheVariants as phases;
+ghost use Rattle.xa_caller.specs.Serving.{IsOfServer, version_ended};
+ghost use Rattle.xa_server.specs.Noting.{Notes, IsWorn, HaltsWith, with_room};
+
+use xa_caller::Caller;
+use xa_events::Event;
+use xa_types::{Stamp, Worn};
+use xa_work::Halt;
+
+// Notes the event, in room that was made before.
+pub(crate) fn note_in_room(caller: &mut Caller, event: Event) -> Result<Stamp, Worn>
+    requires room { 0 < caller.old.work.room }
+    requires idle { caller.old.phase ≡ phases.Idle }
+    requires kind { IsOfServer event × (version_ended event ≡ None) }
+    requires next { IsNext caller.old.work event }
+    ensures noted { IfOk result (λ stamp. Notes stamp event caller.new.work caller.old.work) }
+    ensures rest { caller.new ≡ record caller.old { work = caller.new.work } }
+    ensures worn { IfErr result (λ worn. IsWorn worn caller.old.work) }
+    ensures kept { OnErr result (caller.new ≡ caller.old) }
+{
+    caller.note(event)
+}
+
+// Notes the event, once there is room for so many: for it and what may follow.
+pub(crate) fn note_anew(caller: &mut Caller, room: u32, event: Event) -> Result<Stamp, Halt>
+    requires room { 0 < room }
+    requires idle { caller.old.phase ≡ phases.Idle }
+    requires kind { IsOfServer event × (version_ended event ≡ None) }
+    requires next { IsNext caller.old.work event }
+    ensures noted { IfOk result (λ stamp. Notes stamp event caller.new.work (with_room room caller.old.work)) }
+    ensures rest { caller.new ≡ record caller.old { work = caller.new.work } }
+    ensures halted { IfErr result (HaltsWith room caller.new.work caller.old.work) }
+{
+    if caller.reserve(room).is_err() {
+        drop(event);
+        return Err(Halt::NoMemory);
+    }
+    match note_in_room(caller, event) {
+        Ok(stamp) => Ok(stamp),
+        Err(worn) => Err(Halt::Worn(worn.0)),
+    }
+}
