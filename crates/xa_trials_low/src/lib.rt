@@ -17,6 +17,8 @@ mod memory;
 #[cfg(test)]
 mod pipes;
 #[cfg(test)]
+mod pools;
+#[cfg(test)]
 mod programs;
 #[cfg(test)]
 mod queues;
