@@ -1,0 +1,121 @@
+-- Of each event that a caller notes: it meets what is asked of the caller's own events.
+use Rattle.std.proofs.Common.{◌≡◌, ℕ, ◌+◌, ◌<◌, ◌≤◌, if◌then◌else◌, Bool, true, List, [], ◌∷◌, length, Option, Some, None, inl, inr, refl, sym, ◌∙◌, ap, subst, arith}
+use Rattle.std.specs.List.{All, find}
+use Rattle.std.proofs.lemmas.List.Elements.{All-head, All-tail}
+use Rattle.std.proofs.lemmas.Bool.{cases_Bool}
+use Rattle.xa_types.specs.declared.call.Mode.{Mode}
+use Rattle.xa_types.specs.declared.call.Mode.TheVariants.{Reply}
+use Rattle.xa_types.specs.declared.ids.CallerId.{CallerId}
+use Rattle.xa_types.specs.declared.ids.RequestId.{RequestId}
+use Rattle.xa_types.specs.declared.row.Row.{Row}
+use Rattle.xa_types.specs.declared.setup.Setup.{Setup}
+use Rattle.xa_types.specs.declared.setup.ServiceSetup.{ServiceSetup}
+use Rattle.xa_types.specs.Kind.{is_sound}
+use Rattle.xa_types.specs.Rows.{row_for, row_with}
+use Rattle.xa_types.specs.Setup.{service_named}
+use Rattle.xa_events.specs.declared.event.Event.TheVariants.{Accept, Answer, Refuse, Leave}
+use Rattle.xa_events.specs.declared.event.Accepted.{Accepted}
+use Rattle.xa_events.specs.declared.event.Replied.{Replied}
+use Rattle.xa_events.specs.declared.event.Refused.{Refused as RefusedCall}
+use Rattle.xa_events.specs.Caller.{is_client, is_active, descriptor_limit, accepted, last_op, just_accepted, least_version, open_descriptors, next_priority}
+use Rattle.xa_events.specs.Cases.{IsNextCall, HasRoom, asked_priority, priority_by, ShowsItself, IsOwnEvidence}
+use Rattle.xa_events.specs.Words.{has}
+use Rattle.xa_events.proofs.WordsLemmas.{same_request_of}
+use Rattle.xa_work.specs.Work.{Standing as Working, IsNext, theirs}
+use Rattle.xa_caller.specs.declared.phase.Open.{Open}
+use Rattle.xa_caller.specs.declared.phase.Phase.TheVariants.{Idle, Sent}
+use Rattle.xa_caller.specs.Phases.{just_in, open_in}
+use Rattle.xa_caller.specs.Caller.{Standing, IsSound, MayCall}
+
+-- a caller that may make a call is active
+pub is_active_now : (c : Standing) → IsSound c → MayCall c → is_active c.work.clients c.work.id.0 (theirs c.work) ≡ true
+is_active_now c sound (inl known) = rw (known, sound.reads.stands, sound.reads.stays) refl
+is_active_now c sound (inr serves) =
+    elim (cases_Bool (is_client c.work.clients c.work.id.0)) [
+      | inl known ↦ rw (known, sound.reads.stands, sound.reads.stays) refl
+      | inr other ↦ rw other serves
+    ]
+
+next_call : (c : Standing) → IsSound c → MayCall c → (op : ℕ) → op ≡ c.op + 1 → IsNextCall c.work.clients c.work.id.0 op (theirs c.work)
+next_call c sound may op next = record { active = is_active_now c sound may; next = next ∙ ap (λ n. n + 1) (sym sound.reads.called) }
+
+pub refuses_next : (c : Standing) → IsSound c → MayCall c → (r : RefusedCall) → r.by ≡ c.work.id → r.op ≡ c.op + 1 → ShowsItself c.work.setup c.work.clients c.work.id.0 r.fault r.evidence (theirs c.work) → IsOwnEvidence c.work.clients c.work.id r.evidence (theirs c.work)
+    → IsNext c.work (Refuse r)
+refuses_next c sound may r by next shows own = record {
+  its = ap (λ (id : CallerId). id.0) by;
+  met = record {
+    call = subst (λ (id : CallerId). IsNextCall c.work.clients id.0 r.op (theirs c.work)) (sym by) (next_call c sound may r.op next);
+    shows = subst (λ (id : CallerId). ShowsItself c.work.setup c.work.clients id.0 r.fault r.evidence (theirs c.work)) (sym by) shows;
+    own = subst (λ (id : CallerId). IsOwnEvidence c.work.clients id r.evidence (theirs c.work)) (sym by) own;
+  };
+}
+
+some_limit : (clients caller : ℕ) → 0 < descriptor_limit clients caller
+some_limit clients caller = elim (cases_Bool (is_client clients caller)) [
+  | inl y ↦ subst (λ n. 0 < n) (sym (ap (λ b. if b then 50 else 16) y)) (omega arith)
+  | inr n ↦ subst (λ n. 0 < n) (sym (ap (λ b. if b then 50 else 16) n)) (omega arith)
+]
+
+unset_now : (c : Standing) → IsSound c → next_priority c.work.clients c.work.id.0 (theirs c.work) ≡ None
+unfolding next_priority
+unset_now c sound = sound.reads.unset
+
+pub accepts_next : (c : Standing) → IsSound c → MayCall c → (a : Accepted) → a.by ≡ c.work.id → a.op ≡ c.op + 1 → a.request ≡ record { caller = c.work.id; number = c.sent + 1 } → a.mode ≡ Reply → is_sound c.work.setup a.payload ≡ true → c.least ≤ a.version
+    → a.priority ≡ priority_by c.work.setup a.service None → open_in c.phase ≡ [] → IsNext c.work (Accept a)
+accepts_next c sound may a by next mine mode fine recent priority none =
+    let w : Working = c.work in
+    let floor = sound.reads.floor in
+    let room : HasRoom w.clients w.id.0 Reply (theirs w) = subst (λ (rs : List RequestId). length rs < descriptor_limit w.clients w.id.0) (sym (sound.reads.descriptors ∙ none)) (some_limit w.clients w.id.0) in
+    record {
+      its = ap (λ (id : CallerId). id.0) by;
+      met = record {
+        call = subst (λ (id : CallerId). IsNextCall w.clients id.0 a.op (theirs w)) (sym by) (next_call c sound may a.op next);
+        caller = ap (λ (r : RequestId). r.caller) mine ∙ sym by;
+        number = subst (λ (id : CallerId). a.request.number ≡ accepted id.0 (theirs w) + 1) (sym by) (ap (λ (r : RequestId). r.number) mine ∙ ap (λ n. n + 1) (sym sound.reads.accepted));
+        room = subst (λ (m : Mode). HasRoom w.clients a.by.0 m (theirs w)) (sym mode) (subst (λ (id : CallerId). HasRoom w.clients id.0 Reply (theirs w)) (sym by) room);
+        sound = fine;
+        not_older = subst (λ (id : CallerId). least_version w.setup w.clients id.0 (theirs w) ≤ a.version) (sym by) (omega (arith, floor, recent));
+        priority = priority ∙ ap (priority_by w.setup a.service) (sym (ap (λ (m : Mode). asked_priority w.clients a.by.0 m (theirs w)) mode ∙ subst (λ (id : CallerId). next_priority w.clients id.0 (theirs w) ≡ None) (sym by) (unset_now c sound)));
+      };
+    }
+
+pub answers_next : (c : Standing) → IsSound c → MayCall c → (a : Replied) (sent : Open) → a.by ≡ c.work.id → a.op ≡ c.op → a.request ≡ sent.request → sent.request.caller ≡ c.work.id → c.phase ≡ Sent sent → IsNext c.work (Answer a)
+answers_next c sound may a sent by op same mine is =
+    let w : Working = c.work in
+    let just : just_accepted w.id.0 (theirs w) ≡ Some a.request = sound.reads.just ∙ ap just_in is ∙ ap Some (sym same) in
+    let out : open_descriptors w.id.0 (theirs w) ≡ a.request ∷ [] = sound.reads.descriptors ∙ ap open_in is ∙ ap (λ r. r ∷ []) (sym same) in
+    record {
+      its = ap (λ (id : CallerId). id.0) by;
+      met = record {
+        active = subst (λ (id : CallerId). is_active w.clients id.0 (theirs w) ≡ true) (sym by) (is_active_now c sound may);
+        op = inr (subst (λ (id : CallerId). (a.op ≡ last_op id.0 (theirs w)) × (just_accepted id.0 (theirs w) ≡ Some a.request)) (sym by) (op ∙ sym sound.reads.called, just));
+        caller = ap (λ (r : RequestId). r.caller) same ∙ mine ∙ sym by;
+        is_open = subst (λ (id : CallerId). has a.request (open_descriptors id.0 (theirs w)) ≡ true) (sym by) (subst (λ (rs : List RequestId). has a.request rs ≡ true) (sym out) (rw (same_request_of a.request a.request refl) refl));
+      };
+    }
+
+pub leaves_next : (c : Standing) → IsSound c → is_client c.work.clients c.work.id.0 ≡ true → c.phase ≡ Idle → (id : CallerId) → id ≡ c.work.id → IsNext c.work (Leave id)
+leaves_next c sound known idle id is =
+    subst (λ (i : CallerId). IsNext c.work (Leave i)) (sym is) (record {
+      its = refl;
+      met = record { known = known; not_left = sound.reads.stands; none = sound.reads.descriptors ∙ ap open_in idle; unconnected = sound.reads.unconnected };
+    })
+
+-- a row has the priority of its service
+same_priority : (setup : Setup) (service : List ℕ) (configured : Option ServiceSetup) (row : Row) → row ≡ row_with configured service row.queue.0 row.routine → (row.service ≡ service) × (row.priority ≡ (row_with configured service 0 []).priority)
+same_priority setup service None row is = (ap (λ (r : Row). r.service) is, ap (λ (r : Row). r.priority) is)
+same_priority setup service (Some configured) row is = (ap (λ (r : Row). r.service) is, ap (λ (r : Row). r.priority) is)
+
+pub row-priority : (setup : Setup) (service : List ℕ) (row : Row) → row ≡ row_for setup service row.queue.0 row.routine → row.priority ≡ priority_by setup row.service None
+row-priority setup service row is =
+    let both = same_priority setup service (service_named setup service) row is in
+    both.1 ∙ ap (λ (s : List ℕ). (row_for setup s 0 []).priority) (sym both.0)
+
+-- what is found among a list has what all have
+pub found-all : {X : Type 0} (p : X → Bool) (P : X → Type 0) (xs : List X) (x : X) → find p xs ≡ Some x → All P xs → P x
+found-all p P [] x is all = absurd (cc is)
+found-all p P (y ∷ ys) x is all =
+    elim (cases_Bool (p y)) [
+      | inl here ↦ subst P (cc (sym (ap (λ b. if b then Some y else find p ys) here) ∙ is)) (All-head P y ys all)
+      | inr apart ↦ found-all p P ys x (sym (ap (λ b. if b then Some y else find p ys) apart) ∙ is) (All-tail P y ys all)
+    ]

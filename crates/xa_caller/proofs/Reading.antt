@@ -1,0 +1,189 @@
+-- A caller's tables are what its events say also with one event more: a lemma for each kind of event.
+use Rattle.std.proofs.Common.{◌≡◌, ℕ, ◌+◌, ◌<◌, ◌≤◌, ◌==◌, ◌&&◌, if◌then◌else◌, true, false, not, cond, List, [], ◌∷◌, ◌++◌, Option, Some, None, refl, sym, ◌∙◌, ap, subst, arith, eq-eqb}
+use Rattle.std.specs.Prelude.{nat_lt, IfSome}
+use Rattle.std.proofs.lemmas.Bool.{and_from, lt-ltb}
+use Rattle.xa_types.specs.declared.setup.Setup.{Setup}
+use Rattle.xa_types.specs.declared.call.Mode.TheVariants.{Reply}
+use Rattle.xa_events.specs.declared.event.Event.{Event}
+use Rattle.xa_events.specs.declared.event.Event.TheVariants.{Accept, Answer, Refuse, Start, StartFailed, End, Stop, Take, Gone}
+use Rattle.xa_events.specs.State.{caller_of}
+use Rattle.xa_events.specs.declared.event.Accepted.{Accepted}
+use Rattle.xa_events.specs.declared.event.Replied.{Replied}
+use Rattle.xa_events.specs.declared.event.Refused.{Refused as RefusedCall}
+use Rattle.xa_events.specs.Words.{added, without}
+use Rattle.xa_events.specs.Board.{boot}
+use Rattle.xa_events.specs.Homes.{worker_of, home_of, at_home}
+use Rattle.xa_events.specs.Homes.Home.{CallerHome}
+use Rattle.xa_caller.specs.Serving.{IsOfServer, IsAtQueue, version_ended, raised}
+use Rattle.xa_events.specs.Caller.{op_of, accepted_in, version_in, wants_reply, newest_call, accepted, open_descriptors, versions, ticks, has_left, is_leaving, version_of}
+use Rattle.xa_events.specs.Conversation.{connections, closes_connection}
+use Rattle.xa_types.specs.declared.ids.RequestId.{RequestId}
+use Rattle.xa_events.specs.Local.{worker_events}
+use Rattle.xa_crew.specs.Seen.{past_in}
+use Rattle.xa_events.specs.Views.{newer, CallerView, caller_view, caller_after}
+use Rattle.xa_events.proofs.Owns.{caller_more}
+use Rattle.xa_events.proofs.WordsLemmas.{same_request_of, greatest_one_more, if_some}
+use Rattle.xa_stamp.specs.declared.home.Stamped.{Stamped}
+use Rattle.xa_work.specs.Work.{Standing as Working, noted}
+use Rattle.xa_work.proofs.Noting.{theirs-more}
+use Rattle.xa_caller.specs.declared.phase.Open.{Open}
+use Rattle.xa_caller.specs.declared.phase.Phase.{Phase}
+use Rattle.xa_caller.specs.declared.phase.Phase.TheVariants.{Idle, Sent}
+use Rattle.xa_caller.specs.Phases.{just_in, open_in, least_by}
+use Rattle.std.specs.List.{find}
+use Rattle.xa_types.specs.declared.data.Data.{Data}
+use Rattle.xa_types.specs.declared.row.Row.{Row}
+use Rattle.xa_types.specs.Found.{FoundRows}
+use Rattle.xa_types.specs.Kind.{kind_of, is_accepted}
+use Rattle.xa_caller.specs.declared.phase.Draft.{Draft}
+use Rattle.xa_caller.specs.declared.phase.Phase.TheVariants.{Prepared}
+use Rattle.xa_caller.specs.declared.outcomes.Unready.{Unready}
+use Rattle.xa_caller.specs.declared.outcomes.Unready.TheVariants.{Refused, Full, Halt}
+use Rattle.xa_caller.specs.Changes.{TurnsDown, UnreadyAs}
+use Rattle.xa_caller.specs.Caller.{Standing, Reads, view_of}
+
+-- the view of all that the worker noted, with one event more
+pub view-more : (w : Working) (x : Stamped) → worker_of w.clients x.event ≡ w.id.0 → view_of (noted x w) ≡ caller_after w.clients w.id.0 x.event (view_of w)
+view-more w x its = ap (caller_view w.clients w.id.0) (theirs-more w x its) ∙ caller_more w.clients w.id.0 x.event _
+
+without_none : (out : Option RequestId) → without out [] ≡ []
+without_none None = refl
+without_none (Some out) = refl
+
+is_numbered : (caller by op : ℕ) → by ≡ caller → 0 < op → ((by == caller) && nat_lt 0 op) ≡ true
+is_numbered caller by op same above = and_from (by == caller) (nat_lt 0 op) (eq-eqb by caller same) (lt-ltb 0 op above)
+
+some_is : {X : Type 0} {x y : X} → Some x ≡ Some y → x ≡ y
+some_is e = cc e
+
+least_rises : (o : Option ℕ) (least : ℕ) → IfSome o (λ v. least ≤ v) → least ≤ least_by o least
+least_rises None least recent = omega arith
+least_rises (Some v) least recent = recent
+
+-- ---- one event more, by its kind
+
+pub reads_refused : (setup : Setup) (clients worker : ℕ) (r : RefusedCall) (view : CallerView) (op n least : ℕ) (phase : Phase) → r.by.0 ≡ worker → 0 < r.op → IfSome (version_in r.evidence) (λ v. least ≤ v) → phase ≡ Idle
+    → Reads setup view op n least phase → Reads setup (caller_after clients worker (Refuse r) view) r.op n (least_by (version_in r.evidence) least) phase
+reads_refused setup clients worker r view op n least phase by above recent idle reads =
+    let is_call = is_numbered worker r.by.0 r.op by above in
+    let low = reads.floor in
+    let rises = least_rises (version_in r.evidence) least recent in
+    record {
+      called = ap (λ b. op_of (newer b (Refuse r) view.called)) is_call;
+      just = ap (λ b. accepted_in (newer b (Refuse r) view.called)) is_call ∙ sym (ap just_in idle);
+      accepted = reads.accepted;
+      descriptors = reads.descriptors;
+      floor = greatest_one_more view.versions _ (boot setup) (least_by (version_in r.evidence) least) (λ v is. let one = ap (λ o. least_by o least) (if_some (r.by.0 == worker) (version_in r.evidence) v is).1 in omega (arith, one)) (omega (arith, low, rises));
+      stands = reads.stands;
+      stays = reads.stays;
+      unset = reads.unset;
+      unconnected = ap (without (closes_connection worker (Refuse r))) reads.unconnected ∙ without_none (closes_connection worker (Refuse r));
+    }
+
+pub reads_accepted : (setup : Setup) (clients worker : ℕ) (a : Accepted) (view : CallerView) (op n least op' m : ℕ) (phase phase' : Phase) (sent : Open) → a.by.0 ≡ worker → 0 < a.op → a.mode ≡ Reply → a.op ≡ op' → a.version ≡ m → least ≤ m → a.request ≡ sent.request → open_in phase ≡ [] → phase' ≡ Sent sent
+    → Reads setup view op n least phase → Reads setup (caller_after clients worker (Accept a) view) op' (n + 1) m phase'
+reads_accepted setup clients worker a view op n least op' m phase phase' sent by above mode of version recent same none is reads =
+    let is_call = is_numbered worker a.by.0 a.op by above in
+    let low = reads.floor in
+    record {
+      called = ap (λ b. op_of (newer b (Accept a) view.called)) is_call ∙ of;
+      just = ap (λ b. accepted_in (newer b (Accept a) view.called)) is_call ∙ ap Some same ∙ sym (ap just_in is);
+      accepted = ap (λ b. cond b (view.accepted + 1) view.accepted) (eq-eqb a.by.0 worker by) ∙ ap (λ k. k + 1) reads.accepted;
+      descriptors = ap (λ b. added (if b then Some a.request else None) view.descriptors) (and_from (a.by.0 == worker) (wants_reply a.mode) (eq-eqb a.by.0 worker by) (ap wants_reply mode))
+          ∙ ap (λ rs. rs ++ a.request ∷ []) (reads.descriptors ∙ none) ∙ ap (λ r. r ∷ []) same ∙ sym (ap open_in is);
+      floor = greatest_one_more view.versions _ (boot setup) m (λ v given. let one = (if_some (a.by.0 == worker) (Some a.version) v given).1 in omega (arith, version, some_is one)) (omega (arith, low, recent));
+      stands = reads.stands;
+      stays = reads.stays;
+      unset = rw (eq-eqb a.by.0 worker by, mode) refl;
+      unconnected = rw (eq-eqb a.by.0 worker by, mode) reads.unconnected;
+    }
+
+pub reads_answered : (setup : Setup) (clients worker : ℕ) (a : Replied) (view : CallerView) (op n least : ℕ) (phase phase' : Phase) (sent : Open) → a.by.0 ≡ worker → 0 < a.op → a.op ≡ op → a.request ≡ sent.request → phase ≡ Sent sent → phase' ≡ Idle
+    → Reads setup view op n least phase → Reads setup (caller_after clients worker (Answer a) view) op n least phase'
+reads_answered setup clients worker a view op n least phase phase' sent by above of same is idle reads =
+    let is_call = is_numbered worker a.by.0 a.op by above in
+    record {
+      called = ap (λ b. op_of (newer b (Answer a) view.called)) is_call ∙ of;
+      just = ap (λ b. accepted_in (newer b (Answer a) view.called)) is_call ∙ sym (ap just_in idle);
+      accepted = reads.accepted;
+      descriptors = ap (λ b. without (if b then Some a.request else None) view.descriptors) (eq-eqb a.by.0 worker by) ∙ ap (without (Some a.request)) (reads.descriptors ∙ ap open_in is)
+          ∙ ap (λ b. cond (not b) (sent.request ∷ []) []) (same_request_of sent.request a.request (sym same)) ∙ sym (ap open_in idle);
+      floor = reads.floor;
+      stands = reads.stands;
+      stays = reads.stays;
+      unset = reads.unset;
+      unconnected = reads.unconnected;
+    }
+
+raised_to : (o : Option ℕ) (least : ℕ) → least ≤ raised o least
+raised_to None least = omega arith
+raised_to (Some v) least = omega arith
+
+-- an event of the caller's server
+pub reads_served : (setup : Setup) (clients worker : ℕ) (e : Event) (view : CallerView) (op n least : ℕ) (phase : Phase) → IsOfServer e → Reads setup view op n least phase → Reads setup (caller_after clients worker e view) op n (raised (version_ended e) least) phase
+reads_served setup clients worker (Start b) view op n least phase kind r =
+    record { called = r.called; just = r.just; accepted = r.accepted; descriptors = r.descriptors; floor = r.floor; stands = r.stands; stays = r.stays; unset = r.unset; unconnected = r.unconnected }
+reads_served setup clients worker (StartFailed b) view op n least phase kind r =
+    record { called = r.called; just = r.just; accepted = r.accepted; descriptors = r.descriptors; floor = r.floor; stands = r.stands; stays = r.stays; unset = r.unset; unconnected = r.unconnected }
+reads_served setup clients worker (Stop x) view op n least phase kind r =
+    record { called = r.called; just = r.just; accepted = r.accepted; descriptors = r.descriptors; floor = r.floor; stands = r.stands; stays = r.stays; unset = r.unset; unconnected = r.unconnected }
+reads_served setup clients worker (End e) view op n least phase kind r =
+    let low = r.floor in
+    let rises = raised_to (version_of e.outcome) least in
+    record {
+      called = r.called;
+      just = r.just;
+      accepted = r.accepted;
+      descriptors = r.descriptors;
+      floor = greatest_one_more view.versions _ (boot setup) (raised (version_of e.outcome) least) (λ v is. let one = ap (λ o. raised o least) (if_some (caller_of clients e.server.0 == worker) (version_of e.outcome) v is).1 in omega (arith, one)) (omega (arith, low, rises));
+      stands = r.stands;
+      stays = r.stays;
+      unset = r.unset;
+      unconnected = r.unconnected;
+    }
+reads_served setup clients worker _ view op n least phase kind r = absurd kind
+
+-- one that stands at the server's queue
+pub reads_aside : (setup : Setup) (clients worker : ℕ) (e : Event) (view : CallerView) (op n least : ℕ) (phase : Phase) → IsAtQueue e → Reads setup view op n least phase → Reads setup (caller_after clients worker e view) op n least phase
+reads_aside setup clients worker (Take t) view op n least phase kind r =
+    record { called = r.called; just = r.just; accepted = r.accepted; descriptors = r.descriptors; floor = r.floor; stands = r.stands; stays = r.stays; unset = r.unset; unconnected = r.unconnected }
+reads_aside setup clients worker (Gone s) view op n least phase kind r =
+    record { called = r.called; just = r.just; accepted = r.accepted; descriptors = r.descriptors; floor = r.floor; stands = r.stands; stays = r.stays; unset = r.unset; unconnected = r.unconnected }
+reads_aside setup clients worker _ view op n least phase kind r = absurd kind
+
+-- where these events stand
+pub served_here : (setup : Setup) (clients worker : ℕ) (e : Event) → IsOfServer e → worker_of clients e ≡ worker → home_of setup clients e ≡ CallerHome worker
+served_here setup clients worker (Start b) kind its = ap CallerHome its
+served_here setup clients worker (StartFailed b) kind its = ap CallerHome its
+served_here setup clients worker (End e) kind its = ap CallerHome its
+served_here setup clients worker (Stop x) kind its = ap CallerHome its
+served_here setup clients worker _ kind its = absurd kind
+
+pub aside_elsewhere : (setup : Setup) (clients worker : ℕ) (e : Event) → IsAtQueue e → at_home setup clients (CallerHome worker) e ≡ false
+aside_elsewhere setup clients worker (Take t) kind = refl
+aside_elsewhere setup clients worker (Gone s) kind = refl
+aside_elsewhere setup clients worker _ kind = absurd kind
+
+-- before any event
+pub reads_nothing : (w : Working) (least : ℕ) → w.own ≡ [] → boot w.setup ≤ least → Reads w.setup (view_of w) 0 0 least Idle
+unfolding newest_call accepted open_descriptors versions ticks has_left is_leaving connections
+reads_nothing w least none low =
+    subst (λ (own : List Stamped). Reads w.setup (caller_view w.clients w.id.0 (worker_events w.clients w.id.0 (past_in own))) 0 0 least Idle) (sym none)
+    (record { called = refl; just = refl; accepted = refl; descriptors = refl; floor = low; stands = refl; stays = refl; unset = refl; unconnected = refl })
+
+-- a request that is prepared changes nothing of them
+pub reads_prepared : (setup : Setup) (view : CallerView) (op n least : ℕ) (phase phase' : Phase) (draft : Draft) → phase ≡ Idle → phase' ≡ Prepared draft → Reads setup view op n least phase → Reads setup view op n least phase'
+reads_prepared setup view op n least phase phase' draft idle is reads =
+    let r = subst (Reads setup view op n least) idle reads in
+    subst (Reads setup view op n least) (sym is) (record { called = r.called; just = r.just; accepted = r.accepted; descriptors = r.descriptors; floor = r.floor; stands = r.stands; stays = r.stays; unset = r.unset; unconnected = r.unconnected })
+
+-- nor does one that is aimed anew
+pub reads_redrawn : (setup : Setup) (view : CallerView) (op n least : ℕ) (phase phase' : Phase) (draft redrawn : Draft) → phase ≡ Prepared draft → phase' ≡ Prepared redrawn → Reads setup view op n least phase → Reads setup view op n least phase'
+reads_redrawn setup view op n least phase phase' draft redrawn was is reads =
+    let r = subst (Reads setup view op n least) was reads in
+    subst (Reads setup view op n least) (sym is) (record { called = r.called; just = r.just; accepted = r.accepted; descriptors = r.descriptors; floor = r.floor; stands = r.stands; stays = r.stays; unset = r.unset; unconnected = r.unconnected })
+
+pub unready_from : (setup : Setup) (op : ℕ) (payload : Data) (found : FoundRows) (unready : Unready) (new old : Standing) → find (λ (row : Row). is_accepted setup row.accepts (kind_of payload)) found.rows ≡ None → TurnsDown op found unready new old → UnreadyAs setup op payload found unready new old
+unready_from setup op payload found (Refused stamp) new old none turned = (none, turned)
+unready_from setup op payload found (Full count) new old none turned = absurd turned
+unready_from setup op payload found (Halt halt) new old none turned = turned

@@ -1,0 +1,46 @@
+-- What a request comes to that no queue took, from what its refusal left.
+use Rattle.std.proofs.Common.{◌≡◌, ℕ, Bool, List, [], ◌∷◌, Option, Some, None, Result, Ok, Err, zero, suc, sym, ap, subst}
+use Rattle.std.specs.Prelude.{IfOk, IfErr, OnErr, slice_get}
+use Rattle.std.specs.List.{All}
+use Rattle.std.proofs.lemmas.List.Elements.{All-head, All-tail}
+use Rattle.xa_types.specs.declared.fault.Fault.{Fault}
+use Rattle.xa_types.specs.declared.stamp.Stamp.{Stamp}
+use Rattle.xa_events.specs.declared.event.Evidence.{Evidence}
+use Rattle.xa_cell.specs.declared.tokens.Seat.{Seat}
+use Rattle.xa_cell.specs.Known.{known}
+use Rattle.xa_cell.specs.Changes.{withdrawn}
+use Rattle.xa_work.specs.declared.work.Halt.{Halt}
+use Rattle.xa_work.specs.Work.{HaltsAt}
+use Rattle.xa_caller.specs.declared.cargo.Filling.{Filling}
+use Rattle.xa_caller.specs.declared.phase.Draft.{Draft}
+use Rattle.xa_caller.specs.declared.phase.Phase.TheVariants.{Idle, Prepared}
+use Rattle.xa_caller.specs.declared.outcomes.Step.{Step}
+use Rattle.xa_caller.specs.declared.outcomes.Step.TheVariants.{Told, Halt as Halted}
+use Rattle.xa_caller.specs.declared.outcomes.Why.{Why}
+use Rattle.xa_caller.specs.Caller.{Standing}
+use Rattle.xa_caller.specs.Changes.{Refuses}
+use Rattle.xa_caller.specs.Unsent.{step, refused_for, other_step, EndsAs, UnsentAs}
+
+-- what stands at a place of a list has what all have
+pub at-all : {X : Type 0} (P : X → Type 0) (xs : List X) (k : ℕ) (x : X) → slice_get xs k ≡ Some x → All P xs → P x
+at-all P [] k x is all = absurd (cc is)
+at-all P (y ∷ ys) zero x is all = subst P (cc is) (All-head P y ys all)
+at-all P (y ∷ ys) (suc k) x is all = at-all P ys k x is (All-tail P y ys all)
+
+module _ (cell : ℕ) (why : Why) (no_block : Bool) (draft : Draft) (seat : Seat Filling) (new left old : Standing) (was : old.phase ≡ Prepared draft) (back : known seat ≡ withdrawn cell (known old.seat))
+    (made : left ≡ record old { seat = seat; phase = Idle }) where
+  ends_as : (step : Step) → EndsAs draft.op (refused_for draft why no_block) (other_step why) step new left → UnsentAs cell why no_block step new old
+  ends_as step ends = record { draft = draft; was = was; seat = seat; back = back; ends = subst (EndsAs draft.op (refused_for draft why no_block) (other_step why) step new) made ends }
+
+  ended : (fault : Fault) (evidence : Evidence) (result : Result Stamp Halt) → IfOk result (λ stamp. Refuses draft.op fault evidence stamp new left) → IfErr result (HaltsAt left.work.stamp) → OnErr result (new ≡ left) → EndsAs draft.op (Some (fault, evidence)) (other_step why) (step result) new left
+  ended fault evidence (Ok stamp) refuses halted kept = refuses
+  ended fault evidence (Err halt) refuses halted kept = (halted, kept)
+
+  pub unsent_refused : (fault : Fault) (evidence : Evidence) → refused_for draft why no_block ≡ Some (fault, evidence) → (op : ℕ) → op ≡ draft.op → (result : Result Stamp Halt) (s : Step) → s ≡ step result
+      → IfOk result (λ stamp. Refuses op fault evidence stamp new left) → IfErr result (HaltsAt left.work.stamp) → OnErr result (new ≡ left) → UnsentAs cell why no_block s new old
+  unsent_refused fault evidence is op same result s steps refuses halted kept =
+      ends_as s (subst (λ o. EndsAs draft.op o (other_step why) s new left) (sym is) (subst (λ t. EndsAs draft.op (Some (fault, evidence)) (other_step why) t new left) (sym steps)
+      (ended fault evidence result (subst (λ n. IfOk result (λ stamp. Refuses n fault evidence stamp new left)) same refuses) halted kept)))
+
+  pub unsent_other : refused_for draft why no_block ≡ None → (s : Step) → s ≡ other_step why → new ≡ left → UnsentAs cell why no_block s new old
+  unsent_other is s steps kept = ends_as s (subst (λ o. EndsAs draft.op o (other_step why) s new left) (sym is) (steps, kept))

@@ -1,0 +1,82 @@
+use Rattle.std.proofs.Common.{◌≡◌, true, refl, sym, ◌∙◌, ap, subst}
+use Rattle.std.specs.Prelude.{slice_get}
+use Rattle.xa_types.specs.declared.data.Data.{Data}
+use Rattle.xa_types.specs.declared.row.Row.{Row}
+use Rattle.xa_types.specs.declared.ids.RequestId.{RequestId}
+use Rattle.xa_types.specs.Found.{FoundRows}
+use Rattle.xa_types.specs.Kind.{is_sound}
+use Rattle.xa_types.specs.Rows.{row_for}
+use Rattle.xa_events.specs.declared.event.Accepted.{Accepted}
+use Rattle.xa_events.specs.declared.event.Event.TheVariants.{Accept}
+use Rattle.xa_cell.specs.Known.{known}
+use Rattle.xa_cell.specs.Places.{OpenAre}
+use Rattle.xa_work.specs.Work.{Standing as Working}
+use Rattle.xa_caller.specs.declared.phase.Draft.{Draft}
+use Rattle.xa_caller.specs.declared.phase.Phase.{Phase}
+use Rattle.xa_caller.specs.declared.phase.Phase.TheVariants.{Prepared}
+use Rattle.xa_caller.specs.Drafts.{accepted_by}
+use Rattle.xa_caller.specs.Phases.{places_in, just_in, open_in}
+use Rattle.xa_caller.specs.Caller.{Standing, AreRowsOf}
+use Rattle.xa_caller.specs.Kept.{standing_of, Holds}
+use Rattle.xa_caller.specs.Unsent.{AimsAt}
+use Rattle.xa_caller.proofs.Next.{row-priority}
+use Rattle.xa_caller.proofs.Reading.{reads_redrawn}
+use Rattle.xa_caller.proofs.Unsent.{at-all}
+use Rattle.xa_caller.proofs.caller.Caller.aim.Goals as goal
+
+pub invariant_of-self : goal.invariant_of-self
+invariant_of-self c =
+    let s : Standing = standing_of c.self.inside in
+    let i = c.self.invariant in
+    let w : Working = c.self.inside.work in
+    let draft : Draft = c.draft_in-op.result in
+    let was : s.phase ≡ Prepared draft = sym c.take_out.ensures.0 ∙ c.draft_in-op.ensures in
+    let held = subst (Holds w.setup w.id w.room s.op s.sent s.least) was i.holds in
+    let d = held.1 in
+    let redrawn : Draft = record draft { event = c.of-event_noted.result } in
+    let now : c.set.new.phase ≡ Prepared redrawn = c.set.ensures in
+    let row : Row = c.in-Some.row in
+    let a : Accepted = accepted_by draft.op draft.asked.request draft.version row c.in-Ok.payload in
+    let rows = subst (λ (t : Standing). AreRowsOf t.work.setup c.args.entry.cargo.service c.args.found.now.rows) (sym c.self.view_is) c.requires.rows in
+    let all = at-all (λ (r : Row). r ≡ row_for w.setup c.args.entry.cargo.service r.queue.0 r.routine) c.args.found.now.rows c.args.attempt row (sym c.row_at.ensures ∙ c.in-Some.is) rows in
+    record {
+      sound = record { reads = reads_redrawn w.setup _ s.op s.sent s.least s.phase c.set.new.phase draft redrawn was now i.sound.reads };
+      holds = subst (Holds w.setup w.id w.room s.op s.sent s.least) (sym now) (
+        held.0,
+        record {
+          accepted = a;
+          is = c.of-event_noted.ensures ∙ ap Accept c.accepted_by.ensures;
+          by = ap (λ (r : RequestId). r.caller) (sym d.request ∙ d.mine);
+          next = sym d.of_draft ∙ d.next;
+          of_draft = refl;
+          request = refl;
+          mine = sym d.request ∙ d.mine;
+          mode = refl;
+          sound = ap (is_sound w.setup) c.in-Ok.ensures ∙ subst (λ (t : Standing). is_sound t.work.setup c.args.entry.cargo.payload ≡ true) (sym c.self.view_is) c.requires.sound;
+          version = refl;
+          recent = d.recent;
+          priority = row-priority w.setup c.args.entry.cargo.service row all;
+        },
+      );
+      places = subst (λ p. OpenAre (places_in p) (known c.self.inside.seat)) (sym now) (subst (λ p. OpenAre (places_in p) (known c.self.inside.seat)) was i.places);
+      few = i.few;
+    }
+
+pub returns : goal.returns
+returns c =
+    let s : Standing = standing_of c.self.inside in
+    let draft : Draft = c.draft_in-op.result in
+    let redrawn : Draft = record draft { event = c.of-event_noted.result } in (
+      c.in-Some.row,
+      sym c.row_at.ensures ∙ c.in-Some.is,
+      subst (AimsAt c.in-Some.row c.args.entry c.aimed_at.result (Accept c.accepted_by.result) _) c.self.view_is (record {
+        draft = draft;
+        was = sym c.take_out.ensures.0 ∙ c.draft_in-op.ensures;
+        entered = c.aimed_at.ensures;
+        accepted = ap Accept c.accepted_by.ensures ∙ ap (λ (p : Data). Accept (accepted_by draft.op draft.asked.request draft.version c.in-Some.row p)) c.in-Ok.ensures;
+        redrawn = redrawn;
+        same = refl;
+        drafted = c.of-event_noted.ensures;
+        made = ap (λ (p : Phase). record s { phase = p }) c.set.ensures;
+      }),
+    )

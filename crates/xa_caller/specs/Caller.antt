@@ -1,0 +1,53 @@
+-- A caller as it stands: its work, and what it keeps of it (XATMI, tpcall; that a caller has a number and stamps is this project's own).
+use Rattle.std.specs.Prelude.{◌≡◌, ◌⊎◌, ℕ, ◌≤◌, true, false, List, [], None}
+use Rattle.std.specs.List.{All}
+use Rattle.xa_types.specs.declared.row.Row.{Row}
+use Rattle.xa_types.specs.declared.setup.Setup.{Setup}
+use Rattle.xa_types.specs.Rows.{row_for}
+use Rattle.xa_events.specs.Words.{greatest}
+use Rattle.xa_events.specs.Board.{boot}
+use Rattle.xa_events.specs.Caller.{op_of, accepted_in, priority_asked, is_client, is_serving}
+use Rattle.xa_events.specs.Views.{CallerView, caller_view}
+use Rattle.xa_cell.specs.declared.tokens.Seat.{Seat}
+use Rattle.xa_work.specs.Work.{Standing as Working, theirs}
+use Rattle.xa_caller.specs.declared.cargo.Filling.{Filling}
+use Rattle.xa_caller.specs.declared.phase.Phase.{Phase}
+use Rattle.xa_caller.specs.Phases.{just_in, open_in}
+
+-- what a caller is, a client or the caller of a server: its work, its seat among the reply cells, the number of its last call, how many requests of it were accepted, the least
+-- version of the board that it may still read, and where its call stands; it hasn't left, set no priority and begun no conversation
+pub record Standing : Type 0 where
+  pub work : Working
+  pub seat : Seat Filling
+  pub op : ℕ
+  pub sent : ℕ
+  pub least : ℕ
+  pub phase : Phase
+
+-- the tables are what is read off the caller's events
+pub record Reads (setup : Setup) (view : CallerView) (op sent least : ℕ) (phase : Phase) : Type 0 where
+  pub called : op_of view.called ≡ op
+  pub just : accepted_in view.called ≡ just_in phase
+  pub accepted : view.accepted ≡ sent
+  pub descriptors : view.descriptors ≡ open_in phase
+  pub floor : greatest (boot setup) view.versions ≤ least
+  pub stands : view.left ≡ false
+  pub stays : view.leaving ≡ false
+  pub unset : priority_asked view.set ≡ None
+  pub unconnected : view.connections ≡ []
+
+-- what is read off all that a worker noted
+abbrev pub view_of : Working → CallerView
+view_of w = caller_view w.clients w.id.0 (theirs w)
+
+-- what holds of each caller: its tables are what its events say
+pub record IsSound (c : Standing) : Type 0 where
+  pub reads : Reads c.work.setup (view_of c.work) c.op c.sent c.least c.phase
+
+-- it may make a call: it is a client, or its server has a request in hand
+abbrev pub MayCall : Standing → Type 0
+MayCall c = (is_client c.work.clients c.work.id.0 ≡ true) ⊎ (is_serving c.work.clients c.work.id.0 (theirs c.work) ≡ true)
+
+-- these are rows of the service, as the setup gives them
+abbrev pub AreRowsOf : Setup → List ℕ → List Row → Type 0
+AreRowsOf setup service rows = All (λ (row : Row). row ≡ row_for setup service row.queue.0 row.routine) rows

@@ -1,0 +1,117 @@
+-- What each call of a caller leaves (this project's own).
+use Rattle.std.specs.Prelude.{◌≡◌, ◌≢◌, ◌⊎◌, ℕ, ◌+◌, ◌-◌, ◌≤◌, ◌^◌, max, true, false, Option, Some, None, Result, Ok, Err, [], ◌∷◌}
+use Rattle.std.specs.List.{find}
+use Rattle.xa_types.specs.declared.stamp.Stamp.{Stamp}
+use Rattle.xa_types.specs.declared.data.Data.{Data}
+use Rattle.xa_types.specs.declared.data.Kind.{Kind}
+use Rattle.xa_types.specs.declared.fault.Fault.{Fault}
+use Rattle.xa_types.specs.declared.row.Row.{Row}
+use Rattle.xa_types.specs.Found.{FoundRows}
+use Rattle.xa_types.specs.Kind.{kind_of, is_accepted}
+use Rattle.xa_events.specs.declared.event.Event.{Event}
+use Rattle.xa_events.specs.declared.event.Event.TheVariants.{Accept, Answer, Refuse, Leave}
+use Rattle.xa_events.specs.declared.event.Evidence.{Evidence}
+use Rattle.xa_events.specs.declared.event.Evidence.TheVariants.{Version}
+use Rattle.xa_types.specs.declared.setup.Setup.{Setup}
+use Rattle.xa_types.specs.declared.fault.Fault.TheVariants.{NoEnt, IType}
+use Rattle.xa_events.specs.Answers.{answer_to}
+use Rattle.xa_events.specs.Caller.{version_in, is_client}
+use Rattle.xa_cell.specs.Views.{at}
+use Rattle.xa_cell.specs.Known.{known}
+use Rattle.xa_cell.specs.Calls.{TookAs}
+use Rattle.xa_cell.specs.Changes.{looked}
+use Rattle.xa_cell.specs.declared.cells.Cells.{Cells}
+use Rattle.xa_cell.specs.Calls.{Began, AllTaken}
+use Rattle.xa_work.specs.declared.work.Halt.{Halt}
+use Rattle.xa_work.specs.Work.{Standing as Working, noted, seeing, HaltsAt}
+use Rattle.xa_caller.specs.declared.cargo.Filling.{Filling}
+use Rattle.xa_caller.specs.declared.phase.Open.{Open}
+use Rattle.xa_caller.specs.declared.phase.Draft.{Draft}
+use Rattle.xa_caller.specs.declared.phase.Phase.TheVariants.{Idle, Prepared, Sent, Lost}
+use Rattle.xa_caller.specs.declared.outcomes.Prepared.{Prepared as Made}
+use Rattle.xa_caller.specs.declared.outcomes.Unready.{Unready}
+use Rattle.xa_caller.specs.declared.outcomes.Unready.TheVariants as unready
+use Rattle.xa_caller.specs.declared.outcomes.Step.{Step}
+use Rattle.xa_caller.specs.declared.outcomes.Step.TheVariants as steps
+use Rattle.xa_caller.specs.Phases.{least_by}
+use Rattle.xa_caller.specs.Drafts.{accepted_by, entry_by}
+use Rattle.xa_caller.specs.Caller.{Standing}
+
+-- the event is noted with the next stamp of the caller as it stood then, and the caller is else as `left`
+pub record Notes (stamp : Stamp) (event : Event) (left new : Standing) : Type 0 where
+  pub next : stamp.0 ≡ left.work.stamp.0 + 1
+  pub bound : stamp.0 ≤ 2 ^ 63
+  pub made : new ≡ record left { work = noted (record { stamp = stamp; event = event }) left.work }
+
+-- ---- refuse
+
+abbrev pub refused : ℕ → Fault → Evidence → Standing → Event
+refused op fault evidence c = Refuse (record { by = c.work.id; op = op; fault = fault; evidence = evidence })
+
+-- the call is refused
+abbrev pub Refuses : ℕ → Fault → Evidence → Stamp → Standing → Standing → Type 0
+Refuses op fault evidence stamp new old = Notes stamp (refused op fault evidence old) (record old { op = op; least = least_by (version_in evidence) old.least }) new
+
+-- ---- leave
+
+-- a client leaves with the next stamp, or, where memory or stamps came to their end, without an event; the caller of a server leaves without one
+abbrev pub LeavesAs : Option Halt → Working → Working → Type 0
+LeavesAs None new old = ((is_client old.clients old.id.0 ≡ true) × ((stamp : Stamp) × (stamp.0 ≡ old.stamp.0 + 1) × (new ≡ noted (record { stamp = stamp; event = Leave old.id }) old)))
+    ⊎ ((is_client old.clients old.id.0 ≡ false) × (new ≡ old))
+LeavesAs (Some halt) new old = (is_client old.clients old.id.0 ≡ true) × HaltsAt old.stamp halt × (new ≡ old)
+
+-- ---- prepare
+
+-- the cell of the caller that the request got, and what it is put on a queue with
+pub record Prepares (setup : Setup) (cells : Cells Filling) (op : ℕ) (payload : Data) (found : FoundRows) (prepared : Made) (new old : Standing) : Type 0 where
+  pub row : Row
+  pub chosen : find (λ (row : Row). is_accepted setup row.accepts (kind_of payload)) found.rows ≡ Some row
+  pub draft : Draft
+  pub event : prepared.event ≡ Accept (accepted_by op (record { caller = old.work.id; number = old.sent + 1 }) found.version row payload)
+  pub drafted : draft.event.value ≡ prepared.event
+  pub entry : prepared.entry ≡ entry_by (record { caller = old.work.id; number = old.sent + 1 }) row payload prepared.entry.cargo.ticket
+  pub began : Began cells (record { caller = old.work.id; number = old.sent + 1 }) old.seat new.seat draft.asked.place prepared.entry.cargo.ticket
+  pub made : new ≡ record old { work = record old.work { room = max old.work.room 1 }; seat = new.seat; phase = Prepared draft }
+
+abbrev pub refusal : Result Stamp Halt → Unready
+refusal (Ok stamp) = unready.Refused stamp
+refusal (Err halt) = unready.Halt halt
+
+-- no row was found, or none that takes the kind of the data; where memory or stamps came to their end nothing changes
+abbrev pub TurnsDown : ℕ → FoundRows → Unready → Standing → Standing → Type 0
+TurnsDown op found (unready.Refused stamp) new old = ((found.rows ≡ []) × Refuses op NoEnt (Version found.version) stamp new old)
+    ⊎ ((found.rows ≢ []) × Refuses op IType (Version found.version) stamp new old)
+TurnsDown op found (unready.Full count) new old = ⊥
+TurnsDown op found (unready.Halt halt) new old = HaltsAt old.work.stamp halt × (new ≡ old)
+
+-- why no request is made: no row that was found takes the kind of the data, all cells are in use, or memory or stamps came to their end
+abbrev pub UnreadyAs : Setup → ℕ → Data → FoundRows → Unready → Standing → Standing → Type 0
+UnreadyAs setup op payload found (unready.Refused stamp) new old = (find (λ (row : Row). is_accepted setup row.accepts (kind_of payload)) found.rows ≡ None) × TurnsDown op found (unready.Refused stamp) new old
+UnreadyAs setup op payload found (unready.Full count) new old = (count ≡ old.seat.count) × AllTaken old.seat new.seat × (new ≡ record old { work = record old.work { room = max old.work.room 1 }; seat = new.seat })
+UnreadyAs setup op payload found (unready.Halt halt) new old = HaltsAt old.work.stamp halt × (new ≡ old)
+
+-- ---- sent
+
+-- the request was accepted as it was drafted, with that stamp
+pub record Sends (stamp : Stamp) (new old : Standing) : Type 0 where
+  pub draft : Draft
+  pub was : old.phase ≡ Prepared draft
+  pub made : new ≡ record old { work = noted (record { stamp = stamp; event = draft.event.value }) old.work; op = draft.op; sent = old.sent + 1; least = draft.version; phase = Sent draft.asked }
+
+-- ---- reply
+
+-- the answer was taken from the cell, and the caller is told it
+pub record Answers (expect : Option Kind) (stamp : Stamp) (new old : Standing) : Type 0 where
+  pub sent : Open
+  pub was : old.phase ≡ Sent sent
+  pub asked : (at sent.place.cell (known old.seat)).asked ≡ sent.request ∷ []
+  pub filling : Filling
+  pub took : TookAs sent.place.cell filling (looked sent.place.cell 0 (known old.seat)) (known new.seat)
+  pub noted : Notes stamp (Answer (record { by = old.work.id; op = old.op; request = sent.request; answer = answer_to expect filling.answer }))
+      (record old { work = record (seeing filling.stamp old.work) { room = old.work.room - 1 }; seat = new.seat; phase = Idle }) new
+
+-- what a look at the reply comes to; at the last stamp the answer is lost
+abbrev pub StepsAs : Option Kind → Step → Standing → Standing → Type 0
+StepsAs expect (steps.Told stamp) new old = Answers expect stamp new old
+StepsAs expect steps.Wait new old = new ≡ record old { seat = new.seat }
+StepsAs expect (steps.Halt halt) new old = (sent : Open) × (old.phase ≡ Sent sent) × (new.phase ≡ Lost sent.request) × (new.work.own ≡ old.work.own)

@@ -1,0 +1,491 @@
+// The caller.
+ghost use Rattle.std.specs.Prelude.{◌≡◌, ◌+◌, ◌≤◌, ◌<◌, ◌^◌, true, false, max, [], None, Some, IfOk, IfErr, IfSome, OnOk, OnErr};
+ghost use Rattle.std.specs.List.{find};
+ghost use Rattle.xa_types.specs.Configured.{is_configured};
+ghost use Rattle.xa_types.specs.Kind.{is_sound};
+ghost use Rattle.xa_events.specs.Cases.{ShowsItself, IsOwnEvidence};
+ghost use Rattle.xa_events.specs.Board.{boot};
+ghost use Rattle.xa_events.specs.Caller.{version_in};
+ghost use Rattle.xa_cell.specs.Known.{known, IsSeatOf, SameSeat, IsNew};
+ghost use Rattle.xa_cell.specs.Known.{IsTicketOf};
+ghost use Rattle.xa_cell.specs.Changes.{withdrawn};
+ghost use Rattle.xa_cell.specs.Places.{IsShut};
+ghost use Rattle.xa_events.specs.declared.event.Event.TheVariants.{Accept};
+ghost use Rattle.xa_cell.specs.Calls.{Began, AllTaken};
+ghost use Rattle.xa_cell.specs.Places.{Stand, Opens};
+ghost use Rattle.xa_caller.specs.Drafts.{accepted_by, entry_by};
+ghost use Rattle.xa_caller.specs.Changes.{refusal};
+ghost use Rattle.xa_caller.specs.Phases.{IsPrepared, IsPreparedAt, IsSent, least_by};
+ghost use Rattle.xa_caller.specs.declared.phase.Phase.TheVariants as phases;
+ghost use Rattle.xa_work.specs.Work.{HaltsAt, seeing, theirs};
+
+use crate::cargo::{Cargo, Filling};
+use crate::choosing::first_row;
+use crate::outcomes::{Note, Prepared, Step, Unready};
+use crate::phase::{Draft, Open, Phase};
+use crate::telling::told;
+use std::alloc::Global;
+use std::marker::Model;
+use std::mem;
+use std::snapshot::Snapshot;
+use xa_cell::{Cells, Look, Seat, Ticket};
+use xa_events::{Accepted, Event, Evidence, Refused, Replied};
+use xa_queue::Entry;
+use xa_route::priority;
+use xa_types::{
+    CallerId, Data, Fault, Found, Kind, Mode, Name, NoMemory, RequestId, Row, Setup, Stamp,
+};
+use xa_work::{Halt, Work};
+
+/// What a caller leaves behind.
+pub struct Left {
+    pub work: Work,
+    pub seat: Seat<Filling>,
+    pub halt: Option<Halt>,
+}
+
+/// A caller. It makes one call after another.
+pub struct Caller {
+    pub(crate) work: Work,
+    pub(crate) seat: Seat<Filling>,
+    pub(crate) op: u32,
+    pub(crate) sent: u64,
+    pub(crate) least: u64,
+    pub(crate) phase: Phase,
+}
+
+impl Model for Caller {
+    ghost use Rattle.xa_caller.specs.Caller.{Standing};
+
+    ghost Value = { Standing };
+
+    ghost use Rattle.xa_caller.specs.Kept.{standing_of, IsKept};
+
+    ghost view = { standing_of };
+
+    ghost invariant = { IsKept };
+}
+
+// The version of the board that was looked up.
+fn version_in(evidence: &Evidence) -> Option<u64>
+    ensures { result ≡ version_in evidence.now }
+{
+    match evidence {
+        Evidence::Version(version) | Evidence::AllDown(version) => Some(*version),
+        _ => None,
+    }
+}
+
+// The least version that is read behind that refusal.
+fn least_by(evidence: &Evidence, least: u64) -> u64
+    ensures { result ≡ least_by (version_in evidence.now) least }
+{
+    match version_in(evidence) {
+        Some(version) => version,
+        None => least,
+    }
+}
+
+// The data for the event, and for the server.
+#[derive(Drop)]
+struct Copies {
+    sent: Data,
+    kept: Data,
+}
+
+fn two_copies(alloc: Global, payload: &Data) -> Result<Copies, NoMemory>
+    ensures { IfOk result (λ copies. (copies.sent ≡ payload.now) × (copies.kept ≡ payload.now)) }
+{
+    let sent = payload.copy(alloc)?;
+    let kept = payload.copy(alloc)?;
+    Ok(Copies { sent, kept })
+}
+
+pub(crate) fn accepted_by(
+    op: u32,
+    request: RequestId,
+    version: u64,
+    row: &Row,
+    payload: Data,
+) -> Accepted
+    ensures { result ≡ accepted_by op request version row.now payload }
+{
+    Accepted {
+        by: request.caller,
+        op,
+        request,
+        version,
+        service: row.service,
+        queue: row.queue,
+        routine: row.routine,
+        priority: priority(row.priority, None),
+        mode: Mode::Reply,
+        payload,
+    }
+}
+
+pub(crate) fn entry_by(
+    request: RequestId,
+    row: &Row,
+    payload: Data,
+    ticket: Ticket<Filling>,
+) -> Entry<Cargo>
+    ensures { result ≡ entry_by request row.now payload ticket }
+{
+    Entry {
+        request,
+        priority: priority(row.priority, None),
+        cargo: Cargo {
+            service: row.service,
+            routine: row.routine,
+            payload,
+            ticket,
+        },
+    }
+}
+
+fn refusal(refused: Result<Stamp, Halt>) -> Unready
+    ensures { result ≡ refusal refused }
+{
+    match refused {
+        Ok(stamp) => Unready::Refused(stamp),
+        Err(halt) => Unready::Halt(halt),
+    }
+}
+
+// A request with a cell.
+struct Drafted {
+    draft: Draft,
+    entry: Entry<Cargo>,
+    event: Event,
+}
+
+// A cell for the request, and what is put on the queue of that row; or how many cells the caller has, which are in use.
+fn draft_by(
+    cells: &Cells<Filling>,
+    seat: &mut Seat<Filling>,
+    op: u32,
+    request: RequestId,
+    version: u64,
+    row: &Row,
+    copies: Copies,
+) -> Result<Drafted, u32>
+    requires { IsSeatOf cells.now seat.old }
+    ensures cells { SameSeat cells.now seat.old seat.new }
+    ensures draft { IfOk result (λ made. made.draft ≡ record { asked = record { request = request; place = made.draft.asked.place }; op = op; version = version; event = made.draft.event }) }
+    ensures event { IfOk result (λ made. (made.draft.event.value ≡ made.event) × (made.event ≡ Accept (accepted_by op request version row.now copies.sent))) }
+    ensures entry { IfOk result (λ made. made.entry ≡ entry_by request row.now copies.kept made.entry.cargo.ticket) }
+    ensures began { IfOk result (λ made. Began cells.now request seat.old seat.new made.draft.asked.place made.entry.cargo.ticket) }
+    ensures opens { IfOk result (λ made. Opens made.draft.asked.place.cell request (known seat.old) (known seat.new)) }
+    ensures full { IfErr result (λ count. (count ≡ seat.old.count) × AllTaken seat.old seat.new × Stand (known seat.old) (known seat.new)) }
+{
+    let Copies { sent, kept } = copies;
+    match cells.begin(seat, request) {
+        Err(full) => Err(full.0),
+        Ok((place, ticket)) => {
+            let event = Event::Accept(accepted_by(op, request, version, row, sent));
+            let draft = Draft {
+                asked: Open { request, place },
+                op,
+                version,
+                event: Snapshot::of(&event),
+            };
+            Ok(Drafted {
+                draft,
+                entry: entry_by(request, row, kept, ticket),
+                event,
+            })
+        }
+    }
+}
+
+pub(crate) fn take_out(phase: &mut Phase) -> Phase
+    ensures { (result ≡ phase.old) × (phase.new ≡ phases.Idle) }
+{
+    mem::replace(phase, Phase::Idle)
+}
+
+fn end(phase: Phase)
+    requires { phase ≡ phases.Idle }
+{
+    match phase {
+        Phase::Idle => {}
+        _ => unreachable!(),
+    }
+}
+
+pub(crate) fn set(phase: &mut Phase, next: Phase)
+    requires { phase.old ≡ phases.Idle }
+    ensures { phase.new ≡ next }
+{
+    end(mem::replace(phase, next));
+}
+
+pub(crate) fn draft_in(phase: Phase) -> Draft
+    requires { IsPrepared phase }
+    ensures { phase ≡ phases.Prepared result }
+{
+    match phase {
+        Phase::Prepared(draft) => draft,
+        _ => unreachable!(),
+    }
+}
+
+fn sent_in(phase: Phase) -> Open
+    requires { IsSent phase }
+    ensures { phase ≡ phases.Sent result }
+{
+    match phase {
+        Phase::Sent(open) => open,
+        _ => unreachable!(),
+    }
+}
+
+impl Caller {
+    ghost use Rattle.xa_caller.specs.Caller.{IsSound, MayCall, AreRowsOf};
+    ghost use Rattle.xa_caller.specs.Changes.{Refuses, Prepares, UnreadyAs, TurnsDown, Sends, StepsAs, LeavesAs};
+
+    /// A caller that has noted nothing. It reads no version of the board before `least`, which the boot had made.
+    pub fn new(work: Work, seat: Seat<Filling>, least: u64) -> Caller
+        requires work { work.own ≡ [] }
+        requires seat { IsNew seat.first seat.count (known seat) }
+        requires least { boot work.setup ≤ least }
+        ensures { result ≡ record { work = work; seat = seat; op = 0; sent = 0; least = least; phase = phases.Idle } }
+    {
+        Caller {
+            work,
+            seat,
+            op: 0,
+            sent: 0,
+            least,
+            phase: Phase::Idle,
+        }
+    }
+
+    /// Its number.
+    pub fn id(&self) -> CallerId
+        ensures value { result ≡ self.now.work.id }
+        ensures sound { IsSound self.now }
+    {
+        self.work.id()
+    }
+
+    /// The greatest stamp that it noted or saw.
+    pub fn stamp(&self) -> Stamp
+        ensures value { result ≡ self.now.work.stamp }
+        ensures bound { result.0 ≤ 2 ^ 63 }
+    {
+        self.work.stamp()
+    }
+
+    /// It saw this stamp at another home.
+    pub fn saw(&mut self, stamp: Stamp)
+        requires { stamp.0 ≤ 2 ^ 63 }
+        ensures { self.new ≡ record self.old { work = seeing stamp self.old.work } }
+    {
+        self.work.saw(stamp);
+    }
+
+    /// Makes room for so many events at its own home, where there isn't already. Where it fails nothing changes.
+    pub fn reserve(&mut self, more: u32) -> Result<(), NoMemory>
+        ensures ok { OnOk result (self.new ≡ record self.old { work = record self.old.work { room = max self.old.work.room more } }) }
+        ensures kept { OnErr result (self.new ≡ self.old) }
+    {
+        self.work.reserve(more)
+    }
+
+    /// Its call is refused, by what shows that it is right.
+    pub fn refuse(&mut self, op: u32, fault: Fault, evidence: Evidence) -> Result<Stamp, Halt>
+        requires active { MayCall self.old }
+        requires idle { self.old.phase ≡ phases.Idle }
+        requires shows { ShowsItself self.old.work.setup self.old.work.clients self.old.work.id.0 fault evidence (theirs self.old.work) }
+        requires own { IsOwnEvidence self.old.work.clients self.old.work.id evidence (theirs self.old.work) }
+        requires turn { op ≡ self.old.op + 1 }
+        requires recent { IfSome (version_in evidence) (λ version. self.old.least ≤ version) }
+        ensures ok { IfOk result (λ stamp. Refuses op fault evidence stamp self.new self.old) }
+        ensures halted { IfErr result (HaltsAt self.old.work.stamp) }
+        ensures kept { OnErr result (self.new ≡ self.old) }
+    {
+        let by = self.work.id();
+        let refused = Refused {
+            by,
+            op,
+            fault,
+            evidence,
+        };
+        let least = least_by(&evidence, self.least);
+        let stamp = self.work.note_anew(Event::Refuse(refused))?;
+        self.op = op;
+        self.least = least;
+        Ok(stamp)
+    }
+
+    /// Makes a request for its next call, by the first of the rows that were found whose service accepts the kind of the
+    /// data, with a cell for its reply. There is room for the answer then.
+    pub fn prepare(
+        &mut self,
+        alloc: Global,
+        setup: &Setup,
+        cells: &Cells<Filling>,
+        op: u32,
+        service: &Name,
+        payload: &Data,
+        found: &Found,
+    ) -> Result<Prepared, Unready>
+        requires setup { (setup.now ≡ self.old.work.setup) × (is_configured setup.now ≡ true) }
+        requires cells { IsSeatOf cells.now self.old.seat }
+        requires active { MayCall self.old }
+        requires idle { self.old.phase ≡ phases.Idle }
+        requires turn { op ≡ self.old.op + 1 }
+        requires sound { is_sound setup.now payload.now ≡ true }
+        requires rows { AreRowsOf setup.now service.now found.now.rows }
+        requires recent { self.old.least ≤ found.now.version }
+        ensures ok { IfOk result (λ prepared. Prepares setup.now cells.now op payload.now found.now prepared self.new self.old) }
+        ensures unready { IfErr result (λ unready. UnreadyAs setup.now op payload.now found.now unready self.new self.old) }
+        ensures cells { SameSeat cells.now self.old.seat self.new.seat }
+    {
+        let Some(row) = first_row(setup, found, payload) else {
+            return Err(self.turn_down(op, found));
+        };
+        let Ok(copies) = two_copies(alloc, payload) else {
+            return Err(Unready::Halt(Halt::NoMemory));
+        };
+        if self.work.reserve(1).is_err() {
+            return Err(Unready::Halt(Halt::NoMemory));
+        }
+        let request = self.next_request();
+        match draft_by(
+            cells,
+            &mut self.seat,
+            op,
+            request,
+            found.version,
+            &row,
+            copies,
+        ) {
+            Err(full) => Err(Unready::Full(full)),
+            Ok(drafted) => {
+                let Drafted {
+                    draft,
+                    entry,
+                    event,
+                } = drafted;
+                set(&mut self.phase, Phase::Prepared(draft));
+                Ok(Prepared {
+                    entry,
+                    event,
+                    note: Note,
+                })
+            }
+        }
+    }
+
+    // Its call is refused, since no row of those that were found serves it.
+    fn turn_down(&mut self, op: u32, found: &Found) -> Unready
+        requires active { MayCall self.old }
+        requires idle { self.old.phase ≡ phases.Idle }
+        requires turn { op ≡ self.old.op + 1 }
+        requires recent { self.old.least ≤ found.now.version }
+        ensures { TurnsDown op found.now result self.new self.old }
+    {
+        let _itself = self.id();
+        let evidence = Evidence::Version(found.version);
+        if found.rows.is_empty() {
+            return refusal(self.refuse(op, Fault::NoEnt, evidence));
+        }
+        refusal(self.refuse(op, Fault::IType, evidence))
+    }
+
+    // Its next request.
+    fn next_request(&self) -> RequestId
+        ensures { result ≡ record { caller = self.now.work.id; number = self.now.sent + 1 } }
+    {
+        let _stamp = self.work.stamp();
+        RequestId {
+            caller: self.work.id(),
+            number: self.sent + 1,
+        }
+    }
+
+    /// A queue accepted the request that was prepared, with that stamp.
+    pub fn sent(&mut self, note: Note, stamp: Stamp)
+        requires active { MayCall self.old }
+        requires prepared { IsPrepared self.old.phase }
+        requires later { self.old.work.stamp.0 < stamp.0 }
+        requires bound { stamp.0 ≤ 2 ^ 63 }
+        ensures { Sends stamp self.new self.old }
+    {
+        let Note = note;
+        let Draft {
+            asked,
+            op,
+            version,
+            event,
+        } = draft_in(take_out(&mut self.phase));
+        self.work.noted(stamp, event);
+        self.op = op;
+        self.sent += 1;
+        self.least = version;
+        set(&mut self.phase, Phase::Sent(asked));
+    }
+
+    /// Looks for the answer to its request, and is told it where it has come.
+    pub fn call_reply(&mut self, cells: &Cells<Filling>, expect: &Option<Kind>) -> Step
+        requires cells { IsSeatOf cells.now self.old.seat }
+        requires active { MayCall self.old }
+        requires sent { IsSent self.old.phase }
+        ensures step { StepsAs expect.now result self.new self.old }
+        ensures cells { SameSeat cells.now self.old.seat self.new.seat }
+    {
+        let open = sent_in(take_out(&mut self.phase));
+        match cells.look(&mut self.seat, &open.place) {
+            Look::Pending => {
+                set(&mut self.phase, Phase::Sent(open));
+                Step::Wait
+            }
+            Look::Come => {
+                let Open { request, place } = open;
+                let Filling { answer, stamp } = cells.take(&mut self.seat, place);
+                self.work.saw(stamp);
+                let replied = Replied {
+                    by: self.work.id(),
+                    op: self.op,
+                    request,
+                    answer: told(expect, answer),
+                };
+                match self.work.note(Event::Answer(replied)) {
+                    Ok(stamp) => Step::Told(stamp),
+                    Err(worn) => {
+                        set(&mut self.phase, Phase::Lost(request));
+                        Step::Halt(Halt::Worn(worn.0))
+                    }
+                }
+            }
+        }
+    }
+
+    /// It has made its last call. A client leaves with an event; the caller of a server notes none.
+    pub fn leave(self) -> Left
+        requires { self.phase ≡ phases.Idle }
+        ensures seat { (result.seat ≡ self.seat) × IsShut self.seat }
+        ensures work { LeavesAs result.halt result.work self.work }
+        ensures sound { IsSound self }
+    {
+        let Caller {
+            mut work,
+            seat,
+            op: _,
+            sent: _,
+            least: _,
+            phase,
+        } = self;
+        end(phase);
+        let halt = if work.is_client() {
+            let id = work.id();
+            work.note_anew(Event::Leave(id)).err()
+        } else {
+            None
+        };
+        Left { work, seat, halt }
+    }
+}

@@ -1,0 +1,18 @@
+//! A caller: it sends requests, and is told what befell them. Its contracts speak of its own events alone.
+#![tactic(auto)]
+
+mod asking;
+mod caller;
+mod cargo;
+mod choosing;
+mod outcomes;
+mod phase;
+mod serving;
+mod sound;
+mod telling;
+
+pub use caller::{Caller, Left};
+pub use cargo::{Cargo, Filling};
+pub use outcomes::{Aimed, Note, Prepared, Step, Stop, Unready, Why};
+pub use phase::{Draft, Open, Phase};
+pub use sound::is_sound;
