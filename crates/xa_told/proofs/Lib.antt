@@ -1,0 +1,4 @@
+pub mod Growth
+pub mod Ends
+pub mod Joining
+pub mod Takings
