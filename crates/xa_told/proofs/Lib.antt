@@ -2,3 +2,4 @@ pub mod Growth
 pub mod Ends
 pub mod Joining
 pub mod Takings
+pub mod Calls
