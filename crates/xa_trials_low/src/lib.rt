@@ -21,6 +21,8 @@ mod memory;
 #[cfg(test)]
 mod pipes;
 #[cfg(test)]
+mod pools;
+#[cfg(test)]
 mod programs;
 #[cfg(test)]
 mod queues;

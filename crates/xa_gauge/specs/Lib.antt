@@ -1,0 +1,2 @@
+pub mod Gauge
+pub mod Known

@@ -1,0 +1,53 @@
+-- The ends of what a seat filled stand behind each change of its view, and of the answers what it took.
+use Rattle.std.proofs.Common.{ℕ, List, [], ◌∷◌, ◌++◌}
+use Rattle.std.specs.List.{All, Contains}
+use Rattle.std.proofs.lemmas.List.Elements.{All-same, All-push, All-weaker}
+use Rattle.xa_types.specs.declared.stamp.Stamp.{Stamp}
+use Rattle.xa_events.specs.declared.event.Event.{Event}
+use Rattle.xa_events.specs.declared.event.Event.TheVariants as events
+use Rattle.xa_events.specs.Homes.{Home}
+use Rattle.xa_stamp.specs.declared.home.Stamped.{Stamped}
+use Rattle.xa_cell.specs.declared.view.Opening.{Opening}
+use Rattle.xa_cell.specs.declared.view.View.{View}
+use Rattle.xa_cell.specs.Growing.{Keeps, TakesMore, FillsMore}
+use Rattle.xa_cell.specs.Views.{at, fill}
+use Rattle.xa_caller.specs.declared.cargo.Filling.{Filling}
+use Rattle.xa_told.specs.Growing.{Grows}
+use Rattle.xa_told.specs.Told.{WasTaken, AnswersTaken, HasEnd, AllEnded}
+use Rattle.xa_told.proofs.Growth.{only_at}
+
+pub still_taken : (v w : View Filling) → Grows v w → (stamp : Stamp) (e : Event) → WasTaken v stamp e → WasTaken w stamp e
+still_taken v w g stamp (events.Answer a) t = record {
+  cell = t.cell;
+  fill = t.fill;
+  expect = t.expect;
+  taken = g.taken t.cell t.fill t.taken;
+  request = t.request;
+  before = t.before;
+  told = t.told;
+}
+still_taken v w g stamp _ t = tt
+
+pub all_taken : (own : List Stamped) (v w : View Filling) → Grows v w → AnswersTaken v own → AnswersTaken w own
+all_taken own v w g h = All-weaker (λ (x : Stamped). WasTaken v x.stamp x.event) (λ x. WasTaken w x.stamp x.event) (λ x t. still_taken v w g x.stamp x.event t) own h
+
+pub ends_kept : (entries : Home → List Stamped) (v w : View Filling) → Keeps v w → AllEnded entries v → AllEnded entries w
+ends_kept entries v w g h = record { each = λ k. All-same (HasEnd entries) (at k w).filled (at k v).filled (g.each k).filled (h.each k) }
+
+pub ends_taking : (entries : Home → List Stamped) (k : ℕ) (a : Filling) (v w : View Filling) → TakesMore k a v w → AllEnded entries v → AllEnded entries w
+ends_taking entries k a v w g h = record {
+  each = only_at (λ j. All (HasEnd entries) (at j w).filled) k (All-same (HasEnd entries) (at k w).filled (at k v).filled g.filled (h.each k))
+      (λ j ne. All-same (HasEnd entries) (at j w).filled (at j v).filled (g.others j ne).filled (h.each j));
+}
+
+pub ends_filling : (entries : Home → List Stamped) (k : ℕ) (o : Opening) (a : Filling) (v w : View Filling) → FillsMore k o a v w → HasEnd entries (fill o a) → AllEnded entries v → AllEnded entries w
+ends_filling entries k o a v w g e h = record {
+  each = only_at (λ j. All (HasEnd entries) (at j w).filled) k
+      (All-same (HasEnd entries) (at k w).filled ((at k v).filled ++ fill o a ∷ []) g.filled (All-push (HasEnd entries) (at k v).filled (fill o a) (h.each k) e))
+      (λ j ne. All-same (HasEnd entries) (at j w).filled (at j v).filled (g.others j ne).filled (h.each j));
+}
+
+pub ends_later : (entries later : Home → List Stamped) (v : View Filling) → ((home : Home) (x : Stamped) → Contains (entries home) x → Contains (later home) x) → AllEnded entries v → AllEnded later v
+ends_later entries later v more h = record {
+  each = λ k. All-weaker (HasEnd entries) (HasEnd later) (λ f e. (e.0, record { entry = e.1.entry; stands = more e.0 e.1.entry e.1.stands; stamped = e.1.stamped; settled = e.1.settled })) (at k v).filled (h.each k);
+}

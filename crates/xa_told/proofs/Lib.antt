@@ -1,0 +1,5 @@
+pub mod Growth
+pub mod Ends
+pub mod Joining
+pub mod Takings
+pub mod Calls

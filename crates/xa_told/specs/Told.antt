@@ -1,0 +1,51 @@
+-- What seats show of answers: whose end each filling has, and which filling each answer has (XATMI, tpgetrply; cells are this project's own).
+use Rattle.std.specs.Prelude.{◌≡◌, ℕ, ◌<◌, List, Option, IsSomeAnd}
+use Rattle.std.specs.List.{All, Contains}
+use Rattle.xa_types.specs.declared.data.Kind.{Kind}
+use Rattle.xa_types.specs.declared.stamp.Stamp.{Stamp}
+use Rattle.xa_events.specs.declared.event.Event.{Event}
+use Rattle.xa_events.specs.declared.event.Event.TheVariants.{Answer}
+use Rattle.xa_events.specs.declared.event.Replied.{Replied}
+use Rattle.xa_events.specs.Answers.{reply_of, answer_to}
+use Rattle.xa_events.specs.Homes.{Home}
+use Rattle.xa_events.specs.Request.{settlement_in}
+use Rattle.xa_stamp.specs.declared.home.Stamped.{Stamped}
+use Rattle.xa_cell.specs.declared.view.Fill.{Fill}
+use Rattle.xa_cell.specs.declared.view.View.{View}
+use Rattle.xa_cell.specs.Views.{at}
+use Rattle.xa_caller.specs.declared.cargo.Filling.{Filling}
+
+-- the answer, noted with that stamp, is a filling that this seat took from a cell, for the same request
+pub record TookFor (v : View Filling) (stamp : Stamp) (a : Replied) : Type 0 where
+  pub cell : ℕ
+  pub fill : Fill Filling
+  pub expect : Option Kind
+  pub taken : Contains (at cell v).taken fill
+  pub request : fill.opening.request ≡ a.request
+  pub before : fill.answer.stamp.0 < stamp.0
+  pub told : a.answer ≡ answer_to expect fill.answer.answer
+
+-- so it is if the event is an answer
+abbrev pub WasTaken : View Filling → Stamp → Event → Type 0
+WasTaken v stamp (Answer a) = TookFor v stamp a
+WasTaken v stamp _ = Unit {0}
+
+-- so it is with each answer that a worker noted
+abbrev pub AnswersTaken : View Filling → List Stamped → Type 0
+AnswersTaken v own = All (λ x. WasTaken v x.stamp x.event) own
+
+-- the request of the filling was settled among these events, by an end or a sweep with the stamp that the filling carries, and the filling is the
+-- reply to that
+pub record EndedFor (entries : List Stamped) (fill : Fill Filling) : Type 0 where
+  pub entry : Stamped
+  pub stands : Contains entries entry
+  pub stamped : entry.stamp ≡ fill.answer.stamp
+  pub settled : IsSomeAnd (settlement_in fill.opening.request entry.event) (λ s. fill.answer.answer ≡ reply_of s)
+
+-- at some home
+abbrev pub HasEnd : (Home → List Stamped) → Fill Filling → Type 0
+HasEnd entries fill = (home : Home) × EndedFor (entries home) fill
+
+-- so it is with each filling of the seat
+pub record AllEnded (entries : Home → List Stamped) (v : View Filling) : Type 0 where
+  pub each : (k : ℕ) → All (HasEnd entries) (at k v).filled

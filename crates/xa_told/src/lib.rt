@@ -1,0 +1,5 @@
+//! What callers were told: once the cells are closed, the seats of all workers show that behind each answer its request's
+//! end stands at some home, with a smaller stamp. These are laws alone.
+#![tactic(auto)]
+
+pub mod laws;
