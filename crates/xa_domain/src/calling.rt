@@ -174,11 +174,7 @@ fn under_kind(expect: &Option<Kind>, payload: &Data, answer: Answer) -> Answer
 }
 
 // What the client is told of a request that ended so, with that TPNOCHANGE buffer, if it has one.
-fn reply_to(
-    alloc: Global,
-    expect: &Option<Kind>,
-    outcome: &Outcome,
-) -> Result<Answer, NoMemory>
+fn reply_to(alloc: Global, expect: &Option<Kind>, outcome: &Outcome) -> Result<Answer, NoMemory>
     ensures { IfOk result (λ answer. answer ≡ answer_to expect.now (reply_of (EndedBy outcome.now))) }
 {
     match outcome {

@@ -176,7 +176,10 @@ static LINES: [(&[u8], u8); 119] = [
     (b"call TEST1 c other", 8),
     (b"call TEST1 c other account", 4),
     (b"call TEST1 c entry", 0),
-    (b"call TEST1 c entry account=7 amount=-9223372036854775808 memo=\"a b\" rate=-32768 mark=255 noblock", 0),
+    (
+        b"call TEST1 c entry account=7 amount=-9223372036854775808 memo=\"a b\" rate=-32768 mark=255 noblock",
+        0,
+    ),
     (b"call TEST1 c entry account", 4),
     (b"call TEST1 c entry account=", 4),
     (b"call TEST1 c entry account=7 account=7", 4),
