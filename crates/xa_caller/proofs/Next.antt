@@ -1,7 +1,9 @@
 -- Of each event that a caller notes: it meets what is asked of the caller's own events.
 use Rattle.std.proofs.Common.{false, ◌≡◌, ℕ, ◌+◌, ◌<◌, ◌≤◌, if◌then◌else◌, ◌||◌, not, Bool, true, List, [], ◌∷◌, length, Option, Some, None, inl, inr, refl, sym, ◌∙◌, ap, subst, arith}
 use Rattle.std.specs.List.{All, find}
-use Rattle.std.proofs.lemmas.List.Elements.{All-head, All-tail}
+use Rattle.std.proofs.lemmas.List.Elements.{All-head, All-tail, All-weaker}
+use Rattle.std.specs.Prelude.{slice_get}
+use Rattle.xa_types.specs.declared.data.Kind.{Kind}
 use Rattle.std.proofs.lemmas.Bool.{cases_Bool}
 use Rattle.xa_types.specs.declared.call.Mode.{Mode}
 use Rattle.xa_types.specs.declared.call.Mode.TheVariants.{Reply}
@@ -10,7 +12,7 @@ use Rattle.xa_types.specs.declared.ids.RequestId.{RequestId}
 use Rattle.xa_types.specs.declared.row.Row.{Row}
 use Rattle.xa_types.specs.declared.setup.Setup.{Setup}
 use Rattle.xa_types.specs.declared.setup.ServiceSetup.{ServiceSetup}
-use Rattle.xa_types.specs.Kind.{is_sound}
+use Rattle.xa_types.specs.Kind.{is_sound, is_accepted}
 use Rattle.xa_types.specs.Rows.{row_for, row_with}
 use Rattle.xa_types.specs.Setup.{service_named}
 use Rattle.xa_events.specs.declared.event.Event.TheVariants.{Accept, Answer, Refuse, Leave}
@@ -134,3 +136,36 @@ is_so false h = cc h
 -- a call that isn't invalid sends sound data
 pub sound_ask : (setup : Setup) (ask : Ask) → is_invalid_call setup ask ≡ false → is_sound setup ask.payload ≡ true
 sound_ask setup ask valid = is_so (is_sound setup ask.payload) (neither (not (is_name ask.service)) (not (is_sound setup ask.payload)) (neither (is_invalid_ask setup ask) ask.flags.no_reply valid).0).1
+
+-- rows of one service accept the same kinds
+same_kinds : (setup : Setup) (service : List ℕ) (configured : Option ServiceSetup) (kind : Option Kind) (row : Row) → row ≡ row_with configured service row.queue.0 row.routine → is_accepted setup row.accepts kind ≡ is_accepted setup (row_with configured service 0 []).accepts kind
+same_kinds setup service None kind row is = ap (λ (r : Row). is_accepted setup r.accepts kind) is
+same_kinds setup service (Some configured) kind row is = ap (λ (r : Row). is_accepted setup r.accepts kind) is
+
+none_found : (p : Row → Bool) (rows : List Row) (row : Row) → All (λ one. p one ≡ false) rows → find p rows ≡ Some row → ⊥
+none_found p rows row none is = let found = found-all (λ one. p one) (λ one. p one ≡ false) rows row is none in let passes = passes_found p rows row is in cc (found, passes)
+  where
+    passes_found : (p : Row → Bool) (rows : List Row) (row : Row) → find p rows ≡ Some row → p row ≡ true
+    passes_found p [] row is = absurd (cc is)
+    passes_found p (one ∷ rest) row is =
+        elim (cases_Bool (p one)) [
+          | inl y ↦ subst (λ r. p r ≡ true) (cc (sym (ap (λ b. if b then Some one else find p rest) y) ∙ is)) y
+          | inr n ↦ passes_found p rest row (sym (ap (λ b. if b then Some one else find p rest) n) ∙ is)
+        ]
+
+pub first_found : (setup : Setup) (service : List ℕ) (kind : Option Kind) (rows : List Row) (row : Row) → All (λ (one : Row). one ≡ row_for setup service one.queue.0 one.routine) rows
+    → find (λ (one : Row). is_accepted setup one.accepts kind) rows ≡ Some row → slice_get rows 0 ≡ Some row
+first_found setup service kind [] row all is = absurd (cc is)
+first_found setup service kind (one ∷ rest) row all is =
+    let p : Row → Bool = λ (r : Row). is_accepted setup r.accepts kind in
+    let same : (r : Row) → r ≡ row_for setup service r.queue.0 r.routine → p r ≡ is_accepted setup (row_for setup service 0 []).accepts kind = λ r its. same_kinds setup service (service_named setup service) kind r its in
+    elim (cases_Bool (p one)) [
+      | inl y ↦ sym (ap (λ b. if b then Some one else find p rest) y) ∙ is
+      | inr n ↦
+          let never = sym (same one (All-head (λ (r : Row). r ≡ row_for setup service r.queue.0 r.routine) one rest all)) ∙ n in
+          absurd (none_found p (one ∷ rest) row (All-weaker (λ (r : Row). r ≡ row_for setup service r.queue.0 r.routine) (λ r. p r ≡ false) (λ r its. same r its ∙ never) (one ∷ rest) all) is)
+    ]
+
+-- a row is of its service
+pub row-service : (setup : Setup) (service : List ℕ) (row : Row) → row ≡ row_for setup service row.queue.0 row.routine → row.service ≡ service
+row-service setup service row is = (same_priority setup service (service_named setup service) row is).0

@@ -114,7 +114,7 @@ impl Caller {
         ensures turn { result.op ≡ self.old.op + 1 }
         ensures recent { self.old.least ≤ result.version }
     {
-        let Note = note;
+        let Note { op: _ } = note;
         let Draft {
             asked,
             op,

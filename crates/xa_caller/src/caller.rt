@@ -366,7 +366,7 @@ impl Caller {
                 Ok(Prepared {
                     entry,
                     event,
-                    note: Note,
+                    note: Note { op },
                 })
             }
         }
@@ -407,7 +407,7 @@ impl Caller {
         requires bound { stamp.0 ≤ 2 ^ 63 }
         ensures { Sends stamp self.new self.old }
     {
-        let Note = note;
+        let Note { op: _ } = note;
         let Draft {
             asked,
             op,

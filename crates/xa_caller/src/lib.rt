@@ -5,6 +5,7 @@ mod asking;
 mod caller;
 mod cargo;
 mod choosing;
+mod laws;
 mod outcomes;
 mod phase;
 mod serving;
@@ -13,6 +14,7 @@ mod telling;
 
 pub use caller::{Caller, Left};
 pub use cargo::{Cargo, Filling};
+pub use laws::{chosen_is_first, request_is_as_asked};
 pub use outcomes::{Aimed, Note, Prepared, Step, Stop, Why};
 pub use phase::{Draft, Open, Phase};
 pub use sound::is_sound;
