@@ -121,8 +121,8 @@ count_fewer p q wider [] = omega arith
 count_fewer p q wider (x ∷ xs) =
     let rest = count_fewer p q wider xs in
     cond_both (q x) (count q xs + 1) (count q xs) (λ m. m ≤ count p (x ∷ xs))
-        (λ found. subst (λ n. count q xs + 1 ≤ n) (sym (count_yes p x xs (wider x found))) (omega (arith, rest)))
-        (λ none. omega (arith, rest, count_grows p x xs))
+    (λ found. subst (λ n. count q xs + 1 ≤ n) (sym (count_yes p x xs (wider x found))) (omega (arith, rest)))
+    (λ none. omega (arith, rest, count_grows p x xs))
 
 more_no : (restart : Bool) (a b most : ℕ) → a ≤ b → restart && nat_lt a most ≡ false → restart && nat_lt b most ≡ false
 more_no true a b most more full = not_less b most (λ fewer. absurd (false≢true (sym full ∙ lt-ltb a most (omega (arith, fewer, more)))))
@@ -133,7 +133,7 @@ earlier_by : (restart : Bool) (maxgen grace : ℕ) (starts : List ℕ) (earlier 
 earlier_by restart maxgen grace [] earlier now before no_start = absurd (false≢true (sym no_start))
 earlier_by restart maxgen grace (last ∷ rest) earlier now before no_start =
     more_no restart (count (is_within grace now) (last ∷ rest)) (count (is_within grace earlier) (last ∷ rest)) maxgen
-      (count_fewer (is_within grace earlier) (is_within grace now) (λ start. within_earlier grace earlier now start before) (last ∷ rest)) no_start
+    (count_fewer (is_within grace earlier) (is_within grace now) (λ start. within_earlier grace earlier now start before) (last ∷ rest)) no_start
 
 pub no_earlier : (lives : Standing) (earlier now : ℕ) → earlier ≤ now → may_start_by lives now ≡ false → may_start_by lives earlier ≡ false
 no_earlier lives earlier now before no_start = earlier_by lives.restart lives.maxgen lives.grace lives.starts earlier now before no_start
