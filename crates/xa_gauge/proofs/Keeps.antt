@@ -11,7 +11,7 @@ use Rattle.xa_gauge.specs.declared.moves.Limits.{Limits}
 use Rattle.xa_gauge.specs.declared.moves.Move.{Move}
 use Rattle.xa_gauge.specs.declared.moves.Move.TheVariants.{Up, Down, Full, Empty}
 use Rattle.xa_gauge.specs.declared.moves.Knows.{Knows}
-use Rattle.xa_gauge.specs.Gauge.{nothing, knows, after, May, Entry, level, own, ups_of, downs_of, noted, total, Fits, Gauged, looks_up, looks_down, goes_up, goes_down, counts}
+use Rattle.xa_gauge.specs.Gauge.{nothing, knows, after, May, Entry, level, own, ups_of, downs_of, Legal, noted, total, Fits, Gauged, Ordered, looks_up, looks_down, goes_up, goes_down, counts}
 use Rattle.xa_gauge.proofs.Orders.{own_mine, own_other, level_after, legal_after, moved, stays_low, set_got, at_below, at_end, total_set, total_end, only}
 
 module _ (key : Limits) (s : State ℕ Knows) (r : Gauged key s) (id : ℕ) (v : Knows) (at : get_elem? s.views id ≡ some v) (part : 0 < v.parts) where
@@ -55,6 +55,16 @@ module _ (key : Limits) (s : State ℕ Knows) (r : Gauged key s) (id : ℕ) (v :
         balance = omega arith;
       }
 
+  -- a call that may end so stands last in the order
+  ordered : (m : Move) → May key.full now m → Ordered (noted v m)
+  ordered m may =
+      let hist : List Entry = r.hist ++ (id, m) ∷ [] in record {
+        all = hist;
+        pass = id;
+        legal = subst (λ (k : Limits). Legal k.full k.start hist) (sym mine.0) (legal_after key.full key.start r.hist (id, m) r.legal may);
+        calls = own_mine id m r.hist ∙ ap (λ l. l ++ m ∷ []) mine.1;
+      }
+
 module _ (key : Limits) (slots id : ℕ) (me : Me ℕ Knows) (part : 0 < me.0.parts) (of : me.0.of ≡ key) where
   pub looks_up_keep : Allows (Gauged key) slots id me 0 (λ n. n) (looks_up (step slots 0 0 0 none) me)
   looks_up_keep s r wide at small =
@@ -62,7 +72,7 @@ module _ (key : Limits) (slots id : ℕ) (me : Me ℕ Knows) (part : 0 < me.0.pa
       let full : me.0.of.full ≡ key.full = ap (λ (k : Limits). k.full) of in
       let word : x ≡ level key.start r.hist = r.word in
       dite (ℕ_discrete x me.0.of.full)
-      (λ (e : x ≡ me.0.of.full). (noted me.0 Full, keeps, tt, goes key s r id me.0 at part Full x (sym word ∙ (e ∙ full)) word, ((λ _. refl), λ (ne : x ≢ me.0.of.full). absurd (ne e))))
+      (λ (e : x ≡ me.0.of.full). (noted me.0 Full, keeps, tt, goes key s r id me.0 at part Full x (sym word ∙ (e ∙ full)) word, ((λ _. (refl, ordered key s r id me.0 at part Full (sym word ∙ (e ∙ full)))), λ (ne : x ≢ me.0.of.full). absurd (ne e))))
       (λ (ne : x ≢ me.0.of.full). let low = r.low in (me.0, keeps, tt, stays key s r id me.0 at part, ((λ (e : x ≡ me.0.of.full). absurd (ne e)), λ _. (refl, omega (arith, ne, full, word, low)))))
 
   pub looks_down_keep : Allows (Gauged key) slots id me 0 (λ n. n) (looks_down (step slots 0 0 0 none) me)
@@ -71,7 +81,7 @@ module _ (key : Limits) (slots id : ℕ) (me : Me ℕ Knows) (part : 0 < me.0.pa
       let full : me.0.of.full ≡ key.full = ap (λ (k : Limits). k.full) of in
       let word : x ≡ level key.start r.hist = r.word in
       dite (ℕ_discrete x 0)
-      (λ (e : x ≡ 0). (noted me.0 Empty, keeps, tt, goes key s r id me.0 at part Empty x (sym word ∙ e) word, ((λ _. refl), λ (ne : x ≢ 0). absurd (ne e))))
+      (λ (e : x ≡ 0). (noted me.0 Empty, keeps, tt, goes key s r id me.0 at part Empty x (sym word ∙ e) word, ((λ _. (refl, ordered key s r id me.0 at part Empty (sym word ∙ e))), λ (ne : x ≢ 0). absurd (ne e))))
       (λ (ne : x ≢ 0). let low = r.low in (me.0, keeps, tt, stays key s r id me.0 at part, ((λ (e : x ≡ 0). absurd (ne e)), λ _. (refl, omega (arith, full, word, low)))))
 
   pub goes_up_keep : (old : ℕ) → old < key.full → Allows (Gauged key) slots id me 0 (λ n. either (eqb n old) (old + 1) n) (goes_up (step slots 0 old (old + 1) none) me)
@@ -79,7 +89,7 @@ module _ (key : Limits) (slots id : ℕ) (me : Me ℕ Knows) (part : 0 < me.0.pa
       let x : ℕ = get_or s.words 0 0 in
       let word : x ≡ level key.start r.hist = r.word in
       exchanged x old (old + 1) (λ y. (w : Knows) × (a : Act ℕ) × Valid s.homes me.1 a × Gauged key (stepped s 0 y id me.1 w a) × goes_up (step slots 0 old (old + 1) none) me x (w, carried_after me.1 a))
-      (λ (e : x ≡ old). (noted me.0 Up, keeps, tt, goes key s r id me.0 at part Up (old + 1) (omega (arith, room, e, word)) (omega (arith, e, word)), ((λ _. refl), λ (ne : x ≢ old). absurd (ne e))))
+      (λ (e : x ≡ old). (noted me.0 Up, keeps, tt, goes key s r id me.0 at part Up (old + 1) (omega (arith, room, e, word)) (omega (arith, e, word)), ((λ _. (refl, ordered key s r id me.0 at part Up (omega (arith, room, e, word)))), λ (ne : x ≢ old). absurd (ne e))))
       (λ (ne : x ≢ old). (me.0, keeps, tt, stays key s r id me.0 at part, ((λ (e : x ≡ old). absurd (ne e)), λ _. refl)))
 
   pub goes_down_keep : (old : ℕ) → 0 < old → Allows (Gauged key) slots id me 0 (λ n. either (eqb n old) (old - 1) n) (goes_down (step slots 0 old (old - 1) none) me)
@@ -87,7 +97,7 @@ module _ (key : Limits) (slots id : ℕ) (me : Me ℕ Knows) (part : 0 < me.0.pa
       let x : ℕ = get_or s.words 0 0 in
       let word : x ≡ level key.start r.hist = r.word in
       exchanged x old (old - 1) (λ y. (w : Knows) × (a : Act ℕ) × Valid s.homes me.1 a × Gauged key (stepped s 0 y id me.1 w a) × goes_down (step slots 0 old (old - 1) none) me x (w, carried_after me.1 a))
-      (λ (e : x ≡ old). (noted me.0 Down, keeps, tt, goes key s r id me.0 at part Down (old - 1) (omega (arith, some_left, e, word)) (ap (λ (k : ℕ). k - 1) (sym e ∙ word)), ((λ _. refl), λ (ne : x ≢ old). absurd (ne e))))
+      (λ (e : x ≡ old). (noted me.0 Down, keeps, tt, goes key s r id me.0 at part Down (old - 1) (omega (arith, some_left, e, word)) (ap (λ (k : ℕ). k - 1) (sym e ∙ word)), ((λ _. (refl, ordered key s r id me.0 at part Down (omega (arith, some_left, e, word)))), λ (ne : x ≢ old). absurd (ne e))))
       (λ (ne : x ≢ old). (me.0, keeps, tt, stays key s r id me.0 at part, ((λ (e : x ≡ old). absurd (ne e)), λ _. refl)))
 
 pub counts_keep : (key : Limits) (slots id : ℕ) (me : Me ℕ Knows) → 0 < me.0.parts → me.0.parts ≡ key.passes → Allows (Gauged key) slots id me 0 (λ n. n) (counts (step slots 0 0 0 none) me)

@@ -106,21 +106,28 @@ pub record Gauged (key : Limits) (s : State ℕ Knows) : Type 0 where
 abbrev Sat : Type 0
 Sat = Me ℕ Knows
 
+-- there is one legal order of all calls so far, in which those of a pass are the calls that it knows, and no others
+pub record Ordered (v : Knows) : Type 0 where
+  pub all : List Entry
+  pub pass : ℕ
+  pub legal : Legal v.of.full v.of.start all
+  pub calls : own pass all ≡ v.moves
+
 -- the number found was the limit, and that was noted; or nothing changed
 abbrev pub looks_up : Step ℕ → Sat → ℕ → Sat → Type 0
-looks_up st m r m' = (r ≡ m.0.of.full → m' ≡ (noted m.0 Full, m.1)) × (r ≢ m.0.of.full → (m' ≡ m) × (r < m.0.of.full))
+looks_up st m r m' = (r ≡ m.0.of.full → (m' ≡ (noted m.0 Full, m.1)) × Ordered m'.0) × (r ≢ m.0.of.full → (m' ≡ m) × (r < m.0.of.full))
 
 -- the number found was 0, and that was noted; or nothing changed
 abbrev pub looks_down : Step ℕ → Sat → ℕ → Sat → Type 0
-looks_down st m r m' = (r ≡ 0 → m' ≡ (noted m.0 Empty, m.1)) × (r ≢ 0 → (m' ≡ m) × (r ≤ m.0.of.full))
+looks_down st m r m' = (r ≡ 0 → (m' ≡ (noted m.0 Empty, m.1)) × Ordered m'.0) × (r ≢ 0 → (m' ≡ m) × (r ≤ m.0.of.full))
 
 -- the level was the one that was expected, and it moved; or nothing changed
 abbrev pub goes_up : Step ℕ → Sat → ℕ → Sat → Type 0
-goes_up st m r m' = (r ≡ st.first → m' ≡ (noted m.0 Up, m.1)) × (r ≢ st.first → m' ≡ m)
+goes_up st m r m' = (r ≡ st.first → (m' ≡ (noted m.0 Up, m.1)) × Ordered m'.0) × (r ≢ st.first → m' ≡ m)
 
 -- the same, down
 abbrev pub goes_down : Step ℕ → Sat → ℕ → Sat → Type 0
-goes_down st m r m' = (r ≡ st.first → m' ≡ (noted m.0 Down, m.1)) × (r ≢ st.first → m' ≡ m)
+goes_down st m r m' = (r ≡ st.first → (m' ≡ (noted m.0 Down, m.1)) × Ordered m'.0) × (r ≢ st.first → m' ≡ m)
 
 -- the level at the end, by a pass that has all parts
 abbrev pub counts : Step ℕ → Sat → ℕ → Sat → Type 0

@@ -1,6 +1,6 @@
 // The two calls that move a gauge.
 ghost use Rattle.std.specs.Prelude.{◌≡◌, MatchBool};
-ghost use Rattle.xa_gauge.specs.Gauge.{noted};
+ghost use Rattle.xa_gauge.specs.Gauge.{noted, Ordered};
 ghost use Rattle.xa_gauge.specs.Known.{known, IsPassOf};
 ghost use Rattle.xa_gauge.specs.declared.moves.Move.TheVariants.{Up, Down, Full, Empty};
 
@@ -16,6 +16,7 @@ impl Gauge {
         requires { IsPassOf self.now pass.old }
         ensures pass { IsPassOf self.now pass.new }
         ensures known { MatchBool result (known pass.new ≡ noted (known pass.old) Up) (known pass.new ≡ noted (known pass.old) Full) }
+        ensures ordered { Ordered (known pass.new) }
     {
         let shared = &self.table.shared;
         for _ in rt.forever() {
@@ -37,6 +38,7 @@ impl Gauge {
         requires { IsPassOf self.now pass.old }
         ensures pass { IsPassOf self.now pass.new }
         ensures known { MatchBool result (known pass.new ≡ noted (known pass.old) Down) (known pass.new ≡ noted (known pass.old) Empty) }
+        ensures ordered { Ordered (known pass.new) }
     {
         let shared = &self.table.shared;
         for _ in rt.forever() {

@@ -1,6 +1,6 @@
 // What workers do: they take blocks and give them back.
 ghost use Rattle.std.specs.Prelude.{◌≡◌, [], MatchResult};
-ghost use Rattle.xa_gauge.specs.Gauge.{noted};
+ghost use Rattle.xa_gauge.specs.Gauge.{noted, Ordered};
 ghost use Rattle.xa_gauge.specs.declared.moves.Move.TheVariants as moves;
 ghost use Rattle.xa_pool.specs.Known.{known, IsPassOf};
 
@@ -45,6 +45,7 @@ impl Pool {
         requires { IsPassOf self.now pass.old }
         ensures pass { IsPassOf self.now pass.new }
         ensures known { MatchResult result (λ block. (block ≡ []) × (known pass.new ≡ noted (known pass.old) moves.Down)) (λ _. known pass.new ≡ noted (known pass.old) moves.Empty) }
+        ensures ordered { Ordered (known pass.new) }
     {
         if !self.home.down(rt, &mut pass.pass) {
             return Err(Empty);
@@ -60,6 +61,7 @@ impl Pool {
         requires { IsPassOf self.now pass.old }
         ensures pass { IsPassOf self.now pass.new }
         ensures known { MatchResult result (λ _. known pass.new ≡ noted (known pass.old) moves.Up) (λ back. (back ≡ block) × (known pass.new ≡ noted (known pass.old) moves.Full)) }
+        ensures ordered { Ordered (known pass.new) }
     {
         if !self.home.up(rt, &mut pass.pass) {
             return Err(block);
