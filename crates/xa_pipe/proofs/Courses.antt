@@ -12,15 +12,15 @@ use Rattle.xa_frame.specs.declared.frame.Frame.{Frame}
 use Rattle.xa_frame.specs.declared.frame.Body.TheVariants.{Next}
 use Rattle.xa_frame.specs.Spelling.{spelled, HasSpelling}
 use Rattle.xa_events.specs.declared.event.StopCause.{StopCause}
-use Rattle.xa_events.specs.declared.event.StopCause.TheVariants.{Shutdown, Exit, EndOfInput, ReadFault, WriteFault, BadBytes, OutOfTurn, Starved}
+use Rattle.xa_events.specs.declared.event.StopCause.TheVariants.{Shutdown, WriteFault, Starved}
 use Rattle.xa_pipe.specs.declared.course.Course.{Course}
 use Rattle.xa_pipe.specs.declared.hearing.Return.{Return}
 use Rattle.xa_pipe.specs.declared.turn.Turn.TheVariants.{AwaitsReady, AwaitsNext, AwaitsInvoke, Serving, Exited}
 use Rattle.xa_pipe.specs.declared.turn.Written.TheVariants.{Whole}
 use Rattle.xa_pipe.specs.Frames.{ready_frame, next_frame, shutdown_frame}
-use Rattle.xa_pipe.specs.Life.{Turn, Says, MaySay, Took, Gave, LinkShows, IsCounted, IsOf, awaiting, is_reading, is_writing, may_end, tag_after, turn_behind, returns_in}
+use Rattle.xa_pipe.specs.Life.{Turn, Says, MaySay, Took, Gave, LinkShows, IsCounted, IsOf, is_writing, may_end, tag_after, turn_behind, returns_in}
 use Rattle.xa_pipe.specs.Life.Says.{Silent, Named, Free, Invoked, Answers}
-use Rattle.xa_pipe.specs.Pipe.{Piped, shown, invoke_frame, Wrote, HasRead, Ceases, CountsReads, CountsWrites}
+use Rattle.xa_pipe.specs.Pipe.{Piped, shown, invoke_frame, Wrote, HasRead, CountsWrites}
 use Rattle.xa_pipe.specs.Standing.{Standing, IsOver, GaveFirst, id_of, tag_of, due_in}
 use Rattle.xa_pipe.specs.Changes.{Heard, Greeted, Invoked as HasInvoked, turn_after, with_said, with_asked, next_invoke}
 use Rattle.xa_pipe.specs.Kept.{standing_of, ending_of, IsKept, tag_after_turn, unwritten}
