@@ -12,15 +12,15 @@ use Rattle.xa_frame.specs.declared.frame.Frame.{Frame}
 use Rattle.xa_frame.specs.declared.frame.Body.TheVariants.{Next}
 use Rattle.xa_frame.specs.Spelling.{spelled, HasSpelling}
 use Rattle.xa_events.specs.declared.event.StopCause.{StopCause}
-use Rattle.xa_events.specs.declared.event.StopCause.TheVariants.{Shutdown, Exit, EndOfInput, ReadFault, WriteFault, BadBytes, OutOfTurn, Starved}
+use Rattle.xa_events.specs.declared.event.StopCause.TheVariants.{Shutdown, WriteFault, Starved}
 use Rattle.xa_pipe.specs.declared.course.Course.{Course}
 use Rattle.xa_pipe.specs.declared.hearing.Return.{Return}
 use Rattle.xa_pipe.specs.declared.turn.Turn.TheVariants.{AwaitsReady, AwaitsNext, AwaitsInvoke, Serving, Exited}
 use Rattle.xa_pipe.specs.declared.turn.Written.TheVariants.{Whole}
 use Rattle.xa_pipe.specs.Frames.{ready_frame, next_frame, shutdown_frame}
-use Rattle.xa_pipe.specs.Life.{Turn, Says, MaySay, Took, Gave, LinkShows, IsCounted, IsOf, awaiting, is_reading, is_writing, may_end, tag_after, turn_behind, returns_in}
+use Rattle.xa_pipe.specs.Life.{Turn, Says, MaySay, Took, Gave, LinkShows, IsCounted, IsOf, is_writing, may_end, tag_after, turn_behind, returns_in}
 use Rattle.xa_pipe.specs.Life.Says.{Silent, Named, Free, Invoked, Answers}
-use Rattle.xa_pipe.specs.Pipe.{Piped, shown, invoke_frame, Wrote, HasRead, Ceases, CountsReads, CountsWrites}
+use Rattle.xa_pipe.specs.Pipe.{Piped, shown, invoke_frame, Wrote, HasRead, CountsWrites}
 use Rattle.xa_pipe.specs.Standing.{Standing, IsOver, GaveFirst, id_of, tag_of, due_in}
 use Rattle.xa_pipe.specs.Changes.{Heard, Greeted, Invoked as HasInvoked, turn_after, with_said, with_asked, next_invoke}
 use Rattle.xa_pipe.specs.Kept.{standing_of, ending_of, IsKept, tag_after_turn, unwritten}
@@ -178,24 +178,6 @@ module _ {L : Type 0} where
 once : (before now : ℕ) → Rose before now → before ≡ 0 → now ≡ 1
 once before now rose none = subst (λ (n : ℕ). now ≡ min (n + 1) (2 ^ 64 - 1)) none rose
 
--- what the counts are where reading failed first
-counted_reading : (cause : StopCause) (before now writes : ℕ) → CountsReads cause before now → before ≡ 0 → writes ≡ 0 → IsCounted cause now writes
-counted_reading ReadFault before now writes counts none well = (once before now counts none, well)
-counted_reading WriteFault before now writes counts none well = absurd counts
-counted_reading Shutdown before now writes counts none well = absurd counts
-counted_reading Exit before now writes counts none well = absurd counts
-counted_reading EndOfInput before now writes counts none well = (counts ∙ none, well)
-counted_reading (BadBytes place) before now writes counts none well = (counts ∙ none, well)
-counted_reading (OutOfTurn kind tag) before now writes counts none well = (counts ∙ none, well)
-counted_reading Starved before now writes counts none well = (counts ∙ none, well)
-
-due_reading : (turn : Turn) (asked : List Frame) → is_reading turn ≡ true → due_in turn asked ≡ asked
-due_reading AwaitsReady asked reads = refl
-due_reading AwaitsNext asked reads = refl
-due_reading Serving asked reads = refl
-due_reading AwaitsInvoke asked reads = absurd (cc reads)
-due_reading Exited asked reads = refl
-
 -- the link took no more than a front of the last frame that was due
 took_unwritten : (cause : StopCause) (before after : Piped) (asked : List Frame) (f : Frame) → CountsWrites cause before.writes after.writes → IfSome before.took (Took Whole asked)
     → (cause ≡ WriteFault → GrewByPart before.took after.took (spelled f)) → (cause ≡ Starved → after.took ≡ before.took) → IfSome after.took (Took (unwritten cause) (asked ++ f ∷ []))
@@ -220,22 +202,6 @@ gave_unwritten Starved name tag turn pipe frames before counts read = told_more 
 gave_unwritten cause name tag turn pipe frames before counts read = absurd counts
 
 module _ {L : Type 0} where
-  -- as a frame of its program was to come
-  pub fell_over : (old new : Course L) (cause : StopCause) → new ≡ record old { pipe = new.pipe } → is_reading old.turn ≡ true → IsKept old
-      → Ceases (awaiting old.name old.tag old.said old.turn) new.pipe cause → CountsReads cause old.pipe.reads new.pipe.reads
-      → new.pipe.took ≡ old.pipe.took → new.pipe.writes ≡ old.pipe.writes → new.pipe.whose ≡ old.pipe.whose → IsOver (ending_of new cause Whole)
-  fell_over old new cause made reading kept ceases counts took writes whose =
-      subst (λ (c : Course L). IsOver (ending_of c cause Whole)) (sym made) (record {
-        says = kept.sound.says;
-        may = ceases.may;
-        took = subst (λ (fs : List Frame). IfSome new.pipe.took (Took Whole fs)) (sym (due_reading old.turn old.asked reading))
-            (subst (λ (told : Option (List ℕ)). IfSome told (Took Whole old.asked)) (sym took) kept.sound.took);
-        gave = subst (λ (tag : ℕ). Gave (awaiting old.name tag old.said old.turn) cause new.pipe.gave new.pipe.left) kept.tag ceases.gave;
-        counted = counted_reading cause old.pipe.reads new.pipe.reads new.pipe.writes counts kept.sound.reads (writes ∙ kept.sound.writes);
-        whose = whose ∙ kept.sound.whose;
-        killed = refl;
-      })
-
   -- as a frame was to be written
   pub unsent_over : (old new : Course L) (turn : Turn) (asked : List Frame) (f : Frame) (cause : StopCause) → new ≡ record old { pipe = new.pipe; asked = asked; turn = turn }
       → due_in turn asked ≡ old.asked ++ f ∷ [] → is_writing turn ≡ true → Says old.name (length (returns_in old.said)) old.said turn → IsKept old
@@ -267,15 +233,3 @@ module _ {L : Type 0} where
         whose = whose ∙ kept.sound.whose;
         killed = refl;
       })
-
-  -- behind TPEXIT
-  pub exit_over : (c : Course L) → c.turn ≡ Exited → IsKept c → IsOver (ending_of c Exit Whole)
-  exit_over c turn kept = record {
-    says = kept.sound.says;
-    may = ap (λ (t : Turn). may_end Exit t Whole) turn;
-    took = subst (λ (t : Turn). IfSome c.pipe.took (Took Whole (due_in t c.asked))) (sym turn) kept.sound.took;
-    gave = told_more c.pipe.gave _ _ (λ octets e. (c.pipe.rest, e, tt)) kept.read.told;
-    counted = (kept.sound.reads, kept.sound.writes);
-    whose = kept.sound.whose;
-    killed = refl;
-  }

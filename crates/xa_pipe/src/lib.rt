@@ -1,7 +1,8 @@
 //! The monitor's end of the two pipes of one life of a server: what it writes, what it reads, and why a life ends.
 //!
 //! The server's program says READY with its name and NEXT, and to each INVOKE a RETURN and NEXT; after a RETURN with
-//! TPEXIT it says nothing more.
+//! TPEXIT it says nothing more. A `Life` is one such life with its link; whoever calls it can't go on with a life that has
+//! ended. `Pipe` is what it reads and writes by.
 #![tactic(auto)]
 
 mod course;
