@@ -1,5 +1,5 @@
 -- What a request comes to that no queue took, from what its refusal left.
-use Rattle.std.proofs.Common.{◌≡◌, ℕ, Bool, List, [], ◌∷◌, Option, Some, None, Result, Ok, Err, zero, suc, sym, ap, subst}
+use Rattle.std.proofs.Common.{◌≡◌, ℕ, Bool, List, [], ◌∷◌, Some, None, Result, Ok, Err, zero, suc, sym, subst}
 use Rattle.std.specs.Prelude.{IfOk, IfErr, OnErr, slice_get}
 use Rattle.std.specs.List.{All}
 use Rattle.std.proofs.lemmas.List.Elements.{All-head, All-tail}
@@ -15,7 +15,6 @@ use Rattle.xa_caller.specs.declared.cargo.Filling.{Filling}
 use Rattle.xa_caller.specs.declared.phase.Draft.{Draft}
 use Rattle.xa_caller.specs.declared.phase.Phase.TheVariants.{Idle, Prepared}
 use Rattle.xa_caller.specs.declared.outcomes.Step.{Step}
-use Rattle.xa_caller.specs.declared.outcomes.Step.TheVariants.{Told, Halt as Halted}
 use Rattle.xa_caller.specs.declared.outcomes.Why.{Why}
 use Rattle.xa_caller.specs.Caller.{Standing}
 use Rattle.xa_caller.specs.Changes.{Refuses}

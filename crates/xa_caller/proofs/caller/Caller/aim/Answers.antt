@@ -1,9 +1,7 @@
 use Rattle.std.proofs.Common.{◌≡◌, true, refl, sym, ◌∙◌, ap, subst}
-use Rattle.std.specs.Prelude.{slice_get}
 use Rattle.xa_types.specs.declared.data.Data.{Data}
 use Rattle.xa_types.specs.declared.row.Row.{Row}
 use Rattle.xa_types.specs.declared.ids.RequestId.{RequestId}
-use Rattle.xa_types.specs.Found.{FoundRows}
 use Rattle.xa_types.specs.Kind.{is_sound}
 use Rattle.xa_types.specs.Rows.{row_for}
 use Rattle.xa_events.specs.declared.event.Accepted.{Accepted}
@@ -15,9 +13,9 @@ use Rattle.xa_caller.specs.declared.phase.Draft.{Draft}
 use Rattle.xa_caller.specs.declared.phase.Phase.{Phase}
 use Rattle.xa_caller.specs.declared.phase.Phase.TheVariants.{Prepared}
 use Rattle.xa_caller.specs.Drafts.{accepted_by}
-use Rattle.xa_caller.specs.Phases.{places_in, just_in, open_in}
+use Rattle.xa_caller.specs.Phases.{places_in}
 use Rattle.xa_caller.specs.Caller.{Standing, AreRowsOf}
-use Rattle.xa_caller.specs.Kept.{standing_of, Holds, IsSeated}
+use Rattle.xa_caller.specs.Kept.{standing_of, Holds}
 use Rattle.xa_caller.specs.Unsent.{AimsAt}
 use Rattle.xa_caller.proofs.Next.{row-priority}
 use Rattle.xa_caller.proofs.Reading.{reads_redrawn}

@@ -1,4 +1,4 @@
-use Rattle.std.proofs.Common.{◌≡◌, Some, refl, sym, ◌∙◌, ap, arith}
+use Rattle.std.proofs.Common.{Some, refl, sym, ◌∙◌, ap, arith}
 use Rattle.xa_types.specs.declared.fault.Fault.TheVariants.{System, Block}
 use Rattle.xa_events.specs.declared.event.Evidence.TheVariants.{AllDown, Queue}
 use Rattle.xa_caller.specs.declared.asking.GivenBack.{GivenBack}
