@@ -1,7 +1,8 @@
-// Scripts, which are read to be measured.
+// Scripts, which are read to be seen or to be measured.
 use crate::refused::Refused;
 use std::alloc::Global;
-use xa_script::{Script, read};
+use std::io::Write;
+use xa_script::{Script, ScriptRefused, read};
 
 // The most octets that a script has.
 const MOST: usize = 1_048_576;
@@ -10,6 +11,10 @@ const CONFIGURATION: &[u8] = b"
 queue = [{ name = 'Q' }]
 server = [{ name = 'S', queue = 'Q' }]
 service = [{ name = 'ECHO', queues = ['Q'] }]
+shape = [
+    { name = 'entry', fields = ['account int', 'amount long', 'memo string 16'] },
+    { name = 'small', fields = ['s short', 'c char', 't string 1'] },
+]
 ";
 
 fn calls(script: &Script) -> usize {
@@ -18,6 +23,25 @@ fn calls(script: &Script) -> usize {
         calls = calls.saturating_add(client.ops.slice().len());
     }
     calls
+}
+
+/// Adds the line of a script: how many clients and calls it has, or its first line at fault with the least cause.
+pub fn tell_script(alloc: Global, octets: &[u8], out: &mut Vec<u8>) -> Result<(), Refused> {
+    if octets.len() > MOST {
+        return Err(Refused::TooLong);
+    }
+    let setup = xa_config::read(alloc, CONFIGURATION)?;
+    match read(alloc, octets, &setup) {
+        Ok(script) => {
+            let clients = script.clients.slice().len();
+            writeln!(out, "script {clients} clients {} calls", calls(&script))?;
+        }
+        Err(ScriptRefused::BadLine { line, cause }) => {
+            writeln!(out, "script line {line} cause {cause}")?
+        }
+        Err(ScriptRefused::NoMemory) => return Err(Refused::NoMemory),
+    }
+    Ok(())
 }
 
 /// Reads the octets so often as one script, for one queue, server and service, and answers how many calls it has.
