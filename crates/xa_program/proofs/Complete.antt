@@ -9,18 +9,18 @@ use Rattle.xa_events.specs.declared.event.Event.{Event}
 use Rattle.xa_stamp.specs.Home.{Notes}
 use Rattle.xa_script.specs.declared.script.Script.{Script}
 use Rattle.xa_script.specs.Script.{IsScript, IsFirstFault}
-use Rattle.xa_script.proofs.ScriptRead.{no_fault}
+use Rattle.xa_script.proofs.ReadLines.{no_fault}
 use Rattle.xa_config.specs.Document.{IsConfiguration, IsFirstFault as IsFirstConfigFault}
 use Rattle.xa_config.specs.Faults.{fault}
 use Rattle.xa_config.proofs.OneReading as readings
 use Rattle.xa_domain.specs.declared.serving.Life.{Life}
 use Rattle.xa_domain.specs.Serving.{StarterShows, LinkTells}
 use Rattle.xa_program.specs.declared.words.Command.{Command}
-use Rattle.xa_program.specs.declared.words.Command.TheVariants.{Run}
+use Rattle.xa_program.specs.declared.words.Command.TheVariants.{Run, Play, Server}
 use Rattle.xa_program.specs.declared.status.Status.{Status}
 use Rattle.xa_program.specs.declared.status.Status.TheVariants.{Done, ConfigRead, ConfigFault, ScriptRead, TooLong, BadLine, WriteFault, NoMemory, Worn}
 use Rattle.xa_program.specs.declared.status.Input.TheVariants as inputs
-use Rattle.xa_program.specs.Configuration.{ShelfTells, HasFault, LacksSetup, TellsSetup, longest_configuration}
+use Rattle.xa_program.specs.Configuration.{ShelfTells, HasFault, LacksSetup, IsSetup, TellsSetup, longest_configuration}
 use Rattle.xa_program.specs.Headline.{Streams, ScriptEnds, RunEnds, EndsWithoutFault, longest_script, most_clients}
 use Rattle.xa_program.specs.Input.{InputTells, CameWhole, CameOver, Tells}
 
@@ -46,7 +46,7 @@ same_octets input octets came whole (inr (before, gave, gave_after)) =
 
 script_comes : {L S : Type 0} (tells : LinkTells L) (shows : S → StarterShows) (streams : Streams) (setup : Setup) (most : ℕ) (status : Status) (homes : List Notes) (history : List Event) (lives : List (Life L)) (starters : List S)
     (octets : List ℕ) (script : Script) → ScriptEnds tells shows streams setup most status homes history lives starters
-    → Tells streams.input octets → length octets ≤ longest_script → IsScript most octets script
+    → Tells streams.input octets → length octets ≤ longest_script → IsScript setup most octets script
     → (Rose streams.reads_before streams.reads_after → ⊥) → (Rose streams.writes_before streams.writes_after → ⊥) → EndsWithoutFault status
 script_comes tells shows streams setup most Done homes history lives starters octets script ends told short is_script reads writes = tt
 script_comes tells shows streams setup most NoMemory homes history lives starters octets script ends told short is_script reads writes = tt
@@ -58,7 +58,7 @@ script_comes tells shows streams setup most (TooLong inputs.Script) homes histor
 script_comes tells shows streams setup most (BadLine line cause) homes history lives starters octets script ends told short is_script reads writes =
     let fault = ends.0 in
     let same = same_octets streams.input octets fault.0 fault.1 told in
-    absurd (no_fault most octets line cause script.clients is_script (subst (λ (o : List ℕ). IsFirstFault most o line cause) (sym same) fault.3))
+    absurd (no_fault setup most octets line cause script.clients is_script (subst (λ (o : List ℕ). IsFirstFault setup most o line cause) (sym same) fault.3))
 script_comes tells shows streams setup most status homes history lives starters octets script ends told short is_script reads writes = absurd ends
 
 -- ---- the configuration
@@ -76,24 +76,38 @@ not_faulty file octets setup number key told good bad =
     readings.no_fault octets (fault key number) setup (subst (λ (o : List ℕ). IsFirstConfigFault o (fault key number)) (sym same) held.3) good
 
 -- no configuration that is told and isn't too long is refused
-no_lack : (shelf : ShelfTells) (command : Command) (status : Status) → TellsSetup shelf.file command → LacksSetup shelf command status → (Rose shelf.faults shelf.faults_after → ⊥) → ⊥
-no_lack shelf (Run name) ConfigRead (octets, setup, told, short, good) why failed = failed why
-no_lack shelf (Run name) (TooLong inputs.Configuration) (octets, setup, told, short, good) why failed = not_longer (shelf.file name) octets told short why
-no_lack shelf (Run name) (ConfigFault number key) (octets, setup, told, short, good) why failed = not_faulty (shelf.file name) octets setup number key told good why
-no_lack shelf command status tells why failed = why
+no_lack : (shelf : ShelfTells) (command : Command) (setup : Setup) (status : Status) → TellsSetup shelf.file command setup → LacksSetup shelf command status → (Rose shelf.faults shelf.faults_after → ⊥) → ⊥
+no_lack shelf (Run name) setup ConfigRead (octets, told, short, good) why failed = failed why
+no_lack shelf (Run name) setup (TooLong inputs.Configuration) (octets, told, short, good) why failed = not_longer (shelf.file name) octets told short why
+no_lack shelf (Run name) setup (ConfigFault number key) (octets, told, short, good) why failed = not_faulty (shelf.file name) octets setup number key told good why
+no_lack shelf command setup status tells why failed = why
+
+same_file : (told : Option (Option (List ℕ))) (octets : List ℕ) (setup other : Setup) → told ≡ Some (Some octets) → IsConfiguration octets setup
+    → (found : List ℕ) × Holds told found × (length found ≤ longest_configuration) × IsConfiguration found other → setup ≡ other
+same_file told octets setup other is good found =
+    let held = subst (λ (t : Option (Option (List ℕ))). Holds t found.0) is found.1 in
+    let same : octets ≡ found.0 = cc held in
+    readings.one_setup octets setup other good (subst (λ (o : List ℕ). IsConfiguration o other) (sym same) found.3)
+
+-- the command has one setup
+same_setup : (file : List ℕ → Option (Option (List ℕ))) (command : Command) (setup other : Setup) → TellsSetup file command setup → IsSetup file command other → setup ≡ other
+same_setup file (Run name) setup other tells is = same_file (file name) tells.0 setup other tells.1 tells.3 is
+same_setup file (Play service) setup other tells is = tells ∙ sym is
+same_setup file (Server name) setup other tells is = absurd is
 
 -- ---- the run
 
 pub nothing_else : {L S : Type 0} (tells : LinkTells L) (shows : S → StarterShows) (shelf : ShelfTells) (streams : Streams) (command : Command) (status : Status) (homes : List Notes) (history : List Event) (lives : List (Life L)) (starters : List S)
-    (octets : List ℕ) (script : Script) → RunEnds tells shows shelf streams command status homes history lives starters → TellsSetup shelf.file command
-    → Tells streams.input octets → length octets ≤ longest_script → IsScript (most_clients command) octets script
+    (setup : Setup) (octets : List ℕ) (script : Script) → RunEnds tells shows shelf streams command status homes history lives starters → TellsSetup shelf.file command setup
+    → Tells streams.input octets → length octets ≤ longest_script → IsScript setup (most_clients command) octets script
     → (Rose shelf.faults shelf.faults_after → ⊥) → (Rose streams.reads_before streams.reads_after → ⊥) → (Rose streams.writes_before streams.writes_after → ⊥) → EndsWithoutFault status
-nothing_else tells shows shelf streams command NoMemory homes history lives starters octets script ends configured told short is_script files reads writes = tt
-nothing_else tells shows shelf streams command ConfigRead homes history lives starters octets script ends configured told short is_script files reads writes =
-    absurd (no_lack shelf command ConfigRead configured ends.0 files)
-nothing_else tells shows shelf streams command (TooLong inputs.Configuration) homes history lives starters octets script ends configured told short is_script files reads writes =
-    absurd (no_lack shelf command (TooLong inputs.Configuration) configured ends.0 files)
-nothing_else tells shows shelf streams command (ConfigFault number key) homes history lives starters octets script ends configured told short is_script files reads writes =
-    absurd (no_lack shelf command (ConfigFault number key) configured ends.0 files)
-nothing_else tells shows shelf streams command status homes history lives starters octets script ends configured told short is_script files reads writes =
-    script_comes tells shows streams ends.0 (most_clients command) status homes history lives starters octets script ends.2 told short is_script reads writes
+nothing_else tells shows shelf streams command NoMemory homes history lives starters setup octets script ends configured told short is_script files reads writes = tt
+nothing_else tells shows shelf streams command ConfigRead homes history lives starters setup octets script ends configured told short is_script files reads writes =
+    absurd (no_lack shelf command setup ConfigRead configured ends.0 files)
+nothing_else tells shows shelf streams command (TooLong inputs.Configuration) homes history lives starters setup octets script ends configured told short is_script files reads writes =
+    absurd (no_lack shelf command setup (TooLong inputs.Configuration) configured ends.0 files)
+nothing_else tells shows shelf streams command (ConfigFault number key) homes history lives starters setup octets script ends configured told short is_script files reads writes =
+    absurd (no_lack shelf command setup (ConfigFault number key) configured ends.0 files)
+nothing_else tells shows shelf streams command status homes history lives starters setup octets script ends configured told short is_script files reads writes =
+    let same = same_setup shelf.file command setup ends.0 configured ends.1 in
+    script_comes tells shows streams ends.0 (most_clients command) status homes history lives starters octets script ends.2 told short (subst (λ (s : Setup). IsScript s (most_clients command) octets script) same is_script) reads writes

@@ -36,7 +36,7 @@ turns tells shows setup clients (Some halt) homes lives starters ends over event
 
 module _ {L S : Type 0} (tells : LinkTells L) (shows : S → StarterShows) (streams : Streams) (setup : Setup) (most : ℕ) (clients : List Client)
     (homes : List Notes) (history : List Event) (lives : List (Life L)) (starters : List S)
-    (script : IsTheScript most streams.input clients) (reads : ReadsWell streams) (dense : IsDense (record { 0 = 0 }) homes) where
+    (script : IsTheScript setup most streams.input clients) (reads : ReadsWell streams) (dense : IsDense (record { 0 = 0 }) homes) where
   halted : (halt : Halt) → HasHomes (Some halt) setup (length clients) homes → IsUntold homes streams.took_before streams.took_after streams.writes_before streams.writes_after history
       → ((events : List Event) → IsMerged homes events → IsServedSoFar shows halt setup clients events lives starters)
       → IsHaltedRun shows streams halt setup most clients homes history lives starters

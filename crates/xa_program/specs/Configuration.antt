@@ -29,10 +29,10 @@ IsSetup file (Run name) setup = (octets : List ℕ) × Holds (file name) octets 
 IsSetup file (Play service) setup = setup ≡ play_setup service
 IsSetup file (Server name) setup = ⊥
 
--- where the command names a file, that tells a configuration that isn't too long
-abbrev pub TellsSetup : (List ℕ → Option (Option (List ℕ))) → Command → Type 0
-TellsSetup file (Run name) = (octets : List ℕ) × (setup : Setup) × (file name ≡ Some (Some octets)) × (length octets ≤ longest_configuration) × IsConfiguration octets setup
-TellsSetup file command = ⊤
+-- the setup of the command, where a file that it names tells its configuration, which isn't too long
+abbrev pub TellsSetup : (List ℕ → Option (Option (List ℕ))) → Command → Setup → Type 0
+TellsSetup file (Run name) setup = (octets : List ℕ) × (file name ≡ Some (Some octets)) × (length octets ≤ longest_configuration) × IsConfiguration octets setup
+TellsSetup file command setup = IsSetup file command setup
 
 -- the file holds octets that aren't too long and are no configuration, and of what they say that is the first fault
 abbrev pub HasFault : Option (Option (List ℕ)) → ℕ → List ℕ → Type 0

@@ -32,13 +32,13 @@ abbrev pub most_clients : Command → ℕ
 most_clients (Play service) = 1
 most_clients command = 64
 
--- what came from the input is a script with these clients, of whom there are so many at most, and not too long
-abbrev pub IsTheScript : ℕ → InputTells → List Client → Type 0
-IsTheScript most input clients = (octets : List ℕ) × CameWhole input octets × (length octets ≤ longest_script) × IsScript most octets (record { clients = clients })
+-- what came from the input is a script for the setup with these clients, of whom there are so many at most, and not too long
+abbrev pub IsTheScript : Setup → ℕ → InputTells → List Client → Type 0
+IsTheScript setup most input clients = (octets : List ℕ) × CameWhole input octets × (length octets ≤ longest_script) × IsScript setup most octets (record { clients = clients })
 
--- what came from the input isn't too long, and its first line at fault, where so many clients may be, is that one with that least cause
-abbrev pub HasFirstFault : ℕ → InputTells → ℕ → ℕ → Type 0
-HasFirstFault most input line cause = (octets : List ℕ) × CameWhole input octets × (length octets ≤ longest_script) × IsFirstFault most octets line cause
+-- what came from the input isn't too long, and its first line at fault for the setup, where so many clients may be, is that one with that least cause
+abbrev pub HasFirstFault : Setup → ℕ → InputTells → ℕ → ℕ → Type 0
+HasFirstFault setup most input line cause = (octets : List ℕ) × CameWhole input octets × (length octets ≤ longest_script) × IsFirstFault setup most octets line cause
 
 -- what the input and the output show of a run: what the input tells of its octets, what the output took, and how often a read or a write
 -- failed
@@ -84,7 +84,7 @@ names_of clients = map (λ client. client.name) clients
 -- dense stamps that rise, and is the whole run of the setup with these clients, and the pipes are its
 pub record IsServedRun {L S : Type 0} (tells : LinkTells L) (shows : S → StarterShows) (streams : Streams) (setup : Setup) (most : ℕ) (clients : List Client)
     (homes : List Notes) (history : List Event) (lives : List (Life L)) (starters : List S) : Type 0 where
-  pub script : IsTheScript most streams.input clients
+  pub script : IsTheScript setup most streams.input clients
   pub reads : ReadsWell streams
   pub merged : IsMerged homes history
   pub recorded : IsRecorded setup (length clients) homes
@@ -96,7 +96,7 @@ pub record IsServedRun {L S : Type 0} (tells : LinkTells L) (shows : S → Start
 -- merge, or there is none
 pub record IsHaltedRun {L S : Type 0} (shows : S → StarterShows) (streams : Streams) (halt : Halt) (setup : Setup) (most : ℕ) (clients : List Client)
     (homes : List Notes) (history : List Event) (lives : List (Life L)) (starters : List S) : Type 0 where
-  pub script : IsTheScript most streams.input clients
+  pub script : IsTheScript setup most streams.input clients
   pub reads : ReadsWell streams
   pub silent : IsSilent streams
   pub merged : (history ≡ []) ⊎ IsMerged homes history
@@ -116,7 +116,7 @@ ScriptEnds tells shows streams setup most WriteFault homes history lives starter
     × GrewByPart streams.took_before streams.took_after (transcript (names_of clients) (reverse history)) × Rose streams.writes_before streams.writes_after
 ScriptEnds tells shows streams setup most ScriptRead homes history lives starters = Rose streams.reads_before streams.reads_after × IsSilent streams
 ScriptEnds tells shows streams setup most (TooLong inputs.Script) homes history lives starters = CameOver streams.input longest_script × ReadsWell streams × IsSilent streams
-ScriptEnds tells shows streams setup most (BadLine line cause) homes history lives starters = HasFirstFault most streams.input line cause × ReadsWell streams × IsSilent streams
+ScriptEnds tells shows streams setup most (BadLine line cause) homes history lives starters = HasFirstFault setup most streams.input line cause × ReadsWell streams × IsSilent streams
 ScriptEnds tells shows streams setup most (Worn stamp) homes history lives starters =
     (clients : List Client) × IsHaltedRun shows streams (halts.Worn stamp) setup most clients homes history lives starters × IsWorn (halts.Worn stamp) homes
 ScriptEnds tells shows streams setup most NoMemory homes history lives starters =

@@ -35,13 +35,13 @@ CommandRefusedAs shelf (Run name) status = SetupRefusedAs shelf name status
 CommandRefusedAs shelf command NoMemory = shelf.faults_after ≡ shelf.faults
 CommandRefusedAs shelf command status = ⊥
 
--- why there is no script of so many clients
-abbrev pub ScriptRefusedAs : ℕ → InputTells → ℕ → ℕ → Status → Type 0
-ScriptRefusedAs most input reads reads_after ScriptRead = Rose reads reads_after
-ScriptRefusedAs most input reads reads_after (TooLong inputs.Script) = CameOver input longest_script × (reads_after ≡ reads)
-ScriptRefusedAs most input reads reads_after (BadLine line cause) = HasFirstFault most input line cause × (reads_after ≡ reads)
-ScriptRefusedAs most input reads reads_after NoMemory = reads_after ≡ reads
-ScriptRefusedAs most input reads reads_after status = ⊥
+-- why there is no script of so many clients for the setup
+abbrev pub ScriptRefusedAs : Setup → ℕ → InputTells → ℕ → ℕ → Status → Type 0
+ScriptRefusedAs setup most input reads reads_after ScriptRead = Rose reads reads_after
+ScriptRefusedAs setup most input reads reads_after (TooLong inputs.Script) = CameOver input longest_script × (reads_after ≡ reads)
+ScriptRefusedAs setup most input reads reads_after (BadLine line cause) = HasFirstFault setup most input line cause × (reads_after ≡ reads)
+ScriptRefusedAs setup most input reads reads_after NoMemory = reads_after ≡ reads
+ScriptRefusedAs setup most input reads reads_after status = ⊥
 
 -- the lines were written whole, or in part and the output failed, or nothing was written and memory ran out
 abbrev pub Printed : Option (List ℕ) → Option (List ℕ) → ℕ → ℕ → List ℕ → Status → Type 0

@@ -23,10 +23,10 @@ pub fn read_script<I: Source>(
 ) -> Result<Script, Status>
     requires configured { is_configured setup.now ≡ true }
     requires most { (1 ≤ most) × (most ≤ 64) }
-    ensures script { IfOk result (λ script. IsTheScript most (record { left = I.left input.old; left_after = I.left input.new; gave = I.gave input.old; gave_after = I.gave input.new }) script.clients) }
+    ensures script { IfOk result (λ script. IsTheScript setup.now most (record { left = I.left input.old; left_after = I.left input.new; gave = I.gave input.old; gave_after = I.gave input.new }) script.clients) }
     ensures built { IfOk result (λ script. IsBuilt script.clients) }
     ensures quiet { OnOk result (I.read_faults input.new ≡ I.read_faults input.old) }
-    ensures refused { IfErr result (ScriptRefusedAs most (record { left = I.left input.old; left_after = I.left input.new; gave = I.gave input.old; gave_after = I.gave input.new }) (I.read_faults input.old) (I.read_faults input.new)) }
+    ensures refused { IfErr result (ScriptRefusedAs setup.now most (record { left = I.left input.old; left_after = I.left input.new; gave = I.gave input.old; gave_after = I.gave input.new }) (I.read_faults input.old) (I.read_faults input.new)) }
 {
     let octets = match read_all(alloc, input, LONGEST_SCRIPT) {
         Ok(octets) => octets,

@@ -2,6 +2,7 @@
 ghost use Rattle.std.specs.Prelude.{◌≡◌, ◌≤◌, ◌↔◌, true, ℕ, List, map, string_bytes, None, Some, IfOk, IfErr, OnOk, length};
 ghost use Rattle.xa_link.specs.Told.{Rose};
 ghost use Rattle.xa_types.specs.Configured.{is_configured};
+ghost use Rattle.xa_types.specs.declared.setup.Setup.{Setup};
 ghost use Rattle.xa_script.specs.declared.script.Script.{Script};
 ghost use Rattle.xa_script.specs.Script.{IsScript};
 ghost use Rattle.xa_domain.specs.Serving.{NoneRestarts};
@@ -72,12 +73,12 @@ pub fn run<R, S: Shelf, I: Source, O: Sink, Y: Yard, G: Gate>(
         })
         command result.status result.homes.homes result.history.items result.lives.items result.starters.items }
 
-    // Where the shelf tells a configuration that is not too long, or none is wanted, and the input tells octets that are a script and not
+    // Where the shelf tells a configuration that is not too long, or none is wanted, and the input tells octets that are a script for it and not
     // too long, and none of the shelf, the input and the output fails, the run ends with Done, Worn or NoMemory. That they don't fail is
     // that their counts don't rise: where a count stands at 2^64 - 1 this says nothing.
-    ensures complete { (command : Command) (octets : List ℕ) (script : Script) → command_in (map string_bytes words.now) ≡ Some command → Serves command
-        → TellsSetup (S.file shelf.old) command
-        → Tells (record { left = I.left input.old; left_after = I.left input.new; gave = I.gave input.old; gave_after = I.gave input.new }) octets → length octets ≤ longest_script → IsScript (most_clients command) octets script
+    ensures complete { (command : Command) (setup : Setup) (octets : List ℕ) (script : Script) → command_in (map string_bytes words.now) ≡ Some command → Serves command
+        → TellsSetup (S.file shelf.old) command setup
+        → Tells (record { left = I.left input.old; left_after = I.left input.new; gave = I.gave input.old; gave_after = I.gave input.new }) octets → length octets ≤ longest_script → IsScript setup (most_clients command) octets script
         → (Rose (S.shelf_faults shelf.old) (S.shelf_faults shelf.new) → ⊥) → (Rose (I.read_faults input.old) (I.read_faults input.new) → ⊥) → (Rose (O.write_faults out.old) (O.write_faults out.new) → ⊥)
         → EndsWithoutFault result.status }
 

@@ -44,7 +44,8 @@ pub fn tell_script(alloc: Global, octets: &[u8], out: &mut Vec<u8>) -> Result<()
     Ok(())
 }
 
-/// Reads the octets so often as one script, for one queue, server and service, and answers how many calls it has.
+/// Reads the octets so often as one script, for two shapes, a queue, a server and a service, and answers how many calls it
+/// has.
 pub fn read_script(alloc: Global, octets: &[u8], times: u32) -> Result<usize, Refused> {
     if octets.len() > MOST {
         return Err(Refused::TooLong);

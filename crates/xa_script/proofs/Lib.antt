@@ -1,7 +1,8 @@
-pub mod ScriptText
-pub mod ScriptWords
-pub mod ScriptGrammar
-pub mod ScriptFaults
-pub mod ScriptRead
-pub mod ScriptCut
+pub mod Texts
 pub mod Places
+pub mod Numbers
+pub mod FieldsRead
+pub mod FlagsRead
+pub mod Clients
+pub mod ScriptCut
+pub mod ReadLines

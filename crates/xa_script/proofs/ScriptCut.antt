@@ -1,13 +1,19 @@
 -- Where the first line of a script ends.
-use Rattle.std.proofs.Common.{◌≡◌, ℕ, suc, ◌+◌, ◌-◌, ◌<◌, nat_lt, not, true, false, cond, length, List, [], ◌∷◌, take, drop, Some, None, inl, inr, refl, ap, sym, ◌∙◌, arith}
+use Rattle.std.proofs.Common.{◌≡◌, ℕ, suc, ◌+◌, ◌-◌, ◌<◌, nat_lt, not, Bool, ◌⊎◌, true, false, cond, length, List, [], ◌∷◌, take, drop, Some, None, inl, inr, refl, ap, sym, ◌∙◌, arith}
 use Rattle.std.proofs.lemmas.Bool.{ltb-true, ltb-false, ne_eqb}
 use Rattle.std.proofs.lemmas.List.Sums.{prefix_len-le-length}
 use Rattle.std.proofs.lemmas.List.Splits.{slice_split_first, length-slice_split}
 use Rattle.std.specs.List.{position, position_or_len, slice_split, onto_first, before_first, after_first}
 use Rattle.std.specs.Str.Lines.{lines, lines_of_parts, strip_carriage_return}
 use Rattle.xa_script.specs.Draft.{is_line_end}
-use Rattle.xa_script.proofs.ScriptText.{some_is}
-use Rattle.xa_script.proofs.ScriptGrammar.{chosen, some_of_none}
+use Rattle.xa_script.proofs.Texts.{some_is}
+
+chosen : {A : Type 0} (b : Bool) (x y z : A) → cond b x y ≡ z → ((b ≡ true) × (x ≡ z)) ⊎ ((b ≡ false) × (y ≡ z))
+chosen true x y z h = inl (refl, h)
+chosen false x y z h = inr (refl, h)
+
+some_of_none : {A : Type 0} (x : A) → None ≡ Some x → ⊥
+some_of_none x h = cc
 
 parts_again : (x : List ℕ) (parts : List (List ℕ)) → 0 < length parts → lines_of_parts (x ∷ parts) ≡ strip_carriage_return x ∷ lines_of_parts parts
 parts_again x [] h = absurd (omega (arith, h))

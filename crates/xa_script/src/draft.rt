@@ -1,35 +1,41 @@
 // What is read so far of a script, and what is wrong with a line.
-ghost use Rattle.std.specs.Prelude.{◌≡◌, ◌++◌, ◌∷◌, [], Ok, Err, length, IfOk, MatchResult};
+ghost use Rattle.std.specs.Prelude.{◌≡◌, ◌++◌, ◌∷◌, [], Ok, Err, Some, length, IfOk, MatchResult};
 ghost use Rattle.std.specs.Str.{bytes_eq};
 ghost use Rattle.xa_types.specs.Configured.{is_among};
-ghost use Rattle.xa_script.specs.Script.{cause_number, client_with, client_names};
-ghost use Rattle.xa_script.specs.ScriptLine.{client_in, call_in};
-ghost use Rattle.xa_script.specs.Draft.{kept, formed, begun, added, with_line};
+ghost use Rattle.xa_script.specs.Served.{is_served};
+ghost use Rattle.xa_script.specs.Words.{Reads};
+ghost use Rattle.xa_script.specs.Script.{cause_number, client_with, client_names, client_of, begun, with_client, called, with_line};
+ghost use Rattle.xa_script.specs.Draft.{kept};
 
+use crate::calls::{Verb, op_of, verb_of};
 use crate::script::{Client, Script};
-use crate::script_line::{
-    all_printed, call_of, client_in, is_skipped, payload_in, service_in, skip_spaces, strip_word,
-};
+use crate::words::{NoForm, ReadError, all_printed, is_blank, is_skipped, next_word, word_at};
 use std::alloc::Global;
 use std::marker::Model;
 use std::mem;
-use xa_types::{Name, NoMemory, Octets, Op, Sequence};
+use xa_types::{Name, NoMemory, Op, Sequence, Setup};
 
 /// What is wrong with a line.
 #[derive(Clone, Copy)]
 pub enum Cause {
     /// An octet outside 0x20 to 0x7E.
     Unprinted,
+    /// A first word that is no listed one.
+    Unknown,
     /// A call before any `client`.
     BeforeClients,
+    /// A word that is missing, too many or not of its form.
+    Misshapen,
     /// A client whose word is no name.
     NoName,
     /// A client whose name an earlier one has.
     Doubled,
     /// One client more than there may be.
     OneTooMany,
-    /// No built line.
-    NotBuilt,
+    /// A subtype, field, value or kind that the setup doesn't take.
+    NotTaken,
+    /// A call that is not served.
+    NotServed,
 }
 
 impl Cause {
@@ -39,12 +45,38 @@ impl Cause {
     {
         match self {
             Cause::Unprinted => 1,
+            Cause::Unknown => 2,
             Cause::BeforeClients => 3,
+            Cause::Misshapen => 4,
             Cause::NoName => 5,
             Cause::Doubled => 6,
             Cause::OneTooMany => 7,
-            Cause::NotBuilt => 9,
+            Cause::NotTaken => 8,
+            Cause::NotServed => 9,
         }
+    }
+}
+
+// Whether a domain serves the call: a tpcall without TPNOCHANGE.
+fn is_served(op: &Op) -> bool
+    ensures { result ≡ is_served op.now }
+{
+    match op {
+        Op::Call(ask) => ask.expect.is_none(),
+        _ => false,
+    }
+}
+
+// The one word behind `client`.
+#[tactic(auto, unfolding(crate::specs::Script::client_of))]
+fn client_of(octets: &[u8]) -> Result<&[u8], NoForm>
+    ensures { Reads (λ x. x.now) result (client_of octets.now) }
+{
+    let (word, rest) = word_at(octets)?;
+    if is_blank(rest) {
+        Ok(word)
+    } else {
+        Err(NoForm)
     }
 }
 
@@ -113,11 +145,11 @@ impl Draft {
     // The name of the client that the rest of its line begins, of whom there may be so many.
     fn new_name(&self, most: u16, octets: &[u8]) -> Result<Name, Cause>
         ensures { MatchResult result
-            (λ name. formed (begun most self.now) (client_in octets.now) ≡ Ok (self.now ++ client_with name [] ∷ []))
-            (λ cause. formed (begun most self.now) (client_in octets.now) ≡ Err cause) }
+            (λ name. with_client most self.now (client_of octets.now) ≡ Ok (self.now ++ client_with name [] ∷ []))
+            (λ cause. with_client most self.now (client_of octets.now) ≡ Err cause) }
     {
-        let Some(word) = client_in(octets) else {
-            return Err(Cause::NotBuilt);
+        let Ok(word) = client_of(octets) else {
+            return Err(Cause::Misshapen);
         };
         let Ok(name) = Name::read(word) else {
             return Err(Cause::NoName);
@@ -142,7 +174,7 @@ impl Draft {
     }
 
     fn begin(&mut self, alloc: Global, most: u16, octets: &[u8]) -> Result<Option<Cause>, NoMemory>
-        ensures { IfOk result (λ cause. kept cause self.new ≡ formed (begun most self.old) (client_in octets.now)) }
+        ensures { IfOk result (λ cause. kept cause self.new ≡ with_client most self.old (client_of octets.now)) }
     {
         match self.new_name(most, octets) {
             Ok(name) => {
@@ -153,32 +185,41 @@ impl Draft {
         }
     }
 
-    fn add(&mut self, alloc: Global, octets: &[u8]) -> Result<Option<Cause>, NoMemory>
-        ensures { IfOk result (λ cause. kept cause self.new ≡ formed (added self.old) (call_in octets.now)) }
+    fn add(
+        &mut self,
+        alloc: Global,
+        setup: &Setup,
+        verb: Verb,
+        octets: &[u8],
+    ) -> Result<Option<Cause>, NoMemory>
+        ensures { IfOk result (λ cause. kept cause self.new ≡ called setup.now self.old (Some verb) octets.now) }
     {
-        let Some((service, rest)) = service_in(octets) else {
-            return Ok(Some(Cause::NotBuilt));
-        };
-        let Some(payload) = payload_in(alloc, rest)? else {
-            return Ok(Some(Cause::NotBuilt));
-        };
         if self.name.is_none() {
             return Ok(Some(Cause::BeforeClients));
         }
-        let service = Octets::of(alloc, service)?;
-        self.ops.push(call_of(service, payload))?;
+        let op = match op_of(alloc, setup, verb, octets) {
+            Ok(Some(op)) => op,
+            Ok(None) => return Ok(Some(Cause::NotTaken)),
+            Err(ReadError::NoForm) => return Ok(Some(Cause::Misshapen)),
+            Err(ReadError::NoMemory) => return Err(NoMemory),
+        };
+        if !is_served(&op) {
+            return Ok(Some(Cause::NotServed));
+        }
+        self.ops.push(op)?;
         Ok(None)
     }
 
     /// Goes on with a line, where there may be so many clients; or why the line is refused.
-    #[tactic(auto, unfolding(crate::specs::Draft::with_line))]
+    #[tactic(auto, unfolding(crate::specs::Script::with_line))]
     pub fn take_line(
         &mut self,
         alloc: Global,
+        setup: &Setup,
         most: u16,
         line: &[u8],
     ) -> Result<Option<Cause>, NoMemory>
-        ensures { IfOk result (λ cause. kept cause self.new ≡ with_line most self.old line.now) }
+        ensures { IfOk result (λ cause. kept cause self.new ≡ with_line setup.now most self.old line.now) }
     {
         if !all_printed(line) {
             return Ok(Some(Cause::Unprinted));
@@ -186,13 +227,13 @@ impl Draft {
         if is_skipped(line) {
             return Ok(None);
         }
-        let front = skip_spaces(line);
-        if let Some(rest) = strip_word(front, b"call") {
-            return self.add(alloc, rest);
+        let (word, rest) = next_word(line);
+        if word == b"client".as_slice() {
+            return self.begin(alloc, most, rest);
         }
-        match strip_word(front, b"client") {
-            Some(rest) => self.begin(alloc, most, rest),
-            None => Ok(Some(Cause::NotBuilt)),
+        match verb_of(word) {
+            Some(verb) => self.add(alloc, setup, verb, rest),
+            None => Ok(Some(Cause::Unknown)),
         }
     }
 

@@ -1,8 +1,12 @@
 //! Scripts: their lines, the clients and the calls that they make, and the first line at fault.
 #![tactic(auto)]
 
+mod calls;
 mod draft;
+mod flags;
+mod layout;
+mod payload;
 mod script;
-mod script_line;
+mod words;
 
 pub use script::{Client, Script, ScriptRefused, one_reading, read, read_upto};

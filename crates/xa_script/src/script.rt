@@ -4,7 +4,8 @@ ghost use Rattle.std.specs.Str.Lines.{lines, strip_carriage_return};
 ghost use Rattle.xa_types.specs.Configured.{is_configured};
 ghost use Rattle.xa_script.specs.Script.{IsScript};
 ghost use Rattle.xa_script.specs.Readings.{NamesFirstFault, OneScript, NoFaultyScript, OneFirstFault, SoundIsScript};
-ghost use Rattle.xa_script.specs.Draft.{is_line_end, read_all};
+ghost use Rattle.xa_script.specs.Script.{read_all};
+ghost use Rattle.xa_script.specs.Draft.{is_line_end};
 
 use crate::draft::Draft;
 use memchr::memchr;
@@ -74,17 +75,22 @@ fn next_line(octets: &[u8]) -> Option<(&[u8], &[u8])>
     }
 }
 
-fn read_lines(alloc: Global, octets: &[u8], most: u16) -> Result<Draft, ScriptRefused>
+fn read_lines(
+    alloc: Global,
+    octets: &[u8],
+    setup: &Setup,
+    most: u16,
+) -> Result<Draft, ScriptRefused>
     requires { length octets.now < 2 ^ 32 }
-    ensures found { IfOk result (λ draft. read_all most [] (lines octets.now) ≡ Ok draft) }
-    ensures refused { IfErr result (NamesFirstFault most octets.now) }
+    ensures found { IfOk result (λ draft. read_all setup.now most [] (lines octets.now) ≡ Ok draft) }
+    ensures refused { IfErr result (NamesFirstFault setup.now most octets.now) }
 {
     let mut draft = Draft::new(alloc);
     let mut rest = octets;
     let mut line = 0;
     while let Some((text, behind)) = next_line(rest) {
         line += 1;
-        if let Some(cause) = draft.take_line(alloc, most, text)? {
+        if let Some(cause) = draft.take_line(alloc, setup, most, text)? {
             let cause = cause.number();
             return Err(ScriptRefused::BadLine { line, cause });
         }
@@ -93,25 +99,26 @@ fn read_lines(alloc: Global, octets: &[u8], most: u16) -> Result<Draft, ScriptRe
     Ok(draft)
 }
 
-/// Reads a script, of fewer than 2^32 octets and at most so many clients, of which there may be 1 to 64. Each call
-/// becomes a tpcall without flags; whether its service is there is the matter of the call.
+/// Reads a script, of fewer than 2^32 octets and at most so many clients, of which there may be 1 to 64.
 ///
 /// A refusal is for want of memory, or names the first line at fault and the least of its causes: 1 an octet outside
-/// 0x20 to 0x7E, 3 a call before any client, 5 a client whose word is no name, 6 one whose name an earlier client has,
-/// 7 one client more than there may be, 9 a line that is none of those that are built.
+/// 0x20 to 0x7E, 2 a first word that is no listed one, 3 a call before any client, 4 a word that is missing, too many
+/// or not of its form, 5 a client whose word is no name, 6 one whose name an earlier client has, 7 one client more than
+/// there may be, 8 a subtype, field, value or kind that the setup doesn't take, 9 a call that is not served: all but a
+/// tpcall without TPNOCHANGE.
 pub fn read_upto(
     alloc: Global,
     octets: &[u8],
-    _setup: &Setup,
+    setup: &Setup,
     clients: u16,
 ) -> Result<Script, ScriptRefused>
     requires short { length octets.now < 2 ^ 32 }
-    requires configured { is_configured _setup.now ≡ true }
+    requires configured { is_configured setup.now ≡ true }
     requires clients { (1 ≤ clients) × (clients ≤ 64) }
-    ensures found { IfOk result (IsScript clients octets.now) }
-    ensures refused { IfErr result (NamesFirstFault clients octets.now) }
+    ensures found { IfOk result (IsScript setup.now clients octets.now) }
+    ensures refused { IfErr result (NamesFirstFault setup.now clients octets.now) }
 {
-    let draft = read_lines(alloc, octets, clients)?;
+    let draft = read_lines(alloc, octets, setup, clients)?;
     Ok(draft.finish()?)
 }
 
@@ -119,8 +126,8 @@ pub fn read_upto(
 pub fn read(alloc: Global, octets: &[u8], setup: &Setup) -> Result<Script, ScriptRefused>
     requires short { length octets.now < 2 ^ 32 }
     requires configured { is_configured setup.now ≡ true }
-    ensures found { IfOk result (IsScript 64 octets.now) }
-    ensures refused { IfErr result (NamesFirstFault 64 octets.now) }
+    ensures found { IfOk result (IsScript setup.now 64 octets.now) }
+    ensures refused { IfErr result (NamesFirstFault setup.now 64 octets.now) }
 {
     read_upto(alloc, octets, setup, MOST_CLIENTS)
 }

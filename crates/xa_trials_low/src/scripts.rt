@@ -8,7 +8,8 @@ use std::alloc::Global;
 use xa_script::{Script, ScriptRefused, read, read_upto};
 use xa_types::{Data, Op, Setup};
 
-const SETUP: &[u8] = b"queue = [{ name = 'Q' }]\nserver = [{ name = 'S', queue = 'Q' }]";
+const SETUP: &[u8] = b"queue = [{ name = 'Q' }]\nserver = [{ name = 'S', queue = 'Q' }]\n\
+    shape = [{ name = 'entry', fields = ['account int', 'amount long', 'memo string 4', 'rate short', 'mark char'] }]";
 
 // How many clients are read, and the text of the last call of the last one; or the line at fault, and the cause.
 type Told<'a> = Result<(usize, Option<&'a [u8]>), (u32, u8)>;
@@ -40,16 +41,16 @@ static SCRIPTS: [(&[u8], u16, Told<'static>); 23] = [
     (b"client a\nclient .a\n", 1, Err((2, 5))),
     (b"client a\ncall TEST1 none\nclient a\n", 1, Err((3, 6))),
     (b"client a\nclient b\n\x01\n", 1, Err((2, 7))),
-    (b"client a\n\nbogus 1\nclient b\n", 1, Err((3, 9))),
-    (b"call TEST1\nclient a\n", 1, Err((1, 9))),
-    (b"client a\ncall TEST1 none none\n", 1, Err((2, 9))),
-    (b"client a\ncall TEST1 text hello\n", 1, Err((2, 9))),
-    (b"client a\ncall TEST1 text \"hello\n", 1, Err((2, 9))),
-    (b"client a\ncall TEST1 text \"a\\n\"\n", 1, Err((2, 9))),
-    (b"client a\ncall TEST1 text \"a\" x\n", 1, Err((2, 9))),
-    (b"client\n", 1, Err((1, 9))),
-    (b"client a b\n", 1, Err((1, 9))),
-    (b" # c\n", 1, Err((1, 9))),
+    (b"client a\n\nbogus 1\nclient b\n", 1, Err((3, 2))),
+    (b"call TEST1\nclient a\n", 1, Err((1, 3))),
+    (b"client a\ncall TEST1 none none\n", 1, Err((2, 4))),
+    (b"client a\ncall TEST1 text hello\n", 1, Err((2, 4))),
+    (b"client a\ncall TEST1 text \"hello\n", 1, Err((2, 4))),
+    (b"client a\ncall TEST1 text \"a\\n\"\n", 1, Err((2, 4))),
+    (b"client a\ncall TEST1 text \"a\" x\n", 1, Err((2, 4))),
+    (b"client\n", 1, Err((1, 4))),
+    (b"client a b\n", 1, Err((1, 4))),
+    (b" # c\n", 1, Err((1, 2))),
 ];
 
 // What is read of a script of at most so many clients; too long a one isn't tried.
@@ -134,6 +135,166 @@ fn scripts_are_read_or_their_first_fault_is_told(rt: HostRuntime) {
     none_fails(&rt, first_not_tried(rt.alloc()));
 }
 
+// A line behind that of a client, and its least cause; 0 where it is read.
+static LINES: [(&[u8], u8); 119] = [
+    (b"bogus", 2),
+    (b"Call TEST1 none", 2),
+    (b"clients b", 2),
+    (b"client", 4),
+    (b"client b c", 4),
+    (b"call", 4),
+    (b"call TEST1", 4),
+    (b"call TEST1 maybe", 4),
+    (b"call TEST1 none x", 4),
+    (b"call TEST1 none noblock notime noreply notran sigrstrt", 0),
+    (b"call TEST1 none notran notran", 4),
+    (b"call TEST1 none nochange", 4),
+    (b"call TEST1 none nochange text", 4),
+    (b"call TEST1 none nochange c:other", 8),
+    (b"call TEST1 none nochange octet noblock nochange octet", 4),
+    (b"call TEST1 none nochange octet", 9),
+    (b"call TEST1 none nochange c:entry notime", 9),
+    (b"call TEST1 text", 4),
+    (b"call TEST1 text hello", 4),
+    (b"call TEST1 text \"hello", 4),
+    (b"call TEST1 text \"a\\n\"", 4),
+    (b"call TEST1 text \"a\" x", 4),
+    (b"call TEST1 text \"a\"noblock", 4),
+    (b"call TEST1 octet", 4),
+    (b"call TEST1 octet 6162", 0),
+    (b"call TEST1 octet 616", 4),
+    (b"call TEST1 octet 6G", 4),
+    (b"call TEST1 octet 6A", 4),
+    (b"call TEST1 fill 3", 4),
+    (b"call TEST1 fill 3 61", 0),
+    (b"call TEST1 fill 70000 00", 0),
+    (b"call TEST1 fill 70001 00", 4),
+    (b"call TEST1 fill 03 61", 4),
+    (b"call TEST1 fill 3 6", 4),
+    (b"call TEST1 fill 3 616", 4),
+    (b"call TEST1 c", 4),
+    (b"call TEST1 c other", 8),
+    (b"call TEST1 c other account", 4),
+    (b"call TEST1 c entry", 0),
+    (b"call TEST1 c entry account=7 amount=-9223372036854775808 memo=\"a b\" rate=-32768 mark=255 noblock", 0),
+    (b"call TEST1 c entry account", 4),
+    (b"call TEST1 c entry account=", 4),
+    (b"call TEST1 c entry account=7 account=7", 4),
+    (b"call TEST1 c entry other=7", 8),
+    (b"call TEST1 c entry other=7 other=7", 4),
+    (b"call TEST1 c entry .account=7", 4),
+    (b"call TEST1 c entry account=07", 4),
+    (b"call TEST1 c entry account=-0", 4),
+    (b"call TEST1 c entry account=+7", 4),
+    (b"call TEST1 c entry account=2147483647", 0),
+    (b"call TEST1 c entry account=2147483648", 8),
+    (b"call TEST1 c entry account=-2147483648", 0),
+    (b"call TEST1 c entry account=-2147483649", 8),
+    (b"call TEST1 c entry account=\"7\"", 8),
+    (b"call TEST1 c entry amount=9223372036854775808", 8),
+    (b"call TEST1 c entry amount=99999999999999999999", 8),
+    (b"call TEST1 c entry memo=7", 8),
+    (b"call TEST1 c entry memo=\"four\"", 0),
+    (b"call TEST1 c entry memo=\"fives\"", 8),
+    (b"call TEST1 c entry memo=\"four", 4),
+    (b"call TEST1 c entry memo=\"four\"x", 4),
+    (b"call TEST1 c entry rate=32768", 8),
+    (b"call TEST1 c entry mark=256", 8),
+    (b"call TEST1 c entry mark=-1", 8),
+    (b"acall", 4),
+    (b"acall TEST1 none noreply", 9),
+    (b"acall TEST1 none nochange octet", 4),
+    (b"acall TEST1 c other", 8),
+    (b"get", 4),
+    (b"get x", 4),
+    (b"get 01", 4),
+    (b"get -1", 4),
+    (b"get 18446744073709551615 noblock", 9),
+    (b"get 18446744073709551616", 4),
+    (b"get 1 2", 4),
+    (b"get 1 nochange c:entry", 9),
+    (b"get 1 nochange c:other", 8),
+    (b"getany", 9),
+    (b"getany 1", 4),
+    (b"getany nochange c:other notime", 8),
+    (b"cancel", 4),
+    (b"cancel 1", 9),
+    (b"cancel 1 noblock", 4),
+    (b"connect TEST1 none", 4),
+    (b"connect TEST1 none up", 4),
+    (b"connect TEST1 none both notime", 9),
+    (b"connect TEST1 c entry account=7 recv", 9),
+    (b"connect TEST1 c other neither", 8),
+    (b"connect TEST1 none send send", 4),
+    (b"send", 4),
+    (b"send 1", 4),
+    (b"send 1 none noblock", 9),
+    (b"send 1 none recv noblock", 9),
+    (b"send 1 none noblock recv", 4),
+    (b"send 1 c other", 8),
+    (b"recv", 4),
+    (b"recv 1 noblock", 9),
+    (b"recv 1 nochange octet", 4),
+    (b"discon", 4),
+    (b"discon 1", 9),
+    (b"discon 1 1", 4),
+    (b"prio abs", 4),
+    (b"prio up 1", 4),
+    (b"prio abs 1000", 9),
+    (b"prio abs 1001", 4),
+    (b"prio add -1000", 9),
+    (b"prio add -1001", 4),
+    (b"prio add 1 1", 4),
+    (b"advertise A", 4),
+    (b"advertise A B", 9),
+    (b"advertise A B C", 4),
+    (b"unadvertise", 4),
+    (b"unadvertise A", 9),
+    (b"unadvertise A B", 4),
+    (b"tick", 4),
+    (b"tick 0", 4),
+    (b"tick 2147483647", 9),
+    (b"tick 2147483648", 4),
+    (b"tick 1 1", 4),
+];
+
+fn line_is_told(alloc: Global, setup: &Setup, line: &[u8], cause: u8) -> bool
+    requires { is_configured setup.now ≡ true }
+{
+    let mut script = Vec::new(alloc);
+    if script.extend_from_slice(b"client a\n").is_err() || script.extend_from_slice(line).is_err() {
+        return false;
+    }
+    match tried(alloc, setup, &script, 2) {
+        Ok(_) => cause == 0,
+        Err(refused) => refused == ScriptRefused::BadLine { line: 2, cause },
+    }
+}
+
+fn first_line_not_told(alloc: Global, setup: &Setup) -> Option<usize>
+    requires { is_configured setup.now ≡ true }
+{
+    for (place, (line, cause)) in LINES.iter().enumerate() {
+        if !line_is_told(alloc, setup, line, *cause) {
+            return Some(place);
+        }
+    }
+    None
+}
+
+// The place of the first line that isn't told as it should be; without a setup, of the first.
+fn first_line_not_tried(alloc: Global) -> Option<usize> {
+    match setup_of(alloc, SETUP) {
+        Some(setup) => first_line_not_told(alloc, &setup),
+        None => Some(0),
+    }
+}
+
+#[test]
+fn lines_are_read_or_their_least_cause_is_told(rt: HostRuntime) {
+    none_fails(&rt, first_line_not_tried(rt.alloc()));
+}
+
 // The lines of 65 clients, of nine octets each.
 const CLIENTS: &[u8] =
     b"client A\nclient B\nclient C\nclient D\nclient E\nclient F\nclient G\nclient H\nclient I\nclient J\n\
@@ -171,7 +332,7 @@ fn is_too_long(alloc: Global, setup: &Setup) -> bool
     requires { is_configured setup.now ≡ true }
 {
     let mut script = Vec::new(alloc);
-    push_call(&mut script, 256, 0) && is_told(alloc, setup, &script, 1, Err((2, 9)))
+    push_call(&mut script, 256, 0) && is_told(alloc, setup, &script, 1, Err((2, 4)))
 }
 
 fn clients_have_an_end(alloc: Global, setup: &Setup) -> bool

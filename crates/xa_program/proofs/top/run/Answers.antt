@@ -10,12 +10,12 @@ returns-in-Ok-Some-clause-server g c name is =
     c.obey.ensures.server name (cc both)
 
 pub returns-in-Ok-Some-clause-complete : goal.returns-in-Ok-Some-clause-complete
-returns-in-Ok-Some-clause-complete g c command octets script is serves configured told short is_script files reads writes =
+returns-in-Ok-Some-clause-complete g c command setup octets script is serves configured told short is_script files reads writes =
     let both : Some c.in-Ok-Some.command ≡ Some command = sym c.in-Ok-Some.field-0-is ∙ c.in-Ok-Some.ensures.found ∙ is in
     let same : c.in-Ok-Some.command ≡ command = cc both in
     let ends = rw same at c.obey.ensures.ends in
     nothing_else _ (λ s. record { server = g.Y.Start.Starter.server_name s; faults = g.Y.Start.Starter.start_faults s; asked = g.Y.Start.Starter.asked s }) _ _ command c.obey.result.status
-    c.obey.result.homes.homes c.obey.result.history.items c.obey.result.lives.items c.obey.result.starters.items octets script (ends serves) configured told short is_script files reads writes
+    c.obey.result.homes.homes c.obey.result.history.items c.obey.result.lives.items c.obey.result.starters.items setup octets script (ends serves) configured told short is_script files reads writes
 
 -- ---- the words are no command's
 
@@ -25,7 +25,7 @@ returns-in-Ok-None-clause-ends g c command is =
     absurd (none-some command (sym none ∙ is))
 
 pub returns-in-Ok-None-clause-complete : goal.returns-in-Ok-None-clause-complete
-returns-in-Ok-None-clause-complete g c command octets script is =
+returns-in-Ok-None-clause-complete g c command setup octets script is =
     let none = sym c.in-Ok-None.ensures.found ∙ c.in-Ok-None.field-0-is in
     absurd (none-some command (sym none ∙ is))
 

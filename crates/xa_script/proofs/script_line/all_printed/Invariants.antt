@@ -1,7 +1,0 @@
-use Rattle.std.proofs.Common.{◌≡◌, take}
-use Rattle.std.specs.List.{list_all}
-use Rattle.xa_script.specs.Script.{is_printed}
-use Rattle.xa_script.proofs.script_line.all_printed.Given as goal
-
-abbrev pub invariant-loop-octet : goal.invariant-loop-octet
-invariant-loop-octet l = l.all ≡ list_all is_printed (take l.octet-index l.octets)

@@ -1,6 +1,0 @@
-use Rattle.xa_script.specs.ScriptLine.{is_marked}
-use Rattle.xa_script.proofs.Places.{first_place}
-use Rattle.xa_script.proofs.script_line.place_of_mark.Goals as goal
-
-pub returns : goal.returns
-returns c = first_place is_marked c.args.octets.now c.memchr2.result c.memchr2.ensures
