@@ -1,5 +1,6 @@
-// Configurations, which are read to be seen or to be measured.
+// Configurations, which are read to be seen or to be measured, and scripts between them.
 use crate::refused::Refused;
+use crate::scripts::tell_script;
 use crate::setup::write_setup;
 use bstr::ByteSlice;
 use std::alloc::Global;
@@ -9,6 +10,9 @@ use xa_types::Setup;
 
 // What stands between two configurations, and belongs to neither.
 const BETWEEN: &[u8] = b"\n====\n";
+
+// What begins so is a script.
+const SCRIPT: &[u8] = b"!script\n";
 
 fn tell(alloc: Global, octets: &[u8], out: &mut Vec<u8>) -> Result<(), Refused> {
     match read(alloc, octets) {
@@ -22,10 +26,13 @@ fn tell(alloc: Global, octets: &[u8], out: &mut Vec<u8>) -> Result<(), Refused> 
     Ok(())
 }
 
-/// Adds the lines of each configuration: those of its setup, or that of its first fault.
+/// Adds the lines of each configuration, those of its setup or that of its first fault, and of each script.
 pub fn tell_each(alloc: Global, octets: &[u8], out: &mut Vec<u8>) -> Result<(), Refused> {
-    for configuration in octets.split_str(BETWEEN) {
-        tell(alloc, configuration, out)?;
+    for piece in octets.split_str(BETWEEN) {
+        match piece.strip_prefix(SCRIPT) {
+            Some(script) => tell_script(alloc, script, out)?,
+            None => tell(alloc, piece, out)?,
+        }
     }
     Ok(())
 }

@@ -2,7 +2,7 @@
 //!
 //! | Words | What is read, and what is written |
 //! |---|---|
-//! | none | configurations with the octets `\n====\n` between them, which belong to none; of each the lines of its setup, or the line of its first fault |
+//! | none | configurations, and scripts behind `!script\n`, with the octets `\n====\n` between them, which belong to none; of a configuration the lines of its setup, or the line of its first fault; of a script how many clients and calls it has, or the line of its first fault |
 //! | `frames` | frames; the same frames |
 //! | `frames read` | frames; how many they are |
 //! | `frames octets` | the same, but each octet is fed alone |
