@@ -26,7 +26,13 @@ static CALLS: [(Call, bool); 5] = [
 ];
 
 // How many octets are put into a block, and how many are in it then.
-static SIZES: [(usize, usize); 5] = [(3, 3), (65_537, 3), (65_536, 65_536), (65_537, 65_536), (0, 0)];
+static SIZES: [(usize, usize); 5] = [
+    (3, 3),
+    (65_537, 3),
+    (65_536, 65_536),
+    (65_537, 65_536),
+    (0, 0),
+];
 
 // Takes a block, or gives back the one that is held. Whether it did.
 fn gets_or_gives<R: Wait>(
