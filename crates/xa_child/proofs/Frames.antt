@@ -1,23 +1,23 @@
 -- Lists of a child's frames, and their spellings.
-use Rattle.std.proofs.Common.{◌≡◌, ℕ, ◌+◌, ◌<◌, ◌^◌, ◌&&◌, Bool, true, false, if◌then◌else◌, pos, List, [], ◌∷◌, ◌++◌, append_assoc, append-nil, length, take, get_or, add-one, Option, Some, None, Bor, codes, refl, sym, ◌∙◌, ap, subst, arith, rules}
+use Rattle.std.proofs.Common.{◌≡◌, ℕ, ◌+◌, ◌<◌, ◌^◌, ◌&&◌, Bool, true, false, if◌then◌else◌, pos, List, [], ◌∷◌, ◌++◌, append_assoc, append-nil, length, take, get_or, add-one, Some, codes, int_lt, ◌||◌, ◌≤◌, length-append, length-take, refl, sym, ◌∙◌, ap, subst, arith, rules}
 use Rattle.std.proofs.Math.Bool.{and_assoc}
 use Rattle.std.proofs.Math.Seq.{take-suc}
 use Rattle.std.proofs.lemmas.List.Elements.{All-nil, All-cons, All-head}
 use Rattle.std.specs.List.{All}
-use Rattle.std.specs.Option.{unwrap_or}
 use Rattle.std.specs.Str.{bytes_eq}
 use Rattle.xa_types.specs.Name.{IsName}
 use Rattle.xa_types.specs.declared.data.Data.{Data}
-use Rattle.xa_types.specs.declared.data.Data.TheVariants.{Absent}
+use Rattle.xa_types.specs.declared.data.Data.TheVariants.{Absent, Struct}
 use Rattle.xa_types.specs.declared.call.Rval.TheVariants.{Success, Fail}
 use Rattle.xa_frame.specs.declared.frame.Frame.{Frame}
 use Rattle.xa_frame.specs.declared.frame.Body.{Body}
-use Rattle.xa_frame.specs.declared.frame.Body.TheVariants.{Ready, Return, Invoke}
+use Rattle.xa_frame.specs.declared.frame.Body.TheVariants.{Ready, Return, Forward, Invoke}
 use Rattle.xa_frame.specs.Spelling.{spelled, all_spelled, HasSpelling, IsBody, IsData}
 use Rattle.xa_frame.proofs.FrameLemmas.{all_spelled-push}
-use Rattle.xa_child.specs.declared.child.Returned.{Returned}
-use Rattle.xa_child.specs.Returned.{data_of, frame_of, all_said}
-use Rattle.xa_child.specs.Child.{ChildState, admits, admits_all, after, after_all, answer, answer_body, counted, said, greeting, returned, next, is_die}
+use Rattle.xa_child.specs.declared.child.Said.{Said}
+use Rattle.xa_child.specs.Entry.{is_entry, account, amount, booked}
+use Rattle.xa_child.specs.Said.{frame_of, all_said}
+use Rattle.xa_child.specs.Child.{ChildState, admits, admits_all, after, after_all, answer, answer_body, counted, said, greeting, returned, transferred, accounted, no_entry, next, is_die}
 
 pub admits_all-append : (s : ChildState) (xs ys : List Frame) → admits_all s (xs ++ ys) ≡ (admits_all s xs && admits_all (after_all s xs) ys)
 admits_all-append s [] ys = refl
@@ -46,11 +46,42 @@ said_first b fs taken = rw taken (append-nil fs)
 pub said-one : (s : ChildState) (f : Frame) → admits s f ≡ true → said s (f ∷ []) ≡ answer f
 said-one s f taken = said_first (admits s f) (answer f) taken
 
-returned_body : (echo len fail : Bool) (payload : Data) → IsData payload → IsBody (if echo then Return Success (pos 0) payload else (if len then Return Success (pos (counted payload)) Absent else (if fail then Return Fail (pos 7) payload else Return Fail (pos 99) Absent)))
-returned_body true len fail payload h = search rules
-returned_body false true fail payload h = search rules
-returned_body false false true payload h = search rules
-returned_body false false false payload h = search rules
+no_entry_body : IsBody no_entry
+no_entry_body = search rules
+
+transferred_if : (whole low : Bool) (subtype octets : List ℕ) → IsData (Struct subtype octets) → IsBody (if whole then (if low then Return Fail (pos 3) (Struct subtype octets) else Forward (codes "ACCT") (Struct subtype octets)) else no_entry)
+transferred_if true true subtype octets h = search rules
+transferred_if true false subtype octets h = search rules
+transferred_if false low subtype octets h = search rules
+
+transferred_body : (payload : Data) → IsData payload → IsBody (transferred payload)
+unfolding transferred
+transferred_body (Struct subtype octets) h = transferred_if (is_entry subtype octets) (int_lt (account octets) (pos 1) || int_lt (pos 9_999) (account octets)) subtype octets h
+transferred_body payload h = no_entry_body
+
+booked_size : (octets : List ℕ) → length (booked octets) ≤ 65_536
+booked_size octets = simp (length-append, length-take) (omega arith)
+
+accounted_if : (whole low : Bool) (subtype octets : List ℕ) → IsData (Struct subtype octets) → IsBody (if whole then (if low then Return Fail (pos 2) (Struct subtype octets) else Return Success (pos 0) (Struct subtype (booked octets))) else no_entry)
+accounted_if true true subtype octets h = search rules
+accounted_if true false subtype octets h = search (rules, h.0, booked_size octets)
+accounted_if false low subtype octets h = search rules
+
+accounted_body : (payload : Data) → IsData payload → IsBody (accounted payload)
+unfolding accounted
+accounted_body (Struct subtype octets) h = accounted_if (is_entry subtype octets) (int_lt (amount octets) (pos 1)) subtype octets h
+accounted_body payload h = no_entry_body
+
+returned_if : (echo len fail transfer acct : Bool) (payload : Data) → IsData payload → IsBody (if echo then Return Success (pos 0) payload else (if len then Return Success (pos (counted payload)) Absent else (if fail then Return Fail (pos 7) payload else (if transfer then transferred payload else (if acct then accounted payload else Return Fail (pos 99) Absent)))))
+returned_if true len fail transfer acct payload h = search rules
+returned_if false true fail transfer acct payload h = search rules
+returned_if false false true transfer acct payload h = search rules
+returned_if false false false true acct payload h = transferred_body payload h
+returned_if false false false false true payload h = accounted_body payload h
+returned_if false false false false false payload h = search rules
+
+returned_body : (routine : List ℕ) (payload : Data) → IsData payload → IsBody (returned routine payload)
+returned_body routine payload h = returned_if (bytes_eq routine (codes "ECHO")) (bytes_eq routine (codes "LEN")) (bytes_eq routine (codes "FAIL")) (bytes_eq routine (codes "TRANSFER")) (bytes_eq routine (codes "ACCT")) payload h
 
 -- what is said to a frame that has a spelling has one
 served_spelling : (b : Bool) (fs : List Frame) → All HasSpelling fs → All HasSpelling (if b then [] else fs)
@@ -65,23 +96,19 @@ next_spelling = record { tag = omega arith; body = tt }
 
 answer_spelling : (tag : ℕ) (body : Body) → tag < 2 ^ 32 → IsBody body → All HasSpelling (answer_body tag body)
 answer_spelling tag (Invoke service routine mode payload) low h =
-    let first : HasSpelling (record { tag = tag; body = returned routine payload }) = record { tag = low; body = returned_body (bytes_eq routine (codes "ECHO")) (bytes_eq routine (codes "LEN")) (bytes_eq routine (codes "FAIL")) payload h.2 } in
+    let first : HasSpelling (record { tag = tag; body = returned routine payload }) = record { tag = low; body = returned_body routine payload h.2 } in
     served_spelling (is_die routine) _ (two_spellings _ next first next_spelling)
 answer_spelling tag body low h = All-nil HasSpelling
 
 pub spelling-answer : (f : Frame) → HasSpelling f → All HasSpelling (answer f)
 spelling-answer f h = answer_spelling f.tag f.body h.tag h.body
 
--- a RETURN whose data stays where it is, and NEXT
-pub data_or_absent : (payload : Option (Bor Data)) (none : Bor Data) → none.now ≡ Absent → (unwrap_or payload none).now ≡ data_of payload
-data_or_absent None none h = h
-data_or_absent (Some payload) none h = refl
+-- what is said to an INVOKE, and NEXT
+pub said_spelling : (said : Said) (f : Frame) → HasSpelling f → all_said (Some said) ≡ answer f → HasSpelling (frame_of said)
+said_spelling said f h is = All-head HasSpelling (frame_of said) (next ∷ []) (subst (All HasSpelling) (sym is) (spelling-answer f h))
 
-pub said_data : (r : Returned) (f : Frame) → HasSpelling f → all_said (Some r) ≡ answer f → IsData (data_of r.payload)
-said_data r f h said = (All-head HasSpelling (frame_of r) (next ∷ []) (subst (All HasSpelling) (sym said) (spelling-answer f h))).body.1
-
-pub spelled-said : (due : List ℕ) (r : Returned) → (due ++ spelled (frame_of r)) ++ spelled next ≡ due ++ all_spelled (all_said (Some r))
-spelled-said due r = append_assoc due (spelled (frame_of r)) (spelled next) ∙ ap (λ z. due ++ (spelled (frame_of r) ++ z)) (sym (append-nil (spelled next)))
+pub spelled-said : (due : List ℕ) (said : Said) → (due ++ spelled (frame_of said)) ++ spelled next ≡ due ++ all_spelled (all_said (Some said))
+spelled-said due said = append_assoc due (spelled (frame_of said)) (spelled next) ∙ ap (λ z. due ++ (spelled (frame_of said) ++ z)) (sym (append-nil (spelled next)))
 
 pub ready_spelling : (name : List ℕ) → IsName name → HasSpelling (record { tag = 0; body = Ready name })
 ready_spelling name h = record { tag = omega arith; body = h }

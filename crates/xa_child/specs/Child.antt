@@ -1,12 +1,13 @@
 -- A server's program, the child: which frames it admits, and what it says to each of them.
-use Rattle.std.specs.Prelude.{ℕ, ◌+◌, ◌-◌, ◌%◌, ◌^◌, min, ◌==◌, ◌&&◌, not, Bool, true, false, if◌then◌else◌, pos, List, [], ◌∷◌, ◌++◌, length, codes}
+use Rattle.std.specs.Prelude.{ℕ, ◌+◌, ◌-◌, ◌%◌, ◌^◌, min, ◌==◌, ◌&&◌, ◌||◌, not, Bool, true, false, if◌then◌else◌, pos, int_lt, List, [], ◌∷◌, ◌++◌, length, codes}
 use Rattle.std.specs.Str.{bytes_eq}
 use Rattle.xa_types.specs.declared.data.Data.{Data}
 use Rattle.xa_types.specs.declared.data.Data.TheVariants.{Absent, Octet, Struct}
 use Rattle.xa_types.specs.declared.call.Rval.TheVariants.{Success, Fail}
 use Rattle.xa_frame.specs.declared.frame.Frame.{Frame}
 use Rattle.xa_frame.specs.declared.frame.Body.{Body}
-use Rattle.xa_frame.specs.declared.frame.Body.TheVariants.{Ready, Next, Return, Invoke, Shutdown}
+use Rattle.xa_frame.specs.declared.frame.Body.TheVariants.{Ready, Next, Return, Forward, Invoke, Shutdown}
+use Rattle.xa_child.specs.Entry.{is_entry, account, amount, booked}
 
 -- how many INVOKEs it took, modulo 2 ^ 32, and whether it has ended
 pub record ChildState : Type 0 where
@@ -40,13 +41,39 @@ size (Struct subtype octets) = length octets
 abbrev pub counted : Data → ℕ
 counted payload = min (size payload) (2 ^ 31 - 1)
 
--- What a routine returns. LEN counts the octets of its request's data; ECHO and FAIL give that data back; 99 says that there is no such routine.
+-- to data that is no `entry`
+abbrev pub no_entry : Body
+no_entry = Return Fail (pos 4) Absent
+
+abbrev pub transferred_entry : List ℕ → List ℕ → Body
+transferred_entry subtype octets =
+    if int_lt (account octets) (pos 1) || int_lt (pos 9_999) (account octets) then Return Fail (pos 3) (Struct subtype octets)
+    else Forward (codes "ACCT") (Struct subtype octets)
+
+-- TRANSFER passes an entry on to ACCT, if its account is from 1 to 9,999
+unfoldable pub transferred : Data → Body
+transferred (Struct subtype octets) = if is_entry subtype octets then transferred_entry subtype octets else no_entry
+transferred payload = no_entry
+
+abbrev pub accounted_entry : List ℕ → List ℕ → Body
+accounted_entry subtype octets =
+    if int_lt (amount octets) (pos 1) then Return Fail (pos 2) (Struct subtype octets)
+    else Return Success (pos 0) (Struct subtype (booked octets))
+
+-- ACCT books an entry, if its amount is 1 or more
+unfoldable pub accounted : Data → Body
+accounted (Struct subtype octets) = if is_entry subtype octets then accounted_entry subtype octets else no_entry
+accounted payload = no_entry
+
+-- What a routine says. LEN counts the octets of its request's data; ECHO and FAIL give that data back; 99 says that there is no such routine.
 abbrev pub returned : List ℕ → Data → Body
 returned routine payload =
     if bytes_eq routine (codes "ECHO") then Return Success (pos 0) payload
     else (if bytes_eq routine (codes "LEN") then Return Success (pos (counted payload)) Absent
     else (if bytes_eq routine (codes "FAIL") then Return Fail (pos 7) payload
-    else Return Fail (pos 99) Absent))
+    else (if bytes_eq routine (codes "TRANSFER") then transferred payload
+    else (if bytes_eq routine (codes "ACCT") then accounted payload
+    else Return Fail (pos 99) Absent))))
 
 -- the routine DIE, which returns nothing and ends the child
 abbrev pub is_die : List ℕ → Bool
@@ -56,7 +83,7 @@ is_die routine = bytes_eq routine (codes "DIE")
 abbrev pub next : Frame
 next = record { tag = 0; body = Next }
 
--- to an INVOKE with that tag: the RETURN with it, and NEXT; DIE says nothing
+-- to an INVOKE with that tag: the RETURN or FORWARD with it, and NEXT; DIE says nothing
 abbrev pub served : ℕ → List ℕ → Data → List Frame
 served tag routine payload = if is_die routine then [] else (record { tag = tag; body = returned routine payload }) ∷ next ∷ []
 

@@ -1,7 +1,8 @@
 pub mod Child
+pub mod Entry
 pub mod Local
 pub mod LocalHolds
-pub mod Returned
+pub mod Said
 pub mod Serving
 pub mod Turns
 pub mod Work

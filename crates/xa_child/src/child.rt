@@ -1,20 +1,14 @@
 // A server's program, frame by frame.
-ghost use Rattle.std.specs.Prelude.{◌≡◌, ◌↔◌, pos, true, false, IfOk, OnOk, OnErr, IsErrOf};
-ghost use Rattle.xa_child.specs.Child.{begun, following, greeting, admits, answer, after, counted, is_die, returned, next};
-ghost use Rattle.xa_child.specs.Returned.{data_of, frame_of, all_said};
-ghost use Rattle.xa_frame.specs.declared.frame.Body.TheVariants.{Return};
+ghost use Rattle.std.specs.Prelude.{◌≡◌, ◌↔◌, true, false, IfOk, OnOk, OnErr, IsErrOf};
+ghost use Rattle.xa_child.specs.Child.{begun, following, greeting, admits, answer, after, next};
+ghost use Rattle.xa_child.specs.Said.{frame_of, all_said};
 ghost use Rattle.xa_child.specs.declared.child.ChildRefused.TheVariants as refusals;
 
+use crate::routines::{Outcome, body_of, is_die, said_by};
 use std::alloc::Global;
 use std::marker::Model;
 use xa_frame::{Body, Frame};
-use xa_types::{Data, Name, NoMemory, Rval};
-
-/// The code of the routine FAIL.
-const FAILED: i32 = 7;
-
-/// The code of a routine that the program doesn't have.
-const UNKNOWN: i32 = 99;
+use xa_types::{Data, Name, NoMemory};
 
 /// One life of a server's program: how many INVOKEs it took, and whether it has ended.
 #[derive(Drop)]
@@ -47,16 +41,14 @@ impl From<NoMemory> for ChildRefused {
     }
 }
 
-/// A RETURN, whose data stays where it is.
-#[derive(Clone, Copy)]
-pub struct Returned<'a> {
+/// What is said to an INVOKE: its tag, and what its routine says.
+#[derive(Drop)]
+pub struct Said<'a> {
     pub tag: u32,
-    pub value: Rval,
-    pub code: i32,
-    pub payload: Option<&'a Data>,
+    pub outcome: Outcome<'a>,
 }
 
-/// The frame behind each RETURN.
+/// The frame behind each RETURN and FORWARD.
 pub fn next() -> Frame
     ensures { result ≡ next }
 {
@@ -66,54 +58,17 @@ pub fn next() -> Frame
     }
 }
 
-fn is_die(routine: &Name) -> bool
-    ensures { result ≡ is_die routine.now }
-{
-    routine.octets() == b"DIE".as_slice()
-}
-
-// How many octets the data has, as a code.
-fn counted(payload: &Data) -> i32
-    ensures { result ≡ pos (counted payload.now) }
-{
-    let count = match payload {
-        Data::Absent => 0,
-        Data::Octet(octets) | Data::Struct(_, octets) => octets.slice().len(),
-    };
-    i32::try_from(count).unwrap_or(i32::MAX)
-}
-
-// The rval, the code and the data of what a routine other than DIE returns.
-fn outcome<'a>(routine: &Name, payload: &'a Data) -> (Rval, i32, Option<&'a Data>)
-    ensures { Return result.0 result.1 (data_of result.2) ≡ returned routine.now payload.now }
-{
-    match routine.octets() {
-        b"ECHO" => (Rval::Success, 0, Some(payload)),
-        b"LEN" => (Rval::Success, counted(payload), None),
-        b"FAIL" => (Rval::Fail, FAILED, Some(payload)),
-        _ => (Rval::Fail, UNKNOWN, None),
-    }
-}
-
-fn return_of<'a>(tag: u32, routine: &Name, payload: &'a Data) -> Returned<'a>
-    ensures { frame_of result ≡ record { tag = tag; body = returned routine.now payload.now } }
-{
-    let (value, code, payload) = outcome(routine, payload);
-    Returned {
-        tag,
-        value,
-        code,
-        payload,
-    }
-}
-
-/// What is said to a frame that the program admits: nothing, or this RETURN and then NEXT.
-pub fn said_to(frame: &Frame) -> Option<Returned<'_>>
-    ensures { all_said result ≡ answer frame.now }
+/// What is said to a frame that the program admits: nothing, or this frame and then NEXT.
+pub fn said_to(alloc: Global, frame: &Frame) -> Result<Option<Said<'_>>, NoMemory>
+    ensures { IfOk result (λ said. all_said said ≡ answer frame.now) }
 {
     match &frame.body {
         Body::Invoke(_, routine, _, payload) if !is_die(routine) => {
-            Some(return_of(frame.tag, routine, payload))
+            let outcome = said_by(alloc, routine, payload)?;
+            Ok(Some(Said {
+                tag: frame.tag,
+                outcome,
+            }))
         }
         Body::Invoke(..)
         | Body::Ready(_)
@@ -122,34 +77,29 @@ pub fn said_to(frame: &Frame) -> Option<Returned<'_>>
         | Body::Return(..)
         | Body::Forward(..)
         | Body::Reply(_)
-        | Body::Shutdown => None,
+        | Body::Shutdown => Ok(None),
     }
 }
 
 fn answer(alloc: Global, frame: &Frame) -> Result<Vec<Frame>, NoMemory>
     ensures { IfOk result (λ frames. frames.items ≡ answer frame.now) }
 {
-    let Some(said) = said_to(frame) else {
+    let Some(said) = said_to(alloc, frame)? else {
         return Ok(Vec::new(alloc));
     };
     let mut frames = Vec::with_capacity(alloc, 2)?;
-    frames.push_reserved(copied(alloc, &said)?);
+    frames.push_reserved(copied(alloc, said)?);
     frames.push_reserved(next());
     Ok(frames)
 }
 
-// The RETURN as a frame, with a copy of its data.
-fn copied(alloc: Global, said: &Returned) -> Result<Frame, NoMemory>
-    ensures { IfOk result (λ frame. frame ≡ frame_of said.now) }
+// What is said as a frame, with a copy of data that stays where it is.
+fn copied(alloc: Global, said: Said) -> Result<Frame, NoMemory>
+    ensures { IfOk result (λ frame. frame ≡ frame_of said.entry) }
 {
-    let payload = match said.payload {
-        Some(payload) => payload.copy(alloc)?,
-        None => Data::Absent,
-    };
-    Ok(Frame {
-        tag: said.tag,
-        body: Body::Return(said.value, said.code, payload),
-    })
+    let Said { tag, outcome } = said;
+    let body = body_of(alloc, outcome)?;
+    Ok(Frame { tag, body })
 }
 
 impl Child {

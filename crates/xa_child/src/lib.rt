@@ -4,6 +4,7 @@
 
 mod child;
 mod local;
+mod routines;
 mod serving;
 mod working;
 

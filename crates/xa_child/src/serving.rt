@@ -1,12 +1,13 @@
 // A server's program with its input, from which it takes the frames that are whole.
 ghost use Rattle.std.specs.Prelude.{◌≡◌, ◌<◌, ◌^◌, ◌++◌, IfOk, OnOk};
 ghost use Rattle.std.specs.List.{All};
-ghost use Rattle.xa_frame.specs.Spelling.{all_spelled, spelled, HasSpelling, IsData};
+ghost use Rattle.xa_frame.specs.Spelling.{all_spelled, spelled, HasSpelling};
 ghost use Rattle.xa_child.specs.Child.{answer};
-ghost use Rattle.xa_child.specs.Returned.{data_of, frame_of};
+ghost use Rattle.xa_child.specs.Said.{frame_of};
 ghost use Rattle.xa_child.specs.Serving.{StepsTo, TakesUpTo, Answers};
 
-use crate::child::{Child, Returned, next, said_to};
+use crate::child::{Child, Said, next, said_to};
+use crate::routines::Outcome;
 use std::alloc::Global;
 use xa_frame::{Frame, NextRefused, Reader, append, append_return};
 use xa_types::{Data, NoMemory};
@@ -44,25 +45,32 @@ pub fn spell(frames: &[Frame], due: &mut Vec<u8>) -> Result<(), NoMemory>
     Ok(())
 }
 
-// Adds a RETURN.
-fn spell_return(said: &Returned, due: &mut Vec<u8>) -> Result<(), NoMemory>
-    requires { IsData (data_of said.now.payload) }
-    ensures { OnOk result (due.new.items ≡ due.old.items ++ spelled (frame_of said.now)) }
+// Adds what is said to an INVOKE.
+fn spell_said(said: Said, due: &mut Vec<u8>) -> Result<(), NoMemory>
+    requires { HasSpelling (frame_of said) }
+    ensures { OnOk result (due.new.items ≡ due.old.items ++ spelled (frame_of said.entry)) }
 {
-    let absent = Data::Absent;
-    let payload = said.payload.unwrap_or(&absent);
-    append_return(due, said.tag, said.value, said.code, payload)
+    let tag = said.tag;
+    match said.outcome {
+        Outcome::Returned(value, code, Some(payload)) => {
+            append_return(due, tag, value, code, payload)
+        }
+        Outcome::Returned(value, code, None) => {
+            append_return(due, tag, value, code, &Data::Absent)
+        }
+        Outcome::Made(body) => append(due, &Frame { tag, body }),
+    }
 }
 
 // Adds what is said to a frame that the program admits.
-fn spell_answer(frame: &Frame, due: &mut Vec<u8>) -> Result<(), NoMemory>
+fn spell_answer(alloc: Global, frame: &Frame, due: &mut Vec<u8>) -> Result<(), NoMemory>
     requires { HasSpelling frame.now }
     ensures { OnOk result (due.new.items ≡ due.old.items ++ all_spelled (answer frame.now)) }
 {
-    let Some(said) = said_to(frame) else {
+    let Some(said) = said_to(alloc, frame)? else {
         return Ok(());
     };
-    spell_return(&said, due)?;
+    spell_said(said, due)?;
     append(due, &next())
 }
 
@@ -111,7 +119,7 @@ impl Serving {
         if !self.child.admits(frame) {
             return Ok(Some(Halt::Bad(place)));
         }
-        spell_answer(frame, due)?;
+        spell_answer(self.alloc, frame, due)?;
         self.child.note(frame);
         Ok(None)
     }

@@ -1,10 +1,11 @@
 //! A server's program, as octets and frame by frame.
 use crate::memory::{ASKED, SAID, sink_of, source_of};
+use crate::rows::none_fails;
 use std::alloc::Global;
 use xa_child::{Child, ChildRefused, child_step, work};
 use xa_frame::{Body, Frame};
 use xa_link::{MemorySink, MemorySource};
-use xa_types::{Data, Mode, Name};
+use xa_types::{Data, Mode, Name, Octets, Rval};
 
 fn says(alloc: Global, input: &mut MemorySource, out: &mut MemorySink) -> bool {
     match Name::read(b"S") {
@@ -64,4 +65,201 @@ fn echoes_a_step(alloc: Global) -> bool {
 #[test]
 fn a_step_echoes(rt: HostRuntime) {
     assert!(rt; echoes_a_step(rt.alloc()));
+}
+
+// Data of a subtype, or X_OCTET.
+#[derive(Clone, Copy)]
+enum Piece {
+    Octet(&'static [u8]),
+    Struct(&'static [u8], &'static [u8]),
+}
+
+// What a routine says: RETURN of TPSUCCESS, RETURN of TPFAIL with a code, or FORWARD to a service.
+#[derive(Clone, Copy)]
+enum Saying {
+    Succeeds(Piece),
+    Fails(i32, Option<Piece>),
+    Forwards(&'static [u8], Piece),
+}
+
+// An `entry` for account 7 of 250 with the memo `rent`, and the same booked.
+const RENT: Piece = Piece::Struct(
+    b"entry",
+    b"\0\0\0\x07\0\0\0\0\0\0\0\xfarent\0\0\0\0\0\0\0\0\0\0\0\0",
+);
+
+const BOOKED: Piece = Piece::Struct(
+    b"entry",
+    b"\0\0\0\x07\0\0\0\0\0\0\0\xfabooked\0\0\0\0\0\0\0\0\0\0",
+);
+
+// For account 12 of -1 with the memo `void`.
+const VOID: Piece = Piece::Struct(
+    b"entry",
+    b"\0\0\0\x0c\xff\xff\xff\xff\xff\xff\xff\xffvoid\0\0\0\0\0\0\0\0\0\0\0\0",
+);
+
+// For account 9,999 of 0, and of 1.
+const NOTHING: Piece = Piece::Struct(
+    b"entry",
+    b"\0\0\x27\x0f\0\0\0\0\0\0\0\0\0\0\0\0\0\0\0\0\0\0\0\0\0\0\0\0",
+);
+
+const LEAST: Piece = Piece::Struct(
+    b"entry",
+    b"\0\0\x27\x0f\0\0\0\0\0\0\0\x01\0\0\0\0\0\0\0\0\0\0\0\0\0\0\0\0",
+);
+
+const LEAST_BOOKED: Piece = Piece::Struct(
+    b"entry",
+    b"\0\0\x27\x0f\0\0\0\0\0\0\0\x01booked\0\0\0\0\0\0\0\0\0\0",
+);
+
+// For the accounts 0, -1 and 10,000 of 5.
+const NO_ACCOUNT: Piece = Piece::Struct(
+    b"entry",
+    b"\0\0\0\0\0\0\0\0\0\0\0\x05\0\0\0\0\0\0\0\0\0\0\0\0\0\0\0\0",
+);
+
+const BELOW: Piece = Piece::Struct(
+    b"entry",
+    b"\xff\xff\xff\xff\0\0\0\0\0\0\0\x05\0\0\0\0\0\0\0\0\0\0\0\0\0\0\0\0",
+);
+
+const ABOVE: Piece = Piece::Struct(
+    b"entry",
+    b"\0\0\x27\x10\0\0\0\0\0\0\0\x05\0\0\0\0\0\0\0\0\0\0\0\0\0\0\0\0",
+);
+
+// The first with an octet less, with an octet more, of another subtype, and as X_OCTET.
+const SHORT: Piece = Piece::Struct(
+    b"entry",
+    b"\0\0\0\x07\0\0\0\0\0\0\0\xfarent\0\0\0\0\0\0\0\0\0\0\0",
+);
+
+const LONG: Piece = Piece::Struct(
+    b"entry",
+    b"\0\0\0\x07\0\0\0\0\0\0\0\xfarent\0\0\0\0\0\0\0\0\0\0\0\0\0",
+);
+
+const OTHER: Piece = Piece::Struct(
+    b"entries",
+    b"\0\0\0\x07\0\0\0\0\0\0\0\xfarent\0\0\0\0\0\0\0\0\0\0\0\0",
+);
+
+const TEXT: Piece = Piece::Octet(b"\0\0\0\x07\0\0\0\0\0\0\0\xfarent\0\0\0\0\0\0\0\0\0\0\0\0");
+
+// A routine, the data of its request, and what it says.
+type Routine = (&'static [u8], Option<Piece>, Saying);
+
+static ROUTINES: [Routine; 24] = [
+    (b"ACCT", Some(RENT), Saying::Succeeds(BOOKED)),
+    (b"ACCT", Some(LEAST), Saying::Succeeds(LEAST_BOOKED)),
+    (b"ACCT", Some(NOTHING), Saying::Fails(2, Some(NOTHING))),
+    (b"ACCT", Some(VOID), Saying::Fails(2, Some(VOID))),
+    (b"ACCT", Some(SHORT), Saying::Fails(4, None)),
+    (b"ACCT", Some(LONG), Saying::Fails(4, None)),
+    (b"ACCT", Some(OTHER), Saying::Fails(4, None)),
+    (b"ACCT", Some(TEXT), Saying::Fails(4, None)),
+    (b"ACCT", None, Saying::Fails(4, None)),
+    (b"TRANSFER", Some(RENT), Saying::Forwards(b"ACCT", RENT)),
+    (b"TRANSFER", Some(VOID), Saying::Forwards(b"ACCT", VOID)),
+    (b"TRANSFER", Some(LEAST), Saying::Forwards(b"ACCT", LEAST)),
+    (
+        b"TRANSFER",
+        Some(NO_ACCOUNT),
+        Saying::Fails(3, Some(NO_ACCOUNT)),
+    ),
+    (b"TRANSFER", Some(BELOW), Saying::Fails(3, Some(BELOW))),
+    (b"TRANSFER", Some(ABOVE), Saying::Fails(3, Some(ABOVE))),
+    (b"TRANSFER", Some(SHORT), Saying::Fails(4, None)),
+    (b"TRANSFER", Some(LONG), Saying::Fails(4, None)),
+    (b"TRANSFER", Some(OTHER), Saying::Fails(4, None)),
+    (b"TRANSFER", Some(TEXT), Saying::Fails(4, None)),
+    (b"TRANSFER", None, Saying::Fails(4, None)),
+    (b"ECHO", Some(VOID), Saying::Succeeds(VOID)),
+    (b"FAIL", Some(TEXT), Saying::Fails(7, Some(TEXT))),
+    (b"ACC", Some(RENT), Saying::Fails(99, None)),
+    (b"TRANSFERS", Some(RENT), Saying::Fails(99, None)),
+];
+
+fn data_of(alloc: Global, piece: Option<Piece>) -> Option<Data> {
+    match piece {
+        None => Some(Data::Absent),
+        Some(Piece::Octet(octets)) => Some(Data::Octet(Octets::of(alloc, octets).ok()?)),
+        Some(Piece::Struct(subtype, octets)) => {
+            let subtype = Name::read(subtype).ok()?;
+            Some(Data::Struct(subtype, Octets::of(alloc, octets).ok()?))
+        }
+    }
+}
+
+fn is_piece(payload: &Data, piece: Option<Piece>) -> bool {
+    match (payload, piece) {
+        (Data::Absent, None) => true,
+        (Data::Octet(octets), Some(Piece::Octet(want))) => octets.slice() == want,
+        (Data::Struct(subtype, octets), Some(Piece::Struct(name, want))) => {
+            subtype.octets() == name && octets.slice() == want
+        }
+        _ => false,
+    }
+}
+
+fn is_said(body: &Body, saying: Saying) -> bool {
+    match (body, saying) {
+        (Body::Return(Rval::Success, 0, payload), Saying::Succeeds(want)) => {
+            is_piece(payload, Some(want))
+        }
+        (Body::Return(Rval::Fail, code, payload), Saying::Fails(number, want)) => {
+            *code == number && is_piece(payload, want)
+        }
+        (Body::Forward(service, payload), Saying::Forwards(name, want)) => {
+            service.slice() == name && is_piece(payload, Some(want))
+        }
+        _ => false,
+    }
+}
+
+fn is_next(frame: &Frame) -> bool {
+    match &frame.body {
+        Body::Next => frame.tag == 0,
+        _ => false,
+    }
+}
+
+// Whether it is said with the tag 1, and NEXT behind it.
+fn are_said(said: &[Frame], saying: Saying) -> bool {
+    match said {
+        [first, last] => first.tag == 1 && is_said(&first.body, saying) && is_next(last),
+        _ => false,
+    }
+}
+
+// What the first INVOKE of a routine is answered.
+fn answered(alloc: Global, routine: &[u8], piece: Option<Piece>) -> Option<Vec<Frame>> {
+    let routine = Name::read(routine).ok()?;
+    let asked = Frame {
+        tag: 1,
+        body: Body::Invoke(routine, routine, Mode::Reply, data_of(alloc, piece)?),
+    };
+    let mut child = started(alloc, &routine)?;
+    child_step(alloc, &mut child, &asked).ok()
+}
+
+fn first_not_said(alloc: Global) -> Option<usize> {
+    for (place, (routine, piece, saying)) in ROUTINES.iter().enumerate() {
+        let is_right = match answered(alloc, routine, *piece) {
+            Some(said) => are_said(said.as_slice(), *saying),
+            None => false,
+        };
+        if !is_right {
+            return Some(place);
+        }
+    }
+    None
+}
+
+#[test]
+fn routines_say_what_they_should(rt: HostRuntime) {
+    none_fails(&rt, first_not_said(rt.alloc()));
 }
