@@ -40,10 +40,11 @@ def lines_of(octets):
 
 
 def shapes_of(document):
-    """The fields of each shape, each by its name with its kind."""
-    if not document:
-        return {}
-    return {name: dict(text.split(" ", 1) for text in texts_of(entry["fields"].data)) for name, entry in zip(names_of(entries_of(document, "shape")), entries_of(document, "shape"))}
+    """The fields of each shape, each by its name with its kind; without a document it isn't known which shapes there are."""
+    if document is None:
+        return None
+    entries = entries_of(document, "shape")
+    return {name: dict(text.split(" ", 1) for text in texts_of(entry.get("fields").data)) for name, entry in zip(names_of(entries), entries)}
 
 
 class Line:
@@ -118,15 +119,14 @@ class Line:
     def struct(self):
         word, start = self.word("the subtype")
         subtype, given = word.decode(), set()
-        if subtype not in self.shapes:
-            self.refuse(f"no shape is named '{subtype}'", start, like(subtype, self.shapes))
+        self.shape(subtype, start)
         while field := re.compile(rb" *([^ =]*)=").match(self.text, self.at):
             start, name = field.start(1), field[1].decode()
             if not NAME.fullmatch(field[1]) or name in given:
                 raise self.misread(f"'{name}' is given twice" if name in given else f"'{name}' is no name", "", start)
             given.add(name)
             self.at = field.end()
-            self.value(name, self.shapes.get(subtype), start)
+            self.value(name, (self.shapes or {}).get(subtype), start)
         return subtype
 
     def value(self, name, fields, start):
@@ -159,8 +159,10 @@ class Line:
             return
         if not word.startswith(b"c:"):
             raise self.misread("the kind of a buffer is octet or c:SHAPE", "", start)
-        name = word[2:].decode()
-        if name not in self.shapes:
+        self.shape(word[2:].decode(), start)
+
+    def shape(self, name, start):
+        if self.shapes is not None and name not in self.shapes:
             self.refuse(f"no shape is named '{name}'", start, like(name, self.shapes))
 
     def end(self):
@@ -274,7 +276,7 @@ def line_faults(number, text, shapes, clients, begun):
 
 
 def faults_of(octets, document=None):
-    """The least fault of each line in order, and calls that are sure to be refused; without a document there is no shape."""
+    """The least fault of each line in order, and calls that are sure to be refused; without a document nothing is said of shapes."""
     clients, begun, shapes = [], False, shapes_of(document)
     for number, text in enumerate(lines_of(octets), 1):
         if bad := UNPRINTED_OCTET.search(text):
