@@ -29,6 +29,7 @@ use Rattle.xa_caller.specs.Drafts.{accepted_by, entry_by}
 use Rattle.xa_caller.specs.declared.phase.Draft.{Draft}
 use Rattle.xa_caller.specs.Changes.{Prepares}
 use Rattle.xa_caller.proofs.Reading.{stops_from, reads_prepared}
+use Rattle.xa_caller.proofs.Tickets.{right_begun}
 use Rattle.xa_caller.proofs.caller.Caller.prepare.Goals as goal
 
 pub returns-in_default-clause-stopped : goal.returns-in_default-clause-stopped
@@ -134,3 +135,6 @@ returns-in-Ok-draft_by-clause-ok c =
       began = subst (λ r. Began c.args.cells.now r s.seat seat drafted.draft.asked.place drafted.entry.cargo.ticket) mine e.began;
       made = ap (λ (v : Working). record s { work = v; seat = seat; phase = c.set.new.phase }) made ∙ ap (λ (p : Phase). record s { work = record w { room = max w.room 1 }; seat = seat; phase = p }) c.set.ensures;
     })
+
+pub returns-in-Ok-draft_by-clause-right : goal.returns-in-Ok-draft_by-clause-right
+returns-in-Ok-draft_by-clause-right c = right_begun c.args.cells.now c.next_request-request.result c.in-Some.row c.in-Ok.copies.kept c.self.inside.seat c.draft_by.new.seat c.in-Ok-draft_by.drafted.draft.asked.place c.in-Ok-draft_by.drafted.entry c.in-Ok-draft_by.ensures.entry c.in-Ok-draft_by.ensures.began
