@@ -1,5 +1,5 @@
 pub mod Reading
 pub mod Next
 pub mod Keeping
-pub mod Shapes
 pub mod Unsent
+pub mod Tickets

@@ -69,6 +69,7 @@ pub record Prepares (setup : Setup) (cells : CellsOf Filling) (op : ℕ) (payloa
   pub row : Row
   pub chosen : find (λ (row : Row). is_accepted setup row.accepts (kind_of payload)) found.rows ≡ Some row
   pub draft : Draft
+  pub drawn : draft ≡ record { asked = record { request = record { caller = old.work.id; number = old.sent + 1 }; place = draft.asked.place }; op = op; version = found.version; event = draft.event }
   pub event : prepared.event ≡ Accept (accepted_by op (record { caller = old.work.id; number = old.sent + 1 }) found.version row payload)
   pub drafted : draft.event.value ≡ prepared.event
   pub entry : prepared.entry ≡ entry_by (record { caller = old.work.id; number = old.sent + 1 }) row payload prepared.entry.cargo.ticket

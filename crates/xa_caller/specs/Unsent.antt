@@ -17,7 +17,6 @@ use Rattle.xa_cell.specs.Known.{known}
 use Rattle.xa_cell.specs.Changes.{withdrawn}
 use Rattle.xa_work.specs.declared.work.Halt.{Halt}
 use Rattle.xa_work.specs.Work.{HaltsAt}
-use Rattle.xa_caller.specs.declared.cargo.Cargo.{Cargo}
 use Rattle.xa_caller.specs.declared.cargo.Filling.{Filling}
 use Rattle.xa_caller.specs.declared.phase.Draft.{Draft}
 use Rattle.xa_caller.specs.declared.phase.Phase.TheVariants.{Idle, Prepared}
@@ -29,7 +28,7 @@ use Rattle.xa_caller.specs.declared.outcomes.Why.{Why}
 use Rattle.xa_caller.specs.declared.outcomes.Why.TheVariants as reasons
 use Rattle.xa_caller.specs.declared.outcomes.Aimed.{Aimed}
 use Rattle.xa_caller.specs.declared.outcomes.Aimed.TheVariants as aims
-use Rattle.xa_caller.specs.Drafts.{accepted_by, entry_by}
+use Rattle.xa_caller.specs.Drafts.{Cargo, accepted_by, entry_by}
 use Rattle.xa_caller.specs.Caller.{Standing}
 use Rattle.xa_caller.specs.Changes.{Refuses}
 
@@ -46,14 +45,14 @@ ChecksAs op (stops.Halt halt) new old = HaltsAt old.work.stamp halt × (new ≡ 
 
 -- the entry by another row
 abbrev pub aimed_at : Entry Cargo → Row → Entry Cargo
-aimed_at entry row = entry_by entry.request row entry.cargo.payload entry.cargo.ticket
+aimed_at entry row = entry_by entry.request row entry.cargo.«data».payload entry.cargo.ticket
 
 -- the request is aimed by that row
 pub record AimsAt (row : Row) (entry aimed : Entry Cargo) (event : Event) (new old : Standing) : Type 0 where
   pub draft : Draft
   pub was : old.phase ≡ Prepared draft
   pub entered : aimed ≡ aimed_at entry row
-  pub accepted : event ≡ Accept (accepted_by draft.op draft.asked.request draft.version row entry.cargo.payload)
+  pub accepted : event ≡ Accept (accepted_by draft.op draft.asked.request draft.version row entry.cargo.«data».payload)
   pub redrawn : Draft
   pub same : redrawn ≡ record draft { event = redrawn.event }
   pub drafted : redrawn.event.value ≡ event
@@ -64,6 +63,12 @@ abbrev pub AimsAs : Entry Cargo → List Row → ℕ → Aimed → Standing → 
 AimsAs entry rows attempt (aims.At aimed event) new old = (row : Row) × (slice_get rows attempt ≡ Some row) × AimsAt row entry aimed event new old
 AimsAs entry rows attempt (aims.Past back) new old = (slice_get rows attempt ≡ None) × (back ≡ entry) × (new ≡ old)
 AimsAs entry rows attempt (aims.NoMemory back) new old = (back ≡ entry) × (new ≡ old)
+
+-- what comes back of it
+abbrev pub entry_in : Aimed → Entry Cargo
+entry_in (aims.At aimed event) = aimed
+entry_in (aims.Past back) = back
+entry_in (aims.NoMemory back) = back
 
 -- ---- unsent
 

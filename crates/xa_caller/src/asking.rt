@@ -1,29 +1,33 @@
 // How a call is checked, and what becomes of a request that a queue did not take.
-ghost use Rattle.std.specs.Prelude.{◌≡◌, ◌+◌, ◌≤◌, ◌<◌, true, false, IfOk, IfErr, OnOk};
+ghost use Rattle.std.specs.Prelude.{◌≡◌, ◌+◌, ◌≤◌, ◌<◌, true, false, IfOk, IfErr, OnOk, MatchOption};
+ghost use Rattle.xa_types.specs.declared.setup.Setup.{Setup};
 ghost use Rattle.xa_types.specs.Kind.{is_sound};
 ghost use Rattle.xa_events.specs.Calls.{is_invalid_call};
 ghost use Rattle.xa_cell.specs.Known.{known, IsSeatOf, IsTicketOf, SameSeat};
 ghost use Rattle.xa_cell.specs.Changes.{withdrawn};
+ghost use Rattle.xa_cell.specs.declared.cells.Cells.{Cells as CellsOf};
+ghost use Rattle.xa_held.specs.Kept.{IsRight};
+ghost use Rattle.xa_caller.specs.declared.cargo.Filling.{Filling};
 ghost use Rattle.xa_caller.specs.declared.phase.Phase.TheVariants as phases;
 ghost use Rattle.xa_caller.specs.declared.phase.Draft.{Draft as Drafted};
 ghost use Rattle.xa_caller.specs.Caller.{MayCall, AreRowsOf};
 ghost use Rattle.xa_caller.specs.Phases.{IsPreparedAt, IsOfVersion};
-ghost use Rattle.xa_caller.specs.Unsent.{ChecksAs, AimsAs, MayBe, UnsentAs, step, aimed_at};
+ghost use Rattle.xa_caller.specs.Unsent.{ChecksAs, AimsAs, MayBe, UnsentAs, step, aimed_at, entry_in};
 ghost use Rattle.xa_caller.specs.Changes.{stop};
 
 use crate::caller::{Caller, accepted_by, draft_in, set, take_out};
-use crate::cargo::{Cargo, Filling};
+use crate::cargo::{Cargo, Filling, Invocation};
 use crate::choosing::row_at;
 use crate::outcomes::{Aimed, Note, Step, Stop, Why};
 use crate::phase::{Draft, Open, Phase};
-use crate::sound::service_of;
 use std::alloc::Global;
 use std::snapshot::Snapshot;
+use xa_buffer::Shapes;
 use xa_cell::Cells;
 use xa_events::{Event, Evidence};
 use xa_queue::Entry;
 use xa_route::priority;
-use xa_types::{Ask, Fault, Found, Name, Row, Setup, Stamp};
+use xa_types::{Ask, Fault, Found, Name, Row, Stamp};
 use xa_work::Halt;
 
 // A request whose cell was given back: the number of its call, and the version of the board by which it was made.
@@ -51,19 +55,30 @@ fn step(refused: Result<Stamp, Halt>) -> Step
     }
 }
 
+// The service of a tpcall that TPEINVAL doesn't refuse.
+fn service_of(shapes: &Shapes, ask: &Ask) -> Option<Name>
+    ensures { (setup : Setup) → setup.shapes ≡ shapes.now → MatchOption result (is_invalid_call setup ask.now ≡ true) (λ name. (is_invalid_call setup ask.now ≡ false) × (name ≡ ask.now.service)) }
+{
+    let name = Name::read(ask.service.slice()).ok()?;
+    if !shapes.sound(&ask.payload) || ask.flags.no_reply {
+        return None;
+    }
+    Some(name)
+}
+
 impl Caller {
     /// The service of its next call, a tpcall, unless TPEINVAL refuses that: the service's name is none, the data isn't
     /// sound, or the call has TPNOREPLY. Where it isn't refused nothing changes.
-    pub fn check(&mut self, setup: &Setup, op: u32, ask: &Ask) -> Result<Name, Stop>
-        requires setup { setup.now ≡ self.old.work.setup }
+    pub fn check(&mut self, shapes: &Shapes, op: u32, ask: &Ask) -> Result<Name, Stop>
+        requires shapes { shapes.now ≡ self.old.work.setup.shapes }
         requires active { MayCall self.old }
         requires idle { self.old.phase ≡ phases.Idle }
         requires turn { op ≡ self.old.op + 1 }
-        ensures ok { IfOk result (λ name. (is_invalid_call setup.now ask.now ≡ false) × (name ≡ ask.now.service)) }
+        ensures ok { IfOk result (λ name. (is_invalid_call self.old.work.setup ask.now ≡ false) × (name ≡ ask.now.service)) }
         ensures kept { OnOk result (self.new ≡ self.old) }
-        ensures refused { IfErr result (λ stop. (is_invalid_call setup.now ask.now ≡ true) × ChecksAs op stop self.new self.old) }
+        ensures refused { IfErr result (λ stop. (is_invalid_call self.old.work.setup ask.now ≡ true) × ChecksAs op stop self.new self.old) }
     {
-        match service_of(setup, ask) {
+        match service_of(shapes, ask) {
             Some(name) => Ok(name),
             None => Err(stop(self.refuse(op, Fault::Inval, Evidence::Argument))),
         }
@@ -73,14 +88,15 @@ impl Caller {
     /// when it was prepared.
     pub fn aim(&mut self, alloc: Global, entry: Entry<Cargo>, found: &Found, attempt: u32) -> Aimed
         requires prepared { IsOfVersion found.now.version self.old.phase }
-        requires sound { is_sound self.old.work.setup entry.cargo.payload ≡ true }
-        requires rows { AreRowsOf self.old.work.setup entry.cargo.service found.now.rows }
-        ensures { AimsAs entry found.now.rows attempt result self.new self.old }
+        requires sound { is_sound self.old.work.setup entry.cargo.«data».payload ≡ true }
+        requires rows { AreRowsOf self.old.work.setup entry.cargo.«data».service found.now.rows }
+        ensures aims { AimsAs entry found.now.rows attempt result self.new self.old }
+        ensures right { (cells : CellsOf Filling) → IsRight cells entry → IsRight cells (entry_in result) }
     {
         let Some(row) = row_at(found, attempt) else {
             return Aimed::Past(entry);
         };
-        let Ok(payload) = entry.cargo.payload.copy(alloc) else {
+        let Ok(payload) = entry.cargo.data.payload.copy(alloc) else {
             return Aimed::NoMemory(entry);
         };
         let Draft {
@@ -127,13 +143,8 @@ impl Caller {
             priority: _,
             cargo,
         } = entry;
-        let Cargo {
-            service: _,
-            routine: _,
-            payload,
-            ticket,
-        } = cargo;
-        drop(payload);
+        let Cargo { ticket, data } = cargo;
+        drop(data);
         cells.withdraw(&mut self.seat, place, ticket);
         GivenBack { op, version }
     }
@@ -180,20 +191,22 @@ fn aimed_at(entry: Entry<Cargo>, row: &Row) -> Entry<Cargo>
         priority: _,
         cargo,
     } = entry;
-    let Cargo {
+    let Cargo { ticket, data } = cargo;
+    let Invocation {
         service: _,
         routine: _,
         payload,
-        ticket,
-    } = cargo;
+    } = data;
     Entry {
         request,
         priority: priority(row.priority, None),
         cargo: Cargo {
-            service: row.service,
-            routine: row.routine,
-            payload,
             ticket,
+            data: Invocation {
+                service: row.service,
+                routine: row.routine,
+                payload,
+            },
         },
     }
 }

@@ -13,6 +13,7 @@ ghost use Rattle.xa_cell.specs.Places.{IsShut};
 ghost use Rattle.xa_events.specs.declared.event.Event.TheVariants.{Accept};
 ghost use Rattle.xa_cell.specs.Calls.{Began, AllTaken};
 ghost use Rattle.xa_cell.specs.Places.{Stand, Opens};
+ghost use Rattle.xa_held.specs.Kept.{IsRight};
 ghost use Rattle.xa_caller.specs.Drafts.{accepted_by, entry_by};
 ghost use Rattle.xa_caller.specs.Changes.{stop};
 ghost use Rattle.xa_caller.specs.Phases.{IsPrepared, IsPreparedAt, IsSent, least_by};
@@ -20,7 +21,7 @@ ghost use Rattle.xa_caller.specs.declared.phase.Phase.TheVariants as phases;
 ghost use Rattle.xa_work.specs.Work.{HaltsAt, seeing, theirs};
 
 use crate::asking::stop;
-use crate::cargo::{Cargo, Filling};
+use crate::cargo::{Cargo, Filling, Invocation};
 use crate::choosing::first_row;
 use crate::outcomes::{Note, Prepared, Step, Stop};
 use crate::phase::{Draft, Open, Phase};
@@ -137,10 +138,12 @@ pub(crate) fn entry_by(
         request,
         priority: priority(row.priority, None),
         cargo: Cargo {
-            service: row.service,
-            routine: row.routine,
-            payload,
             ticket,
+            data: Invocation {
+                service: row.service,
+                routine: row.routine,
+                payload,
+            },
         },
     }
 }
@@ -333,6 +336,7 @@ impl Caller {
         requires rows { AreRowsOf setup.now ask.now.service found.now.rows }
         requires recent { self.old.least ≤ found.now.version }
         ensures ok { IfOk result (λ prepared. Prepares setup.now cells.now op ask.now.payload found.now prepared self.new self.old) }
+        ensures right { IfOk result (λ prepared. IsRight cells.now prepared.entry) }
         ensures stopped { IfErr result (λ stop. StopsAs setup.now op ask.now.payload found.now stop self.new self.old) }
         ensures cells { SameSeat cells.now self.old.seat self.new.seat }
     {

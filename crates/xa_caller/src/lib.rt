@@ -9,12 +9,10 @@ mod laws;
 mod outcomes;
 mod phase;
 mod serving;
-mod sound;
 mod telling;
 
 pub use caller::{Caller, Left};
-pub use cargo::{Cargo, Filling};
+pub use cargo::{Cargo, Filling, Invocation};
 pub use laws::{chosen_is_first, request_is_as_asked};
 pub use outcomes::{Aimed, Note, Prepared, Step, Stop, Why};
 pub use phase::{Draft, Open, Phase};
-pub use sound::is_sound;

@@ -47,7 +47,7 @@ use Rattle.xa_server.specs.declared.slot.Last.TheVariants as lasts
 use Rattle.xa_server.specs.Doings.{life_in, last_by, last_of, room_for, IsBusy, InHand, outcome_of, is_death, DyingStops, MayStop}
 use Rattle.xa_server.specs.Slot.{Reads, IsWorkerOf, Stand, Tables, Stands, view_of}
 use Rattle.xa_server.specs.Noting.{with_room}
-use Rattle.xa_caller.specs.declared.cargo.Cargo.{Cargo}
+use Rattle.xa_caller.specs.Drafts.{Cargo}
 use Rattle.xa_queue.specs.declared.entry.Entry.{Entry}
 use Rattle.xa_types.specs.declared.stamp.Stamp.{Stamp}
 use Rattle.xa_server.specs.Changes.{MayStart, MayBeGivenUp, with_start}

@@ -26,7 +26,7 @@ use Rattle.xa_cell.specs.Views.{nth, at, fill}
 use Rattle.xa_cell.specs.Changes.{filled, dropped}
 use Rattle.xa_cell.specs.Known.{named}
 use Rattle.xa_cell.specs.Calls.{Settles as SettlesCell}
-use Rattle.xa_caller.specs.declared.cargo.Cargo.{Cargo}
+use Rattle.xa_caller.specs.Drafts.{Cargo}
 use Rattle.xa_caller.specs.declared.cargo.Filling.{Filling}
 use Rattle.xa_work.specs.Work.{Standing}
 use Rattle.xa_server.specs.declared.slot.ServerSlot.{ServerSlot}

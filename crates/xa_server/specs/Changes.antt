@@ -16,7 +16,7 @@ use Rattle.xa_events.specs.declared.event.Doing.{Doing}
 use Rattle.xa_types.specs.declared.stamp.Worn.{Worn}
 use Rattle.xa_types.specs.declared.reply.Answer.{Answer}
 use Rattle.xa_queue.specs.declared.entry.Entry.{Entry}
-use Rattle.xa_caller.specs.declared.cargo.Cargo.{Cargo}
+use Rattle.xa_caller.specs.Drafts.{Cargo}
 use Rattle.xa_server.specs.declared.closing.Closing.{Closing}
 use Rattle.xa_restart.specs.Rule.{may_start_by}
 use Rattle.xa_work.specs.Work.{Standing, theirs}

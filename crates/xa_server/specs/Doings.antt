@@ -9,7 +9,7 @@ use Rattle.xa_events.specs.declared.event.StopCause.{StopCause}
 use Rattle.xa_events.specs.declared.event.StopCause.TheVariants.{Exit}
 use Rattle.xa_events.specs.Cases.{is_failure, is_starved}
 use Rattle.xa_queue.specs.declared.entry.Entry.{Entry}
-use Rattle.xa_caller.specs.declared.cargo.Cargo.{Cargo}
+use Rattle.xa_caller.specs.Drafts.{Cargo}
 use Rattle.xa_server.specs.declared.slot.Last.{Last}
 use Rattle.xa_server.specs.declared.slot.Last.TheVariants.{Nothing, Well, Badly, Died, Starved}
 

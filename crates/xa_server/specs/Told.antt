@@ -11,7 +11,7 @@ use Rattle.xa_cell.specs.declared.view.Opening.{Opening}
 use Rattle.xa_cell.specs.declared.view.Fill.{Fill}
 use Rattle.xa_cell.specs.Views.{at}
 use Rattle.xa_cell.specs.Known.{named}
-use Rattle.xa_caller.specs.declared.cargo.Cargo.{Cargo}
+use Rattle.xa_caller.specs.Drafts.{Cargo}
 use Rattle.xa_types.specs.declared.reply.Answer.{Answer}
 use Rattle.xa_cell.specs.declared.tokens.Ticket.{Ticket}
 use Rattle.xa_cell.specs.declared.view.View.{View}

@@ -50,13 +50,8 @@ pub(crate) fn close(entry: Entry<Cargo>, answer: Answer, stamp: Stamp) -> Closin
         priority: _,
         cargo,
     } = entry;
-    let Cargo {
-        service: _,
-        routine: _,
-        payload,
-        ticket,
-    } = cargo;
-    drop(payload);
+    let Cargo { ticket, data } = cargo;
+    drop(data);
     Closing {
         ticket: Some(ticket),
         answer,

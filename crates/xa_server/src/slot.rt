@@ -14,7 +14,7 @@ ghost use Rattle.xa_events.specs.Request.Settlement.{EndedBy, SweptAway};
 ghost use Rattle.xa_events.specs.declared.event.Event.TheVariants.{Gone};
 ghost use Rattle.xa_server.specs.Doings.{life_in, last_by, outcome_of, is_death, IsAlive, IsBusy, InHand, MayStop};
 ghost use Rattle.xa_queue.specs.declared.entry.Entry.{Entry};
-ghost use Rattle.xa_caller.specs.declared.cargo.Cargo.{Cargo};
+ghost use Rattle.xa_caller.specs.Drafts.{Cargo};
 
 use crate::closing::{Closing, close, reply_to};
 use crate::noting::{note_anew, note_in_room};

@@ -20,6 +20,8 @@ use Rattle.xa_caller.specs.Unsent.{AimsAt}
 use Rattle.xa_caller.proofs.Next.{row-priority}
 use Rattle.xa_caller.proofs.Reading.{reads_redrawn}
 use Rattle.xa_caller.proofs.Unsent.{at-all}
+use Rattle.xa_held.specs.Kept.{IsRight}
+use Rattle.xa_caller.proofs.Tickets.{right_aimed}
 use Rattle.xa_caller.proofs.caller.Caller.aim.Goals as goal
 
 pub invariant_of-self : goal.invariant_of-self
@@ -35,8 +37,8 @@ invariant_of-self c =
     let now : c.set.new.phase ≡ Prepared redrawn = c.set.ensures in
     let row : Row = c.in-Some.row in
     let a : Accepted = accepted_by draft.op draft.asked.request draft.version row c.in-Ok.payload in
-    let rows = subst (λ (t : Standing). AreRowsOf t.work.setup c.args.entry.cargo.service c.args.found.now.rows) (sym c.self.view_is) c.requires.rows in
-    let all = at-all (λ (r : Row). r ≡ row_for w.setup c.args.entry.cargo.service r.queue.0 r.routine) c.args.found.now.rows c.args.attempt row (sym c.row_at.ensures ∙ c.in-Some.is) rows in
+    let rows = subst (λ (t : Standing). AreRowsOf t.work.setup c.args.entry.cargo.«data».service c.args.found.now.rows) (sym c.self.view_is) c.requires.rows in
+    let all = at-all (λ (r : Row). r ≡ row_for w.setup c.args.entry.cargo.«data».service r.queue.0 r.routine) c.args.found.now.rows c.args.attempt row (sym c.row_at.ensures ∙ c.in-Some.is) rows in
     record {
       sound = record { reads = reads_redrawn w.setup _ s.op s.sent s.least s.phase c.set.new.phase draft redrawn was now i.sound.reads };
       holds = subst (Holds w.setup w.id w.room s.op s.sent s.least) (sym now) (
@@ -50,10 +52,10 @@ invariant_of-self c =
           request = refl;
           mine = sym d.request ∙ d.mine;
           mode = refl;
-          sound = ap (is_sound w.setup) c.in-Ok.ensures ∙ subst (λ (t : Standing). is_sound t.work.setup c.args.entry.cargo.payload ≡ true) (sym c.self.view_is) c.requires.sound;
+          sound = ap (is_sound w.setup) c.in-Ok.ensures ∙ subst (λ (t : Standing). is_sound t.work.setup c.args.entry.cargo.«data».payload ≡ true) (sym c.self.view_is) c.requires.sound;
           version = refl;
           recent = d.recent;
-          priority = row-priority w.setup c.args.entry.cargo.service row all;
+          priority = row-priority w.setup c.args.entry.cargo.«data».service row all;
         },
       );
       places = subst (λ p. OpenAre (places_in p) (known c.self.inside.seat)) (sym now) (subst (λ p. OpenAre (places_in p) (known c.self.inside.seat)) was i.places);
@@ -61,8 +63,8 @@ invariant_of-self c =
       few = i.few;
     }
 
-pub returns : goal.returns
-returns c =
+pub returns-clause-aims : goal.returns-clause-aims
+returns-clause-aims c =
     let s : Standing = standing_of c.self.inside in
     let draft : Draft = c.draft_in-op.result in
     let redrawn : Draft = record draft { event = c.of-event_noted.result } in (
@@ -79,3 +81,6 @@ returns c =
         made = ap (λ (p : Phase). record s { phase = p }) c.set.ensures;
       }),
     )
+
+pub returns-clause-right : goal.returns-clause-right
+returns-clause-right c cells right = subst (IsRight cells) (sym c.aimed_at.ensures) (right_aimed cells c.args.entry c.in-Some.row right)

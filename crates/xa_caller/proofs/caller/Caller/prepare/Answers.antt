@@ -29,6 +29,7 @@ use Rattle.xa_caller.specs.Drafts.{accepted_by, entry_by}
 use Rattle.xa_caller.specs.declared.phase.Draft.{Draft}
 use Rattle.xa_caller.specs.Changes.{Prepares}
 use Rattle.xa_caller.proofs.Reading.{stops_from, reads_prepared}
+use Rattle.xa_caller.proofs.Tickets.{right_begun}
 use Rattle.xa_caller.proofs.caller.Caller.prepare.Goals as goal
 
 pub returns-in_default-clause-stopped : goal.returns-in_default-clause-stopped
@@ -123,14 +124,19 @@ returns-in-Ok-draft_by-clause-ok c =
     let m : RequestId = record { caller = w.id; number = s.sent + 1 } in
     let mine : c.next_request-request.result ≡ m = c.next_request-request.ensures ∙ ap (λ (v : Working). record { caller = v.id; number = s.sent + 1 }) made in
     let event : RequestId → ℕ → Data → Event = λ r v d. Accept (accepted_by c.args.op r v c.in-Some.row d) in
+    let drawn : RequestId → ℕ → Draft = λ r v. record { asked = record { request = r; place = drafted.draft.asked.place }; op = c.args.op; version = v; event = drafted.draft.event } in
     let seat = c.draft_by.new.seat in
     subst (Prepares c.args.setup.now c.args.cells.now c.args.op c.args.ask.now.payload c.args.found.now _ _) c.self.view_is (record {
       row = c.in-Some.row;
       chosen = sym c.first_row.ensures ∙ c.in-Some.is;
       draft = drafted.draft;
+      drawn = e.draft ∙ ap (λ (r : RequestId). drawn r c.found.inside.version) mine ∙ ap (λ (f : FoundRows). drawn m f.version) c.found.view_is;
       event = e.event.1 ∙ ap (λ r. event r c.found.inside.version c.in-Ok.copies.sent) mine ∙ ap (λ (f : FoundRows). event m f.version c.in-Ok.copies.sent) c.found.view_is ∙ ap (event m c.args.found.now.version) c.in-Ok.ensures.0;
       drafted = e.event.0;
       entry = e.entry ∙ ap (λ r. entry_by r c.in-Some.row c.in-Ok.copies.kept drafted.entry.cargo.ticket) mine ∙ ap (λ d. entry_by m c.in-Some.row d drafted.entry.cargo.ticket) c.in-Ok.ensures.1;
       began = subst (λ r. Began c.args.cells.now r s.seat seat drafted.draft.asked.place drafted.entry.cargo.ticket) mine e.began;
       made = ap (λ (v : Working). record s { work = v; seat = seat; phase = c.set.new.phase }) made ∙ ap (λ (p : Phase). record s { work = record w { room = max w.room 1 }; seat = seat; phase = p }) c.set.ensures;
     })
+
+pub returns-in-Ok-draft_by-clause-right : goal.returns-in-Ok-draft_by-clause-right
+returns-in-Ok-draft_by-clause-right c = right_begun c.args.cells.now c.next_request-request.result c.in-Some.row c.in-Ok.copies.kept c.self.inside.seat c.draft_by.new.seat c.in-Ok-draft_by.drafted.draft.asked.place c.in-Ok-draft_by.drafted.entry c.in-Ok-draft_by.ensures.entry c.in-Ok-draft_by.ensures.began

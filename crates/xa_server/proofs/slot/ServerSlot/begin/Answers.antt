@@ -9,7 +9,7 @@ use Rattle.xa_caller.specs.Caller.{Standing as Calling}
 use Rattle.xa_work.specs.Work.{Standing, IsNext, noted}
 use Rattle.xa_server.specs.declared.slot.ServerSlot.{ServerSlot}
 use Rattle.xa_server.specs.declared.slot.Last.TheVariants as lasts
-use Rattle.xa_caller.specs.declared.cargo.Cargo.{Cargo}
+use Rattle.xa_caller.specs.Drafts.{Cargo}
 use Rattle.xa_server.specs.Doings.{life_in}
 use Rattle.xa_server.specs.Slot.{Stands}
 use Rattle.xa_server.proofs.Reading.{may_taken, taken_stands}

@@ -1,7 +1,7 @@
 use Rattle.std.proofs.Common.{Some, Option, sym, ◌∙◌, ap, subst}
 use Rattle.xa_types.specs.declared.reply.Answer.{Answer}
 use Rattle.xa_queue.specs.declared.entry.Entry.{Entry}
-use Rattle.xa_caller.specs.declared.cargo.Cargo.{Cargo}
+use Rattle.xa_caller.specs.Drafts.{Cargo}
 use Rattle.xa_server.specs.declared.slot.ServerSlot.{ServerSlot}
 use Rattle.xa_server.specs.Changes.{Stops}
 use Rattle.xa_server.proofs.slot.ServerSlot.die_busy.Goals as goal

@@ -17,7 +17,7 @@ use Rattle.xa_queue.specs.declared.entry.Entry.{Entry}
 use Rattle.xa_work.specs.Work.{Standing, IsNext, theirs, noted_here}
 use Rattle.xa_server.specs.declared.slot.ServerSlot.{ServerSlot}
 use Rattle.xa_server.specs.declared.slot.Last.{Last}
-use Rattle.xa_caller.specs.declared.cargo.Cargo.{Cargo}
+use Rattle.xa_caller.specs.Drafts.{Cargo}
 use Rattle.xa_server.specs.Doings.{life_in, last_by}
 use Rattle.xa_server.specs.Noting.{with_room}
 use Rattle.xa_server.specs.Slot.{Stands}
