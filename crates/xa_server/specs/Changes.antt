@@ -109,6 +109,7 @@ pub record DiesIdle (cause : StopCause) (closing : Closing) (slot' slot : Server
   pub stop : Stamp
   pub stops : Stops cause stop slot' slot new old
   pub nobody : closing.ticket ≡ None
+  pub stamped : closing.stamp ≡ stop
 
 abbrev pub DiesFrom : Doing → StopCause → Closing → ServerSlot → ServerSlot → Standing → Standing → Type 0
 DiesFrom (Busy generation request) cause closing slot' slot new old = DiesBusy cause closing slot' slot new old
