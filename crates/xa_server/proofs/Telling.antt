@@ -1,5 +1,5 @@
 -- The ends behind what seats filled.
-use Rattle.std.proofs.Common.{◌≡◌, ℕ, zero, suc, ◌≤◌, true, List, [], ◌∷◌, ◌++◌, Option, Some, None, if◌then◌else◌, refl, sym, ◌∙◌, ap, subst, arith}
+use Rattle.std.proofs.Common.{◌≡◌, ℕ, zero, suc, ◌≤◌, List, [], ◌∷◌, ◌++◌, Option, Some, None, if◌then◌else◌, refl, sym, ◌∙◌, ap, subst, arith}
 use Rattle.std.specs.Prelude.{IsSomeAnd, slice_set}
 use Rattle.std.specs.List.{All, Contains}
 use Rattle.std.proofs.lemmas.List.Elements.{All-push, All-weaker, Contains-push, Contains-append_left}
@@ -21,14 +21,12 @@ use Rattle.xa_events.proofs.WordsLemmas.{same_request_of}
 use Rattle.xa_stamp.specs.declared.home.Stamped.{Stamped}
 use Rattle.xa_queue.specs.declared.entry.Entry.{Entry}
 use Rattle.xa_cell.specs.declared.tokens.Ticket.{Ticket}
-use Rattle.xa_cell.specs.declared.view.Fill.{Fill}
 use Rattle.xa_cell.specs.declared.view.Opening.{Opening}
 use Rattle.xa_cell.specs.declared.view.Part.{Part}
 use Rattle.xa_cell.specs.declared.view.View.{View}
 use Rattle.xa_cell.specs.declared.filler.Filled.{Filled}
 use Rattle.xa_cell.specs.declared.filler.Filled.TheVariants as fills
 use Rattle.xa_cell.specs.Views.{nth, at, fill}
-use Rattle.xa_cell.specs.Changes.{filled, dropped}
 use Rattle.xa_cell.specs.Known.{named}
 use Rattle.xa_cell.specs.Calls.{Settles as SettlesCell}
 use Rattle.xa_caller.specs.declared.cargo.Cargo.{Cargo}
@@ -39,8 +37,8 @@ use Rattle.xa_server.specs.declared.closing.Closing.{Closing}
 use Rattle.xa_server.specs.declared.closing.Given.{Given}
 use Rattle.xa_server.specs.Changes.{Ends, Closes, Finishes, DiesBusy, DiesIdle, DiesFrom, Dies}
 use Rattle.xa_server.specs.Noting.{with_room}
-use Rattle.xa_server.specs.Doings.{life_in, outcome_of}
-use Rattle.xa_server.specs.Told.{Settles, Spent, GivenTo, GivenAs, EndedFor, FilledByEnds, Backs, IsBacked, NamesIts}
+use Rattle.xa_server.specs.Doings.{outcome_of}
+use Rattle.xa_server.specs.Told.{GivenTo, GivenAs, EndedFor, FilledByEnds, Backs, IsBacked, NamesIts}
 use Rattle.xa_server.proofs.Reading.{end_of}
 
 -- a part is set, and what holds of it and of all others holds of each

@@ -22,6 +22,7 @@ use Rattle.xa_restart.specs.Rule.{may_start_by}
 use Rattle.xa_work.specs.Work.{Standing, theirs}
 use Rattle.xa_server.specs.Noting.{Notes, IsWorn, with_room}
 use Rattle.xa_server.specs.declared.slot.ServerSlot.{ServerSlot}
+use Rattle.xa_server.specs.declared.slot.Invocation.{Invocation}
 use Rattle.xa_server.specs.declared.slot.Last.TheVariants.{Nothing}
 use Rattle.xa_server.specs.Doings.{last_by, life_in, outcome_of}
 
@@ -66,6 +67,14 @@ pub record IsTakeOf (request : RequestId) (event : Event) (slot : ServerSlot) : 
   pub idle : slot.doing ≡ Idle (life_in slot.doing)
   pub k : ℕ
   pub is : event ≡ Take (record { request = request; server = slot.server; generation = life_in slot.doing; k = k })
+
+-- the service, the routine and the data of the request in hand
+pub record Invokes (hand : Option (Entry Cargo)) (invocation : Invocation) : Type 0 where
+  pub entry : Entry Cargo
+  pub in_hand : hand ≡ Some entry
+  pub service : invocation.service.now ≡ entry.cargo.service
+  pub routine : invocation.routine.now ≡ entry.cargo.routine
+  pub payload : invocation.payload.now ≡ entry.cargo.payload
 
 -- the request in hand ended so, by an event with that stamp, and is in hand still
 pub record Ends (outcome : Outcome) (stamp : Stamp) (slot' slot : ServerSlot) (new old : Standing) : Type 0 where
