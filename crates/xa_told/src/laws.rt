@@ -1,5 +1,5 @@
 //! From what each worker knows of its seat to what is told of all workers' homes.
-ghost use Rattle.std.specs.Prelude.{◌≡◌, ℕ, Option, List, [], ◌∷◌, ◌++◌};
+ghost use Rattle.std.specs.Prelude.{◌≡◌, ℕ, ◌<◌, Option, List, [], ◌∷◌, ◌++◌};
 ghost use Rattle.std.specs.List.{All, Contains};
 ghost use Rattle.xa_types.specs.declared.data.Kind.{Kind};
 ghost use Rattle.xa_types.specs.declared.ids.RequestId.{RequestId};
@@ -10,6 +10,9 @@ ghost use Rattle.xa_events.specs.declared.event.Event.TheVariants.{Answer};
 ghost use Rattle.xa_events.specs.declared.event.Replied.{Replied};
 ghost use Rattle.xa_events.specs.Homes.{Home};
 ghost use Rattle.xa_stamp.specs.declared.home.Stamped.{Stamped};
+ghost use Rattle.xa_lock.specs.declared.makers.Made.{Made};
+ghost use Rattle.xa_lock.specs.Makers.{noted_in};
+ghost use Rattle.xa_crew.specs.Crew.{IsCrew};
 ghost use Rattle.xa_crew.specs.Seen.{WasTold};
 ghost use Rattle.xa_cell.specs.declared.tokens.Seat.{Seat};
 ghost use Rattle.xa_cell.specs.declared.view.Opening.{Opening};
@@ -90,4 +93,9 @@ pub fn own_ends_stand()
 pub fn own_ends_are_kept()
     ensures keeps { (own : List Stamped) (v w : View Filling) → Keeps v w → FilledByEnds own v → FilledByEnds own w }
     ensures takes { (own : List Stamped) (k : ℕ) (a : Filling) (v w : View Filling) → TakesMore k a v w → FilledByEnds own v → FilledByEnds own w }
+{}
+
+/// All that a worker of a crew noted stands at the homes.
+pub fn crews_stand()
+    ensures { (setup : Setup) (clients workers : ℕ) (kept : Home → List Made) (noted : ℕ → List Stamped) → IsCrew setup clients workers kept noted → (worker : ℕ) → worker < workers → StandAt setup clients (λ home. noted_in (kept home)) (noted worker) }
 {}
