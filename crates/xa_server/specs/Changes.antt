@@ -2,6 +2,7 @@
 use Rattle.std.specs.Prelude.{◌≡◌, ◌⊎◌, ℕ, ◌+◌, ◌≤◌, ◌∷◌, true, false, Option, Some, None}
 use Rattle.xa_types.specs.declared.ids.RequestId.{RequestId}
 use Rattle.xa_types.specs.declared.ids.Generation.{Generation}
+use Rattle.xa_types.specs.declared.ids.ServerId.{ServerId}
 use Rattle.xa_types.specs.declared.stamp.Stamp.{Stamp}
 use Rattle.xa_events.specs.declared.event.Event.{Event}
 use Rattle.xa_events.specs.declared.event.Event.TheVariants.{Take, Start, StartFailed, End, Stop}
@@ -18,7 +19,7 @@ use Rattle.xa_types.specs.declared.reply.Answer.{Answer}
 use Rattle.xa_queue.specs.declared.entry.Entry.{Entry}
 use Rattle.xa_caller.specs.declared.cargo.Cargo.{Cargo}
 use Rattle.xa_server.specs.declared.closing.Closing.{Closing}
-use Rattle.xa_restart.specs.Rule.{may_start_by}
+use Rattle.xa_restart.specs.Rule.{Standing as Restarts, may_start_by}
 use Rattle.xa_work.specs.Work.{Standing, theirs}
 use Rattle.xa_server.specs.Noting.{Notes, IsWorn, with_room}
 use Rattle.xa_server.specs.declared.slot.ServerSlot.{ServerSlot}
@@ -40,6 +41,10 @@ pub record MayBeGivenUp (tick : ℕ) (slot : ServerSlot) (w : Standing) : Type 0
   pub up : slot.shut ≡ false
   pub floor : tick_floor w.clients w.id.0 (theirs w) ≤ tick
   pub no_restart : may_start_by slot.restarts tick ≡ false
+
+-- the slot of a server that was never started
+abbrev pub new_slot : ServerId → Restarts → ServerSlot
+new_slot server restarts = record { server = server; restarts = restarts; made = 0; doing = Off; hand = None; last = Nothing; gone = false; shut = false }
 
 -- the slot with one start more
 abbrev pub with_start : ℕ → ServerSlot → ServerSlot

@@ -2,10 +2,14 @@
 ghost use Rattle.xa_work.specs.Work.{Standing};
 ghost use Rattle.xa_server.specs.declared.slot.ServerSlot.{ServerSlot};
 ghost use Rattle.xa_server.specs.Slot.{Stands, SameWork};
-ghost use Rattle.std.specs.Prelude.{◌≤◌, List, ◌++◌, Some};
+ghost use Rattle.std.specs.Prelude.{◌≡◌, ◌≤◌, List, [], ◌++◌, Some, IsSomeAnd};
 ghost use Rattle.std.specs.List.{Contains};
 ghost use Rattle.xa_types.specs.declared.stamp.Stamp.{Stamp};
 ghost use Rattle.xa_types.specs.declared.ids.QueueId.{QueueId};
+ghost use Rattle.xa_types.specs.declared.ids.ServerId.{ServerId};
+ghost use Rattle.xa_types.specs.Setup.{numbered};
+ghost use Rattle.xa_events.specs.State.{caller_of};
+ghost use Rattle.xa_restart.specs.Rule.{Standing as Restarts, IsRuleOf};
 ghost use Rattle.xa_events.specs.declared.event.Event.TheVariants.{Sweep};
 ghost use Rattle.xa_events.specs.declared.event.Outcome.{Outcome};
 ghost use Rattle.xa_events.specs.declared.event.StopCause.{StopCause};
@@ -18,8 +22,15 @@ ghost use Rattle.xa_cell.specs.declared.view.View.{View};
 ghost use Rattle.xa_caller.specs.declared.cargo.Filling.{Filling};
 ghost use Rattle.xa_server.specs.declared.closing.Closing.{Closing};
 ghost use Rattle.xa_server.specs.declared.closing.Given.{Given};
-ghost use Rattle.xa_server.specs.Changes.{Ends, Closes, Finishes, Dies};
+ghost use Rattle.xa_server.specs.Changes.{new_slot, Ends, Closes, Finishes, Dies};
 ghost use Rattle.xa_server.specs.Told.{GivenAs, FilledByEnds, IsBacked, NamesIts};
+
+/// The slot of a server that was never started stands, where its worker has noted nothing and the server is configured with
+/// its rule.
+pub fn new_slots_stand()
+    ensures { (server : ServerId) (restarts : Restarts) (w : Standing) → caller_of w.clients server.0 ≡ w.id.0 → IsSomeAnd (numbered server.0 w.setup.servers) (λ configured. IsRuleOf configured restarts.restart restarts.maxgen restarts.grace)
+        → restarts.starts ≡ [] → w.own ≡ [] → Stands (new_slot server restarts) w }
+{}
 
 /// A slot that stands on its worker's events does so also where the worker saw a stamp, made room, or noted an event of the
 /// domain.

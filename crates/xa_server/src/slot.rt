@@ -159,11 +159,11 @@ impl ServerSlot {
     ghost use Rattle.xa_server.specs.declared.slot.Last.TheVariants as lasts;
     ghost use Rattle.xa_server.specs.Noting.{HaltsWith, IsWorn};
     ghost use Rattle.xa_server.specs.Slot.{Stands};
-    ghost use Rattle.xa_server.specs.Changes.{MayStart, Starts, FailsToStart, MayBeGivenUp, IsTakeOf, Ends, Closes, Finishes, Stops, Dies, DiesBusy, DiesWorn, Invokes, with_start};
+    ghost use Rattle.xa_server.specs.Changes.{MayStart, Starts, FailsToStart, MayBeGivenUp, IsTakeOf, Ends, Closes, Finishes, Stops, Dies, DiesBusy, DiesWorn, Invokes, new_slot, with_start};
 
     /// A server that was never started.
     pub fn new(server: ServerId, restarts: Lives) -> ServerSlot
-        ensures { result ≡ record { server = server; restarts = restarts; made = 0; doing = doings.Off; hand = None; last = lasts.Nothing; gone = false; shut = false } }
+        ensures { result ≡ new_slot server restarts }
     {
         ServerSlot {
             server,
@@ -415,6 +415,27 @@ impl ServerSlot {
         match mem::replace(&mut self.hand, None) {
             Some(entry) => Some(close(entry, Answer::Error(Fault::System), Stamp(0))),
             None => None,
+        }
+    }
+
+    /// Lets go of it, with nothing in hand.
+    pub fn end(self)
+        requires { self.hand ≡ None }
+    {
+        let ServerSlot {
+            server: _,
+            restarts,
+            made: _,
+            doing: _,
+            hand,
+            last: _,
+            gone: _,
+            shut: _,
+        } = self;
+        drop(restarts);
+        match hand {
+            None => {}
+            Some(_) => unreachable!(),
         }
     }
 
