@@ -1,5 +1,5 @@
 -- The ends behind what seats filled.
-use Rattle.std.proofs.Common.{◌≡◌, ℕ, zero, suc, ◌≤◌, true, List, [], ◌∷◌, ◌++◌, Option, Some, None, if◌then◌else◌, refl, sym, ◌∙◌, ap, subst, arith}
+use Rattle.std.proofs.Common.{◌≡◌, ℕ, zero, suc, ◌≤◌, List, [], ◌∷◌, ◌++◌, Option, Some, None, if◌then◌else◌, refl, sym, ◌∙◌, ap, subst, arith}
 use Rattle.std.specs.Prelude.{IsSomeAnd, slice_set}
 use Rattle.std.specs.List.{All, Contains}
 use Rattle.std.proofs.lemmas.List.Elements.{All-push, All-weaker, Contains-push, Contains-append_left}
@@ -7,23 +7,26 @@ use Rattle.xa_types.specs.declared.stamp.Stamp.{Stamp}
 use Rattle.xa_types.specs.declared.ids.RequestId.{RequestId}
 use Rattle.xa_types.specs.declared.reply.Answer.{Answer}
 use Rattle.xa_events.specs.declared.event.Ended.{Ended}
-use Rattle.xa_events.specs.declared.event.Event.TheVariants.{End}
+use Rattle.xa_events.specs.declared.event.Event.TheVariants.{End, Sweep}
 use Rattle.xa_events.specs.declared.event.Outcome.{Outcome}
+use Rattle.xa_events.specs.declared.event.StopCause.{StopCause}
+use Rattle.xa_events.specs.declared.event.Swept.{Swept}
+use Rattle.xa_events.specs.declared.event.Doing.{Doing}
+use Rattle.xa_events.specs.declared.event.Doing.TheVariants.{Busy}
+use Rattle.xa_types.specs.declared.ids.QueueId.{QueueId}
 use Rattle.xa_events.specs.Answers.{reply_of}
 use Rattle.xa_events.specs.Request.{Settlement, settlement_in}
-use Rattle.xa_events.specs.Request.Settlement.{EndedBy}
+use Rattle.xa_events.specs.Request.Settlement.{EndedBy, SweptAway}
 use Rattle.xa_events.proofs.WordsLemmas.{same_request_of}
 use Rattle.xa_stamp.specs.declared.home.Stamped.{Stamped}
 use Rattle.xa_queue.specs.declared.entry.Entry.{Entry}
 use Rattle.xa_cell.specs.declared.tokens.Ticket.{Ticket}
-use Rattle.xa_cell.specs.declared.view.Fill.{Fill}
 use Rattle.xa_cell.specs.declared.view.Opening.{Opening}
 use Rattle.xa_cell.specs.declared.view.Part.{Part}
 use Rattle.xa_cell.specs.declared.view.View.{View}
 use Rattle.xa_cell.specs.declared.filler.Filled.{Filled}
 use Rattle.xa_cell.specs.declared.filler.Filled.TheVariants as fills
 use Rattle.xa_cell.specs.Views.{nth, at, fill}
-use Rattle.xa_cell.specs.Changes.{filled, dropped}
 use Rattle.xa_cell.specs.Known.{named}
 use Rattle.xa_cell.specs.Calls.{Settles as SettlesCell}
 use Rattle.xa_caller.specs.Drafts.{Cargo}
@@ -32,9 +35,10 @@ use Rattle.xa_work.specs.Work.{Standing}
 use Rattle.xa_server.specs.declared.slot.ServerSlot.{ServerSlot}
 use Rattle.xa_server.specs.declared.closing.Closing.{Closing}
 use Rattle.xa_server.specs.declared.closing.Given.{Given}
-use Rattle.xa_server.specs.Changes.{Ends, Closes}
-use Rattle.xa_server.specs.Doings.{life_in}
-use Rattle.xa_server.specs.Told.{Settles, Spent, GivenTo, GivenAs, EndedFor, FilledByEnds, Backs, IsBacked, NamesIts}
+use Rattle.xa_server.specs.Changes.{Ends, Closes, Finishes, DiesBusy, DiesIdle, DiesFrom, Dies}
+use Rattle.xa_server.specs.Noting.{with_room}
+use Rattle.xa_server.specs.Doings.{outcome_of}
+use Rattle.xa_server.specs.Told.{GivenTo, GivenAs, EndedFor, FilledByEnds, Backs, IsBacked, NamesIts}
 use Rattle.xa_server.proofs.Reading.{end_of}
 
 -- a part is set, and what holds of it and of all others holds of each
@@ -109,3 +113,46 @@ closing_stays entries further (Some ticket) answer stamp backs = (backs.0, Conta
 
 pub closings_stay : (entries further : List Stamped) (closing : Closing) → IsBacked entries closing → IsBacked (entries ++ further) closing
 closings_stay entries further closing backs = closing_stays entries further closing.ticket closing.answer closing.stamp backs
+
+-- ---- what the calls close
+
+-- the stamp of what is closed is that of the end
+closed_at : (answer : Answer) (stamp : Stamp) (hand : Option (Entry Cargo)) (closing : Closing) → Closes answer stamp hand closing → closing.stamp.0 ≡ stamp.0
+closed_at answer stamp hand closing closes = ap (λ (c : Closing). c.stamp.0) closes.is
+
+pub finish_backed : (outcome : Outcome) (closing : Closing) (after before : ServerSlot) (new old : Standing) → Finishes outcome closing after before new old → NamesIts before.hand → IsBacked new.own closing × (closing.stamp.0 ≤ new.stamp.0)
+finish_backed outcome closing after before new old f names =
+    let at = closed_at (reply_of (EndedBy outcome)) f.stamp before.hand closing f.closes in
+    let now = ap (λ (w : Standing). w.stamp.0) f.ends.noted.made in
+    (backed outcome f.stamp closing f.ended before new (with_room 3 old) f.ends f.closes names, omega (arith, at, now))
+
+dies_busy : (cause : StopCause) (closing : Closing) (after before : ServerSlot) (new old : Standing) → DiesBusy cause closing after before new old → NamesIts before.hand → IsBacked new.own closing × (closing.stamp.0 ≤ new.stamp.0)
+dies_busy cause closing after before new old d names =
+    let at = closed_at (reply_of (EndedBy (outcome_of cause))) d.stamp before.hand closing d.closes in
+    let between = ap (λ (w : Standing). w.stamp.0) d.ends.noted.made in
+    let next = d.stops.noted.next in
+    let now = ap (λ (w : Standing). w.stamp.0) d.stops.noted.made in
+    let own = ap (λ (w : Standing). w.own) d.stops.noted.made in
+    let ended = backed (outcome_of cause) d.stamp closing d.ended before d.between old d.ends d.closes names in
+    (subst (λ (l : List Stamped). IsBacked l closing) (sym own) (closings_stay d.between.own _ closing ended), omega (arith, at, between, next, now))
+
+dies_idle : (cause : StopCause) (closing : Closing) (after before : ServerSlot) (new old : Standing) → DiesIdle cause closing after before new old → IsBacked new.own closing × (closing.stamp.0 ≤ new.stamp.0)
+dies_idle cause closing after before new old d =
+    let at = ap (λ (s : Stamp). s.0) d.stamped in
+    let now = ap (λ (w : Standing). w.stamp.0) d.stops.noted.made in
+    (subst (λ (t : Option (Ticket Filling)). Backs new.own t closing.answer closing.stamp) (sym d.nobody) tt, omega (arith, at, now))
+
+dies_from : (doing : Doing) (cause : StopCause) (closing : Closing) (after before : ServerSlot) (new old : Standing) → DiesFrom doing cause closing after before new old → NamesIts before.hand → IsBacked new.own closing × (closing.stamp.0 ≤ new.stamp.0)
+dies_from (Busy generation request) cause closing after before new old d names = dies_busy cause closing after before new old d names
+dies_from _ cause closing after before new old d names = dies_idle cause closing after before new old d
+
+pub death_backed : (cause : StopCause) (closing : Closing) (after before : ServerSlot) (new old : Standing) → Dies cause closing after before new old → NamesIts before.hand → IsBacked new.own closing × (closing.stamp.0 ≤ new.stamp.0)
+death_backed cause closing after before new old d names = dies_from before.doing cause closing after before new old d names
+
+settles_sweep : (x : Swept) (request : RequestId) → request ≡ x.request → IsSomeAnd (settlement_in request (Sweep x)) (λ (how : Settlement). reply_of SweptAway ≡ reply_of how)
+settles_sweep x request is = subst (λ b. IsSomeAnd (if b then Some SweptAway else None) (λ (how : Settlement). reply_of SweptAway ≡ reply_of how)) (sym (same_request_of x.request request (sym is))) refl
+
+pub sweep_backed : (entries : List Stamped) (entry : Entry Cargo) (queue : QueueId) (stamp : Stamp) → Contains entries (record { stamp = stamp; event = Sweep (record { request = entry.request; queue = queue }) })
+    → NamesIts (Some entry) → IsBacked entries (record { ticket = Some entry.cargo.ticket; answer = reply_of SweptAway; stamp = stamp })
+sweep_backed entries entry queue stamp stands names =
+    (record { stamp = stamp; event = Sweep (record { request = entry.request; queue = queue }) }, stands, λ o named_so. record { by = omega arith; tells = settles_sweep (record { request = entry.request; queue = queue }) o.request (names o named_so) })

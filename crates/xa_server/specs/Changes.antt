@@ -2,6 +2,7 @@
 use Rattle.std.specs.Prelude.{◌≡◌, ◌⊎◌, ℕ, ◌+◌, ◌≤◌, ◌∷◌, true, false, Option, Some, None}
 use Rattle.xa_types.specs.declared.ids.RequestId.{RequestId}
 use Rattle.xa_types.specs.declared.ids.Generation.{Generation}
+use Rattle.xa_types.specs.declared.ids.ServerId.{ServerId}
 use Rattle.xa_types.specs.declared.stamp.Stamp.{Stamp}
 use Rattle.xa_events.specs.declared.event.Event.{Event}
 use Rattle.xa_events.specs.declared.event.Event.TheVariants.{Take, Start, StartFailed, End, Stop}
@@ -18,10 +19,11 @@ use Rattle.xa_types.specs.declared.reply.Answer.{Answer}
 use Rattle.xa_queue.specs.declared.entry.Entry.{Entry}
 use Rattle.xa_caller.specs.Drafts.{Cargo}
 use Rattle.xa_server.specs.declared.closing.Closing.{Closing}
-use Rattle.xa_restart.specs.Rule.{may_start_by}
+use Rattle.xa_restart.specs.Rule.{Standing as Restarts, may_start_by}
 use Rattle.xa_work.specs.Work.{Standing, theirs}
 use Rattle.xa_server.specs.Noting.{Notes, IsWorn, with_room}
 use Rattle.xa_server.specs.declared.slot.ServerSlot.{ServerSlot}
+use Rattle.xa_server.specs.declared.slot.Invocation.{Invocation}
 use Rattle.xa_server.specs.declared.slot.Last.TheVariants.{Nothing}
 use Rattle.xa_server.specs.Doings.{last_by, life_in, outcome_of}
 
@@ -39,6 +41,10 @@ pub record MayBeGivenUp (tick : ℕ) (slot : ServerSlot) (w : Standing) : Type 0
   pub up : slot.shut ≡ false
   pub floor : tick_floor w.clients w.id.0 (theirs w) ≤ tick
   pub no_restart : may_start_by slot.restarts tick ≡ false
+
+-- the slot of a server that was never started
+abbrev pub new_slot : ServerId → Restarts → ServerSlot
+new_slot server restarts = record { server = server; restarts = restarts; made = 0; doing = Off; hand = None; last = Nothing; gone = false; shut = false }
 
 -- the slot with one start more
 abbrev pub with_start : ℕ → ServerSlot → ServerSlot
@@ -66,6 +72,14 @@ pub record IsTakeOf (request : RequestId) (event : Event) (slot : ServerSlot) : 
   pub idle : slot.doing ≡ Idle (life_in slot.doing)
   pub k : ℕ
   pub is : event ≡ Take (record { request = request; server = slot.server; generation = life_in slot.doing; k = k })
+
+-- the service, the routine and the data of the request in hand
+pub record Invokes (hand : Option (Entry Cargo)) (invocation : Invocation) : Type 0 where
+  pub entry : Entry Cargo
+  pub in_hand : hand ≡ Some entry
+  pub service : invocation.service.now ≡ entry.cargo.service
+  pub routine : invocation.routine.now ≡ entry.cargo.routine
+  pub payload : invocation.payload.now ≡ entry.cargo.payload
 
 -- the request in hand ended so, by an event with that stamp, and is in hand still
 pub record Ends (outcome : Outcome) (stamp : Stamp) (slot' slot : ServerSlot) (new old : Standing) : Type 0 where
@@ -109,6 +123,7 @@ pub record DiesIdle (cause : StopCause) (closing : Closing) (slot' slot : Server
   pub stop : Stamp
   pub stops : Stops cause stop slot' slot new old
   pub nobody : closing.ticket ≡ None
+  pub stamped : closing.stamp ≡ stop
 
 abbrev pub DiesFrom : Doing → StopCause → Closing → ServerSlot → ServerSlot → Standing → Standing → Type 0
 DiesFrom (Busy generation request) cause closing slot' slot new old = DiesBusy cause closing slot' slot new old

@@ -2,18 +2,35 @@
 ghost use Rattle.xa_work.specs.Work.{Standing};
 ghost use Rattle.xa_server.specs.declared.slot.ServerSlot.{ServerSlot};
 ghost use Rattle.xa_server.specs.Slot.{Stands, SameWork};
-ghost use Rattle.std.specs.Prelude.{◌≤◌, List, ◌++◌};
+ghost use Rattle.std.specs.Prelude.{◌≡◌, ◌≤◌, List, [], ◌++◌, Some, IsSomeAnd};
+ghost use Rattle.std.specs.List.{Contains};
 ghost use Rattle.xa_types.specs.declared.stamp.Stamp.{Stamp};
+ghost use Rattle.xa_types.specs.declared.ids.QueueId.{QueueId};
+ghost use Rattle.xa_types.specs.declared.ids.ServerId.{ServerId};
+ghost use Rattle.xa_types.specs.Setup.{numbered};
+ghost use Rattle.xa_events.specs.State.{caller_of};
+ghost use Rattle.xa_restart.specs.Rule.{Standing as Restarts, IsRuleOf};
+ghost use Rattle.xa_events.specs.declared.event.Event.TheVariants.{Sweep};
 ghost use Rattle.xa_events.specs.declared.event.Outcome.{Outcome};
+ghost use Rattle.xa_events.specs.declared.event.StopCause.{StopCause};
+ghost use Rattle.xa_queue.specs.declared.entry.Entry.{Entry};
+ghost use Rattle.xa_caller.specs.declared.cargo.Cargo.{Cargo};
 ghost use Rattle.xa_events.specs.Answers.{reply_of};
-ghost use Rattle.xa_events.specs.Request.Settlement.{EndedBy};
+ghost use Rattle.xa_events.specs.Request.Settlement.{EndedBy, SweptAway};
 ghost use Rattle.xa_stamp.specs.declared.home.Stamped.{Stamped};
 ghost use Rattle.xa_cell.specs.declared.view.View.{View};
 ghost use Rattle.xa_caller.specs.declared.cargo.Filling.{Filling};
 ghost use Rattle.xa_server.specs.declared.closing.Closing.{Closing};
 ghost use Rattle.xa_server.specs.declared.closing.Given.{Given};
-ghost use Rattle.xa_server.specs.Changes.{Ends, Closes};
+ghost use Rattle.xa_server.specs.Changes.{new_slot, Ends, Closes, Finishes, Dies};
 ghost use Rattle.xa_server.specs.Told.{GivenAs, FilledByEnds, IsBacked, NamesIts};
+
+/// The slot of a server that was never started stands, where its worker has noted nothing and the server is configured with
+/// its rule.
+pub fn new_slots_stand()
+    ensures { (server : ServerId) (restarts : Restarts) (w : Standing) → caller_of w.clients server.0 ≡ w.id.0 → IsSomeAnd (numbered server.0 w.setup.servers) (λ configured. IsRuleOf configured restarts.restart restarts.maxgen restarts.grace)
+        → restarts.starts ≡ [] → w.own ≡ [] → Stands (new_slot server restarts) w }
+{}
 
 /// A slot that stands on its worker's events does so also where the worker saw a stamp, made room, or noted an event of the
 /// domain.
@@ -25,6 +42,18 @@ pub fn still_stands()
 pub fn closings_are_backed()
     ensures { (outcome : Outcome) (stamp : Stamp) (closing : Closing) (after before : ServerSlot) (new old : Standing) → Ends outcome stamp after before new old
         → Closes (reply_of (EndedBy outcome)) stamp before.hand closing → NamesIts before.hand → IsBacked new.own closing }
+{}
+
+/// So it is with what the return or the death of a life closes, and its stamp is none that the worker hasn't reached.
+pub fn answers_are_backed()
+    ensures finishes { (outcome : Outcome) (closing : Closing) (after before : ServerSlot) (new old : Standing) → Finishes outcome closing after before new old → NamesIts before.hand → IsBacked new.own closing × (closing.stamp.0 ≤ new.stamp.0) }
+    ensures dies { (cause : StopCause) (closing : Closing) (after before : ServerSlot) (new old : Standing) → Dies cause closing after before new old → NamesIts before.hand → IsBacked new.own closing × (closing.stamp.0 ≤ new.stamp.0) }
+{}
+
+/// What is closed of a request that was swept has its sweep among entries where that stands with its stamp.
+pub fn sweeps_are_backed()
+    ensures { (entries : List Stamped) (entry : Entry Cargo) (queue : QueueId) (stamp : Stamp) → Contains entries (record { stamp = stamp; event = Sweep (record { request = entry.request; queue = queue }) })
+        → NamesIts (Some entry) → IsBacked entries (record { ticket = Some entry.cargo.ticket; answer = reply_of SweptAway; stamp = stamp }) }
 {}
 
 /// Where each filling of a seat has its end or its sweep among a worker's entries, it does so also behind the `give` of a

@@ -25,7 +25,7 @@ use xa_caller::{Caller, Cargo};
 use xa_events::{Doing, Ended, Event, Outcome, Started, StopCause, Stopped};
 use xa_queue::Entry;
 use xa_restart::Lives;
-use xa_types::{Answer, Data, Fault, Generation, Rval, ServerId, Stamp, Worn};
+use xa_types::{Answer, Data, Fault, Generation, Name, Rval, ServerId, Stamp, Worn};
 use xa_work::Halt;
 
 /// How the request ended that the server ended last, where it has done nothing since.
@@ -50,6 +50,14 @@ pub struct ServerSlot {
     last: Last,
     gone: bool,
     shut: bool,
+}
+
+/// What is sent to the server's child for a request: its life gives the number.
+#[derive(Clone, Copy)]
+pub struct Invocation<'a> {
+    pub service: &'a Name,
+    pub routine: &'a Name,
+    pub payload: &'a Data,
 }
 
 // The life that the server is in; 0 where it is off.
@@ -151,11 +159,11 @@ impl ServerSlot {
     ghost use Rattle.xa_server.specs.declared.slot.Last.TheVariants as lasts;
     ghost use Rattle.xa_server.specs.Noting.{HaltsWith, IsWorn};
     ghost use Rattle.xa_server.specs.Slot.{Stands};
-    ghost use Rattle.xa_server.specs.Changes.{MayStart, Starts, FailsToStart, MayBeGivenUp, IsTakeOf, Ends, Closes, Finishes, Stops, Dies, DiesBusy, DiesWorn, with_start};
+    ghost use Rattle.xa_server.specs.Changes.{MayStart, Starts, FailsToStart, MayBeGivenUp, IsTakeOf, Ends, Closes, Finishes, Stops, Dies, DiesBusy, DiesWorn, Invokes, new_slot, with_start};
 
     /// A server that was never started.
     pub fn new(server: ServerId, restarts: Lives) -> ServerSlot
-        ensures { result ≡ record { server = server; restarts = restarts; made = 0; doing = doings.Off; hand = None; last = lasts.Nothing; gone = false; shut = false } }
+        ensures { result ≡ new_slot server restarts }
     {
         ServerSlot {
             server,
@@ -257,6 +265,22 @@ impl ServerSlot {
         self.doing = Doing::Busy(life_in(self.doing), entry.request);
         put_in(&mut self.hand, entry);
         self.last = Last::Nothing;
+    }
+
+    /// The request in hand, as it is sent to the child. It takes no memory.
+    pub fn invocation(&self) -> Invocation<'_>
+        requires stands { InHand self.now.doing self.now.hand }
+        requires busy { IsBusy self.now.doing }
+        ensures { Invokes self.now.hand result }
+    {
+        match &self.hand {
+            Some(entry) => Invocation {
+                service: &entry.cargo.service,
+                routine: &entry.cargo.routine,
+                payload: &entry.cargo.payload,
+            },
+            None => unreachable!(),
+        }
     }
 
     /// The service returned, with data that is sound or isn't: the request in hand ends, and its caller is to be told. At a
@@ -391,6 +415,27 @@ impl ServerSlot {
         match mem::replace(&mut self.hand, None) {
             Some(entry) => Some(close(entry, Answer::Error(Fault::System), Stamp(0))),
             None => None,
+        }
+    }
+
+    /// Lets go of it, with nothing in hand.
+    pub fn end(self)
+        requires { self.hand ≡ None }
+    {
+        let ServerSlot {
+            server: _,
+            restarts,
+            made: _,
+            doing: _,
+            hand,
+            last: _,
+            gone: _,
+            shut: _,
+        } = self;
+        drop(restarts);
+        match hand {
+            None => {}
+            Some(_) => unreachable!(),
         }
     }
 

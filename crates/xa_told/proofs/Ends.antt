@@ -49,5 +49,5 @@ ends_filling entries k o a v w g e h = record {
 
 pub ends_later : (entries later : Home → List Stamped) (v : View Filling) → ((home : Home) (x : Stamped) → Contains (entries home) x → Contains (later home) x) → AllEnded entries v → AllEnded later v
 ends_later entries later v more h = record {
-  each = λ k. All-weaker (HasEnd entries) (HasEnd later) (λ f e. (e.0, record { entry = e.1.entry; stands = more e.0 e.1.entry e.1.stands; stamped = e.1.stamped; settled = e.1.settled })) (at k v).filled (h.each k);
+  each = λ k. All-weaker (HasEnd entries) (HasEnd later) (λ f e. (e.0, (e.1.0, more e.0 e.1.0 e.1.1, e.1.2))) (at k v).filled (h.each k);
 }

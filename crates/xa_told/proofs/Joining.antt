@@ -1,5 +1,5 @@
 -- What the seats of all callers show together of one answer.
-use Rattle.std.proofs.Common.{◌≡◌, ℕ, ◌<◌, true, false, cond, List, [], ◌∷◌, ◌++◌, Option, Some, None, inl, inr, refl, sym, ◌∙◌, ap, subst}
+use Rattle.std.proofs.Common.{◌≡◌, ℕ, true, false, cond, List, [], ◌∷◌, ◌++◌, Option, Some, None, inl, inr, refl, sym, ◌∙◌, ap, subst, arith}
 use Rattle.std.specs.Prelude.{IsSomeAnd}
 use Rattle.std.specs.List.{All, Contains, flat_map}
 use Rattle.std.proofs.lemmas.List.Elements.{All-nil, All-cons, All-head, All-tail, All-append, All-contains, All-weaker}
@@ -82,14 +82,17 @@ was_told setup clients entries seats answered ends seat among stamp a took own =
     let filled : Contains (flat_map (λ (p : Part Filling). p.filled) (parts_of took.cell seats)) took.fill =
     each_seat (λ (p : Part Filling). p.taken) (Contains (flat_map (λ (p : Part Filling). p.filled) (parts_of took.cell seats))) took.cell seats took.fill seat (answered took.cell).taken among took.taken in
     let one = All-contains (HasEnd entries) (flat_map (λ (p : Part Filling). p.filled) (parts_of took.cell seats)) took.fill (all_seats (λ (p : Part Filling). p.filled) (HasEnd entries) took.cell seats each) filled in
-    let end = one.1 in (
+    let end : Stamped = one.1.0 in
+    let settles = one.1.2 in
+    let by = settles.by in
+    let before = took.before in (
       one.0,
       record {
-        entry = end.entry;
-        stands = end.stands;
-        before = subst (λ (s : Stamp). s.0 < stamp.0) (sym end.stamped) took.before;
-        shows = shown (settlement_in a.request end.entry.event) a.answer took.expect took.fill.answer.answer took.told
-            (subst (λ (r : RequestId). IsSomeAnd (settlement_in r end.entry.event) (λ s. took.fill.answer.answer ≡ reply_of s)) took.request end.settled);
+        entry = end;
+        stands = one.1.1;
+        before = omega (arith, by, before);
+        shows = shown (settlement_in a.request end.event) a.answer took.expect took.fill.answer.answer took.told
+            (subst (λ (r : RequestId). IsSomeAnd (settlement_in r end.event) (λ s. took.fill.answer.answer ≡ reply_of s)) took.request settles.tells);
       },
     )
 

@@ -3,3 +3,4 @@ pub mod Ends
 pub mod Joining
 pub mod Takings
 pub mod Calls
+pub mod Standing

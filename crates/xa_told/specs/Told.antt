@@ -1,19 +1,20 @@
 -- What seats show of answers: whose end each filling has, and which filling each answer has (XATMI, tpgetrply; cells are this project's own).
-use Rattle.std.specs.Prelude.{◌≡◌, ℕ, ◌<◌, List, Option, IsSomeAnd}
+use Rattle.std.specs.Prelude.{◌≡◌, ℕ, ◌<◌, List, Option}
 use Rattle.std.specs.List.{All, Contains}
 use Rattle.xa_types.specs.declared.data.Kind.{Kind}
+use Rattle.xa_types.specs.declared.setup.Setup.{Setup}
 use Rattle.xa_types.specs.declared.stamp.Stamp.{Stamp}
 use Rattle.xa_events.specs.declared.event.Event.{Event}
 use Rattle.xa_events.specs.declared.event.Event.TheVariants.{Answer}
 use Rattle.xa_events.specs.declared.event.Replied.{Replied}
-use Rattle.xa_events.specs.Answers.{reply_of, answer_to}
-use Rattle.xa_events.specs.Homes.{Home}
-use Rattle.xa_events.specs.Request.{settlement_in}
+use Rattle.xa_events.specs.Answers.{answer_to}
+use Rattle.xa_events.specs.Homes.{Home, home_of}
 use Rattle.xa_stamp.specs.declared.home.Stamped.{Stamped}
 use Rattle.xa_cell.specs.declared.view.Fill.{Fill}
 use Rattle.xa_cell.specs.declared.view.View.{View}
 use Rattle.xa_cell.specs.Views.{at}
 use Rattle.xa_caller.specs.declared.cargo.Filling.{Filling}
+use Rattle.xa_server.specs.Told.{EndedFor}
 
 -- the answer, noted with that stamp, is a filling that this seat took from a cell, for the same request
 pub record TookFor (v : View Filling) (stamp : Stamp) (a : Replied) : Type 0 where
@@ -34,18 +35,14 @@ WasTaken v stamp _ = Unit {0}
 abbrev pub AnswersTaken : View Filling → List Stamped → Type 0
 AnswersTaken v own = All (λ x. WasTaken v x.stamp x.event) own
 
--- the request of the filling was settled among these events, by an end or a sweep with the stamp that the filling carries, and the filling is the
--- reply to that
-pub record EndedFor (entries : List Stamped) (fill : Fill Filling) : Type 0 where
-  pub entry : Stamped
-  pub stands : Contains entries entry
-  pub stamped : entry.stamp ≡ fill.answer.stamp
-  pub settled : IsSomeAnd (settlement_in fill.opening.request entry.event) (λ s. fill.answer.answer ≡ reply_of s)
-
--- at some home
+-- the request of the filling was ended or swept at some home, no later than the filling's stamp, and the filling is the reply to that
 abbrev pub HasEnd : (Home → List Stamped) → Fill Filling → Type 0
 HasEnd entries fill = (home : Home) × EndedFor (entries home) fill
 
 -- so it is with each filling of the seat
 pub record AllEnded (entries : Home → List Stamped) (v : View Filling) : Type 0 where
   pub each : (k : ℕ) → All (HasEnd entries) (at k v).filled
+
+-- each of these entries stands at its event's home
+abbrev pub StandAt : Setup → ℕ → (Home → List Stamped) → List Stamped → Type 0
+StandAt setup clients entries own = (x : Stamped) → Contains own x → Contains (entries (home_of setup clients x.event)) x

@@ -1,5 +1,5 @@
 //! From what each worker knows of its seat to what is told of all workers' homes.
-ghost use Rattle.std.specs.Prelude.{◌≡◌, ℕ, Option, List, [], ◌∷◌, ◌++◌};
+ghost use Rattle.std.specs.Prelude.{◌≡◌, ℕ, ◌<◌, Option, List, [], ◌∷◌, ◌++◌};
 ghost use Rattle.std.specs.List.{All, Contains};
 ghost use Rattle.xa_types.specs.declared.data.Kind.{Kind};
 ghost use Rattle.xa_types.specs.declared.ids.RequestId.{RequestId};
@@ -10,6 +10,9 @@ ghost use Rattle.xa_events.specs.declared.event.Event.TheVariants.{Answer};
 ghost use Rattle.xa_events.specs.declared.event.Replied.{Replied};
 ghost use Rattle.xa_events.specs.Homes.{Home};
 ghost use Rattle.xa_stamp.specs.declared.home.Stamped.{Stamped};
+ghost use Rattle.xa_lock.specs.declared.makers.Made.{Made};
+ghost use Rattle.xa_lock.specs.Makers.{noted_in};
+ghost use Rattle.xa_crew.specs.Crew.{IsCrew};
 ghost use Rattle.xa_crew.specs.Seen.{WasTold};
 ghost use Rattle.xa_cell.specs.declared.tokens.Seat.{Seat};
 ghost use Rattle.xa_cell.specs.declared.view.Opening.{Opening};
@@ -28,7 +31,8 @@ ghost use Rattle.xa_caller.specs.declared.cargo.Filling.{Filling};
 ghost use Rattle.xa_caller.specs.Caller.{Standing as Caller};
 ghost use Rattle.xa_caller.specs.Changes.{Answers};
 ghost use Rattle.xa_told.specs.Growing.{Grows};
-ghost use Rattle.xa_told.specs.Told.{TookFor, WasTaken, AnswersTaken, HasEnd, AllEnded};
+ghost use Rattle.xa_server.specs.Told.{FilledByEnds};
+ghost use Rattle.xa_told.specs.Told.{TookFor, WasTaken, AnswersTaken, HasEnd, AllEnded, StandAt};
 
 /// What a seat took and filled stands behind each call of it, and behind any sequence of calls.
 pub fn seats_see_more()
@@ -77,4 +81,21 @@ pub fn answers_were_told()
         → (seat : Seat Filling) → Contains seats seat → (stamp : Stamp) (a : Replied) → TookFor (known seat) stamp a → (own : List Event) → WasTold setup clients entries stamp own (Answer a) }
     ensures each { (setup : Setup) (clients : ℕ) (entries : Home → List Stamped) (seats : List (Seat Filling)) → ((k : ℕ) → Answered k seats) → All (λ s. AllEnded entries (known s)) seats
         → (seat : Seat Filling) → Contains seats seat → (own : List Stamped) → AnswersTaken (known seat) own → All (λ x. (a : Replied) → x.event ≡ Answer a → (before : List Event) → WasTold setup clients entries x.stamp before (Answer a)) own }
+{}
+
+/// Where all that a worker noted stands at the homes, each filling of its seat that has its end or its sweep among that has
+/// it at a home: an end at the worker's own, a sweep at its queue's.
+pub fn own_ends_stand()
+    ensures { (setup : Setup) (clients : ℕ) (entries : Home → List Stamped) (own : List Stamped) (v : View Filling) → StandAt setup clients entries own → FilledByEnds own v → AllEnded entries v }
+{}
+
+/// Each filling has its end or its sweep among a worker's entries also behind a call of its seat that fills nothing.
+pub fn own_ends_are_kept()
+    ensures keeps { (own : List Stamped) (v w : View Filling) → Keeps v w → FilledByEnds own v → FilledByEnds own w }
+    ensures takes { (own : List Stamped) (k : ℕ) (a : Filling) (v w : View Filling) → TakesMore k a v w → FilledByEnds own v → FilledByEnds own w }
+{}
+
+/// All that a worker of a crew noted stands at the homes.
+pub fn crews_stand()
+    ensures { (setup : Setup) (clients workers : ℕ) (kept : Home → List Made) (noted : ℕ → List Stamped) → IsCrew setup clients workers kept noted → (worker : ℕ) → worker < workers → StandAt setup clients (λ home. noted_in (kept home)) (noted worker) }
 {}
