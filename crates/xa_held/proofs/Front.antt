@@ -61,7 +61,7 @@ module _ {A D : Type 0} where
 
 -- ---- the events with their makers
 
-made_in-notes : (A : Type 0) (entries : List Made) → flat_map (made_of {A = A}) (map (note {A = A}) entries) ≡ entries
+pub made_in-notes : (A : Type 0) (entries : List Made) → flat_map (made_of {A = A}) (map (note {A = A}) entries) ≡ entries
 made_in-notes A [] = refl
 made_in-notes A (m ∷ entries) = ap (λ (l : List Made). m ∷ l) (made_in-notes A entries)
 

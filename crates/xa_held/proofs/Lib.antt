@@ -3,3 +3,7 @@ pub mod Keeping
 pub mod Passing
 pub mod Climbing
 pub mod BoardPassing
+pub mod Lefts
+pub mod Fronts
+pub mod Standing
+pub mod Owning

@@ -7,3 +7,4 @@ pub mod Board
 pub mod BoardSteps
 pub mod InnerBoard
 pub mod BoardVisits
+pub mod Joins

@@ -1,0 +1,77 @@
+-- Servers that are given up, as the machine has it.
+use Rattle.std.proofs.Common.{◌≡◌, ℕ, ◌<◌, ◌≤◌, ◌==◌, ◌||◌, true, inl, inr, List, [], ◌∷◌, ◌++◌, map, reverse, refl, sym, ap, ◌∙◌, arith, eq-eqb, eqb-true}
+use Rattle.std.specs.List.{flat_map, list_any}
+use Rattle.std.proofs.lemmas.Bool.{cases_Bool, and_parts, false≢true}
+use Rattle.std.proofs.lemmas.Grind.{flat_map-append}
+use Rattle.std.proofs.lemmas.List.{map-append}
+use Rattle.std.proofs.lemmas.List.Elements.{All-weaker}
+use Rattle.xa_types.specs.declared.ids.ServerId.{ServerId}
+use Rattle.xa_types.specs.declared.setup.Setup.{Setup}
+use Rattle.xa_types.specs.declared.stamp.Stamp.{Stamp}
+use Rattle.xa_types.specs.Setup.{queue_of}
+use Rattle.xa_events.specs.declared.event.Event.{Event}
+use Rattle.xa_events.specs.declared.event.Event.TheVariants.{Gone}
+use Rattle.xa_events.specs.Server.{AllGone, is_gone, is_gone_of}
+use Rattle.xa_stamp.specs.declared.home.Stamped.{Stamped}
+use Rattle.xa_lock.specs.declared.makers.Made.{Made}
+use Rattle.xa_lock.specs.declared.pass.Page.{Page}
+use Rattle.xa_lock.specs.Pages.{StartsWith}
+use Rattle.xa_lock.specs.Makers.{noted_in}
+use Rattle.xa_crew.specs.Seen.{past_in, SawFront}
+use Rattle.xa_queue.specs.Queue.{IsSound, gives_up, has_server, all_gone, none_left}
+use Rattle.xa_queue.proofs.Waiting.{eqb-flips, list_any-reverse}
+use Rattle.xa_held.specs.declared.kept_queue.QueueNote.{QueueNote}
+use Rattle.xa_held.specs.declared.kept_queue.QueueNote.TheVariants.{Opened, By}
+use Rattle.xa_held.specs.Notes.{events_in, made_of}
+use Rattle.xa_held.specs.Kept.{Kept}
+use Rattle.xa_held.specs.Joins.{events_at, HasServers, SawLeft}
+
+gone_one : (server : ℕ) (e : Event) (rest : List ServerId) → list_any (λ g. server == g.0) (gives_up e ++ rest) ≡ (is_gone_of server e || list_any (λ g. server == g.0) rest)
+gone_one server (Gone s) rest = ap (λ b. b || list_any (λ g. server == g.0) rest) (eqb-flips server s.0)
+gone_one server _ rest = refl
+
+gone_read : (server : ℕ) (events : List Event) → list_any (λ g. server == g.0) (flat_map gives_up events) ≡ list_any (is_gone_of server) events
+gone_read server [] = refl
+gone_read server (e ∷ events) = gone_one server e (flat_map gives_up events) ∙ ap (λ b. is_gone_of server e || b) (gone_read server events)
+
+is_among : (server : ℕ) (gone servers : List ServerId) → all_gone gone servers ≡ true → list_any (λ own. server == own.0) servers ≡ true → list_any (λ g. server == g.0) gone ≡ true
+is_among server gone [] all own = absurd (false≢true own)
+is_among server gone (s ∷ servers) all own =
+    let parts = and_parts (has_server s gone) (all_gone gone servers) all in
+    elim (cases_Bool (server == s.0)) [
+      | inl so ↦ ap (λ n. list_any (λ g. n == g.0) gone) (eqb-true server s.0 so) ∙ parts.0
+      | inr not_so ↦ is_among server gone servers parts.1 (sym (ap (λ b. b || list_any (λ own. server == own.0) servers) not_so) ∙ own)
+    ]
+
+-- events that give up each of these servers leave none at a queue that has them
+all_gone-read : (setup : Setup) (queue : ℕ) (servers : List ServerId) (events : List Event) → HasServers setup queue servers → all_gone (flat_map gives_up events) servers ≡ true → AllGone setup queue (reverse events)
+unfolding is_gone
+all_gone-read setup queue servers events has all = λ server low high at.
+    list_any-reverse (is_gone_of server) events ∙ sym (gone_read server events) ∙ is_among server (flat_map gives_up events) servers all (sym (has server) ∙ eq-eqb (queue_of setup server) queue at)
+
+events_in-at : (A : Type 0) (notes : List (QueueNote A)) → events_in notes ≡ map (λ (noted : Stamped). noted.event) (events_at notes)
+events_in-at A [] = refl
+events_in-at A (Opened s ∷ notes) = events_in-at A notes
+events_in-at A (By m ∷ notes) = ap (λ (l : List Event). m.noted.event ∷ l) (events_in-at A notes)
+
+pub kept_gone : {A D : Type 0} (setup : Setup) (k : Kept A D) → IsSound k.queue → none_left k.queue ≡ true → HasServers setup k.queue.id.0 k.queue.servers → AllGone setup k.queue.id.0 (past_in (noted_in k.queue.entries))
+kept_gone setup k sound none has =
+    all_gone-read setup k.queue.id.0 k.queue.servers (map (λ (noted : Stamped). noted.event) (noted_in k.queue.entries)) has (ap (λ l. all_gone l k.queue.servers) (sym sound.given_up) ∙ none)
+
+pub seen_gone : {A : Type 0} (setup : Setup) (queue : ℕ) (seen : Stamp) (p : Page (QueueNote A)) → SawLeft setup queue seen p → AllGone setup queue (past_in (events_at p.seen))
+seen_gone {A} setup queue seen p left =
+    all_gone-read setup queue left.its.servers (map (λ (noted : Stamped). noted.event) (events_at p.seen)) left.servers (ap (λ l. all_gone (flat_map gives_up l) left.its.servers) (sym (events_in-at A p.seen)) ∙ left.gone)
+
+pub events_front : (A : Type 0) (now seen : List (QueueNote A)) → StartsWith now seen → StartsWith (events_at now) (events_at seen)
+events_front A now seen begins =
+    let made : List (QueueNote A) → List Made = λ notes. flat_map (made_of {A = A}) notes in
+    let bare : Made → Stamped = λ (z : Made). z.noted in
+    (noted_in (made begins.0), ap (λ l. noted_in (made l)) begins.1 ∙ ap noted_in (flat_map-append (made_of {A = A}) seen begins.0) ∙ map-append bare (made seen) (made begins.0))
+
+pub gone_front : {A : Type 0} (setup : Setup) (queue : ℕ) (seen stamp : Stamp) (p : Page (QueueNote A)) (now : List (QueueNote A)) → SawLeft setup queue seen p → StartsWith now p.seen → seen.0 < stamp.0 → SawFront (events_at now) stamp (AllGone setup queue)
+gone_front {A} setup queue seen stamp p now left begins less = record {
+  front = events_at p.seen;
+  stands = events_front A now p.seen begins;
+  before = All-weaker (λ (x : Stamped). x.stamp.0 ≤ seen.0) (λ (x : Stamped). x.stamp.0 < stamp.0) (λ x low. omega (arith, low, less)) (events_at p.seen) left.reached;
+  shows = seen_gone setup queue seen p left;
+}
