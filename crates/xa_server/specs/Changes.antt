@@ -18,12 +18,12 @@ use Rattle.xa_types.specs.declared.stamp.Worn.{Worn}
 use Rattle.xa_types.specs.declared.reply.Answer.{Answer}
 use Rattle.xa_queue.specs.declared.entry.Entry.{Entry}
 use Rattle.xa_caller.specs.Drafts.{Cargo}
+use Rattle.xa_caller.specs.declared.cargo.Invocation.{Invocation}
 use Rattle.xa_server.specs.declared.closing.Closing.{Closing}
 use Rattle.xa_restart.specs.Rule.{Standing as Restarts, may_start_by}
 use Rattle.xa_work.specs.Work.{Standing, theirs}
 use Rattle.xa_server.specs.Noting.{Notes, IsWorn, with_room}
 use Rattle.xa_server.specs.declared.slot.ServerSlot.{ServerSlot}
-use Rattle.xa_server.specs.declared.slot.Invocation.{Invocation}
 use Rattle.xa_server.specs.declared.slot.Last.TheVariants.{Nothing}
 use Rattle.xa_server.specs.Doings.{last_by, life_in, outcome_of}
 
@@ -77,9 +77,7 @@ pub record IsTakeOf (request : RequestId) (event : Event) (slot : ServerSlot) : 
 pub record Invokes (hand : Option (Entry Cargo)) (invocation : Invocation) : Type 0 where
   pub entry : Entry Cargo
   pub in_hand : hand ≡ Some entry
-  pub service : invocation.service.now ≡ entry.cargo.service
-  pub routine : invocation.routine.now ≡ entry.cargo.routine
-  pub payload : invocation.payload.now ≡ entry.cargo.payload
+  pub sent : invocation ≡ entry.cargo.«data»
 
 -- the request in hand ended so, by an event with that stamp, and is in hand still
 pub record Ends (outcome : Outcome) (stamp : Stamp) (slot' slot : ServerSlot) (new old : Standing) : Type 0 where

@@ -14,7 +14,7 @@ ghost use Rattle.xa_events.specs.declared.event.Event.TheVariants.{Sweep};
 ghost use Rattle.xa_events.specs.declared.event.Outcome.{Outcome};
 ghost use Rattle.xa_events.specs.declared.event.StopCause.{StopCause};
 ghost use Rattle.xa_queue.specs.declared.entry.Entry.{Entry};
-ghost use Rattle.xa_caller.specs.declared.cargo.Cargo.{Cargo};
+ghost use Rattle.xa_caller.specs.Drafts.{Cargo};
 ghost use Rattle.xa_events.specs.Answers.{reply_of};
 ghost use Rattle.xa_events.specs.Request.Settlement.{EndedBy, SweptAway};
 ghost use Rattle.xa_stamp.specs.declared.home.Stamped.{Stamped};

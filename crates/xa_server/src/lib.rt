@@ -8,4 +8,4 @@ mod noting;
 mod slot;
 
 pub use closing::{Closing, Given};
-pub use slot::{Invocation, Last, ServerSlot};
+pub use slot::{Last, ServerSlot};

@@ -21,11 +21,11 @@ use crate::noting::{note_anew, note_in_room};
 use std::alloc::Global;
 use std::mem;
 use std::snapshot::Snapshot;
-use xa_caller::{Caller, Cargo};
+use xa_caller::{Caller, Cargo, Invocation};
 use xa_events::{Doing, Ended, Event, Outcome, Started, StopCause, Stopped};
 use xa_queue::Entry;
 use xa_restart::Lives;
-use xa_types::{Answer, Data, Fault, Generation, Name, Rval, ServerId, Stamp, Worn};
+use xa_types::{Answer, Data, Fault, Generation, Rval, ServerId, Stamp, Worn};
 use xa_work::Halt;
 
 /// How the request ended that the server ended last, where it has done nothing since.
@@ -50,14 +50,6 @@ pub struct ServerSlot {
     last: Last,
     gone: bool,
     shut: bool,
-}
-
-/// What is sent to the server's child for a request: its life gives the number.
-#[derive(Clone, Copy)]
-pub struct Invocation<'a> {
-    pub service: &'a Name,
-    pub routine: &'a Name,
-    pub payload: &'a Data,
 }
 
 // The life that the server is in; 0 where it is off.
@@ -267,18 +259,14 @@ impl ServerSlot {
         self.last = Last::Nothing;
     }
 
-    /// The request in hand, as it is sent to the child. It takes no memory.
-    pub fn invocation(&self) -> Invocation<'_>
+    /// The request in hand, as it is sent to the child; the child's life gives the number. It takes no memory.
+    pub fn invocation(&self) -> &Invocation
         requires stands { InHand self.now.doing self.now.hand }
         requires busy { IsBusy self.now.doing }
-        ensures { Invokes self.now.hand result }
+        ensures { Invokes self.now.hand result.now }
     {
         match &self.hand {
-            Some(entry) => Invocation {
-                service: &entry.cargo.service,
-                routine: &entry.cargo.routine,
-                payload: &entry.cargo.payload,
-            },
+            Some(entry) => &entry.cargo.data,
             None => unreachable!(),
         }
     }
