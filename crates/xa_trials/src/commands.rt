@@ -28,7 +28,7 @@ static ROWS: [Row; 26] = [
     (
         &["play", "ECHO"],
         (b"client a\nbogus\n", &[], &[]),
-        End::BadLine(2, 9),
+        End::BadLine(2, 2),
         b"",
     ),
     (

@@ -22,12 +22,22 @@ const TWO: &[u8] = b"[[queue]]\nname = \"P\"\n[[queue]]\nname = \"Q\"\n\
     [[service]]\nname = \"DIE\"\nqueues = [\"P\", \"Q\"]\n\
     [[service]]\nname = \"ECHO\"\nqueues = [\"Q\"]\n";
 
+// A shape, and services that take octets alone, or all kinds.
+const TYPED: &[u8] = b"[[shape]]\nname = \"entry\"\n\
+    fields = [\"account int\", \"amount long\", \"memo string 16\"]\n\
+    [[queue]]\nname = \"Q\"\n\
+    [[server]]\nname = \"S\"\nqueue = \"Q\"\n\
+    [[service]]\nname = \"ECHO\"\nqueues = [\"Q\"]\naccepts = [\"octet\"]\n\
+    [[service]]\nname = \"ANY\"\nroutine = \"ECHO\"\nqueues = [\"Q\"]\n\
+    [[service]]\nname = \"LEN\"\nqueues = [\"Q\"]\n\
+    [[service]]\nname = \"ACCT\"\nqueues = [\"Q\"]\n";
+
 const ONCE: &[u8] = b"client a\ncall ECHO none\n";
 
 // The configuration, the script with its faults, how it ends, and what is written.
 type Row = (&'static [u8], Script<'static>, End, &'static [u8]);
 
-static ROWS: [Row; 19] = [
+static ROWS: [Row; 22] = [
     (ONE, (b"client a\n", &[], &[]), End::Done, b""),
     // Clients without calls before and behind one with a call.
     (
@@ -73,6 +83,42 @@ static ROWS: [Row; 19] = [
         End::Done,
         b"a 1 TPEITYPE\na 2 OK 0 none\n",
     ),
+    // The most octets, and one more.
+    (
+        TYPED,
+        (
+            b"client a\ncall LEN fill 65536 61\ncall LEN fill 65537 61\n",
+            &[],
+            &[],
+        ),
+        End::Done,
+        b"a 1 OK 65536 none\na 2 TPEINVAL\n",
+    ),
+    // Data of a kind that is taken, or isn't; and a buffer that a reply of another kind may not change.
+    (
+        TYPED,
+        (
+            b"client a\ncall ECHO c entry\ncall ECHO octet 6b\ncall ANY c entry account=7 nochange octet\n\
+            call ANY text \"k\" nochange octet\ncall ANY none nochange c:entry\ncall ANY none noreply\n",
+            &[],
+            &[],
+        ),
+        End::Done,
+        b"a 1 TPEITYPE\na 2 OK 0 octet 6b\na 3 TPEOTYPE\na 4 OK 0 octet 6b\na 5 OK 0 none\na 6 TPEINVAL\n",
+    ),
+    // An entry that is booked, and one that isn't.
+    (
+        TYPED,
+        (
+            b"client a\ncall ACCT c entry account=7 amount=250 memo=\"rent\"\n\
+            call ACCT c entry memo=\"void\" amount=-1 account=12\n",
+            &[],
+            &[],
+        ),
+        End::Done,
+        b"a 1 OK 0 c:entry 0000000700000000000000fa626f6f6b656400000000000000000000\n\
+        a 2 TPESVCFAIL 2 c:entry 0000000cffffffffffffffff766f6964000000000000000000000000\n",
+    ),
     // The next client is told that no server is left.
     (
         ONE,
@@ -100,7 +146,7 @@ static ROWS: [Row; 19] = [
     (
         ONE,
         (b"client a\nbogus\n", &[], &[]),
-        End::BadLine(2, 9),
+        End::BadLine(2, 2),
         b"",
     ),
     // A fault of the configuration is told before the script is read.
