@@ -3,3 +3,4 @@ pub mod Noting
 pub mod Slot
 pub mod Changes
 pub mod Told
+pub mod Served

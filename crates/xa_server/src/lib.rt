@@ -5,7 +5,9 @@
 mod closing;
 pub mod laws;
 mod noting;
+mod served;
 mod slot;
 
 pub use closing::{Closing, Given};
+pub use served::Served;
 pub use slot::{Last, ServerSlot};

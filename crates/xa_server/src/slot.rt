@@ -177,7 +177,7 @@ impl ServerSlot {
     }
 
     // Its next life, started at that tick.
-    fn next(&self, caller: &Caller, tick: u64) -> Started
+    pub(crate) fn next(&self, caller: &Caller, tick: u64) -> Started
         requires { self.now.made ≤ caller.now.work.stamp.0 }
         ensures { result ≡ record { server = self.now.server; generation = record { 0 = self.now.made + 1 }; tick = tick } }
     {

@@ -1,0 +1,40 @@
+-- A server's slot with its starter and its lives (this project's own).
+use Rattle.std.specs.Prelude.{◌≡◌, ◌⊎◌, ℕ, List, Option, Some, None}
+use Rattle.xa_types.specs.declared.ids.Generation.{Generation}
+use Rattle.xa_link.specs.Told.{Empty, Rose}
+use Rattle.xa_pipe.specs.Life.{LinkShows}
+use Rattle.xa_pipe.specs.Standing.{Standing as Life}
+use Rattle.xa_pipe.specs.Changes.{begun}
+use Rattle.xa_work.specs.Work.{Standing}
+use Rattle.xa_work.specs.declared.work.Halt.{Halt}
+use Rattle.xa_server.specs.Noting.{HaltsWith}
+use Rattle.xa_server.specs.declared.slot.ServerSlot.{ServerSlot}
+use Rattle.xa_server.specs.Changes.{Starts, FailsToStart, next_life}
+
+-- nothing went through the link of that life, and nothing failed
+pub record IsFresh (name : List ℕ) (generation : Generation) (link : LinkShows) : Type 0 where
+  pub took : Empty link.took
+  pub gave : Empty link.gave
+  pub reads : link.reads ≡ 0
+  pub writes : link.writes ≡ 0
+  pub whose : link.whose ≡ Some (name, generation)
+
+-- the next life was started and has begun
+pub record Begins (name : List ℕ) (tick : ℕ) (life : Life) (slot' slot : ServerSlot) (new old : Standing) : Type 0 where
+  pub starts : Starts tick (next_life slot) slot' slot new old
+  pub is : life ≡ begun name slot.server (next_life slot) life.link
+  pub fresh : IsFresh name (next_life slot) life.link
+
+-- a life has begun, or none, where the start failed
+abbrev pub Tries : List ℕ → ℕ → Option Life → ServerSlot → ServerSlot → Standing → Standing → Type 0
+Tries name tick (Some life) slot' slot new old = Begins name tick life slot' slot new old
+Tries name tick None slot' slot new old = FailsToStart tick (next_life slot) slot' slot new old
+
+-- the starter counted a fault where no life has begun, and none else
+abbrev pub Counts : Option Life → ℕ → ℕ → Type 0
+Counts (Some life) before now = now ≡ before
+Counts None before now = Rose before now
+
+-- at a halt nothing was noted, whether the start had failed or not
+abbrev pub Halts : Standing → Standing → Halt → Type 0
+Halts new old halt = HaltsWith 3 new old halt ⊎ HaltsWith 1 new old halt
