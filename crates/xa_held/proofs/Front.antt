@@ -51,12 +51,12 @@ module _ {A : Type 0} where
       let here : list_any p (events_in front) ≡ true = sym (list_any-reverse p (events_in front)) ∙ down in
       list_any-reverse p (events_in whole) ∙ ap (list_any p) (ap events_in begins.1 ∙ events_in-append front begins.0) ∙ list_any-append p (events_in front) (events_in begins.0) ∙ or_left (list_any p (events_in front)) (list_any p (events_in begins.0)) here
 
-module _ {A D : Type 0} where
+module _ {A : Type 0} where
   -- so the queue reads
-  pub is_deserted : (k : Kept A D) → IsSound k.queue → all_gone (gone_in (notes_of k)) k.queue.servers ≡ true → none_left k.queue ≡ true
+  pub is_deserted : (k : Kept A) → IsSound k.queue → all_gone (gone_in (notes_of k)) k.queue.servers ≡ true → none_left k.queue ≡ true
   is_deserted k sound all = ap (λ l. all_gone l k.queue.servers) (sound.given_up ∙ sym (ap (flat_map gives_up) (events_in-notes A k.queue.entries))) ∙ all
 
-  pub is_fallen : (k : Kept A D) → IsSound k.queue → is_down_in k.queue.id.0 (notes_of k) ≡ true → k.queue.down ≡ true
+  pub is_fallen : (k : Kept A) → IsSound k.queue → is_down_in k.queue.id.0 (notes_of k) ≡ true → k.queue.down ≡ true
   is_fallen k sound down = sound.fallen ∙ ap (λ l. is_down k.queue.id.0 (reverse l)) (sym (events_in-notes A k.queue.entries)) ∙ down
 
 -- ---- the events with their makers
@@ -78,8 +78,8 @@ cond-opened : {A : Type 0} (b : Bool) (s : Setting A) (notes : List (QueueNote A
 cond-opened true s notes = refl
 cond-opened false s notes = refl
 
-pub knows_events : {A D : Type 0} (p : Page (QueueNote A)) (k : Kept A D) → Knows maker_of p (notes_of k) → Knows made_maker (made_page p) k.queue.entries
-knows_events {A} {D} p k knows =
+pub knows_events : {A : Type 0} (p : Page (QueueNote A)) (k : Kept A) → Knows maker_of p (notes_of k) → Knows made_maker (made_page p) k.queue.entries
+knows_events {A} p k knows =
     let made : List (QueueNote A) → List Made = λ notes. flat_map (made_of {A = A}) notes in
     let own : entries_by made_maker p.maker k.queue.entries ≡ made p.own =
     sym (made_in-by A p.maker k.queue.entries) ∙ sym (cond-opened (0 == p.maker) (setting_of k) (entries_by maker_of p.maker (map (note {A = A}) k.queue.entries))) ∙ ap made knows.0 in

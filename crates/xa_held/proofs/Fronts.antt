@@ -24,12 +24,12 @@ use Rattle.xa_crew.proofs.Lists.{past_in-append}
 use Rattle.xa_board.specs.Board.{Standing, ReadsAsNoted, past_of, version_of, put_of}
 use Rattle.xa_board.specs.Changes.{is_on, rows_on}
 use Rattle.xa_held.specs.declared.kept_board.BoardNote.{BoardNote}
-use Rattle.xa_held.specs.declared.kept_board.BoardNote.TheVariants.{By, Looked}
+use Rattle.xa_held.specs.declared.kept_board.BoardNote.TheVariants.{Opened, By, Looked}
 use Rattle.xa_held.specs.declared.kept_board.Clearing.TheVariants.{Clear}
 use Rattle.xa_held.specs.declared.kept_queue.QueueNote.{QueueNote}
 use Rattle.xa_held.specs.Board.{Held, IsSoundBoard, Climbs, top, made_of, made_in, maker_of}
 use Rattle.xa_held.specs.BoardSteps.{ClearedAs}
-use Rattle.xa_held.specs.BoardVisits.{BoardVisits}
+use Rattle.xa_held.specs.BoardVisits.{SeesBoard, BoardVisits}
 use Rattle.xa_held.specs.Kept.{Kept, notes_of}
 use Rattle.xa_held.specs.Joins.{changes_page, changes_at, events_at, SawLeft}
 use Rattle.xa_held.proofs.Climbing.{behind-look}
@@ -40,14 +40,15 @@ cond-made : (b : Bool) (m : Made) (notes : List BoardNote) → made_in (cond b (
 cond-made true m notes = refl
 cond-made false m notes = refl
 
-cond-looked : (b : Bool) (look : BoardNote) (notes : List BoardNote) → made_of look ≡ [] → made_in (cond b (look ∷ notes) notes) ≡ made_in notes
-cond-looked true look notes none = ap (λ (l : List Made). l ++ made_in notes) none
-cond-looked false look notes none = refl
+cond-other : (b : Bool) (other : BoardNote) (notes : List BoardNote) → made_of other ≡ [] → made_in (cond b (other ∷ notes) notes) ≡ made_in notes
+cond-other true other notes none = ap (λ (l : List Made). l ++ made_in notes) none
+cond-other false other notes none = refl
 
 made_in-by : (maker : ℕ) (notes : List BoardNote) → made_in (entries_by maker_of maker notes) ≡ entries_by made_maker maker (made_in notes)
 made_in-by maker [] = refl
+made_in-by maker (Opened setup ∷ notes) = cond-other (0 == maker) (Opened setup) (entries_by maker_of maker notes) refl ∙ made_in-by maker notes
 made_in-by maker (By m ∷ notes) = cond-made (m.maker.0 == maker) m (entries_by maker_of maker notes) ∙ ap (λ (l : List Made). cond (m.maker.0 == maker) (m ∷ l) l) (made_in-by maker notes)
-made_in-by maker (Looked look ∷ notes) = cond-looked (look.maker.0 == maker) (Looked look) (entries_by maker_of maker notes) refl ∙ made_in-by maker notes
+made_in-by maker (Looked look ∷ notes) = cond-other (look.maker.0 == maker) (Looked look) (entries_by maker_of maker notes) refl ∙ made_in-by maker notes
 
 made_in-front : (now seen : List BoardNote) → StartsWith now seen → StartsWith (made_in now) (made_in seen)
 made_in-front now seen begins = (made_in begins.0, ap made_in begins.1 ∙ flat_map-append made_of seen begins.0)
@@ -61,20 +62,38 @@ changes_front now seen begins =
     (noted_in made.0, ap noted_in made.1 ∙ map-append (λ (z : Made). z.noted) (made_in seen) made.0)
 
 -- no stamp is greater than the last one
-below_top : (least : ℕ) (notes : List BoardNote) → Climbs least notes → (least ≤ top least notes) × All (λ (x : Stamped). x.stamp.0 ≤ top least notes) (changes_at notes)
+pub below_top : (least : ℕ) (notes : List BoardNote) → Climbs least notes → (least ≤ top least notes) × All (λ (x : Stamped). x.stamp.0 ≤ top least notes) (changes_at notes)
 below_top least [] climbs = (omega arith, All-nil (λ (x : Stamped). x.stamp.0 ≤ least))
+below_top least (Opened s ∷ notes) climbs = below_top least notes climbs
 below_top least (By m ∷ notes) climbs =
     let rest = below_top m.noted.stamp.0 notes climbs.1 in
     (omega (arith, climbs.0, rest.0), All-cons (λ (x : Stamped). x.stamp.0 ≤ top m.noted.stamp.0 notes) m.noted (changes_at notes) rest.0 rest.1)
 below_top least (Looked l ∷ notes) climbs = let rest = below_top l.stamp.0 notes climbs.1 in (omega (arith, climbs.0, rest.0), rest.1)
 
 -- more changes make no lower version
-published-front : (now seen : List Stamped) → StartsWith now seen → published (past_in seen) ≤ published (past_in now)
+pub published-front : (now seen : List Stamped) → StartsWith now seen → published (past_in seen) ≤ published (past_in now)
 unfolding published changes
 published-front now seen begins =
     let parts : changes (past_in now) ≡ changes (past_in begins.0) ++ changes (past_in seen) = ap (λ l. changes (past_in l)) begins.1 ∙ ap changes (past_in-append seen begins.0) ∙ filter_map-append change_in (past_in begins.0) (past_in seen) in
     let count : published (past_in now) ≡ published (past_in begins.0) + published (past_in seen) = ap length parts ∙ length-append (changes (past_in begins.0)) (changes (past_in seen)) in
     omega (arith, count)
+
+-- the version is no lower than that of what was seen
+pub version_grows : (seen : List BoardNote) (board : Held) → StartsWith board.notes seen → IsSoundBoard board → published (past_in (changes_at seen)) ≤ version_of board.board
+version_grows seen board begins sound =
+    let least = published-front (changes_at board.notes) (changes_at seen) (changes_front board.notes seen begins) in
+    let whole : published (past_in (changes_at board.notes)) ≡ version_of board.board = ap (λ (l : List Stamped). published (past_in l)) sound.noted in
+    omega (arith, least, whole)
+
+-- who saw by what setup the rows are sees it behind more, and so a pass that has left
+pub sees_on : (setup : Setup) (p p' : Page BoardNote) → StartsWith p'.seen p.seen → SeesBoard setup p → SeesBoard setup p'
+sees_on setup p p' begins sees = record { rest = sees.rest ++ begins.0; seen = begins.1 ∙ ap (λ (l : List BoardNote). l ++ begins.0) sees.seen }
+
+pub seen_more : (p p' : Page BoardNote) (more : List BoardNote) {How : Held → Held → Type 0} → BoardVisits p p' more How → StartsWith p'.seen p.seen
+seen_more p p' more v = (v.knew.1.0 ++ more, v.saw ∙ v.grew ∙ ap (λ (l : List BoardNote). l ++ more) v.knew.1.1 ∙ append_assoc p.seen v.knew.1.0 more)
+
+pub sees_still : (setup : Setup) (p p' : Page BoardNote) (more : List BoardNote) {How : Held → Held → Type 0} → BoardVisits p p' more How → SeesBoard setup p → SeesBoard setup p'
+sees_still setup p p' more v sees = sees_on setup p p' (seen_more p p' more v) sees
 
 other_queue : (service : List ℕ) (queue : ℕ) (row : Row) (b : Bool) → (row.queue.0 == queue) ≡ false → (b && (row.queue.0 == queue)) ≡ false
 other_queue service queue row true apart = apart
@@ -99,7 +118,7 @@ none_on service queue (x ∷ rows) (y ∷ others) same none =
 no_rows : (setup : Setup) (board : Standing) (queue : ℕ) → ReadsAsNoted board → rows_on queue board.rows ≡ [] → NoRows setup queue (past_of board)
 no_rows setup board queue reads none = λ service. none_on service queue board.rows (rows_of_version setup (past_of board) (version_of board)) (reads.standing setup) none
 
-pub deserted : {A D : Type 0} (setup : Setup) (p p' : Page BoardNote) (q : Page (QueueNote A)) (seen stamp later : Stamp) (maker : CallerId) (queue : QueueId) (board : Held) (k : Kept A D)
+pub deserted : {A : Type 0} (setup : Setup) (p p' : Page BoardNote) (q : Page (QueueNote A)) (seen stamp later : Stamp) (maker : CallerId) (queue : QueueId) (board : Held) (k : Kept A)
     → ClearedAs (BoardVisits p p') seen maker queue (Ok (Clear stamp)) → boot setup ≤ published (past_in (changes_at p.seen)) → SawLeft setup queue.0 seen q → stamp.0 < later.0
     → IsSoundBoard board → StartsWith board.notes p'.seen → StartsWith (notes_of k) q.seen → SawDeserted setup queue.0 (noted_in (made_in board.notes)) (noted_in k.queue.entries) later
 unfolding changes_front made_in-front
@@ -132,6 +151,3 @@ deserted {A} setup p p' q seen stamp later maker queue board k visits booted lef
       in_reach = All-weaker (λ (x : Stamped). x.stamp.0 ≤ seen.0) (λ (x : Stamped). x.stamp.0 ≤ stamp.0) (λ x low. omega (arith, low, reach)) (events_at q.seen) left.reached;
       all = seen_gone setup queue.0 seen q left;
     }
-  where
-    seen_more : (p p' : Page BoardNote) (more : List BoardNote) {How : Held → Held → Type 0} → BoardVisits p p' more How → StartsWith p'.seen p.seen
-    seen_more p p' more v = (v.knew.1.0 ++ more, v.saw ∙ v.grew ∙ ap (λ (l : List BoardNote). l ++ more) v.knew.1.1 ∙ append_assoc p.seen v.knew.1.0 more)

@@ -2,7 +2,7 @@
 use Rattle.std.proofs.Common.{◌≡◌, ℕ, ◌+◌, ◌==◌, ◌||◌, Bool, true, false, cond, List, [], ◌∷◌, ◌++◌, map, Result, Ok, Err, Option, Some, None, IfOk, IfErr, OnErr, MatchOption, inl, inr, refl, sym, ap, ◌∙◌, subst, append-nil, eq-eqb, ne_eqb}
 use Rattle.std.specs.List.{All, flat_map}
 use Rattle.std.proofs.lemmas.Bool.{cases_Bool, true≢false}
-use Rattle.std.proofs.lemmas.List.Elements.{All-push, All-head, All-tail}
+use Rattle.std.proofs.lemmas.List.Elements.{All-push, All-head, All-tail, All-weaker, Contains-push, Contains-append_left}
 use Rattle.std.proofs.lemmas.List.Folds.{list_any-append}
 use Rattle.xa_types.specs.declared.ids.CallerId.{CallerId}
 use Rattle.xa_types.specs.declared.ids.QueueId.{QueueId}
@@ -13,6 +13,7 @@ use Rattle.xa_types.specs.declared.stamp.Worn.{Worn}
 use Rattle.xa_events.specs.declared.event.Event.{Event}
 use Rattle.xa_events.specs.declared.event.Event.TheVariants.{Accept, Forward, Gone}
 use Rattle.xa_stamp.specs.declared.home.Stamped.{Stamped}
+use Rattle.xa_stamp.specs.declared.told.Noted.{Noted}
 use Rattle.xa_lock.specs.declared.makers.Made.{Made}
 use Rattle.xa_lock.specs.Pages.{entries_by}
 use Rattle.xa_lock.specs.Makers.{noted_in}
@@ -29,8 +30,8 @@ use Rattle.xa_held.specs.declared.cargo.Cargo.{Cargo}
 use Rattle.xa_held.specs.declared.kept_queue.QueueNote.{QueueNote}
 use Rattle.xa_held.specs.declared.kept_queue.QueueNote.TheVariants.{By}
 use Rattle.xa_held.specs.declared.kept_queue.KeptQueue.TheInside.{Inside}
-use Rattle.xa_held.specs.Notes.{maker_of, gives_itself_up, IsOwn, IsOther}
-use Rattle.xa_held.specs.Kept.{Kept, IsRight, setting_of, notes_of, Becomes}
+use Rattle.xa_held.specs.Notes.{one, maker_of, gives_itself_up, IsOwn, IsOther}
+use Rattle.xa_held.specs.Kept.{Kept, IsRight, Brings, IsBrought, setting_of, notes_of, Becomes}
 use Rattle.xa_held.specs.Inner.{kept_of, IsKept}
 use Rattle.xa_held.specs.Steps.{TookAs}
 
@@ -64,75 +65,92 @@ module _ (clients : ℕ) (server : ServerId) (maker : ℕ) (ours : maker ≡ cli
         ] in
         list_any-append (λ (s : ServerId). server.0 == s.0) (gives_up e) (flat_map gives_up (map (λ (noted : Stamped). noted.event) (noted_in rest))) ∙ ap (λ b. b || has_server server (flat_map gives_up (map (λ (noted : Stamped). noted.event) (noted_in rest)))) here ∙ later
 
-module _ {A D : Type 0} where
+module _ {A : Type 0} where
   -- a server is left at the queue, by what stands there
-  pub is_left : (k : Kept A D) (server : ServerId) (maker : ℕ) → maker ≡ k.clients + server.0 → All (IsOwn k.clients) k.queue.entries → IsSound k.queue → All (IsOther server) (entries_by maker_of maker (notes_of k)) → has_server server k.queue.gone ≡ false
+  pub is_left : (k : Kept A) (server : ServerId) (maker : ℕ) → maker ≡ k.clients + server.0 → All (IsOwn k.clients) k.queue.entries → IsSound k.queue → All (IsOther server) (entries_by maker_of maker (notes_of k)) → has_server server k.queue.gone ≡ false
   is_left k server maker ours own sound others =
       ap (has_server server) sound.given_up ∙ not_given_up k.clients server maker ours k.queue.entries own (All-cond (IsOther server) (0 == maker) _ (entries_by maker_of maker (map (note {A = A}) k.queue.entries)) others)
 
-  module _ (k : Inside A D) where
-    abbrev inside : Standing (Cargo A D) → Inside A D
+  module _ (k : Inside A) where
+    abbrev inside : Standing (Cargo A) → Inside A
     inside q = record { queue = q; clients = k.clients; cells = k.cells }
 
-    abbrev Right : Entry (Cargo A D) → Type 0
+    abbrev Right : Entry (Cargo A) → Type 0
     Right entry = IsRight k.cells.value entry
 
-    same_kept : (new : Standing (Cargo A D)) → new ≡ k.queue → IsKept k → IsKept (inside new)
-    same_kept new same i = subst (λ (q : Standing (Cargo A D)). IsKept (inside q)) (sym same) (record { right = i.right; owners = i.owners })
+    abbrev Brought : Entry (Cargo A) → Type 0
+    Brought entry = IsBrought k.queue.entries entry
 
-    stays : (new : Standing (Cargo A D)) {Holds : Kept A D → Type 0} → new ≡ k.queue → Holds (kept_of k) → Becomes (kept_of k) (kept_of (inside new)) [] (λ old new. (new ≡ old) × Holds old)
+    same_kept : (new : Standing (Cargo A)) → new ≡ k.queue → IsKept k → IsKept (inside new)
+    same_kept new same i = subst (λ (q : Standing (Cargo A)). IsKept (inside q)) (sym same) (record { right = i.right; brought = i.brought; owners = i.owners })
+
+    stays : (new : Standing (Cargo A)) {Holds : Kept A → Type 0} → new ≡ k.queue → Holds (kept_of k) → Becomes (kept_of k) (kept_of (inside new)) [] (λ old new. (new ≡ old) × Holds old)
     stays new {Holds} same holds =
-        let whole : Standing (Cargo A D) → Kept A D = λ q. kept_of (inside q) in
-        record { setting = ap (λ q. setting_of (whole q)) same; entries = ap (λ (q : Standing (Cargo A D)). q.entries) same ∙ sym (append-nil k.queue.entries); how = (ap whole same, holds) }
+        let whole : Standing (Cargo A) → Kept A = λ q. kept_of (inside q) in
+        record { setting = ap (λ q. setting_of (whole q)) same; entries = ap (λ (q : Standing (Cargo A)). q.entries) same ∙ sym (append-nil k.queue.entries); how = (ap whole same, holds) }
 
     module _ (seen : Stamp) (maker : CallerId) where
-      one_kept : (stamp : Stamp) (event : Event) (left new : Standing (Cargo A D)) → Notes seen maker stamp event left new k.queue → left.entries ≡ k.queue.entries → All Right left.waiting → gives_itself_up k.clients maker.0 event → IsKept k → IsKept (inside new)
-      one_kept stamp event left new n entries right own i = subst (λ (q : Standing (Cargo A D)). IsKept (inside q)) (sym n.made) (record {
-        right = right;
-        owners = subst (λ (l : List Made). All (IsOwn k.clients) (l ++ record { maker = maker; noted = record { stamp = stamp; event = event } } ∷ [])) (sym entries)
-            (All-push (IsOwn k.clients) k.queue.entries (record { maker = maker; noted = record { stamp = stamp; event = event } }) i.owners own);
-      })
+      -- what stood there before an event stands there behind it
+      still : (stamp : Stamp) (event : Event) (waiting : List (Entry (Cargo A))) → All Brought waiting → All (IsBrought (k.queue.entries ++ one maker stamp event)) waiting
+      still stamp event waiting all = All-weaker Brought (IsBrought (k.queue.entries ++ one maker stamp event))
+          (λ entry b. record { entry_is = b.entry_is; stands = Contains-append_left k.queue.entries (one maker stamp event) b.entry_is b.stands; brings = b.brings }) waiting all
 
-      enters_own : (id : QueueId) (entry : Entry (Cargo A D)) (e : Event) → IsEntry id entry e → gives_itself_up k.clients maker.0 e
+      one_kept : (stamp : Stamp) (event : Event) (left new : Standing (Cargo A)) → Notes seen maker stamp event left new k.queue → left.entries ≡ k.queue.entries → All Right left.waiting → All (IsBrought (k.queue.entries ++ one maker stamp event)) left.waiting → gives_itself_up k.clients maker.0 event → IsKept k → IsKept (inside new)
+      one_kept stamp event left new n entries right brought own i = subst (λ (q : Standing (Cargo A)). IsKept (inside q)) (sym n.made) (subst (λ (l : List Made). IsKept (inside (record left { entries = l ++ one maker stamp event }))) (sym entries) (record {
+        right = right;
+        brought = brought;
+        owners = All-push (IsOwn k.clients) k.queue.entries (record { maker = maker; noted = record { stamp = stamp; event = event } }) i.owners own;
+      }))
+
+      -- where none comes and none leaves
+      pub quiet_kept : (noted : Noted) (event : Event) (left new : Standing (Cargo A)) → NotesAs seen maker noted event left new k.queue → left.entries ≡ k.queue.entries → left.waiting ≡ k.queue.waiting → gives_itself_up k.clients maker.0 event → IsKept k → IsKept (inside new)
+      quiet_kept noted event left new n entries waits own i =
+          one_kept noted.stamp event left new n.notes entries (subst (All Right) (sym waits) i.right) (still noted.stamp event left.waiting (subst (All Brought) (sym waits) i.brought)) own i
+
+      enters_own : (id : QueueId) (entry : Entry (Cargo A)) (e : Event) → IsEntry id entry e → gives_itself_up k.clients maker.0 e
       enters_own id entry (Accept a) its = tt
       enters_own id entry (Forward f) its = tt
       enters_own id entry _ its = absurd its
 
-      pub put_kept : (event : Event) (entry : Entry (Cargo A D)) (r : Result Stamp (PutRefused (Cargo A D))) (new : Standing (Cargo A D)) → IsEntry k.queue.id entry event → Right entry
+      pub put_kept : (event : Event) (entry : Entry (Cargo A)) (r : Result Stamp (PutRefused (Cargo A))) (new : Standing (Cargo A)) → IsEntry k.queue.id entry event → Right entry → Brings entry.request entry.cargo.invocation event
           → IfOk r (λ stamp. Notes seen maker stamp event (with_entry entry k.queue) new k.queue) → OnErr r (new ≡ k.queue) → IsKept k → IsKept (inside new)
-      put_kept event entry (Ok stamp) new its right n same i = one_kept stamp event (with_entry entry k.queue) new n refl (All-push Right k.queue.waiting entry i.right right) (enters_own k.queue.id entry event its) i
-      put_kept event entry (Err back) new its right n same i = same_kept new same i
+      put_kept event entry (Ok stamp) new its right brings n same i =
+          let m : Made = record { maker = maker; noted = record { stamp = stamp; event = event } } in
+          one_kept stamp event (with_entry entry k.queue) new n refl (All-push Right k.queue.waiting entry i.right right)
+          (All-push (IsBrought (k.queue.entries ++ one maker stamp event)) k.queue.waiting entry (still stamp event k.queue.waiting i.brought) (record { entry_is = m; stands = Contains-push k.queue.entries m; brings = brings }))
+          (enters_own k.queue.id entry event its) i
+      put_kept event entry (Err back) new its right brings n same i = same_kept new same i
 
       module _ (server : ServerId) (generation : Generation) where
-        pub take_kept : (r : Result (Taken (Cargo A D)) Worn) (new : Standing (Cargo A D)) → IfOk r (λ taken. TakesAs seen maker server generation taken new k.queue) → IfErr r (λ worn. IsWorn seen worn new k.queue) → IsKept k → IsKept (inside new)
-        take_kept (Ok (Request out)) new n w i = one_kept out.noted.stamp _ (record k.queue { waiting = n.front ++ n.back; takes = k.queue.takes + 1 }) new n.noted.notes refl (All-without Right n.front out.entry n.back (subst (All Right) n.waited i.right)) tt i
+        pub take_kept : (r : Result (Taken (Cargo A)) Worn) (new : Standing (Cargo A)) → IfOk r (λ taken. TakesAs seen maker server generation taken new k.queue) → IfErr r (λ worn. IsWorn seen worn new k.queue) → IsKept k → IsKept (inside new)
+        take_kept (Ok (Request out)) new n w i = one_kept out.noted.stamp _ (record k.queue { waiting = n.front ++ n.back; takes = k.queue.takes + 1 }) new n.noted.notes refl (All-without Right n.front out.entry n.back (subst (All Right) n.waited i.right)) (still out.noted.stamp _ (n.front ++ n.back) (All-without Brought n.front out.entry n.back (subst (All Brought) n.waited i.brought))) tt i
         take_kept (Ok Empty) new n w i = same_kept new n.same i
         take_kept (Ok Closed) new n w i = same_kept new n.same i
         take_kept (Err worn) new n w i = same_kept new w.same i
 
-        middle : (front : List (Entry (Cargo A D))) (x : Entry (Cargo A D)) (back : List (Entry (Cargo A D))) → All Right (front ++ x ∷ back) → Right x
-        middle [] x back all = All-head Right x back all
-        middle (y ∷ front) x back all = middle front x back (All-tail Right y (front ++ x ∷ back) all)
+        middle : (P : Entry (Cargo A) → Type 0) (front : List (Entry (Cargo A))) (x : Entry (Cargo A)) (back : List (Entry (Cargo A))) → All P (front ++ x ∷ back) → P x
+        middle P [] x back all = All-head P x back all
+        middle P (y ∷ front) x back all = middle P front x back (All-tail P y (front ++ x ∷ back) all)
 
-        pub took : (r : Result (Taken (Cargo A D)) Worn) (new : Standing (Cargo A D)) → IfOk r (λ taken. TakesAs seen maker server generation taken new k.queue) → IfErr r (λ worn. IsWorn seen worn new k.queue) → IsKept k
+        pub took : (r : Result (Taken (Cargo A)) Worn) (new : Standing (Cargo A)) → IfOk r (λ taken. TakesAs seen maker server generation taken new k.queue) → IfErr r (λ worn. IsWorn seen worn new k.queue) → IsKept k
             → TookAs (Becomes (kept_of k) (kept_of (inside new))) seen maker server generation r
         took (Ok (Request out)) new n w i =
             let q = k.queue in
             let x : Event → Made = λ e. record { maker = maker; noted = record { stamp = out.noted.stamp; event = e } } in
             record {
-              setting = ap (λ (z : Standing (Cargo A D)). record { id = z.id; capacity = z.capacity; servers = z.servers; clients = k.clients; cells = k.cells.value }) n.noted.notes.made;
-              entries = ap (λ (z : Standing (Cargo A D)). z.entries) n.noted.notes.made ∙ ap (λ e. q.entries ++ x e ∷ []) (sym n.noted.event_is);
-              how = (n, middle n.front out.entry n.back (subst (All Right) n.waited i.right));
+              setting = ap (λ (z : Standing (Cargo A)). record { id = z.id; capacity = z.capacity; servers = z.servers; first = z.first; clients = k.clients; cells = k.cells.value }) n.noted.notes.made;
+              entries = ap (λ (z : Standing (Cargo A)). z.entries) n.noted.notes.made ∙ ap (λ e. q.entries ++ x e ∷ []) (sym n.noted.event_is);
+              how = (n, middle Right n.front out.entry n.back (subst (All Right) n.waited i.right), middle Brought n.front out.entry n.back (subst (All Brought) n.waited i.brought));
             }
         took (Ok Empty) new n w i = stays new n.same (n.none, n.closed)
         took (Ok Closed) new n w i = stays new n.same (n.none, n.closed)
         took (Err worn) new n w i = stays new w.same (record { larger = w.larger; told = w.told; same = refl })
 
-      pub gone_kept : (server : ServerId) (r : Result GivenUp Worn) (new : Standing (Cargo A D)) → maker.0 ≡ k.clients + server.0 → IfOk r (λ done. NotesAs seen maker done.noted (Gone server) (with_gone server k.queue) new k.queue) → IfErr r (λ worn. IsWorn seen worn new k.queue) → IsKept k → IsKept (inside new)
-      gone_kept server (Ok done) new ours n w i = one_kept done.noted.stamp (Gone server) (with_gone server k.queue) new n.notes refl i.right ours i
+      pub gone_kept : (server : ServerId) (r : Result GivenUp Worn) (new : Standing (Cargo A)) → maker.0 ≡ k.clients + server.0 → IfOk r (λ done. NotesAs seen maker done.noted (Gone server) (with_gone server k.queue) new k.queue) → IfErr r (λ worn. IsWorn seen worn new k.queue) → IsKept k → IsKept (inside new)
+      gone_kept server (Ok done) new ours n w i = quiet_kept done.noted (Gone server) (with_gone server k.queue) new n refl refl ours i
       gone_kept server (Err worn) new ours n w i = same_kept new w.same i
 
-      pub sweep_kept : (r : Result (Option (Outgoing (Cargo A D))) Worn) (new : Standing (Cargo A D)) → IfOk r (λ swept. MatchOption swept (IsSwept new k.queue) (λ out. Sweeps seen maker out new k.queue)) → IfErr r (λ worn. IsWorn seen worn new k.queue) → IsKept k → IsKept (inside new)
+      pub sweep_kept : (r : Result (Option (Outgoing (Cargo A))) Worn) (new : Standing (Cargo A)) → IfOk r (λ swept. MatchOption swept (IsSwept new k.queue) (λ out. Sweeps seen maker out new k.queue)) → IfErr r (λ worn. IsWorn seen worn new k.queue) → IsKept k → IsKept (inside new)
       sweep_kept (Ok None) new n w i = same_kept new n.same i
-      sweep_kept (Ok (Some out)) new n w i = one_kept out.noted.stamp _ (record k.queue { waiting = n.rest }) new n.noted.notes refl (All-tail Right out.entry n.rest (subst (All Right) n.waited i.right)) tt i
+      sweep_kept (Ok (Some out)) new n w i = one_kept out.noted.stamp _ (record k.queue { waiting = n.rest }) new n.noted.notes refl (All-tail Right out.entry n.rest (subst (All Right) n.waited i.right)) (still out.noted.stamp _ n.rest (All-tail Brought out.entry n.rest (subst (All Brought) n.waited i.brought))) tt i
       sweep_kept (Err worn) new n w i = same_kept new w.same i

@@ -54,7 +54,7 @@ events_in-at A [] = refl
 events_in-at A (Opened s ∷ notes) = events_in-at A notes
 events_in-at A (By m ∷ notes) = ap (λ (l : List Event). m.noted.event ∷ l) (events_in-at A notes)
 
-pub kept_gone : {A D : Type 0} (setup : Setup) (k : Kept A D) → IsSound k.queue → none_left k.queue ≡ true → HasServers setup k.queue.id.0 k.queue.servers → AllGone setup k.queue.id.0 (past_in (noted_in k.queue.entries))
+pub kept_gone : {A : Type 0} (setup : Setup) (k : Kept A) → IsSound k.queue → none_left k.queue ≡ true → HasServers setup k.queue.id.0 k.queue.servers → AllGone setup k.queue.id.0 (past_in (noted_in k.queue.entries))
 kept_gone setup k sound none has =
     all_gone-read setup k.queue.id.0 k.queue.servers (map (λ (noted : Stamped). noted.event) (noted_in k.queue.entries)) has (ap (λ l. all_gone l k.queue.servers) (sym sound.given_up) ∙ none)
 

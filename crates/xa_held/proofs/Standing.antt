@@ -1,5 +1,5 @@
 -- What a look-up found stands by the machine's events.
-use Rattle.std.proofs.Common.{◌≡◌, ℕ, ◌==◌, ◌&&◌, ◌<◌, ◌≤◌, not, Bool, true, false, cond, List, [], ◌∷◌, ◌++◌, map, inl, inr, Option, Some, None, refl, sym, ap, ◌∙◌, subst, arith, eq-eqb, eqb-true}
+use Rattle.std.proofs.Common.{◌≡◌, ℕ, ◌==◌, ◌&&◌, ◌<◌, ◌≤◌, not, Bool, true, false, cond, List, [], ◌∷◌, ◌++◌, map, inl, inr, Option, Some, None, refl, sym, ap, ◌∙◌, subst, arith, eq-eqb, eqb-true, ⊎_elim}
 use Rattle.std.specs.Prelude.{IsSomeAnd}
 use Rattle.std.specs.List.{All, filter, find}
 use Rattle.std.specs.Str.{bytes_eq}
@@ -7,6 +7,7 @@ use Rattle.std.specs.Cmp.Derive.{both_true}
 use Rattle.std.proofs.lemmas.Bool.{cases_Bool, and_parts}
 use Rattle.std.proofs.lemmas.Slice.Eq.{bytes_eq-Decides}
 use Rattle.std.proofs.lemmas.List.Elements.{All-nil, All-cons, All-head, All-tail, All-weaker, All-filter, All-push, filter_passes}
+use Rattle.std.proofs.lemmas.List.{nil_from_length}
 use Rattle.xa_types.specs.declared.data.Data.{Data}
 use Rattle.xa_types.specs.declared.row.Row.{Row}
 use Rattle.xa_types.specs.declared.setup.Setup.{Setup}
@@ -17,22 +18,24 @@ use Rattle.xa_types.specs.Setup.{service_named}
 use Rattle.xa_types.specs.Rows.{Change, rows, row_with, row_for, row_of, is_row_of, same_truth}
 use Rattle.xa_types.specs.Rows.Change.{Put, Remove}
 use Rattle.xa_events.specs.declared.event.Event.{Event}
-use Rattle.xa_events.specs.Board.{published, changes, rows_of_version}
+use Rattle.xa_events.specs.Board.{published, changes, rows_of_version, listed_in}
 use Rattle.xa_events.specs.Cases.{RowStands, RowAdmits}
 use Rattle.xa_stamp.specs.declared.home.Stamped.{Stamped}
 use Rattle.xa_stamp.specs.Home.{last_stamp}
 use Rattle.xa_lock.specs.declared.pass.Page.{Page}
 use Rattle.xa_lock.specs.Pages.{StartsWith}
 use Rattle.xa_crew.specs.Seen.{past_in, SawFront}
-use Rattle.xa_board.specs.Board.{Standing, ReadsAsNoted, IsAsConfigured, past_of, version_of, stamp_of, put_of}
+use Rattle.xa_cell.proofs.Lists.{below}
+use Rattle.xa_board.specs.Board.{Standing, ReadsAsNoted, IsAsConfigured, past_of, version_of, stamp_of, put_of, rows_seen}
 use Rattle.xa_board.specs.Reader.{Finds}
 use Rattle.xa_board.proofs.Noted.{rows_of_version-last}
+use Rattle.xa_board.proofs.Listed.{rows_seen-listed}
 use Rattle.xa_held.specs.declared.kept_board.BoardNote.{BoardNote}
-use Rattle.xa_held.specs.declared.kept_board.BoardNote.TheVariants.{By, Looked}
-use Rattle.xa_held.specs.Board.{Held, Climbs}
-use Rattle.xa_held.specs.BoardVisits.{BoardVisits}
+use Rattle.xa_held.specs.declared.kept_board.BoardNote.TheVariants.{Opened, By, Looked}
+use Rattle.xa_held.specs.Board.{Held, IsPlaced, Climbs}
+use Rattle.xa_held.specs.BoardVisits.{SeesBoard, BoardVisits}
 use Rattle.xa_held.specs.Joins.{changes_at}
-use Rattle.xa_held.proofs.Fronts.{changes_front}
+use Rattle.xa_held.proofs.Fronts.{changes_front, version_grows}
 
 -- ---- one row of a service stands on a queue
 
@@ -145,11 +148,28 @@ stands-all setup board reads =
     subst (λ (whole : List Row). All (Stands setup whole) board.rows) (sym last)
     (across setup (rows setup made) board.rows (rows setup made) (reads.standing setup ∙ ap (map put_of) last) (each-found (rows setup made) (rows-once setup made)) (rows-configured setup made))
 
+-- rows of a service that are as configured are so by its name
+abbrev IsRowOf : Setup → List ℕ → Row → Type 0
+IsRowOf setup name row = row ≡ row_for setup name row.queue.0 row.routine
+
+by_name : (setup : Setup) (name : List ℕ) (row : Row) (other : Bool) → (bytes_eq row.service name && other) ≡ true → IsAsConfigured setup row → IsRowOf setup name row
+by_name setup name row other passes is =
+    let same : row.service ≡ name = (bytes_eq-Decides row.service name).0 (and_parts (bytes_eq row.service name) other passes).0 in
+    is ∙ ap (λ (s : List ℕ). row_for setup s row.queue.0 row.routine) same
+
+all_by_name : (setup : Setup) (name : List ℕ) (wanted : Bool) (rows : List Row) → All (λ row. (bytes_eq row.service name && same_truth row.conversational wanted) ≡ true) rows → All (IsAsConfigured setup) rows → All (IsRowOf setup name) rows
+all_by_name setup name wanted [] passed all = All-nil (IsRowOf setup name)
+all_by_name setup name wanted (row ∷ rows) passed all =
+    let P : Row → Type 0 = λ row. (bytes_eq row.service name && same_truth row.conversational wanted) ≡ true in
+    All-cons (IsRowOf setup name) row rows (by_name setup name row (same_truth row.conversational wanted) (All-head P row rows passed) (All-head (IsAsConfigured setup) row rows all))
+    (all_by_name setup name wanted rows (All-tail P row rows passed) (All-tail (IsAsConfigured setup) row rows all))
+
 -- ---- what a pass saw
 
 -- no stamp of a change is greater than the last change's
 below_last : (notes : List BoardNote) (least : ℕ) (first : Stamp) → first.0 ≤ least → Climbs least notes → (first.0 ≤ last_stamp first (changes_at notes)) × All (λ (x : Stamped). x.stamp.0 ≤ last_stamp first (changes_at notes)) (changes_at notes)
 below_last [] least first low climbs = (omega arith, All-nil (λ (x : Stamped). x.stamp.0 ≤ first.0))
+below_last (Opened s ∷ notes) least first low climbs = below_last notes least first low climbs
 below_last (By m ∷ notes) least first low climbs =
     let rest = below_last notes m.noted.stamp.0 m.noted.stamp (omega arith) climbs.1 in
     (omega (arith, climbs.0, rest.0, low), All-cons (λ (x : Stamped). x.stamp.0 ≤ last_stamp m.noted.stamp (changes_at notes)) m.noted (changes_at notes) rest.0 rest.1)
@@ -159,26 +179,70 @@ module _ (p p' : Page BoardNote) (now : List BoardNote) (name : List ℕ) (wante
   abbrev Looks : Type 0
   Looks = BoardVisits p p' [] (λ old new. (new ≡ old) × (found.version ≡ version_of old.board) × Finds old.board name wanted found)
 
+  -- no change that the pass saw has a greater stamp than the last one
+  pub seen_below : (visits : Looks) → All (λ (x : Stamped). x.stamp.0 ≤ found.stamp.0) (changes_at p'.seen)
+  seen_below visits =
+      let first : Stamp = visits.new.board.first in
+      let last : stamp_of visits.new.board ≡ found.stamp.0 = ap (λ (h : Held). stamp_of h.board) visits.how.0 ∙ sym visits.how.2.stamp in
+      let lasts : last_stamp first (changes_at visits.new.notes) ≡ stamp_of visits.new.board = ap (last_stamp first) visits.sound.noted in
+      subst (λ (l : List BoardNote). All (λ (x : Stamped). x.stamp.0 ≤ found.stamp.0) (changes_at l)) (sym visits.saw)
+      (All-weaker (λ (x : Stamped). x.stamp.0 ≤ last_stamp first (changes_at visits.new.notes)) (λ (x : Stamped). x.stamp.0 ≤ found.stamp.0) (λ x low. omega (arith, low, lasts, last)) (changes_at visits.new.notes) (below_last visits.new.notes first.0 first (omega arith) visits.sound.climbs).1)
+
   -- what holds of the board that was found was seen of a front
-  saw : (P : List Event → Type 0) (visits : Looks) → StartsWith now p'.seen → found.stamp.0 < stamp.0 → P (past_of visits.old.board) → SawFront (changes_at now) stamp P
+  saw : (P : List Event → Type 0) (visits : Looks) → StartsWith now p'.seen → (0 < found.version → found.stamp.0 < stamp.0) → P (past_of visits.old.board) → SawFront (changes_at now) stamp P
   saw P visits begins less shows =
       let front : changes_at p'.seen ≡ visits.new.board.entries = ap changes_at visits.saw ∙ visits.sound.noted in
       let same : visits.new.board ≡ visits.old.board = ap (λ (h : Held). h.board) visits.how.0 in
-      let last : stamp_of visits.new.board ≡ found.stamp.0 = ap (λ (b : Standing). stamp_of b) same ∙ sym visits.how.2.stamp in
-      let below = below_last visits.new.notes visits.new.board.first.0 visits.new.board.first (omega arith) visits.sound.climbs in
-      let lasts : last_stamp visits.new.board.first (changes_at visits.new.notes) ≡ stamp_of visits.new.board = ap (last_stamp visits.new.board.first) visits.sound.noted in
       record {
         front = changes_at p'.seen;
         stands = changes_front now p'.seen begins;
-        before = subst (λ (l : List BoardNote). All (λ (x : Stamped). x.stamp.0 < stamp.0) (changes_at l)) (sym visits.saw)
-            (All-weaker (λ (x : Stamped). x.stamp.0 ≤ last_stamp visits.new.board.first (changes_at visits.new.notes)) (λ (x : Stamped). x.stamp.0 < stamp.0) (λ x low. omega (arith, low, lasts, last, less)) (changes_at visits.new.notes) below.1);
+        before = ⊎_elim
+            (λ (some : 0 < found.version). let later = less some in All-weaker (λ (x : Stamped). x.stamp.0 ≤ found.stamp.0) (λ (x : Stamped). x.stamp.0 < stamp.0) (λ x low. omega (arith, low, later)) (changes_at p'.seen) (seen_below visits))
+            (λ (none : found.version ≤ 0). let length_is = visits.reads.changes in let version_is = ap version_of same in
+            subst (All (λ (x : Stamped). x.stamp.0 < stamp.0)) (sym (front ∙ nil_from_length visits.new.board.entries (omega (arith, none, length_is, version_is, visits.how.1)))) (All-nil (λ (x : Stamped). x.stamp.0 < stamp.0)))
+            (below 0 found.version);
         shows = subst (λ (l : List Stamped). P (past_in l)) (sym front) (subst (λ (b : Standing). P (past_of b)) (sym same) shows);
       }
 
-  pub version_seen : Looks → StartsWith now p'.seen → found.stamp.0 < stamp.0 → SawFront (changes_at now) stamp (λ past. found.version ≡ published past)
+  pub found_grows : Looks → published (past_in (changes_at p.seen)) ≤ found.version
+  found_grows visits =
+      let least = version_grows p.seen visits.new (subst (λ (h : Held). StartsWith h.notes p.seen) (sym visits.how.0) visits.knew.1) visits.sound in
+      let same : version_of visits.new.board ≡ version_of visits.old.board = ap (λ (h : Held). version_of h.board) visits.how.0 in
+      omega (arith, least, same, visits.how.1)
+
+  pub version_seen : Looks → StartsWith now p'.seen → (0 < found.version → found.stamp.0 < stamp.0) → SawFront (changes_at now) stamp (λ past. found.version ≡ published past)
   version_seen visits begins less = saw (λ past. found.version ≡ published past) visits begins less visits.how.1
 
-  pub found_stands : (setup : Setup) (conversational : Bool) (routine : List ℕ) (payload : Data) → Looks → StartsWith now p'.seen → found.stamp.0 < stamp.0
+  -- the rows of the board that was found are as the setup gives them, which the pass saw
+  all_placed : (setup : Setup) (visits : Looks) → SeesBoard setup p → All (IsPlaced setup) visits.old.board.rows
+  all_placed setup visits sees =
+      let is : visits.new.setup ≡ setup = visits.same ∙ visits.setup setup sees in
+      let same : visits.new.board ≡ visits.old.board = ap (λ (h : Held). h.board) visits.how.0 in
+      subst (λ (b : Standing). All (IsPlaced setup) b.rows) same (subst (λ (s : Setup). All (IsPlaced s) visits.new.board.rows) is visits.sound.placed)
+
+  as_configured : (setup : Setup) (visits : Looks) → SeesBoard setup p → All (IsAsConfigured setup) visits.old.board.rows
+  as_configured setup visits sees = All-weaker (IsPlaced setup) (IsAsConfigured setup) (λ row is. is.configured) visits.old.board.rows (all_placed setup visits sees)
+
+  pub found_placed : (setup : Setup) → Looks → SeesBoard setup p → All (IsPlaced setup) found.rows
+  found_placed setup visits sees =
+      subst (All (IsPlaced setup)) (sym visits.how.2.rows) (All-filter (λ row. bytes_eq row.service name && same_truth row.conversational wanted) (IsPlaced setup) visits.old.board.rows (all_placed setup visits sees))
+
+  pub found_configured : (setup : Setup) → Looks → SeesBoard setup p → All (λ row. row ≡ row_for setup name row.queue.0 row.routine) found.rows
+  found_configured setup visits sees =
+      let test : Row → Bool = λ row. bytes_eq row.service name && same_truth row.conversational wanted in
+      let rows : List Row = visits.old.board.rows in
+      subst (All (IsRowOf setup name)) (sym visits.how.2.rows)
+      (all_by_name setup name wanted (filter test rows) (filter_passes test rows) (All-filter test (IsAsConfigured setup) rows (as_configured setup visits sees)))
+
+  pub found_listed : (setup : Setup) → Looks → SeesBoard setup p → StartsWith now p'.seen → (0 < found.version → found.stamp.0 < stamp.0) → SawFront (changes_at now) stamp (λ past. (found.version ≤ published past) × (listed_in setup past found.version name wanted ≡ found.rows))
+  found_listed setup visits sees begins less =
+      let board : Standing = visits.old.board in
+      let same : visits.new.board ≡ board = ap (λ (h : Held). h.board) visits.how.0 in
+      let seen : rows_seen name wanted board.rows ≡ listed_in setup (past_of board) (version_of board) name wanted = rows_seen-listed setup board (subst ReadsAsNoted same visits.reads) (as_configured setup visits sees) name wanted in
+      saw (λ past. (found.version ≤ published past) × (listed_in setup past found.version name wanted ≡ found.rows)) visits begins less
+      (omega (arith, visits.how.1), ap (λ (v : ℕ). listed_in setup (past_of board) v name wanted) visits.how.1 ∙ sym seen ∙ sym visits.how.2.rows)
+
+  pub found_stands : (setup : Setup) (conversational : Bool) (routine : List ℕ) (payload : Data) → Looks → StartsWith now p'.seen → (0 < found.version → found.stamp.0 < stamp.0)
       → All (λ row. RowAdmits setup conversational routine payload (row_for setup row.service row.queue.0 row.routine) → SawFront (changes_at now) stamp (RowStands setup found.version row.service row.queue.0 (RowAdmits setup conversational routine payload))) found.rows
   found_stands setup conversational routine payload visits begins less =
       let P : Row → Type 0 = RowAdmits setup conversational routine payload in

@@ -1,11 +1,11 @@
 -- How the board under a lock is kept. No public contract rests on this file.
-use Rattle.std.specs.Prelude.{map}
+use Rattle.std.specs.Prelude.{◌∷◌, map}
 use Rattle.std.specs.declared.snapshot.Snapshot.{Snapshot}
 use Rattle.xa_events.specs.declared.event.Event.{Event}
 use Rattle.xa_held.specs.declared.kept_board.Mark.{Mark}
 use Rattle.xa_held.specs.declared.kept_board.Mark.TheVariants.{Changed, Looked as LookedAt}
 use Rattle.xa_held.specs.declared.kept_board.BoardNote.{BoardNote}
-use Rattle.xa_held.specs.declared.kept_board.BoardNote.TheVariants.{By, Looked}
+use Rattle.xa_held.specs.declared.kept_board.BoardNote.TheVariants.{Opened, By, Looked}
 use Rattle.xa_held.specs.declared.kept_board.KeptBoard.TheInside.{Inside}
 use Rattle.xa_held.specs.Board.{Held, IsSoundBoard}
 
@@ -14,7 +14,7 @@ note_of (Changed look, event) = By (record { maker = look.maker; noted = record 
 note_of (LookedAt look, event) = Looked look
 
 abbrev pub held_of : Inside → Held
-held_of b = record { board = b.board; last = b.last; notes = map note_of b.notes.items }
+held_of b = record { board = b.board; setup = b.setup.value; last = b.last; notes = Opened b.setup.value ∷ map note_of b.notes.items }
 
 abbrev pub IsHeld : Inside → Type 0
 IsHeld b = IsSoundBoard (held_of b)

@@ -20,23 +20,23 @@ use Rattle.xa_queue.specs.Queue.{none_left}
 use Rattle.xa_queue.specs.Changes.{Notes, NotesAs, IsWorn, put_refused, with_entry, with_gone, Takes, Sweeps}
 use Rattle.xa_held.specs.declared.cargo.Cargo.{Cargo}
 use Rattle.xa_held.specs.Notes.{one, told}
-use Rattle.xa_held.specs.Kept.{Kept, IsRight}
+use Rattle.xa_held.specs.Kept.{Kept, IsRight, IsBrought}
 
-module _ {A D : Type 0} (Change : List Made → (Kept A D → Kept A D → Type 0) → Type 0) where
+module _ {A : Type 0} (Change : List Made → (Kept A → Kept A → Type 0) → Type 0) where
   -- nothing is noted and nothing changes: of the queue this holds
-  abbrev pub Stays : (Kept A D → Type 0) → Type 0
+  abbrev pub Stays : (Kept A → Type 0) → Type 0
   Stays Holds = Change [] (λ old new. (new ≡ old) × Holds old)
 
   -- stamps would pass their end
   abbrev pub WornOut : Stamp → Worn → Type 0
   WornOut seen worn = Stays (λ old. IsWorn seen worn old.queue old.queue)
 
-  abbrev pub PutAs : Stamp → CallerId → Event → Entry (Cargo A D) → Result Stamp (PutRefused (Cargo A D)) → Type 0
+  abbrev pub PutAs : Stamp → CallerId → Event → Entry (Cargo A) → Result Stamp (PutRefused (Cargo A)) → Type 0
   PutAs seen maker event entry (Ok stamp) = Change (one maker stamp event) (λ old new. (put_refused seen old.queue ≡ None) × Notes seen maker stamp event (with_entry entry old.queue) new.queue old.queue)
   PutAs seen maker event entry (Err back) = (back.entry ≡ entry) × Stays (λ old. (put_refused seen old.queue ≡ Some back.why) ⊎ (back.why ≡ refusals.NoMemory))
 
-  abbrev pub TookAs : Stamp → CallerId → ServerId → Generation → Result (Taken (Cargo A D)) Worn → Type 0
-  TookAs seen maker server generation (Ok (takes.Request out)) = Change (told maker out.noted) (λ old new. Takes seen maker server generation out new.queue old.queue × IsRight old.cells out.entry)
+  abbrev pub TookAs : Stamp → CallerId → ServerId → Generation → Result (Taken (Cargo A)) Worn → Type 0
+  TookAs seen maker server generation (Ok (takes.Request out)) = Change (told maker out.noted) (λ old new. Takes seen maker server generation out new.queue old.queue × IsRight old.cells out.entry × IsBrought old.queue.entries out.entry)
   TookAs seen maker server generation (Ok takes.Empty) = Stays (λ old. (old.queue.waiting ≡ []) × (old.queue.closed ≡ false))
   TookAs seen maker server generation (Ok takes.Closed) = Stays (λ old. (old.queue.waiting ≡ []) × (old.queue.closed ≡ true))
   TookAs seen maker server generation (Err worn) = WornOut seen worn
@@ -50,9 +50,9 @@ module _ {A D : Type 0} (Change : List Made → (Kept A D → Kept A D → Type 
   WentDownAs seen maker (Ok (Some noted)) = Change (told maker noted) (λ old new. (old.queue.down ≡ false) × NotesAs seen maker noted (Down old.queue.id) (record old.queue { down = true }) new.queue old.queue)
   WentDownAs seen maker (Err worn) = WornOut seen worn
 
-  abbrev pub SweptAs : Stamp → CallerId → Result (Option (Outgoing (Cargo A D))) Worn → Type 0
+  abbrev pub SweptAs : Stamp → CallerId → Result (Option (Outgoing (Cargo A))) Worn → Type 0
   SweptAs seen maker (Ok None) = Stays (λ old. old.queue.waiting ≡ [])
-  SweptAs seen maker (Ok (Some out)) = Change (told maker out.noted) (λ old new. Sweeps seen maker out new.queue old.queue × IsRight old.cells out.entry)
+  SweptAs seen maker (Ok (Some out)) = Change (told maker out.noted) (λ old new. Sweeps seen maker out new.queue old.queue × IsRight old.cells out.entry × IsBrought old.queue.entries out.entry)
   SweptAs seen maker (Err worn) = WornOut seen worn
 
   abbrev pub ClosedAs : Stamp → CallerId → Result (Option Noted) Worn → Type 0

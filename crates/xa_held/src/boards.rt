@@ -1,10 +1,12 @@
 // One step at the locked board, with a worker's pass.
 ghost use Rattle.std.specs.Prelude.{◌≡◌, ◌≤◌, ◌^◌, [], max};
 ghost use Rattle.xa_lock.specs.Known.{known, IsPassOf};
+ghost use Rattle.xa_types.specs.declared.setup.Setup.{Setup};
 ghost use Rattle.xa_board.specs.Board.{version_of};
 ghost use Rattle.xa_board.specs.Reader.{Finds};
+ghost use Rattle.xa_held.specs.Board.{IsPlaced};
 ghost use Rattle.xa_held.specs.BoardSteps.{AdvertisedAs, WithdrewAs, ClearedAs};
-ghost use Rattle.xa_held.specs.BoardVisits.{BoardVisits};
+ghost use Rattle.xa_held.specs.BoardVisits.{SeesBoard, BoardVisits, ReachesBoard};
 
 use crate::kept_board::{BoardNote, Clearing, KeptBoard};
 use std::sync::Wait;
@@ -12,13 +14,16 @@ use xa_board::{BoardRefused, Changed, Reader};
 use xa_lock::{Guarded, LockPass};
 use xa_types::{CallerId, Name, QueueId, Row, Stamp};
 
-/// What a step at the board answers, and the pass, which has left.
+/// What a step at the board answers, the pass, which has left, and the stamp of the last change or look that it saw; 0
+/// where there was no change.
 pub struct AtBoard<R> {
     pub pass: LockPass<BoardNote>,
+    pub last: Stamp,
     pub answer: R,
 }
 
-/// Advertises a service at the locked board, in the work of that maker.
+/// Advertises a service at the locked board, in the work of that maker. The pass saw by what setup the board's rows are, and
+/// the row is as that gives it, on a queue of it.
 pub fn advertise_at<W: Wait>(
     rt: &W,
     board: &Guarded<KeptBoard>,
@@ -32,14 +37,18 @@ pub fn advertise_at<W: Wait>(
     requires lock { IsPassOf board.now pass }
     requires maker { (known pass).maker ≡ maker.0 }
     requires seen { seen.0 ≤ 2 ^ 63 }
+    requires setup { (s : Setup) × SeesBoard s (known pass) × IsPlaced s row }
     ensures lock { IsPassOf board.now result.pass }
+    ensures reached { ReachesBoard (known result.pass) result.last }
     ensures advertised { AdvertisedAs (BoardVisits (known pass) (known result.pass)) seen maker by op row result.answer }
 {
     let mut held = board.enter(rt, pass);
+    let _found = held.get().version();
     let answer = held.value().advertise(seen, maker, by, op, row);
-    let _version = held.get().version();
+    let last = held.get().stamp();
     AtBoard {
         pass: board.leave(held),
+        last,
         answer,
     }
 }
@@ -60,13 +69,15 @@ pub fn withdraw_at<W: Wait>(
     requires maker { (known pass).maker ≡ maker.0 }
     requires seen { seen.0 ≤ 2 ^ 63 }
     ensures lock { IsPassOf board.now result.pass }
+    ensures reached { ReachesBoard (known result.pass) result.last }
     ensures withdrawn { WithdrewAs (BoardVisits (known pass) (known result.pass)) seen maker by op service.now queue result.answer }
 {
     let mut held = board.enter(rt, pass);
     let answer = held.value().withdraw(seen, maker, by, op, service, queue);
-    let _version = held.get().version();
+    let last = held.get().stamp();
     AtBoard {
         pass: board.leave(held),
+        last,
         answer,
     }
 }
@@ -85,13 +96,15 @@ pub fn clear_at<W: Wait>(
     requires maker { (known pass).maker ≡ maker.0 }
     requires seen { seen.0 ≤ 2 ^ 63 }
     ensures lock { IsPassOf board.now result.pass }
+    ensures reached { ReachesBoard (known result.pass) result.last }
     ensures cleared { ClearedAs (BoardVisits (known pass) (known result.pass)) seen maker queue result.answer }
 {
     let mut held = board.enter(rt, pass);
     let answer = held.value().clear(seen, maker, queue);
-    let _version = held.get().version();
+    let last = held.get().stamp();
     AtBoard {
         pass: board.leave(held),
+        last,
         answer,
     }
 }
@@ -107,14 +120,16 @@ pub fn look_up_at<W: Wait>(
 ) -> AtBoard<u64>
     requires lock { IsPassOf board.now pass }
     ensures lock { IsPassOf board.now result.pass }
+    ensures reached { ReachesBoard (known result.pass) result.last }
     ensures found { BoardVisits (known pass) (known result.pass) [] (λ old new. (new ≡ old) × (result.answer ≡ version_of old.board) × Finds old.board name.now conversational reader.new.found) }
     ensures least { reader.new.least ≡ max reader.old.least result.answer }
 {
     let held = board.enter(rt, pass);
     let answer = held.get().lookup(reader, name, conversational);
-    let _version = held.get().version();
+    let last = held.get().stamp();
     AtBoard {
         pass: board.leave(held),
+        last,
         answer,
     }
 }

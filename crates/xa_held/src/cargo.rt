@@ -1,8 +1,17 @@
 // What is handed to a server with a request.
 use xa_cell::Ticket;
+use xa_types::{Data, Name};
 
-/// The ticket by which a request is answered, and what else its server needs. It isn't `Drop`: the ticket ends in a call.
-pub struct Cargo<A, D> {
+/// What a server is asked for: the service, its routine, and the data.
+#[derive(Drop)]
+pub struct Invocation {
+    pub service: Name,
+    pub routine: Name,
+    pub payload: Data,
+}
+
+/// The ticket by which a request is answered, and what its server is asked for. It isn't `Drop`: the ticket ends in a call.
+pub struct Cargo<A> {
     pub ticket: Ticket<A>,
-    pub data: D,
+    pub invocation: Invocation,
 }

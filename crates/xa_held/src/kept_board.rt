@@ -1,8 +1,9 @@
 // The board as a lock guards it.
-ghost use Rattle.std.specs.Prelude.{◌≡◌, ◌^◌, ◌≤◌, [], max};
+ghost use Rattle.std.specs.Prelude.{◌≡◌, ◌^◌, ◌<◌, ◌≤◌, ◌∷◌, [], max};
 ghost use Rattle.xa_board.specs.Board.{ReadsAsNoted, version_of};
 ghost use Rattle.xa_board.specs.Reader.{Finds};
-ghost use Rattle.xa_held.specs.Board.{IsSoundBoard, Turns};
+ghost use Rattle.xa_held.specs.declared.kept_board.BoardNote.TheVariants.{Opened};
+ghost use Rattle.xa_held.specs.Board.{IsPlaced, IsSoundBoard, Turns};
 ghost use Rattle.xa_held.specs.BoardSteps.{AdvertisedAs, WithdrewAs, ClearedAs};
 
 use http_server::Log;
@@ -12,7 +13,7 @@ use xa_board::{Board, BoardRefused, Changed, Reader};
 use xa_events::Event;
 use xa_lock::{Chronicle, Made};
 use xa_stamp::{Home, Noted};
-use xa_types::{CallerId, Name, QueueId, Row, Stamp};
+use xa_types::{CallerId, Name, QueueId, Row, Setup, Stamp};
 
 /// A worker that found no row of a queue on the board, and the stamp that all later changes are behind.
 #[derive(Clone, Copy)]
@@ -21,8 +22,10 @@ pub struct Look {
     pub stamp: Stamp,
 }
 
-/// An entry of the board's home as its lock knows it: a change, or such a look. No value of it is made.
+/// An entry of the board's home as its lock knows it: first what setup its rows are by, then each change or such a look. No
+/// value of it is made.
 pub enum BoardNote {
+    Opened(Setup),
     By(Made),
     Looked(Look),
 }
@@ -42,10 +45,12 @@ pub enum Clearing {
     Clear(Stamp),
 }
 
-/// The board, whose changes and looks have their makers. These take no octets.
+/// The board, whose rows are as that setup gives them, and whose changes and looks have their makers. The setup and these
+/// take no octets.
 #[derive(Drop)]
 pub struct KeptBoard {
     board: Board,
+    setup: Snapshot<Setup>,
     last: Stamp,
     notes: Log<Mark, Snapshot<Event>>,
 }
@@ -78,21 +83,24 @@ fn down_of(queue: QueueId) -> Snapshot<Event> {
 }
 
 impl KeptBoard {
-    /// A board on which nothing was changed yet, whose changes have stamps behind this one.
-    pub fn of(board: Board, first: Stamp) -> KeptBoard
+    /// A board on which nothing was changed yet, whose rows are by that setup and whose changes have stamps behind this one.
+    pub fn of(board: Board, setup: &Setup, first: Stamp) -> KeptBoard
         requires entries { board.entries ≡ [] }
         requires first { board.first ≡ first }
         requires bound { first.0 ≤ 2 ^ 63 }
-        ensures { result ≡ record { board = board; last = first; notes = [] } }
+        ensures { result ≡ record { board = board; setup = setup.now; last = first; notes = Opened setup.now ∷ [] } }
     {
+        let _version = board.version();
         KeptBoard {
             board,
+            setup: Snapshot::of(setup),
             last: first,
             notes: Log::new(),
         }
     }
 
-    /// Advertises a service on a queue, as the board does, in the work of that maker. The stamp is behind all looks too.
+    /// Advertises a service on a queue, as the board does, in the work of that maker: a row as the setup gives it, on a
+    /// queue of the setup. The stamp is behind all looks too.
     pub fn advertise(
         &mut self,
         seen: Stamp,
@@ -101,7 +109,8 @@ impl KeptBoard {
         op: u32,
         row: Row,
     ) -> Result<Changed, BoardRefused>
-        requires { seen.0 ≤ 2 ^ 63 }
+        requires seen { seen.0 ≤ 2 ^ 63 }
+        requires placed { IsPlaced self.old.setup row }
         ensures { AdvertisedAs (Turns self.old self.new) seen maker by op row result }
     {
         let seen = Stamp(seen.0.max(self.last.0));
@@ -175,6 +184,20 @@ impl KeptBoard {
         self.board.version()
     }
 
+    /// The stamp of the last change or look; 0 where there was no change.
+    pub fn stamp(&self) -> Stamp
+        ensures none { version_of self.now.board ≡ 0 → result.0 ≡ 0 }
+        ensures some { 0 < version_of self.now.board → result ≡ self.now.last }
+        ensures sound { IsSoundBoard self.now }
+        ensures reads { ReadsAsNoted self.now.board }
+    {
+        if self.board.version() == 0 {
+            Stamp(0)
+        } else {
+            self.last
+        }
+    }
+
     /// The changes as they were noted.
     pub fn home(self) -> Home
         ensures first { result.first ≡ self.board.first }
@@ -184,6 +207,7 @@ impl KeptBoard {
     {
         let KeptBoard {
             board,
+            setup: _,
             last: _,
             notes: _,
         } = self;

@@ -1,5 +1,5 @@
 // A queue as a lock guards it.
-ghost use Rattle.std.specs.Prelude.{◌≡◌, ◌+◌, ◌^◌, ◌≤◌, [], true, IfOk, IfErr};
+ghost use Rattle.std.specs.Prelude.{◌≡◌, ◌+◌, ◌^◌, ◌≤◌, [], length, true, IfOk, IfErr};
 ghost use Rattle.std.specs.List.{All};
 ghost use Rattle.xa_lock.specs.Pages.{entries_by};
 ghost use Rattle.xa_lock.specs.Makers.{noted_in};
@@ -7,7 +7,8 @@ ghost use Rattle.xa_queue.specs.Queue.{IsSound, has_server, all_gone};
 ghost use Rattle.xa_queue.specs.Reading.{ReadsAsNoted};
 ghost use Rattle.xa_queue.specs.Changes.{IsEntry};
 ghost use Rattle.xa_held.specs.Notes.{maker_of, gone_in, is_down_in, IsOther};
-ghost use Rattle.xa_held.specs.Kept.{IsRight, notes_of, Becomes};
+ghost use Rattle.xa_stamp.specs.Home.{last_stamp};
+ghost use Rattle.xa_held.specs.Kept.{IsRight, Brings, IsBrought, notes_of, Becomes};
 ghost use Rattle.xa_held.specs.Steps.{PutAs, TookAs, GaveUpAs, WentDownAs, SweptAs, ClosedAs};
 
 use crate::cargo::Cargo;
@@ -21,12 +22,13 @@ use xa_queue::{Entry, GivenUp, Outgoing, PutRefused, Queue, Rest, Taken};
 use xa_stamp::Noted;
 use xa_types::{CallerId, Generation, QueueId, ServerId, Stamp, Worn};
 
-/// What a queue is from its beginning to its end: its number, how many may wait, its servers, how many clients there are,
-/// and the cells of which its entries have tickets. No value of it is made.
+/// What a queue is from its beginning to its end: its number, how many may wait, its servers, the stamp with which it begins,
+/// how many clients there are, and the cells of which its entries have tickets. No value of it is made.
 pub struct Setting<A> {
     pub id: QueueId,
     pub capacity: u32,
     pub servers: LinkedList<ServerId>,
+    pub first: Stamp,
     pub clients: u16,
     pub cells: Cells<A>,
 }
@@ -40,16 +42,16 @@ pub enum QueueNote<A> {
 
 /// A queue whose entries have tickets of these cells, each for its own request, and each of whose servers gives itself up.
 /// What a call asks for is read off the events that stand at the queue: a look at it, as `len`, brings them to bear.
-pub struct KeptQueue<A, D> {
-    queue: Queue<Cargo<A, D>>,
+pub struct KeptQueue<A> {
+    queue: Queue<Cargo<A>>,
     clients: u16,
     cells: Snapshot<Cells<A>>,
 }
 
-impl<A, D> Model for KeptQueue<A, D> {
+impl<A> Model for KeptQueue<A> {
     ghost use Rattle.xa_held.specs.Kept.{Kept};
 
-    ghost Value = { Kept A D };
+    ghost Value = { Kept A };
 
     ghost use Rattle.xa_held.specs.Inner.{kept_of, IsKept};
 
@@ -58,7 +60,7 @@ impl<A, D> Model for KeptQueue<A, D> {
     ghost invariant = { IsKept };
 }
 
-impl<A, D> Chronicle for KeptQueue<A, D> {
+impl<A> Chronicle for KeptQueue<A> {
     ghost use Rattle.xa_held.specs.Notes.{maker_of};
     ghost use Rattle.xa_held.specs.Kept.{notes_of};
 
@@ -69,9 +71,9 @@ impl<A, D> Chronicle for KeptQueue<A, D> {
     ghost maker = { maker_of };
 }
 
-impl<A, D> KeptQueue<A, D> {
+impl<A> KeptQueue<A> {
     /// A queue that has no event yet, in a domain with so many clients.
-    pub fn of(queue: Queue<Cargo<A, D>>, clients: u16, cells: &Cells<A>) -> KeptQueue<A, D>
+    pub fn of(queue: Queue<Cargo<A>>, clients: u16, cells: &Cells<A>) -> KeptQueue<A>
         requires entries { queue.entries ≡ [] }
         requires waiting { queue.waiting ≡ [] }
         ensures { result ≡ record { queue = queue; clients = clients; cells = cells.now } }
@@ -89,12 +91,13 @@ impl<A, D> KeptQueue<A, D> {
         seen: Stamp,
         maker: CallerId,
         event: Event,
-        entry: Entry<Cargo<A, D>>,
-    ) -> Result<Stamp, PutRefused<Cargo<A, D>>>
+        entry: Entry<Cargo<A>>,
+    ) -> Result<Stamp, PutRefused<Cargo<A>>>
         requires seen { seen.0 ≤ 2 ^ 63 }
         requires event { IsEntry self.old.queue.id entry event }
         requires priority { (1 ≤ entry.priority) × (entry.priority ≤ 100) }
         requires right { IsRight self.old.cells entry }
+        requires brings { Brings entry.request entry.cargo.invocation event }
         ensures { PutAs (Becomes self.old self.new) seen maker event entry result }
     {
         self.queue.put(seen, maker, event, entry)
@@ -107,7 +110,7 @@ impl<A, D> KeptQueue<A, D> {
         maker: CallerId,
         server: ServerId,
         generation: Generation,
-    ) -> Result<Taken<Cargo<A, D>>, Worn>
+    ) -> Result<Taken<Cargo<A>>, Worn>
         requires seen { seen.0 ≤ 2 ^ 63 }
         requires own { has_server server self.old.queue.servers ≡ true }
         requires maker { maker.0 ≡ self.old.clients + server.0 }
@@ -148,7 +151,7 @@ impl<A, D> KeptQueue<A, D> {
         &mut self,
         seen: Stamp,
         maker: CallerId,
-    ) -> Result<Option<Outgoing<Cargo<A, D>>>, Worn>
+    ) -> Result<Option<Outgoing<Cargo<A>>>, Worn>
         requires seen { seen.0 ≤ 2 ^ 63 }
         requires down { is_down_in self.old.queue.id.0 (notes_of self.old) ≡ true }
         ensures { SweptAs (Becomes self.old self.new) seen maker result }
@@ -171,21 +174,35 @@ impl<A, D> KeptQueue<A, D> {
 
     /// How many wait.
     pub fn len(&self) -> u32
+        ensures value { result ≡ length self.now.queue.waiting }
         ensures sound { IsSound self.now.queue }
         ensures reads { ReadsAsNoted self.now.queue }
         ensures right { All (IsRight self.now.cells) self.now.queue.waiting }
+        ensures brought { All (IsBrought self.now.queue.entries) self.now.queue.waiting }
     {
         self.queue.len()
     }
 
+    /// The stamp of its last event, or 0 where it has none.
+    pub fn stamp(&self) -> Stamp
+        ensures value { result.0 ≡ last_stamp (record { 0 = 0 }) (noted_in self.now.queue.entries) }
+        ensures bound { result.0 ≤ 2 ^ 63 }
+        ensures sound { IsSound self.now.queue }
+        ensures reads { ReadsAsNoted self.now.queue }
+        ensures right { All (IsRight self.now.cells) self.now.queue.waiting }
+    {
+        self.queue.stamp()
+    }
+
     /// Ends the queue, as the queue does.
-    pub fn drain(self) -> Rest<Cargo<A, D>>
+    pub fn drain(self) -> Rest<Cargo<A>>
         ensures first { result.first ≡ self.queue.first }
         ensures entries { result.entries ≡ noted_in self.queue.entries }
         ensures waiting { result.waiting ≡ self.queue.waiting }
         ensures sound { IsSound self.queue }
         ensures reads { ReadsAsNoted self.queue }
         ensures right { All (IsRight self.cells) self.queue.waiting }
+        ensures brought { All (IsBrought self.queue.entries) self.queue.waiting }
     {
         let KeptQueue {
             queue,

@@ -10,7 +10,7 @@ pub mod laws;
 mod queues;
 
 pub use boards::{AtBoard, advertise_at, clear_at, look_up_at, withdraw_at};
-pub use cargo::Cargo;
+pub use cargo::{Cargo, Invocation};
 pub use kept_board::{BoardNote, Clearing, KeptBoard, Look};
 pub use kept_queue::{KeptQueue, QueueNote, Setting};
 pub use queues::{AtQueue, close_at, down_at, gone_at, put_at, sweep_at, take_at};

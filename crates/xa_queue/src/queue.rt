@@ -1,6 +1,7 @@
 // The queue: what waits, and its events as they are noted.
 ghost use Rattle.std.specs.Prelude.{◌≡◌, ◌^◌, ◌≤◌, ◌<◌, ◌⊎◌, [], length, None, Some, true, false, IfOk, IfErr, OnOk, OnErr, MatchOption};
 ghost use Rattle.xa_lock.specs.Makers.{noted_in};
+ghost use Rattle.xa_stamp.specs.Home.{last_stamp};
 ghost use Rattle.xa_events.specs.declared.event.Event.TheVariants.{Gone, Down, Close};
 ghost use Rattle.xa_queue.specs.Queue.{IsSound, has_server, all_gone, none_left};
 ghost use Rattle.xa_queue.specs.Reading.{ReadsAsNoted};
@@ -150,6 +151,19 @@ impl<C> Queue<C> {
         ensures reads { ReadsAsNoted self.now }
     {
         self.closed
+    }
+
+    /// The stamp of its last event, or 0 where it has none. It takes no memory.
+    pub fn stamp(&self) -> Stamp
+        ensures value { result.0 ≡ last_stamp (record { 0 = 0 }) (noted_in self.now.entries) }
+        ensures bound { result.0 ≤ 2 ^ 63 }
+        ensures sound { IsSound self.now }
+        ensures reads { ReadsAsNoted self.now }
+    {
+        match self.kept.entries() {
+            [] => Stamp(0),
+            [.., newest] => newest.stamp,
+        }
     }
 
     // Whether an entry may be put, and the stamp of its event.

@@ -1,9 +1,11 @@
-use Rattle.std.proofs.Common.{sym, ap, ◌∙◌, subst}
+use Rattle.std.proofs.Common.{◌≡◌, ◌<◌, sym, ap, ◌∙◌, subst}
+use Rattle.xa_lock.specs.declared.pass.Page.{Page}
+use Rattle.xa_held.specs.declared.kept_board.BoardNote.{BoardNote}
 use Rattle.xa_lock.specs.Pages.{Knows, page_seeing}
 use Rattle.xa_lock.specs.Known.{known, found}
-use Rattle.xa_board.specs.Board.{ReadsAsNoted}
+use Rattle.xa_board.specs.Board.{ReadsAsNoted, version_of}
 use Rattle.xa_held.specs.Board.{Held, IsSoundBoard, maker_of}
-use Rattle.xa_held.proofs.BoardPassing.{withdraw_grown, withdraw_visits}
+use Rattle.xa_held.proofs.BoardPassing.{withdraw_grown, withdraw_visits, reaches}
 use Rattle.xa_held.proofs.boards.withdraw_at.Goals as goal
 
 pub leave-requires-clause-grew : goal.leave-requires-clause-grew
@@ -22,6 +24,16 @@ returns-clause-withdrawn g c =
     let old : Held = c.value.result.now in
     let sees = c.enter-held.ensures.found ∙ ap (λ (z : Held). page_seeing p z.notes) (sym c.value.ensures.value) in
     let knows = subst (λ (z : Held). Knows maker_of p z.notes) (sym c.value.ensures.value) c.enter-held.ensures.knows in
-    let sound = subst (λ (z : Held). IsSoundBoard z) c.get.ensures c.version-version.ensures.sound in
-    let reads = subst (λ (z : Held). ReadsAsNoted z.board) c.get.ensures c.version-version.ensures.reads in
+    let sound = subst (λ (z : Held). IsSoundBoard z) c.get.ensures c.stamp-last.ensures.sound in
+    let reads = subst (λ (z : Held). ReadsAsNoted z.board) c.get.ensures c.stamp-last.ensures.reads in
     withdraw_visits p q old c.withdraw-answer.new.self sees knows (known c.leave.result) c.leave.ensures.known sound reads c.args.seen c.args.maker c.args.by c.args.op c.args.service.now c.args.queue c.withdraw-answer.result c.withdraw-answer.ensures
+
+pub returns-clause-reached : goal.returns-clause-reached
+returns-clause-reached g c =
+    let new : Held = c.withdraw-answer.new.self in
+    let last = c.stamp-last.result in
+    let sound = subst (λ (z : Held). IsSoundBoard z) c.get.ensures c.stamp-last.ensures.sound in
+    let reads = subst (λ (z : Held). ReadsAsNoted z.board) c.get.ensures c.stamp-last.ensures.reads in
+    let none = subst (λ (z : Held). version_of z.board ≡ 0 → last.0 ≡ 0) c.get.ensures c.stamp-last.ensures.none in
+    let some = subst (λ (z : Held). 0 < version_of z.board → last ≡ z.last) c.get.ensures c.stamp-last.ensures.some in
+    reaches new (known c.leave.result) last (ap (λ (z : Page BoardNote). z.seen) c.leave.ensures.known) sound reads none some

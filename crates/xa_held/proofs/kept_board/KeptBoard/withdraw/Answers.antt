@@ -1,22 +1,22 @@
-use Rattle.std.proofs.Common.{ℕ, List, map, refl, ap, ◌∙◌}
-use Rattle.std.proofs.lemmas.List.{map-append}
+use Rattle.std.proofs.Common.{ℕ, List, refl, ap, ◌∙◌}
+use Rattle.std.proofs.lemmas.List.Elements.{All-filter}
 use Rattle.xa_events.specs.declared.event.Event.{Event}
 use Rattle.xa_types.specs.declared.row.Row.{Row}
 use Rattle.xa_board.specs.Changes.{next_change, without}
-use Rattle.xa_held.specs.Board.{Held}
+use Rattle.xa_held.specs.Board.{Held, IsPlaced}
 use Rattle.xa_held.specs.BoardSteps.{withdrawal}
-use Rattle.xa_held.specs.InnerBoard.{held_of, note_of}
-use Rattle.xa_held.proofs.Climbing.{sound_change}
+use Rattle.xa_held.specs.InnerBoard.{held_of}
+use Rattle.xa_held.proofs.Climbing.{sound_change, kept_behind}
 use Rattle.xa_held.proofs.kept_board.KeptBoard.withdraw.Goals as goal
 
 pub invariant_of-self-2 : goal.invariant_of-self-2
 invariant_of-self-2 c =
     let old : Held = held_of c.self.inside in
     let done = c.in_ok-changed.changed in
-    let new : Held = held_of (record { board = c.withdraw.new.self; last = done.noted.stamp; notes = c.and-self-inside.result }) in
+    let new : Held = held_of (record { board = c.withdraw.new.self; setup = c.self.inside.setup; last = done.noted.stamp; notes = c.and-self-inside.result }) in
     let event : Event = withdrawal c.args.by c.args.op c.args.service.now c.args.queue done.version in
     let rows : List Row = without c.args.service.now c.args.queue.0 old.board.rows in
-    sound_change c.args.seen old new c.self.invariant done.version c.args.maker done.noted event rows
+    sound_change c.args.seen old new c.self.invariant refl done.version c.args.maker done.noted event rows
     (record {
       next = c.in_ok-changed.ensures.value ∙ ap (λ (n : ℕ). next_change (record { 0 = n }) old.board) c.max.ensures;
       event_is = c.in_ok-changed.ensures.noted;
@@ -24,4 +24,5 @@ invariant_of-self-2 c =
       last = refl;
     })
     done.noted.bound
-    (ap (map note_of) c.and-self-inside.ensures ∙ map-append note_of c.self.inside.notes.items _)
+    (kept_behind c.self.inside.setup.value c.self.inside.notes.items c.and-self-inside.result.items _ c.and-self-inside.ensures)
+    (All-filter _ (IsPlaced c.self.inside.setup.value) old.board.rows c.self.invariant.placed)

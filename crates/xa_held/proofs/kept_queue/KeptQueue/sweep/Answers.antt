@@ -12,4 +12,4 @@ invariant_of-self g c = sweep_kept c.self.inside c.args.seen c.args.maker c.swee
 pub sweep-requires-clause-down : goal.sweep-requires-clause-down
 sweep-requires-clause-down g c =
     is_fallen (kept_of c.self.inside) c.len-waits.ensures.sound
-    (subst (λ (k : Kept g.row.A.Denot g.row.D.Denot). is_down_in k.queue.id.0 (notes_of k) ≡ true) (sym c.self.view_is) c.requires.down)
+    (subst (λ (k : Kept g.row.A.Denot). is_down_in k.queue.id.0 (notes_of k) ≡ true) (sym c.self.view_is) c.requires.down)
