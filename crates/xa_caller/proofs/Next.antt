@@ -138,7 +138,7 @@ pub sound_ask : (setup : Setup) (ask : Ask) → is_invalid_call setup ask ≡ fa
 sound_ask setup ask valid = is_so (is_sound setup ask.payload) (neither (not (is_name ask.service)) (not (is_sound setup ask.payload)) (neither (is_invalid_ask setup ask) ask.flags.no_reply valid).0).1
 
 -- rows of one service accept the same kinds
-same_kinds : (setup : Setup) (service : List ℕ) (configured : Option ServiceSetup) (kind : Option Kind) (row : Row) → row ≡ row_with configured service row.queue.0 row.routine → is_accepted setup row.accepts kind ≡ is_accepted setup (row_with configured service 0 []).accepts kind
+pub same_kinds : (setup : Setup) (service : List ℕ) (configured : Option ServiceSetup) (kind : Option Kind) (row : Row) → row ≡ row_with configured service row.queue.0 row.routine → is_accepted setup row.accepts kind ≡ is_accepted setup (row_with configured service 0 []).accepts kind
 same_kinds setup service None kind row is = ap (λ (r : Row). is_accepted setup r.accepts kind) is
 same_kinds setup service (Some configured) kind row is = ap (λ (r : Row). is_accepted setup r.accepts kind) is
 

@@ -1,10 +1,11 @@
 -- What each call of a caller leaves (this project's own).
 use Rattle.std.specs.Prelude.{◌≡◌, ◌≢◌, ◌⊎◌, ℕ, ◌+◌, ◌-◌, ◌≤◌, ◌^◌, max, true, false, Option, Some, None, IsSome, Result, Ok, Err, [], ◌∷◌}
-use Rattle.std.specs.List.{find}
+use Rattle.std.specs.List.{find, Contains}
 use Rattle.xa_types.specs.declared.stamp.Stamp.{Stamp}
 use Rattle.xa_types.specs.declared.data.Data.{Data}
 use Rattle.xa_types.specs.declared.data.Kind.{Kind}
 use Rattle.xa_types.specs.declared.fault.Fault.{Fault}
+use Rattle.xa_types.specs.declared.reply.Answer.{Answer as Reply}
 use Rattle.xa_types.specs.declared.row.Row.{Row}
 use Rattle.xa_types.specs.Found.{FoundRows}
 use Rattle.xa_types.specs.Kind.{kind_of, is_accepted}
@@ -22,6 +23,8 @@ use Rattle.xa_cell.specs.Calls.{TookAs}
 use Rattle.xa_cell.specs.Changes.{looked}
 use Rattle.xa_cell.specs.declared.cells.Cells.{Cells as CellsOf}
 use Rattle.xa_cell.specs.declared.tokens.Seat.{Seat}
+use Rattle.xa_cell.specs.declared.view.Fill.{Fill}
+use Rattle.xa_cell.specs.declared.view.View.{View}
 use Rattle.xa_cell.specs.Calls.{Began, AllTaken}
 use Rattle.xa_work.specs.declared.work.Halt.{Halt}
 use Rattle.xa_work.specs.declared.work.Halt.TheVariants.{Worn}
@@ -61,6 +64,11 @@ abbrev pub LeavesAs : Option Halt → Working → Working → Type 0
 LeavesAs None new old = ((is_client old.clients old.id.0 ≡ true) × ((stamp : Stamp) × (stamp.0 ≡ old.stamp.0 + 1) × (new ≡ noted (record { stamp = stamp; event = Leave old.id }) old)))
     ⊎ ((is_client old.clients old.id.0 ≡ false) × (new ≡ old))
 LeavesAs (Some halt) new old = (is_client old.clients old.id.0 ≡ true) × HaltsAt old.stamp halt × (new ≡ old)
+
+-- what the seat took and filled stands, and it filled no more
+pub record FillsNoMore (v w : View Filling) : Type 0 where
+  pub taken : (k : ℕ) (f : Fill Filling) → Contains (at k v).taken f → Contains (at k w).taken f
+  pub filled : (k : ℕ) → (at k w).filled ≡ (at k v).filled
 
 -- ---- prepare
 
@@ -115,8 +123,10 @@ pub record Answers (expect : Option Kind) (stamp : Stamp) (new old : Standing) :
   pub was : old.phase ≡ Sent sent
   pub asked : (at sent.place.cell (known old.seat)).asked ≡ sent.request ∷ []
   pub filling : Filling
+  pub reply : Reply
+  pub says : filling.answer ≡ Some reply
   pub took : TookAs sent.place.cell filling (looked sent.place.cell 0 (known old.seat)) (known new.seat)
-  pub noted : Notes stamp (Answer (record { by = old.work.id; op = old.op; request = sent.request; answer = answer_to expect filling.answer }))
+  pub noted : Notes stamp (Answer (record { by = old.work.id; op = old.op; request = sent.request; answer = answer_to expect reply }))
       (record old { work = record (seeing filling.stamp old.work) { room = old.work.room - 1 }; seat = new.seat; phase = Idle }) new
 
 -- the answer was taken from the cell, and stamps had come to their end: nothing was noted, and it is lost
@@ -124,13 +134,25 @@ pub record Loses (halt : Halt) (new old : Standing) : Type 0 where
   pub sent : Open
   pub was : old.phase ≡ Sent sent
   pub filling : Filling
+  pub reply : Reply
+  pub says : filling.answer ≡ Some reply
   pub took : TookAs sent.place.cell filling (looked sent.place.cell 0 (known old.seat)) (known new.seat)
   pub worn : (seeing filling.stamp old.work).stamp.0 ≡ 2 ^ 63
   pub last : halt ≡ Worn (seeing filling.stamp old.work).stamp
   pub made : new ≡ record old { work = seeing filling.stamp old.work; seat = new.seat; phase = Lost sent.request }
+
+-- the cell was filled without an answer, since the run halts: nothing was noted
+pub record Abandons (new old : Standing) : Type 0 where
+  pub sent : Open
+  pub was : old.phase ≡ Sent sent
+  pub filling : Filling
+  pub none : filling.answer ≡ None
+  pub took : TookAs sent.place.cell filling (looked sent.place.cell 0 (known old.seat)) (known new.seat)
+  pub made : new ≡ record old { seat = new.seat; phase = Lost sent.request }
 
 -- what a look at the reply comes to; at the last stamp the answer is lost
 abbrev pub StepsAs : Option Kind → Step → Standing → Standing → Type 0
 StepsAs expect (steps.Told stamp) new old = Answers expect stamp new old
 StepsAs expect steps.Wait new old = (sent : Open) × (old.phase ≡ Sent sent) × (known new.seat ≡ looked sent.place.cell 1 (known old.seat)) × (new ≡ record old { seat = new.seat })
 StepsAs expect (steps.Halt halt) new old = Loses halt new old
+StepsAs expect steps.Halted new old = Abandons new old

@@ -45,14 +45,14 @@ ChecksAs op (stops.Halt halt) new old = HaltsAt old.work.stamp halt × (new ≡ 
 
 -- the entry by another row
 abbrev pub aimed_at : Entry Cargo → Row → Entry Cargo
-aimed_at entry row = entry_by entry.request row entry.cargo.«data».payload entry.cargo.ticket
+aimed_at entry row = entry_by entry.request row entry.cargo.invocation.payload entry.cargo.ticket
 
 -- the request is aimed by that row
 pub record AimsAt (row : Row) (entry aimed : Entry Cargo) (event : Event) (new old : Standing) : Type 0 where
   pub draft : Draft
   pub was : old.phase ≡ Prepared draft
   pub entered : aimed ≡ aimed_at entry row
-  pub accepted : event ≡ Accept (accepted_by draft.op draft.asked.request draft.version row entry.cargo.«data».payload)
+  pub accepted : event ≡ Accept (accepted_by draft.op draft.asked.request draft.version row entry.cargo.invocation.payload)
   pub redrawn : Draft
   pub same : redrawn ≡ record draft { event = redrawn.event }
   pub drafted : redrawn.event.value ≡ event
@@ -93,6 +93,7 @@ abbrev pub EndsAs : ℕ → Option (Fault × Evidence) → Step → Step → Sta
 EndsAs op (Some (fault, evidence)) other (steps.Told stamp) new left = Refuses op fault evidence stamp new left
 EndsAs op (Some (fault, evidence)) other (steps.Halt halt) new left = HaltsAt left.work.stamp halt × (new ≡ left)
 EndsAs op (Some (fault, evidence)) other steps.Wait new left = ⊥
+EndsAs op (Some (fault, evidence)) other steps.Halted new left = ⊥
 EndsAs op None other step new left = (step ≡ other) × (new ≡ left)
 
 -- its place was given back in any case

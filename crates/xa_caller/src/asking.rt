@@ -16,7 +16,7 @@ ghost use Rattle.xa_caller.specs.Unsent.{ChecksAs, AimsAs, MayBe, UnsentAs, step
 ghost use Rattle.xa_caller.specs.Changes.{stop};
 
 use crate::caller::{Caller, accepted_by, draft_in, set, take_out};
-use crate::cargo::{Cargo, Filling, Invocation};
+use crate::cargo::{Cargo, Filling};
 use crate::choosing::row_at;
 use crate::outcomes::{Aimed, Note, Step, Stop, Why};
 use crate::phase::{Draft, Open, Phase};
@@ -25,6 +25,7 @@ use std::snapshot::Snapshot;
 use xa_buffer::Shapes;
 use xa_cell::Cells;
 use xa_events::{Event, Evidence};
+use xa_held::Invocation;
 use xa_queue::Entry;
 use xa_route::priority;
 use xa_types::{Ask, Fault, Found, Name, Row, Stamp};
@@ -88,15 +89,15 @@ impl Caller {
     /// when it was prepared.
     pub fn aim(&mut self, alloc: Global, entry: Entry<Cargo>, found: &Found, attempt: u32) -> Aimed
         requires prepared { IsOfVersion found.now.version self.old.phase }
-        requires sound { is_sound self.old.work.setup entry.cargo.«data».payload ≡ true }
-        requires rows { AreRowsOf self.old.work.setup entry.cargo.«data».service found.now.rows }
+        requires sound { is_sound self.old.work.setup entry.cargo.invocation.payload ≡ true }
+        requires rows { AreRowsOf self.old.work.setup entry.cargo.invocation.service found.now.rows }
         ensures aims { AimsAs entry found.now.rows attempt result self.new self.old }
         ensures right { (cells : CellsOf Filling) → IsRight cells entry → IsRight cells (entry_in result) }
     {
         let Some(row) = row_at(found, attempt) else {
             return Aimed::Past(entry);
         };
-        let Ok(payload) = entry.cargo.data.payload.copy(alloc) else {
+        let Ok(payload) = entry.cargo.invocation.payload.copy(alloc) else {
             return Aimed::NoMemory(entry);
         };
         let Draft {
@@ -143,8 +144,8 @@ impl Caller {
             priority: _,
             cargo,
         } = entry;
-        let Cargo { ticket, data } = cargo;
-        drop(data);
+        let Cargo { ticket, invocation } = cargo;
+        drop(invocation);
         cells.withdraw(&mut self.seat, place, ticket);
         GivenBack { op, version }
     }
@@ -191,18 +192,18 @@ fn aimed_at(entry: Entry<Cargo>, row: &Row) -> Entry<Cargo>
         priority: _,
         cargo,
     } = entry;
-    let Cargo { ticket, data } = cargo;
+    let Cargo { ticket, invocation } = cargo;
     let Invocation {
         service: _,
         routine: _,
         payload,
-    } = data;
+    } = invocation;
     Entry {
         request,
         priority: priority(row.priority, None),
         cargo: Cargo {
             ticket,
-            data: Invocation {
+            invocation: Invocation {
                 service: row.service,
                 routine: row.routine,
                 payload,

@@ -19,9 +19,14 @@ ghost use Rattle.xa_caller.specs.Changes.{stop};
 ghost use Rattle.xa_caller.specs.Phases.{IsPrepared, IsPreparedAt, IsSent, least_by};
 ghost use Rattle.xa_caller.specs.declared.phase.Phase.TheVariants as phases;
 ghost use Rattle.xa_work.specs.Work.{HaltsAt, seeing, theirs};
+ghost use Rattle.xa_stamp.specs.Home.{last_stamp};
+ghost use Rattle.xa_crew.specs.Crew.{no_stamp};
+ghost use Rattle.xa_cell.specs.Places.{OpenAre};
+ghost use Rattle.xa_caller.specs.Changes.{FillsNoMore};
+ghost use Rattle.xa_caller.specs.Phases.{places_in};
 
 use crate::asking::stop;
-use crate::cargo::{Cargo, Filling, Invocation};
+use crate::cargo::{Cargo, Filling};
 use crate::choosing::first_row;
 use crate::outcomes::{Note, Prepared, Step, Stop};
 use crate::phase::{Draft, Open, Phase};
@@ -32,6 +37,7 @@ use std::mem;
 use std::snapshot::Snapshot;
 use xa_cell::{Cells, Look, Seat, Ticket};
 use xa_events::{Accepted, Event, Evidence, Refused, Replied};
+use xa_held::Invocation;
 use xa_queue::Entry;
 use xa_route::priority;
 use xa_types::{
@@ -139,7 +145,7 @@ pub(crate) fn entry_by(
         priority: priority(row.priority, None),
         cargo: Cargo {
             ticket,
-            data: Invocation {
+            invocation: Invocation {
                 service: row.service,
                 routine: row.routine,
                 payload,
@@ -236,6 +242,26 @@ fn sent_in(phase: Phase) -> Open
     }
 }
 
+// The cell of a request that is out is given up.
+fn give_up(cells: &Cells<Filling>, seat: &mut Seat<Filling>, phase: Phase)
+    requires cells { IsSeatOf cells.now seat.old }
+    requires open_ { OpenAre (places_in phase) (known seat.old) }
+    requires out { IsPrepared phase → ⊥ }
+    ensures cells { SameSeat cells.now seat.old seat.new }
+    ensures filled { FillsNoMore (known seat.old) (known seat.new) }
+    ensures shut { IsShut seat.new }
+{
+    match phase {
+        Phase::Sent(open) => {
+            let Open { request: _, place } = open;
+            drop(cells.cancel(seat, place));
+        }
+        Phase::Idle => {}
+        Phase::Lost(_) => {}
+        _ => unreachable!(),
+    }
+}
+
 impl Caller {
     ghost use Rattle.xa_caller.specs.Caller.{IsSound, MayCall, AreRowsOf};
     ghost use Rattle.xa_caller.specs.Changes.{Refuses, Prepares, StopsAs, TurnsDown, Sends, StepsAs, LeavesAs};
@@ -272,6 +298,15 @@ impl Caller {
         ensures bound { result.0 ≤ 2 ^ 63 }
     {
         self.work.stamp()
+    }
+
+    /// The stamp of the last event that it noted, at whichever home, or 0 where it noted none.
+    pub fn latest(&self) -> Stamp
+        ensures value { result.0 ≡ last_stamp no_stamp self.now.work.own }
+        ensures bound { result.0 ≤ 2 ^ 63 }
+    {
+        let _bound = self.work.stamp();
+        self.work.latest()
     }
 
     /// It saw this stamp at another home.
@@ -425,7 +460,8 @@ impl Caller {
         set(&mut self.phase, Phase::Sent(asked));
     }
 
-    /// Looks for the answer to its request, and is told it where it has come.
+    /// Looks for the answer to its request, and is told it where it has come. Where the cell was filled without an answer, since
+    /// the run halts, nothing is noted.
     pub fn call_reply(&mut self, cells: &Cells<Filling>, expect: &Option<Kind>) -> Step
         requires cells { IsSeatOf cells.now self.old.seat }
         requires active { MayCall self.old }
@@ -442,6 +478,10 @@ impl Caller {
             Look::Come => {
                 let Open { request, place } = open;
                 let Filling { answer, stamp } = cells.take(&mut self.seat, place);
+                let Some(answer) = answer else {
+                    set(&mut self.phase, Phase::Lost(request));
+                    return Step::Halted;
+                };
                 self.work.saw(stamp);
                 let replied = Replied {
                     by: self.work.id(),
@@ -457,6 +497,32 @@ impl Caller {
                     }
                 }
             }
+        }
+    }
+
+    /// The run halts: the cell of a request that is out is given up, and nothing is noted.
+    pub fn abandon(self, cells: &Cells<Filling>) -> Left
+        requires cells { IsSeatOf cells.now self.seat }
+        requires out { IsPrepared self.phase → ⊥ }
+        ensures cells { SameSeat cells.now self.seat result.seat }
+        ensures filled { FillsNoMore (known self.seat) (known result.seat) }
+        ensures shut { IsShut result.seat }
+        ensures work { (result.work ≡ self.work) × (result.halt ≡ None) }
+        ensures sound { IsSound self }
+    {
+        let Caller {
+            work,
+            mut seat,
+            op: _,
+            sent: _,
+            least: _,
+            phase,
+        } = self;
+        give_up(cells, &mut seat, phase);
+        Left {
+            work,
+            seat,
+            halt: None,
         }
     }
 

@@ -12,7 +12,7 @@ mod serving;
 mod telling;
 
 pub use caller::{Caller, Left};
-pub use cargo::{Cargo, Filling, Invocation};
+pub use cargo::{Cargo, Filling};
 pub use laws::{chosen_is_first, request_is_as_asked};
 pub use outcomes::{Aimed, Note, Prepared, Step, Stop, Why};
 pub use phase::{Draft, Open, Phase};

@@ -16,7 +16,7 @@ use crate::pipe::Pipe;
 use crate::turn::{Turn, Written};
 use xa_events::StopCause;
 use xa_frame::{Body, Frame};
-use xa_link::Link;
+use xa_link::{Killed, Link};
 use xa_types::{Generation, Name, Rval, ServerId};
 
 /// What a life has.
@@ -105,6 +105,28 @@ impl<L: Link> Course<L> {
         self.said.note(frame);
         self.tag = tag_after(self.turn, self.tag);
         self.turn = turn_after(self.turn, &frame.body);
+    }
+
+    /// Its program is ended by force, in whichever turn.
+    pub fn abandon(self) -> Killed<L>
+        ensures took { L.took result.was.value ≡ self.pipe.took }
+        ensures gave { L.gave result.was.value ≡ self.pipe.gave }
+        ensures left { L.left result.was.value ≡ self.pipe.left }
+        ensures reads { L.read_faults result.was.value ≡ self.pipe.reads }
+        ensures writes { L.write_faults result.was.value ≡ self.pipe.writes }
+        ensures whose { L.whose result.was.value ≡ self.pipe.whose }
+    {
+        let Course {
+            name: _,
+            server: _,
+            generation: _,
+            pipe,
+            asked: _,
+            said: _,
+            turn: _,
+            tag: _,
+        } = self;
+        pipe.kill()
     }
 
     /// The life ends by that cause: its program is ended by force, but behind SHUTDOWN and TPEXIT, where it ends by itself.

@@ -19,7 +19,7 @@ use std::alloc::Global;
 use std::marker::Model;
 use xa_events::StopCause;
 use xa_frame::Frame;
-use xa_link::Link;
+use xa_link::{Killed, Link};
 use xa_types::{Data, Generation, Name, ServerId};
 
 /// A life of a server that goes on. A call by which it may end takes it, and gives back the life or what is left of it; so
@@ -180,6 +180,19 @@ impl<L: Link> Life<L> {
             Ok(()) => course.end(StopCause::Shutdown, Written::Whole),
             Err(cause) => course.end(cause, unwritten(cause)),
         }
+    }
+
+    /// The monitor goes on with it no more: its program is ended by force, in whichever turn.
+    pub fn abandon(self) -> Killed<L>
+        ensures took { L.took result.was.value ≡ self.link.took }
+        ensures gave { L.gave result.was.value ≡ self.link.gave }
+        ensures left { L.left result.was.value ≡ self.link.left }
+        ensures reads { L.read_faults result.was.value ≡ self.link.reads }
+        ensures writes { L.write_faults result.was.value ≡ self.link.writes }
+        ensures whose { L.whose result.was.value ≡ self.link.whose }
+    {
+        let Life { course } = self;
+        course.abandon()
     }
 
     /// The life ends behind a RETURN with TPEXIT.

@@ -20,6 +20,7 @@ pub enum Pipes<L> {
 }
 
 /// A life that ended, and what is left of its pipes.
+#[derive(Drop)]
 pub struct EndedLife<L: Link> {
     pub(crate) name: Name,
     pub(crate) server: ServerId,

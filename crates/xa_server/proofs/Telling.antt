@@ -1,6 +1,6 @@
 -- The ends behind what seats filled.
 use Rattle.std.proofs.Common.{◌≡◌, ℕ, zero, suc, ◌≤◌, List, [], ◌∷◌, ◌++◌, Option, Some, None, if◌then◌else◌, refl, sym, ◌∙◌, ap, subst, arith}
-use Rattle.std.specs.Prelude.{IsSomeAnd, slice_set}
+use Rattle.std.specs.Prelude.{IsSome, IsSomeAnd, IfSome, slice_set}
 use Rattle.std.specs.List.{All, Contains}
 use Rattle.std.proofs.lemmas.List.Elements.{All-push, All-weaker, Contains-push, Contains-append_left}
 use Rattle.xa_types.specs.declared.stamp.Stamp.{Stamp}
@@ -19,6 +19,9 @@ use Rattle.xa_events.specs.Request.{Settlement, settlement_in}
 use Rattle.xa_events.specs.Request.Settlement.{EndedBy, SweptAway}
 use Rattle.xa_events.proofs.WordsLemmas.{same_request_of}
 use Rattle.xa_stamp.specs.declared.home.Stamped.{Stamped}
+use Rattle.xa_stamp.specs.Home.{last_stamp}
+use Rattle.xa_stamp.proofs.Stamps.{last_stamp-push}
+use Rattle.xa_crew.specs.Crew.{no_stamp}
 use Rattle.xa_queue.specs.declared.entry.Entry.{Entry}
 use Rattle.xa_cell.specs.declared.tokens.Ticket.{Ticket}
 use Rattle.xa_cell.specs.declared.view.Opening.{Opening}
@@ -38,7 +41,7 @@ use Rattle.xa_server.specs.declared.closing.Given.{Given}
 use Rattle.xa_server.specs.Changes.{Ends, Closes, Finishes, DiesBusy, DiesIdle, DiesFrom, Dies}
 use Rattle.xa_server.specs.Noting.{with_room}
 use Rattle.xa_server.specs.Doings.{outcome_of}
-use Rattle.xa_server.specs.Told.{GivenTo, GivenAs, EndedFor, FilledByEnds, Backs, IsBacked, NamesIts}
+use Rattle.xa_server.specs.Told.{GivenTo, GivenAs, HasStamp, IsEnded, EndedFor, FilledByEnds, Backs, IsBacked, NamesIts}
 use Rattle.xa_server.proofs.Reading.{end_of}
 
 -- a part is set, and what holds of it and of all others holds of each
@@ -61,18 +64,26 @@ module _ (entries : List Stamped) where
   settled_so k o filling v w (fills.Dropped back) is ended each j =
       subst (λ (u : View Filling). by_ends (at j u)) (sym is.1) (set_each by_ends v.parts k (record (at k v) { dropped = (at k v).dropped ++ o.number ∷ [] }) each (each k) j)
 
-  given_so : (ticket : Option (Ticket Filling)) (answer : Answer) (first stamp : Stamp) (v w : View Filling) (became : Given) → GivenTo ticket answer stamp v w became → first.0 ≤ stamp.0 → Backs entries ticket answer first → FilledByEnds entries v → FilledByEnds entries w
-  given_so None answer first stamp v w became is later backs each = subst (FilledByEnds entries) (sym is.1) each
-  given_so (Some ticket) answer first stamp v w became spent later backs each =
+  given_so : (ticket : Option (Ticket Filling)) (answer : Option Answer) (first stamp : Stamp) (v w : View Filling) (became : Given) → GivenTo ticket answer stamp v w became → first.0 ≤ stamp.0 → (IsSome answer → HasStamp entries stamp) → Backs entries ticket answer first → FilledByEnds entries v → FilledByEnds entries w
+  given_so None answer first stamp v w became is later has backs each = subst (FilledByEnds entries) (sym is.1) each
+  given_so (Some ticket) None first stamp v w became spent later has backs each =
+      let o = spent.filled.0 in
+      settled_so ticket.cell o spent.filling v w spent.outcome spent.filled.2 (subst (λ a. IfSome a (IsEnded entries o.request spent.filling.stamp)) (sym spent.says) tt) each
+  given_so (Some ticket) (Some answer) first stamp v w became spent later has backs each =
       let o = spent.filled.0 in
       let settles = backs.2 o spent.filled.1 in
       let by = settles.by in
       let stamped = ap (λ (s : Stamp). s.0) spent.stamped in
       settled_so ticket.cell o spent.filling v w spent.outcome spent.filled.2
-      (backs.0, backs.1, record { by = omega (arith, by, later, stamped); tells = subst (λ (a : Answer). IsSomeAnd (settlement_in o.request backs.0.event) (λ (how : Settlement). a ≡ reply_of how)) (sym spent.says) settles.tells }) each
+      (subst (λ a. IfSome a (IsEnded entries o.request spent.filling.stamp)) (sym spent.says) (record {
+        entry = backs.0;
+        stands = backs.1;
+        settles = record { by = omega (arith, by, later, stamped); tells = settles.tells };
+        has = subst (HasStamp entries) (sym spent.stamped) (has refl);
+      })) each
 
-pub given_ended : (entries : List Stamped) (closing : Closing) (stamp : Stamp) (v w : View Filling) (became : Given) → GivenAs closing stamp v w became → closing.stamp.0 ≤ stamp.0 → IsBacked entries closing → FilledByEnds entries v → FilledByEnds entries w
-given_ended entries closing stamp v w became is later backs each = given_so entries closing.ticket closing.answer closing.stamp stamp v w became is later backs each
+pub given_ended : (entries : List Stamped) (closing : Closing) (stamp : Stamp) (v w : View Filling) (became : Given) → GivenAs closing stamp v w became → closing.stamp.0 ≤ stamp.0 → (IsSome closing.answer → HasStamp entries stamp) → IsBacked entries closing → FilledByEnds entries v → FilledByEnds entries w
+given_ended entries closing stamp v w became is later has backs each = given_so entries closing.ticket closing.answer closing.stamp stamp v w became is later has backs each
 
 -- ---- what a slot closes
 
@@ -104,55 +115,69 @@ backed outcome stamp closing after before new old ends closes names =
 
 -- ---- further entries
 
-pub fillings_stay : (entries further : List Stamped) (view : View Filling) → FilledByEnds entries view → FilledByEnds (entries ++ further) view
-fillings_stay entries further view each k = All-weaker (EndedFor entries) (EndedFor (entries ++ further)) (λ fill ended. (ended.0, Contains-append_left entries further ended.0 ended.1, ended.2)) (at k view).filled (each k)
+ended_stays : (entries further : List Stamped) (request : RequestId) (stamp : Stamp) (answer : Option Answer) → IfSome answer (IsEnded entries request stamp) → IfSome answer (IsEnded (entries ++ further) request stamp)
+ended_stays entries further request stamp None ended = tt
+ended_stays entries further request stamp (Some answer) ended = record {
+  entry = ended.entry;
+  stands = Contains-append_left entries further ended.entry ended.stands;
+  settles = ended.settles;
+  has = (ended.has.0, Contains-append_left entries further ended.has.0 ended.has.1, ended.has.2);
+}
 
-closing_stays : (entries further : List Stamped) (ticket : Option (Ticket Filling)) (answer : Answer) (stamp : Stamp) → Backs entries ticket answer stamp → Backs (entries ++ further) ticket answer stamp
+pub fillings_stay : (entries further : List Stamped) (view : View Filling) → FilledByEnds entries view → FilledByEnds (entries ++ further) view
+fillings_stay entries further view each k = All-weaker (EndedFor entries) (EndedFor (entries ++ further)) (λ fill ended. ended_stays entries further fill.opening.request fill.answer.stamp fill.answer.answer ended) (at k view).filled (each k)
+
+closing_stays : (entries further : List Stamped) (ticket : Option (Ticket Filling)) (answer : Option Answer) (stamp : Stamp) → Backs entries ticket answer stamp → Backs (entries ++ further) ticket answer stamp
 closing_stays entries further None answer stamp backs = tt
-closing_stays entries further (Some ticket) answer stamp backs = (backs.0, Contains-append_left entries further backs.0 backs.1, backs.2)
+closing_stays entries further (Some ticket) None stamp backs = tt
+closing_stays entries further (Some ticket) (Some answer) stamp backs = (backs.0, Contains-append_left entries further backs.0 backs.1, backs.2)
 
 pub closings_stay : (entries further : List Stamped) (closing : Closing) → IsBacked entries closing → IsBacked (entries ++ further) closing
 closings_stay entries further closing backs = closing_stays entries further closing.ticket closing.answer closing.stamp backs
 
 -- ---- what the calls close
 
+-- the last stamp is that of the event that came last
+newest : (old : List Stamped) (x : Stamped) (new : List Stamped) → new ≡ old ++ x ∷ [] → last_stamp no_stamp new ≡ x.stamp.0
+newest old x new is = ap (last_stamp no_stamp) is ∙ last_stamp-push no_stamp old x
+
 -- the stamp of what is closed is that of the end
 closed_at : (answer : Answer) (stamp : Stamp) (hand : Option (Entry Cargo)) (closing : Closing) → Closes answer stamp hand closing → closing.stamp.0 ≡ stamp.0
 closed_at answer stamp hand closing closes = ap (λ (c : Closing). c.stamp.0) closes.is
 
-pub finish_backed : (outcome : Outcome) (closing : Closing) (after before : ServerSlot) (new old : Standing) → Finishes outcome closing after before new old → NamesIts before.hand → IsBacked new.own closing × (closing.stamp.0 ≤ new.stamp.0)
+pub finish_backed : (outcome : Outcome) (closing : Closing) (after before : ServerSlot) (new old : Standing) → Finishes outcome closing after before new old → NamesIts before.hand → IsBacked new.own closing × (closing.stamp.0 ≤ last_stamp no_stamp new.own)
 finish_backed outcome closing after before new old f names =
     let at = closed_at (reply_of (EndedBy outcome)) f.stamp before.hand closing f.closes in
-    let now = ap (λ (w : Standing). w.stamp.0) f.ends.noted.made in
+    let now = newest old.own (record { stamp = f.stamp; event = _ }) new.own (ap (λ (w : Standing). w.own) f.ends.noted.made) in
     (backed outcome f.stamp closing f.ended before new (with_room 3 old) f.ends f.closes names, omega (arith, at, now))
 
-dies_busy : (cause : StopCause) (closing : Closing) (after before : ServerSlot) (new old : Standing) → DiesBusy cause closing after before new old → NamesIts before.hand → IsBacked new.own closing × (closing.stamp.0 ≤ new.stamp.0)
+dies_busy : (cause : StopCause) (closing : Closing) (after before : ServerSlot) (new old : Standing) → DiesBusy cause closing after before new old → NamesIts before.hand → IsBacked new.own closing × (closing.stamp.0 ≤ last_stamp no_stamp new.own)
 dies_busy cause closing after before new old d names =
     let at = closed_at (reply_of (EndedBy (outcome_of cause))) d.stamp before.hand closing d.closes in
     let between = ap (λ (w : Standing). w.stamp.0) d.ends.noted.made in
     let next = d.stops.noted.next in
-    let now = ap (λ (w : Standing). w.stamp.0) d.stops.noted.made in
     let own = ap (λ (w : Standing). w.own) d.stops.noted.made in
+    let now = newest d.between.own (record { stamp = d.stop; event = _ }) new.own own in
     let ended = backed (outcome_of cause) d.stamp closing d.ended before d.between old d.ends d.closes names in
     (subst (λ (l : List Stamped). IsBacked l closing) (sym own) (closings_stay d.between.own _ closing ended), omega (arith, at, between, next, now))
 
-dies_idle : (cause : StopCause) (closing : Closing) (after before : ServerSlot) (new old : Standing) → DiesIdle cause closing after before new old → IsBacked new.own closing × (closing.stamp.0 ≤ new.stamp.0)
+dies_idle : (cause : StopCause) (closing : Closing) (after before : ServerSlot) (new old : Standing) → DiesIdle cause closing after before new old → IsBacked new.own closing × (closing.stamp.0 ≤ last_stamp no_stamp new.own)
 dies_idle cause closing after before new old d =
     let at = ap (λ (s : Stamp). s.0) d.stamped in
-    let now = ap (λ (w : Standing). w.stamp.0) d.stops.noted.made in
+    let now = newest old.own (record { stamp = d.stop; event = _ }) new.own (ap (λ (w : Standing). w.own) d.stops.noted.made) in
     (subst (λ (t : Option (Ticket Filling)). Backs new.own t closing.answer closing.stamp) (sym d.nobody) tt, omega (arith, at, now))
 
-dies_from : (doing : Doing) (cause : StopCause) (closing : Closing) (after before : ServerSlot) (new old : Standing) → DiesFrom doing cause closing after before new old → NamesIts before.hand → IsBacked new.own closing × (closing.stamp.0 ≤ new.stamp.0)
+dies_from : (doing : Doing) (cause : StopCause) (closing : Closing) (after before : ServerSlot) (new old : Standing) → DiesFrom doing cause closing after before new old → NamesIts before.hand → IsBacked new.own closing × (closing.stamp.0 ≤ last_stamp no_stamp new.own)
 dies_from (Busy generation request) cause closing after before new old d names = dies_busy cause closing after before new old d names
 dies_from _ cause closing after before new old d names = dies_idle cause closing after before new old d
 
-pub death_backed : (cause : StopCause) (closing : Closing) (after before : ServerSlot) (new old : Standing) → Dies cause closing after before new old → NamesIts before.hand → IsBacked new.own closing × (closing.stamp.0 ≤ new.stamp.0)
+pub death_backed : (cause : StopCause) (closing : Closing) (after before : ServerSlot) (new old : Standing) → Dies cause closing after before new old → NamesIts before.hand → IsBacked new.own closing × (closing.stamp.0 ≤ last_stamp no_stamp new.own)
 death_backed cause closing after before new old d names = dies_from before.doing cause closing after before new old d names
 
 settles_sweep : (x : Swept) (request : RequestId) → request ≡ x.request → IsSomeAnd (settlement_in request (Sweep x)) (λ (how : Settlement). reply_of SweptAway ≡ reply_of how)
 settles_sweep x request is = subst (λ b. IsSomeAnd (if b then Some SweptAway else None) (λ (how : Settlement). reply_of SweptAway ≡ reply_of how)) (sym (same_request_of x.request request (sym is))) refl
 
 pub sweep_backed : (entries : List Stamped) (entry : Entry Cargo) (queue : QueueId) (stamp : Stamp) → Contains entries (record { stamp = stamp; event = Sweep (record { request = entry.request; queue = queue }) })
-    → NamesIts (Some entry) → IsBacked entries (record { ticket = Some entry.cargo.ticket; answer = reply_of SweptAway; stamp = stamp })
+    → NamesIts (Some entry) → IsBacked entries (record { ticket = Some entry.cargo.ticket; answer = Some (reply_of SweptAway); stamp = stamp })
 sweep_backed entries entry queue stamp stands names =
     (record { stamp = stamp; event = Sweep (record { request = entry.request; queue = queue }) }, stands, λ o named_so. record { by = omega arith; tells = settles_sweep (record { request = entry.request; queue = queue }) o.request (names o named_so) })

@@ -18,7 +18,7 @@ use Rattle.xa_types.specs.declared.stamp.Worn.{Worn}
 use Rattle.xa_types.specs.declared.reply.Answer.{Answer}
 use Rattle.xa_queue.specs.declared.entry.Entry.{Entry}
 use Rattle.xa_caller.specs.Drafts.{Cargo}
-use Rattle.xa_caller.specs.declared.cargo.Invocation.{Invocation}
+use Rattle.xa_held.specs.declared.cargo.Invocation.{Invocation}
 use Rattle.xa_server.specs.declared.closing.Closing.{Closing}
 use Rattle.xa_restart.specs.Rule.{Standing as Restarts, may_start_by}
 use Rattle.xa_work.specs.Work.{Standing, theirs}
@@ -77,7 +77,7 @@ pub record IsTakeOf (request : RequestId) (event : Event) (slot : ServerSlot) : 
 pub record Invokes (hand : Option (Entry Cargo)) (invocation : Invocation) : Type 0 where
   pub entry : Entry Cargo
   pub in_hand : hand ≡ Some entry
-  pub sent : invocation ≡ entry.cargo.«data»
+  pub sent : invocation ≡ entry.cargo.invocation
 
 -- the request in hand ended so, by an event with that stamp, and is in hand still
 pub record Ends (outcome : Outcome) (stamp : Stamp) (slot' slot : ServerSlot) (new old : Standing) : Type 0 where
@@ -91,7 +91,13 @@ pub record Ends (outcome : Outcome) (stamp : Stamp) (slot' slot : ServerSlot) (n
 pub record Closes (answer : Answer) (stamp : Stamp) (hand : Option (Entry Cargo)) (closing : Closing) : Type 0 where
   pub entry : Entry Cargo
   pub in_hand : hand ≡ Some entry
-  pub is : closing ≡ record { ticket = Some entry.cargo.ticket; answer = answer; stamp = stamp }
+  pub is : closing ≡ record { ticket = Some entry.cargo.ticket; answer = Some answer; stamp = stamp }
+
+-- the caller of the request in hand is to be told that the run halts
+pub record Abandons (hand : Option (Entry Cargo)) (closing : Closing) : Type 0 where
+  pub entry : Entry Cargo
+  pub in_hand : hand ≡ Some entry
+  pub is : closing ≡ record { ticket = Some entry.cargo.ticket; answer = None; stamp = record { 0 = 0 } }
 
 -- the request in hand ended so, with room made before, and its caller is to be told
 pub record Finishes (outcome : Outcome) (closing : Closing) (slot' slot : ServerSlot) (new old : Standing) : Type 0 where

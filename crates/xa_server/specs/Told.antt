@@ -1,5 +1,5 @@
 -- What a caller is told, and the end that stands behind it (this project's own).
-use Rattle.std.specs.Prelude.{◌≡◌, ℕ, ◌≤◌, List, [], ◌∷◌, Option, Some, None, IsSomeAnd}
+use Rattle.std.specs.Prelude.{◌≡◌, ℕ, ◌≤◌, List, [], ◌∷◌, Option, Some, None, IsSomeAnd, IfSome}
 use Rattle.std.specs.List.{All, Contains}
 use Rattle.xa_types.specs.declared.stamp.Stamp.{Stamp}
 use Rattle.xa_types.specs.declared.ids.RequestId.{RequestId}
@@ -29,7 +29,7 @@ given_by fills.Delivered = Delivered
 given_by (fills.Dropped filling) = Dropped
 
 -- the ticket was spent on a filling with that answer and that stamp
-pub record Spent (ticket : Ticket Filling) (answer : Answer) (stamp : Stamp) (v w : View Filling) (given : Given) : Type 0 where
+pub record Spent (ticket : Ticket Filling) (answer : Option Answer) (stamp : Stamp) (v w : View Filling) (given : Given) : Type 0 where
   pub filling : Filling
   pub says : filling.answer ≡ answer
   pub stamped : filling.stamp ≡ stamp
@@ -38,7 +38,7 @@ pub record Spent (ticket : Ticket Filling) (answer : Answer) (stamp : Stamp) (v 
   pub told : given ≡ given_by outcome
 
 -- where there is no ticket nothing was done
-abbrev pub GivenTo : Option (Ticket Filling) → Answer → Stamp → View Filling → View Filling → Given → Type 0
+abbrev pub GivenTo : Option (Ticket Filling) → Option Answer → Stamp → View Filling → View Filling → Given → Type 0
 GivenTo (Some ticket) answer stamp v w given = Spent ticket answer stamp v w given
 GivenTo None answer stamp v w given = (given ≡ Nothing) × (w ≡ v)
 
@@ -52,17 +52,29 @@ pub record Settles (request : RequestId) (answer : Answer) (stamp : Stamp) (entr
   pub by : entry.stamp.0 ≤ stamp.0
   pub tells : IsSomeAnd (settlement_in request entry.event) (λ how. answer ≡ reply_of how)
 
--- one of these entries ended or swept the request of that filling
+-- one of these entries has that stamp
+abbrev pub HasStamp : List Stamped → Stamp → Type 0
+HasStamp entries stamp = (entry : Stamped) × Contains entries entry × (entry.stamp ≡ stamp)
+
+-- one of these entries ended or swept the request so, no later than that stamp, which one of them has
+pub record IsEnded (entries : List Stamped) (request : RequestId) (stamp : Stamp) (answer : Answer) : Type 0 where
+  pub entry : Stamped
+  pub stands : Contains entries entry
+  pub settles : Settles request answer stamp entry
+  pub has : HasStamp entries stamp
+
+-- so it is with the request of that filling, if it has an answer
 abbrev pub EndedFor : List Stamped → Fill Filling → Type 0
-EndedFor entries fill = (entry : Stamped) × Contains entries entry × Settles fill.opening.request fill.answer.answer fill.answer.stamp entry
+EndedFor entries fill = IfSome fill.answer.answer (IsEnded entries fill.opening.request fill.answer.stamp)
 
 -- each filling that the seat knows itself to have made has its end or its sweep among these entries
 abbrev pub FilledByEnds : List Stamped → View Filling → Type 0
 FilledByEnds entries view = (k : ℕ) → All (EndedFor entries) (at k view).filled
 
--- one of these entries ended or swept the request that the ticket names
-abbrev pub Backs : List Stamped → Option (Ticket Filling) → Answer → Stamp → Type 0
-Backs entries (Some ticket) answer stamp = (entry : Stamped) × Contains entries entry × ((o : Opening) → named ticket ≡ o ∷ [] → Settles o.request answer stamp entry)
+-- one of these entries ended or swept the request that the ticket names, if there is an answer
+abbrev pub Backs : List Stamped → Option (Ticket Filling) → Option Answer → Stamp → Type 0
+Backs entries (Some ticket) (Some answer) stamp = (entry : Stamped) × Contains entries entry × ((o : Opening) → named ticket ≡ o ∷ [] → Settles o.request answer stamp entry)
+Backs entries (Some ticket) None stamp = Unit {0}
 Backs entries None answer stamp = Unit {0}
 
 abbrev pub IsBacked : List Stamped → Closing → Type 0

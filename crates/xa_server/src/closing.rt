@@ -2,6 +2,8 @@
 ghost use Rattle.std.specs.Prelude.{◌≡◌, ◌≤◌, Some, IfOk, IfSome};
 ghost use Rattle.xa_events.specs.Answers.{reply_of};
 ghost use Rattle.xa_events.specs.Request.Settlement.{EndedBy};
+ghost use Rattle.xa_stamp.specs.Home.{last_stamp};
+ghost use Rattle.xa_crew.specs.Crew.{no_stamp};
 ghost use Rattle.xa_cell.specs.Known.{known, IsSeatOf, IsTicketOf, SameSeat};
 ghost use Rattle.xa_server.specs.Told.{GivenAs};
 
@@ -12,10 +14,11 @@ use xa_events::Outcome;
 use xa_queue::Entry;
 use xa_types::{Answer, Fault, NoMemory, Stamp};
 
-/// What the caller of a request is to be told, and the stamp of the event by which the request ended: it ends in `give`.
+/// What the caller of a request is to be told, and the stamp of the event by which the request ended: it ends in `give`. There
+/// is no answer where the run halts.
 pub struct Closing {
     pub ticket: Option<Ticket<Filling>>,
-    pub answer: Answer,
+    pub answer: Option<Answer>,
     pub stamp: Stamp,
 }
 
@@ -41,8 +44,8 @@ pub(crate) fn reply_to(alloc: Global, outcome: &Outcome) -> Result<Answer, NoMem
     }
 }
 
-// The answer to the request of that entry, which ended with that stamp.
-pub(crate) fn close(entry: Entry<Cargo>, answer: Answer, stamp: Stamp) -> Closing
+// The answer to the request of that entry, which ended with that stamp, if it ended.
+pub(crate) fn close(entry: Entry<Cargo>, answer: Option<Answer>, stamp: Stamp) -> Closing
     ensures { result ≡ record { ticket = Some entry.cargo.ticket; answer = answer; stamp = stamp } }
 {
     let Entry {
@@ -50,8 +53,8 @@ pub(crate) fn close(entry: Entry<Cargo>, answer: Answer, stamp: Stamp) -> Closin
         priority: _,
         cargo,
     } = entry;
-    let Cargo { ticket, data } = cargo;
-    drop(data);
+    let Cargo { ticket, invocation } = cargo;
+    drop(invocation);
     Closing {
         ticket: Some(ticket),
         answer,
@@ -60,13 +63,13 @@ pub(crate) fn close(entry: Entry<Cargo>, answer: Answer, stamp: Stamp) -> Closin
 }
 
 impl Closing {
-    /// Fills the cell of the caller, or drops the answer where its place was given up. The filling has the greatest stamp
-    /// that the worker noted or saw by now, so whoever is told finds all that the worker noted. It takes no memory.
+    /// Fills the cell of the caller, or drops the answer where its place was given up. The filling has the stamp of the last
+    /// event that the worker noted, so whoever is told finds all that the worker noted. It takes no memory.
     pub fn give(self, caller: &mut Caller, cells: &Cells<Filling>) -> Given
         requires cells { IsSeatOf cells.now caller.old.seat × IfSome self.ticket (IsTicketOf cells.now) }
-        requires later { self.stamp.0 ≤ caller.old.work.stamp.0 }
+        requires later { self.stamp.0 ≤ last_stamp no_stamp caller.old.work.own }
         ensures cells { SameSeat cells.now caller.old.seat caller.new.seat }
-        ensures given { GivenAs self caller.old.work.stamp (known caller.old.seat) (known caller.new.seat) result }
+        ensures given { GivenAs self (record { 0 = last_stamp no_stamp caller.old.work.own }) (known caller.old.seat) (known caller.new.seat) result }
         ensures caller { caller.new ≡ record caller.old { seat = caller.new.seat } }
     {
         let Closing {
@@ -77,7 +80,7 @@ impl Closing {
         let Some(ticket) = ticket else {
             return Given::Nothing;
         };
-        let stamp = caller.stamp();
+        let stamp = caller.latest();
         match caller.fill(cells, ticket, Filling { answer, stamp }) {
             Filled::Delivered => Given::Delivered,
             Filled::Dropped(_) => Given::Dropped,

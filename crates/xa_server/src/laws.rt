@@ -2,7 +2,7 @@
 ghost use Rattle.xa_work.specs.Work.{Standing};
 ghost use Rattle.xa_server.specs.declared.slot.ServerSlot.{ServerSlot};
 ghost use Rattle.xa_server.specs.Slot.{Stands, SameWork};
-ghost use Rattle.std.specs.Prelude.{◌≡◌, ◌≤◌, List, [], ◌++◌, Some, IsSomeAnd};
+ghost use Rattle.std.specs.Prelude.{◌≡◌, ◌≤◌, List, [], ◌++◌, Some, IsSome, IsSomeAnd};
 ghost use Rattle.std.specs.List.{Contains};
 ghost use Rattle.xa_types.specs.declared.stamp.Stamp.{Stamp};
 ghost use Rattle.xa_types.specs.declared.ids.QueueId.{QueueId};
@@ -18,12 +18,14 @@ ghost use Rattle.xa_caller.specs.Drafts.{Cargo};
 ghost use Rattle.xa_events.specs.Answers.{reply_of};
 ghost use Rattle.xa_events.specs.Request.Settlement.{EndedBy, SweptAway};
 ghost use Rattle.xa_stamp.specs.declared.home.Stamped.{Stamped};
+ghost use Rattle.xa_stamp.specs.Home.{last_stamp};
+ghost use Rattle.xa_crew.specs.Crew.{no_stamp};
 ghost use Rattle.xa_cell.specs.declared.view.View.{View};
 ghost use Rattle.xa_caller.specs.declared.cargo.Filling.{Filling};
 ghost use Rattle.xa_server.specs.declared.closing.Closing.{Closing};
 ghost use Rattle.xa_server.specs.declared.closing.Given.{Given};
 ghost use Rattle.xa_server.specs.Changes.{new_slot, Ends, Closes, Finishes, Dies};
-ghost use Rattle.xa_server.specs.Told.{GivenAs, FilledByEnds, IsBacked, NamesIts};
+ghost use Rattle.xa_server.specs.Told.{GivenAs, FilledByEnds, HasStamp, IsBacked, NamesIts};
 
 /// The slot of a server that was never started stands, where its worker has noted nothing and the server is configured with
 /// its rule.
@@ -44,23 +46,24 @@ pub fn closings_are_backed()
         → Closes (reply_of (EndedBy outcome)) stamp before.hand closing → NamesIts before.hand → IsBacked new.own closing }
 {}
 
-/// So it is with what the return or the death of a life closes, and its stamp is none that the worker hasn't reached.
+/// So it is with what the return or the death of a life closes, and its stamp is no greater than that of the worker's last
+/// event.
 pub fn answers_are_backed()
-    ensures finishes { (outcome : Outcome) (closing : Closing) (after before : ServerSlot) (new old : Standing) → Finishes outcome closing after before new old → NamesIts before.hand → IsBacked new.own closing × (closing.stamp.0 ≤ new.stamp.0) }
-    ensures dies { (cause : StopCause) (closing : Closing) (after before : ServerSlot) (new old : Standing) → Dies cause closing after before new old → NamesIts before.hand → IsBacked new.own closing × (closing.stamp.0 ≤ new.stamp.0) }
+    ensures finishes { (outcome : Outcome) (closing : Closing) (after before : ServerSlot) (new old : Standing) → Finishes outcome closing after before new old → NamesIts before.hand → IsBacked new.own closing × (closing.stamp.0 ≤ last_stamp no_stamp new.own) }
+    ensures dies { (cause : StopCause) (closing : Closing) (after before : ServerSlot) (new old : Standing) → Dies cause closing after before new old → NamesIts before.hand → IsBacked new.own closing × (closing.stamp.0 ≤ last_stamp no_stamp new.own) }
 {}
 
 /// What is closed of a request that was swept has its sweep among entries where that stands with its stamp.
 pub fn sweeps_are_backed()
     ensures { (entries : List Stamped) (entry : Entry Cargo) (queue : QueueId) (stamp : Stamp) → Contains entries (record { stamp = stamp; event = Sweep (record { request = entry.request; queue = queue }) })
-        → NamesIts (Some entry) → IsBacked entries (record { ticket = Some entry.cargo.ticket; answer = reply_of SweptAway; stamp = stamp }) }
+        → NamesIts (Some entry) → IsBacked entries (record { ticket = Some entry.cargo.ticket; answer = Some (reply_of SweptAway); stamp = stamp }) }
 {}
 
 /// Where each filling of a seat has its end or its sweep among a worker's entries, it does so also behind the `give` of a
 /// closing that has its own there.
 pub fn given_answers_have_ends()
     ensures { (entries : List Stamped) (closing : Closing) (stamp : Stamp) (before after : View Filling) (given : Given) → GivenAs closing stamp before after given
-        → closing.stamp.0 ≤ stamp.0 → IsBacked entries closing → FilledByEnds entries before → FilledByEnds entries after }
+        → closing.stamp.0 ≤ stamp.0 → (IsSome closing.answer → HasStamp entries stamp) → IsBacked entries closing → FilledByEnds entries before → FilledByEnds entries after }
 {}
 
 /// And with further entries.

@@ -1,5 +1,5 @@
 // The slot of a server.
-ghost use Rattle.std.specs.Prelude.{◌≡◌, ◌+◌, ◌≤◌, ◌<◌, ◌^◌, ◌∷◌, [], Some, None, IfOk, IfErr, OnErr, IsSome, MatchOption, if◌then◌else◌};
+ghost use Rattle.std.specs.Prelude.{◌≡◌, ◌+◌, ◌≤◌, ◌<◌, ◌^◌, ◌∷◌, [], Some, None, IfOk, IfErr, OnErr, IsSome, MatchOption, option_map, if◌then◌else◌};
 ghost use Rattle.xa_restart.specs.Rule.{may_start_by, IsLast};
 ghost use Rattle.xa_events.specs.declared.event.Doing.TheVariants as doings;
 ghost use Rattle.xa_work.specs.Work.{noted, theirs};
@@ -21,11 +21,12 @@ use crate::noting::{note_anew, note_in_room};
 use std::alloc::Global;
 use std::mem;
 use std::snapshot::Snapshot;
-use xa_caller::{Caller, Cargo, Invocation};
+use xa_caller::{Caller, Cargo};
 use xa_events::{Doing, Ended, Event, Outcome, Started, StopCause, Stopped};
+use xa_held::Invocation;
 use xa_queue::Entry;
 use xa_restart::Lives;
-use xa_types::{Answer, Data, Fault, Generation, Rval, ServerId, Stamp, Worn};
+use xa_types::{Answer, Data, Fault, Generation, RequestId, Rval, ServerId, Stamp, Worn};
 use xa_work::Halt;
 
 /// How the request ended that the server ended last, where it has done nothing since.
@@ -151,7 +152,7 @@ impl ServerSlot {
     ghost use Rattle.xa_server.specs.declared.slot.Last.TheVariants as lasts;
     ghost use Rattle.xa_server.specs.Noting.{HaltsWith, IsWorn};
     ghost use Rattle.xa_server.specs.Slot.{Stands};
-    ghost use Rattle.xa_server.specs.Changes.{MayStart, Starts, FailsToStart, MayBeGivenUp, IsTakeOf, Ends, Closes, Finishes, Stops, Dies, DiesBusy, DiesWorn, Invokes, new_slot, with_start};
+    ghost use Rattle.xa_server.specs.Changes.{MayStart, Starts, FailsToStart, MayBeGivenUp, IsTakeOf, Ends, Abandons, Finishes, Stops, Dies, DiesBusy, DiesWorn, Invokes, new_slot, with_start};
 
     /// A server that was never started.
     pub fn new(server: ServerId, restarts: Lives) -> ServerSlot
@@ -166,6 +167,30 @@ impl ServerSlot {
             last: Last::Nothing,
             gone: false,
             shut: false,
+        }
+    }
+
+    /// Its server.
+    pub fn server(&self) -> ServerId
+        ensures { result ≡ self.now.server }
+    {
+        self.server
+    }
+
+    /// The life that it is in; 0 where it is off.
+    pub fn life(&self) -> Generation
+        ensures { result ≡ life_in self.now.doing }
+    {
+        life_in(self.doing)
+    }
+
+    /// The request that it has in hand, if it has one.
+    pub fn request(&self) -> Option<RequestId>
+        ensures { result ≡ option_map (λ entry. entry.request) self.now.hand }
+    {
+        match &self.hand {
+            Some(entry) => Some(entry.request),
+            None => None,
         }
     }
 
@@ -266,7 +291,7 @@ impl ServerSlot {
         ensures { Invokes self.now.hand result.now }
     {
         match &self.hand {
-            Some(entry) => &entry.cargo.data,
+            Some(entry) => &entry.cargo.invocation,
             None => unreachable!(),
         }
     }
@@ -303,7 +328,7 @@ impl ServerSlot {
         let stamp = note_anew(caller, 3, Event::End(ended))?;
         self.doing = doing;
         self.last = last;
-        Ok(close(take_out(&mut self.hand), answer, stamp))
+        Ok(close(take_out(&mut self.hand), Some(answer), stamp))
     }
 
     // The end of the request in hand.
@@ -389,21 +414,27 @@ impl ServerSlot {
 
     /// What the caller of a request is to be told that was swept from the server's queue with that stamp.
     pub fn swept(&self, entry: Entry<Cargo>, stamp: Stamp) -> Closing
-        ensures { result ≡ record { ticket = Some entry.cargo.ticket; answer = reply_of SweptAway; stamp = stamp } }
+        ensures { result ≡ record { ticket = Some entry.cargo.ticket; answer = Some (reply_of SweptAway); stamp = stamp } }
     {
-        close(entry, Answer::Error(Fault::System), stamp)
+        close(entry, Some(Answer::Error(Fault::System)), stamp)
     }
 
-    /// What the caller of the request in hand is to be told at a halt: nothing is noted, and it is told as if the request
-    /// had been swept.
+    /// What the caller of the request in hand is to be told at a halt, which is that the run halts; nothing is noted.
     pub fn give_up(&mut self) -> Option<Closing>
-        ensures closing { MatchOption result (self.old.hand ≡ None) (Closes (reply_of SweptAway) (record { 0 = 0 }) self.old.hand) }
+        ensures closing { MatchOption result (self.old.hand ≡ None) (Abandons self.old.hand) }
         ensures slot { self.new ≡ record self.old { hand = None } }
     {
         match mem::replace(&mut self.hand, None) {
-            Some(entry) => Some(close(entry, Answer::Error(Fault::System), Stamp(0))),
+            Some(entry) => Some(close(entry, None, Stamp(0))),
             None => None,
         }
+    }
+
+    /// What the caller of a request that still waits is to be told at a halt.
+    pub fn abandon(entry: Entry<Cargo>) -> Closing
+        ensures { result ≡ record { ticket = Some entry.cargo.ticket; answer = None; stamp = record { 0 = 0 } } }
+    {
+        close(entry, None, Stamp(0))
     }
 
     /// Lets go of it, with nothing in hand.
@@ -445,7 +476,7 @@ impl ServerSlot {
                 let stamp = self.stopped(caller, cause)?;
                 Ok(Closing {
                     ticket: None,
-                    answer: Answer::Error(Fault::SvcErr),
+                    answer: None,
                     stamp,
                 })
             }
@@ -465,7 +496,7 @@ impl ServerSlot {
         let stamp = self.lose(caller, cause)?;
         let entry = take_out(&mut self.hand);
         match self.stopped(caller, cause) {
-            Ok(_) => Ok(close(entry, death_reply(&cause), stamp)),
+            Ok(_) => Ok(close(entry, Some(death_reply(&cause)), stamp)),
             Err(worn) => {
                 put_in(&mut self.hand, entry);
                 Err(worn)

@@ -45,7 +45,7 @@ module _ {A : Type 0} where
   asked_same (x ∷ ps) zero p e = e
   asked_same (x ∷ ps) (suc k) p e = asked_same ps k p e
 
-  asked_looked : (k u : ℕ) (v : View A) → (at k (looked k u v)).asked ≡ (at k v).asked
+  pub asked_looked : (k u : ℕ) (v : View A) → (at k (looked k u v)).asked ≡ (at k v).asked
   asked_looked k u v = asked_same v.parts k (record (at k v) { settled = 1 - u }) refl
 
   pub began_keeps : (cells : Cells A) (q : RequestId) (s s' : Seat A) (place : Place) (t : Ticket A) → Began cells q s s' place t → Keeps (known s) (known s')

@@ -1,5 +1,5 @@
 -- The ends of what a seat filled stand behind each change of its view, and of the answers what it took.
-use Rattle.std.proofs.Common.{ℕ, List, [], ◌∷◌, ◌++◌}
+use Rattle.std.proofs.Common.{ℕ, List, [], ◌∷◌, ◌++◌, Option, Some, None}
 use Rattle.std.specs.List.{All, Contains}
 use Rattle.std.proofs.lemmas.List.Elements.{All-same, All-push, All-weaker}
 use Rattle.xa_types.specs.declared.stamp.Stamp.{Stamp}
@@ -13,7 +13,10 @@ use Rattle.xa_cell.specs.Growing.{Keeps, TakesMore, FillsMore}
 use Rattle.xa_cell.specs.Views.{at, fill}
 use Rattle.xa_caller.specs.declared.cargo.Filling.{Filling}
 use Rattle.xa_told.specs.Growing.{Grows}
-use Rattle.xa_told.specs.Told.{WasTaken, AnswersTaken, HasEnd, AllEnded}
+use Rattle.std.specs.Prelude.{IfSome}
+use Rattle.xa_types.specs.declared.ids.RequestId.{RequestId}
+use Rattle.xa_types.specs.declared.reply.Answer.{Answer as Reply}
+use Rattle.xa_told.specs.Told.{WasTaken, AnswersTaken, EndsAt, HasEnd, AllEnded}
 use Rattle.xa_told.proofs.Growth.{only_at}
 
 pub still_taken : (v w : View Filling) → Grows v w → (stamp : Stamp) (e : Event) → WasTaken v stamp e → WasTaken w stamp e
@@ -23,6 +26,8 @@ still_taken v w g stamp (events.Answer a) t = record {
   expect = t.expect;
   taken = g.taken t.cell t.fill t.taken;
   request = t.request;
+  reply = t.reply;
+  says = t.says;
   before = t.before;
   told = t.told;
 }
@@ -47,7 +52,19 @@ ends_filling entries k o a v w g e h = record {
       (λ j ne. All-same (HasEnd entries) (at j w).filled (at j v).filled (g.others j ne).filled (h.each j));
 }
 
+one_later : (entries later : Home → List Stamped) → ((home : Home) (x : Stamped) → Contains (entries home) x → Contains (later home) x)
+    → (request : RequestId) (stamp : Stamp) (answer : Option Reply) → IfSome answer (EndsAt entries request stamp) → IfSome answer (EndsAt later request stamp)
+one_later entries later more request stamp None e = tt
+one_later entries later more request stamp (Some answer) e = record {
+  home = e.home;
+  entry = e.entry;
+  stands = more e.home e.entry e.stands;
+  settles = e.settles;
+  where_ = e.where_;
+  has = (e.has.0, more e.where_ e.has.0 e.has.1, e.has.2);
+}
+
 pub ends_later : (entries later : Home → List Stamped) (v : View Filling) → ((home : Home) (x : Stamped) → Contains (entries home) x → Contains (later home) x) → AllEnded entries v → AllEnded later v
 ends_later entries later v more h = record {
-  each = λ k. All-weaker (HasEnd entries) (HasEnd later) (λ f e. (e.0, (e.1.0, more e.0 e.1.0 e.1.1, e.1.2))) (at k v).filled (h.each k);
+  each = λ k. All-weaker (HasEnd entries) (HasEnd later) (λ f e. one_later entries later more f.opening.request f.answer.stamp f.answer.answer e) (at k v).filled (h.each k);
 }

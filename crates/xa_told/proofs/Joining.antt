@@ -1,8 +1,8 @@
 -- What the seats of all callers show together of one answer.
 use Rattle.std.proofs.Common.{◌≡◌, ℕ, true, false, cond, List, [], ◌∷◌, ◌++◌, Option, Some, None, inl, inr, refl, sym, ◌∙◌, ap, subst, arith}
-use Rattle.std.specs.Prelude.{IsSomeAnd}
+use Rattle.std.specs.Prelude.{IsSomeAnd, IfSome}
 use Rattle.std.specs.List.{All, Contains, flat_map}
-use Rattle.std.proofs.lemmas.List.Elements.{All-nil, All-cons, All-head, All-tail, All-append, All-contains, All-weaker}
+use Rattle.std.proofs.lemmas.List.Elements.{All-nil, All-cons, All-head, All-tail, All-append, All-contains, All-contains_itself, All-weaker}
 use Rattle.std.proofs.lemmas.Bool.{cases_Bool}
 use Rattle.xa_types.specs.declared.fault.Fault.TheVariants.{OType}
 use Rattle.xa_types.specs.declared.data.Data.{Data}
@@ -28,7 +28,7 @@ use Rattle.xa_cell.specs.Views.{at}
 use Rattle.xa_cell.specs.Known.{known}
 use Rattle.xa_cell.specs.Law.{parts_of, Answered}
 use Rattle.xa_caller.specs.declared.cargo.Filling.{Filling}
-use Rattle.xa_told.specs.Told.{TookFor, WasTaken, AnswersTaken, HasEnd, AllEnded}
+use Rattle.xa_told.specs.Told.{TookFor, WasTaken, AnswersTaken, EndsAt, HasEnd, AllEnded}
 
 taken_in : Seat Filling → ℕ → List (Fill Filling)
 taken_in seat k = (at k (known seat)).taken
@@ -70,7 +70,7 @@ told_as expect (Failed code payload) settlement is = under_as expect payload (Fa
 told_as expect (Error fault) settlement is = inl (sym is)
 
 -- a settlement to which a filling is the reply has the answer that is told of it
-shown : (found : Option Settlement) (told : Reply) (expect : Option Kind) (reply : Reply) → told ≡ answer_to expect reply → IsSomeAnd found (λ s. reply ≡ reply_of s) → IsSomeAnd found (IsAnswerTo told)
+pub shown : (found : Option Settlement) (told : Reply) (expect : Option Kind) (reply : Reply) → told ≡ answer_to expect reply → IsSomeAnd found (λ s. reply ≡ reply_of s) → IsSomeAnd found (IsAnswerTo told)
 shown None told expect reply e h = h
 shown (Some s) told expect reply e h = subst (λ answer. IsAnswerTo answer s) (sym e) (told_as expect reply s (sym h))
 
@@ -82,19 +82,27 @@ was_told setup clients entries seats answered ends seat among stamp a took own =
     let filled : Contains (flat_map (λ (p : Part Filling). p.filled) (parts_of took.cell seats)) took.fill =
     each_seat (λ (p : Part Filling). p.taken) (Contains (flat_map (λ (p : Part Filling). p.filled) (parts_of took.cell seats))) took.cell seats took.fill seat (answered took.cell).taken among took.taken in
     let one = All-contains (HasEnd entries) (flat_map (λ (p : Part Filling). p.filled) (parts_of took.cell seats)) took.fill (all_seats (λ (p : Part Filling). p.filled) (HasEnd entries) took.cell seats each) filled in
-    let end : Stamped = one.1.0 in
-    let settles = one.1.2 in
-    let by = settles.by in
+    let ended : EndsAt entries took.fill.opening.request took.fill.answer.stamp took.reply = subst (λ (r : Option Reply). IfSome r (EndsAt entries took.fill.opening.request took.fill.answer.stamp)) took.says one in
+    let by = ended.settles.by in
     let before = took.before in (
-      one.0,
+      ended.home,
       record {
-        entry = end;
-        stands = one.1.1;
+        entry = ended.entry;
+        stands = ended.stands;
         before = omega (arith, by, before);
-        shows = shown (settlement_in a.request end.event) a.answer took.expect took.fill.answer.answer took.told
-            (subst (λ (r : RequestId). IsSomeAnd (settlement_in r end.event) (λ s. took.fill.answer.answer ≡ reply_of s)) took.request settles.tells);
+        shows = shown (settlement_in a.request ended.entry.event) a.answer took.expect took.reply took.told
+            (subst (λ (r : RequestId). IsSomeAnd (settlement_in r ended.entry.event) (λ s. took.reply ≡ reply_of s)) took.request ended.settles.tells);
       },
     )
+
+-- what a seat took has its end
+pub taken_ended : (entries : Home → List Stamped) (seats : List (Seat Filling)) → ((k : ℕ) → Answered k seats) → All (λ s. AllEnded entries (known s)) seats
+    → (seat : Seat Filling) → Contains seats seat → (k : ℕ) → All (HasEnd entries) (at k (known seat)).taken
+taken_ended entries seats answered ends seat among k =
+    let each : All (λ s. All (HasEnd entries) (at k (known s)).filled) seats = All-weaker (λ (s : Seat Filling). AllEnded entries (known s)) (λ s. All (HasEnd entries) (at k (known s)).filled) (λ s h. h.each k) seats ends in
+    All-weaker (Contains (at k (known seat)).taken) (HasEnd entries) (λ f taken.
+    All-contains (HasEnd entries) (flat_map (λ (p : Part Filling). p.filled) (parts_of k seats)) f (all_seats (λ (p : Part Filling). p.filled) (HasEnd entries) k seats each)
+    (each_seat (λ (p : Part Filling). p.taken) (Contains (flat_map (λ (p : Part Filling). p.filled) (parts_of k seats))) k seats f seat (answered k).taken among taken)) (at k (known seat)).taken (All-contains_itself (at k (known seat)).taken)
 
 pub each_told : (setup : Setup) (clients : ℕ) (entries : Home → List Stamped) (seats : List (Seat Filling)) → ((k : ℕ) → Answered k seats) → All (λ s. AllEnded entries (known s)) seats
     → (seat : Seat Filling) → Contains seats seat → (own : List Stamped) → AnswersTaken (known seat) own

@@ -15,13 +15,29 @@ use Rattle.xa_cell.specs.declared.view.View.{View}
 use Rattle.xa_cell.specs.Growing.{Keeps, TakesMore}
 use Rattle.xa_cell.specs.Views.{at}
 use Rattle.xa_caller.specs.declared.cargo.Filling.{Filling}
-use Rattle.xa_server.specs.Told.{EndedFor, FilledByEnds}
-use Rattle.xa_told.specs.Told.{HasEnd, AllEnded, StandAt}
+use Rattle.std.specs.Prelude.{IfSome, Option, Some, None}
+use Rattle.xa_types.specs.declared.ids.RequestId.{RequestId}
+use Rattle.xa_types.specs.declared.stamp.Stamp.{Stamp}
+use Rattle.xa_types.specs.declared.reply.Answer.{Answer as Reply}
+use Rattle.xa_server.specs.Told.{IsEnded, EndedFor, FilledByEnds}
+use Rattle.xa_told.specs.Told.{EndsAt, HasEnd, AllEnded, StandAt}
 use Rattle.xa_told.proofs.Growth.{only_at}
+
+end_at : (setup : Setup) (clients : ℕ) (entries : Home → List Stamped) (own : List Stamped) → StandAt setup clients entries own
+    → (request : RequestId) (stamp : Stamp) (answer : Option Reply) → IfSome answer (IsEnded own request stamp) → IfSome answer (EndsAt entries request stamp)
+end_at setup clients entries own stand request stamp None e = tt
+end_at setup clients entries own stand request stamp (Some answer) e = record {
+  home = home_of setup clients e.entry.event;
+  entry = e.entry;
+  stands = stand e.entry e.stands;
+  settles = e.settles;
+  where_ = home_of setup clients e.has.0.event;
+  has = (e.has.0, stand e.has.0 e.has.1, e.has.2);
+}
 
 pub own_ended : (setup : Setup) (clients : ℕ) (entries : Home → List Stamped) (own : List Stamped) (v : View Filling) → StandAt setup clients entries own → FilledByEnds own v → AllEnded entries v
 own_ended setup clients entries own v stand each = record {
-  each = λ k. All-weaker (EndedFor own) (HasEnd entries) (λ f e. (home_of setup clients e.0.event, (e.0, stand e.0 e.1, e.2))) (at k v).filled (each k);
+  each = λ k. All-weaker (EndedFor own) (HasEnd entries) (λ f e. end_at setup clients entries own stand f.opening.request f.answer.stamp f.answer.answer e) (at k v).filled (each k);
 }
 
 pub own_kept : (own : List Stamped) (v w : View Filling) → Keeps v w → FilledByEnds own v → FilledByEnds own w

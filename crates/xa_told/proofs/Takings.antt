@@ -4,6 +4,7 @@ use Rattle.std.specs.Prelude.{slice_set}
 use Rattle.std.specs.List.{Contains}
 use Rattle.std.proofs.lemmas.List.Elements.{Contains-push, All-same, All-push}
 use Rattle.xa_types.specs.declared.data.Kind.{Kind}
+use Rattle.xa_types.specs.declared.reply.Answer.{Answer as Reply}
 use Rattle.xa_types.specs.declared.ids.RequestId.{RequestId}
 use Rattle.xa_types.specs.declared.stamp.Stamp.{Stamp}
 use Rattle.xa_events.specs.declared.event.Event.TheVariants.{Answer}
@@ -33,10 +34,10 @@ nth-set (x ∷ ps) zero p q asked = refl
 nth-set (x ∷ ps) (suc k) p q asked = nth-set ps k p q asked
 
 -- the answer that the caller is told
-abbrev told_by : Option Kind → Caller → RequestId → Filling → Replied
-told_by expect c request filling = record { by = c.work.id; op = c.op; request = request; answer = answer_to expect filling.answer }
+abbrev told_by : Option Kind → Caller → RequestId → Reply → Replied
+told_by expect c request reply = record { by = c.work.id; op = c.op; request = request; answer = answer_to expect reply }
 
-pub took_one : (expect : Option Kind) (stamp : Stamp) (new old : Caller) (answers : Answers expect stamp new old) → TookFor (known new.seat) stamp (told_by expect old answers.sent.request answers.filling)
+pub took_one : (expect : Option Kind) (stamp : Stamp) (new old : Caller) (answers : Answers expect stamp new old) → TookFor (known new.seat) stamp (told_by expect old answers.sent.request answers.reply)
 took_one expect stamp new old answers =
     let k : ℕ = answers.sent.place.cell in
     let v : View Filling = known old.seat in
@@ -55,13 +56,15 @@ took_one expect stamp new old answers =
       expect = expect;
       taken = subst (λ (w : View Filling). Contains (at k w).taken one) (sym answers.took.2) (subst (λ (y : Part Filling). Contains y.taken one) (sym there) (Contains-push (at k seen).taken one));
       request = cc asked;
+      reply = answers.reply;
+      says = answers.says;
       before = omega (arith, next);
       told = refl;
     }
 
 pub has_taken : (expect : Option Kind) (stamp : Stamp) (new old : Caller) → Answers expect stamp new old → (a : Replied) × Contains new.work.own (record { stamp = stamp; event = Answer a }) × TookFor (known new.seat) stamp a
 has_taken expect stamp new old answers =
-    let a : Replied = told_by expect old answers.sent.request answers.filling in
+    let a : Replied = told_by expect old answers.sent.request answers.reply in
     let x : Stamped = record { stamp = stamp; event = Answer a } in
     let own : new.work.own ≡ old.work.own ++ x ∷ [] = ap (λ (s : Caller). s.work.own) answers.noted.made in
     (a, subst (λ (l : List Stamped). Contains l x) (sym own) (Contains-push old.work.own x), took_one expect stamp new old answers)
@@ -74,7 +77,7 @@ all_answers expect stamp new old answers before =
     let w : View Filling = known new.seat in
     let seen : View Filling = looked k 0 v in
     let grows : Grows v w = both_grow v seen w (keeps_grows v seen (looked_keeps k 0 v)) (takes_grows k answers.filling seen w (took_is_more k answers.filling seen w answers.took)) in
-    let a : Replied = record { by = old.work.id; op = old.op; request = answers.sent.request; answer = answer_to expect answers.filling.answer } in
+    let a : Replied = record { by = old.work.id; op = old.op; request = answers.sent.request; answer = answer_to expect answers.reply } in
     let x : Stamped = record { stamp = stamp; event = Answer a } in
     let own : new.work.own ≡ old.work.own ++ x ∷ [] = ap (λ (s : Caller). s.work.own) answers.noted.made in
     All-same (λ (y : Stamped). WasTaken w y.stamp y.event) new.work.own (old.work.own ++ x ∷ []) own

@@ -1,9 +1,11 @@
 -- What seats show of answers: whose end each filling has, and which filling each answer has (XATMI, tpgetrply; cells are this project's own).
-use Rattle.std.specs.Prelude.{◌≡◌, ℕ, ◌<◌, List, Option}
+use Rattle.std.specs.Prelude.{◌≡◌, ℕ, ◌<◌, List, Option, Some, IfSome}
 use Rattle.std.specs.List.{All, Contains}
 use Rattle.xa_types.specs.declared.data.Kind.{Kind}
+use Rattle.xa_types.specs.declared.reply.Answer.{Answer as Reply}
 use Rattle.xa_types.specs.declared.setup.Setup.{Setup}
 use Rattle.xa_types.specs.declared.stamp.Stamp.{Stamp}
+use Rattle.xa_types.specs.declared.ids.RequestId.{RequestId}
 use Rattle.xa_events.specs.declared.event.Event.{Event}
 use Rattle.xa_events.specs.declared.event.Event.TheVariants.{Answer}
 use Rattle.xa_events.specs.declared.event.Replied.{Replied}
@@ -14,7 +16,7 @@ use Rattle.xa_cell.specs.declared.view.Fill.{Fill}
 use Rattle.xa_cell.specs.declared.view.View.{View}
 use Rattle.xa_cell.specs.Views.{at}
 use Rattle.xa_caller.specs.declared.cargo.Filling.{Filling}
-use Rattle.xa_server.specs.Told.{EndedFor}
+use Rattle.xa_server.specs.Told.{Settles, HasStamp}
 
 -- the answer, noted with that stamp, is a filling that this seat took from a cell, for the same request
 pub record TookFor (v : View Filling) (stamp : Stamp) (a : Replied) : Type 0 where
@@ -23,8 +25,10 @@ pub record TookFor (v : View Filling) (stamp : Stamp) (a : Replied) : Type 0 whe
   pub expect : Option Kind
   pub taken : Contains (at cell v).taken fill
   pub request : fill.opening.request ≡ a.request
+  pub reply : Reply
+  pub says : fill.answer.answer ≡ Some reply
   pub before : fill.answer.stamp.0 < stamp.0
-  pub told : a.answer ≡ answer_to expect fill.answer.answer
+  pub told : a.answer ≡ answer_to expect reply
 
 -- so it is if the event is an answer
 abbrev pub WasTaken : View Filling → Stamp → Event → Type 0
@@ -35,9 +39,18 @@ WasTaken v stamp _ = Unit {0}
 abbrev pub AnswersTaken : View Filling → List Stamped → Type 0
 AnswersTaken v own = All (λ x. WasTaken v x.stamp x.event) own
 
--- the request of the filling was ended or swept at some home, no later than the filling's stamp, and the filling is the reply to that
+-- the request was ended or swept at some home, no later than that stamp, which an event of some home has, and the answer is the reply to that
+pub record EndsAt (entries : Home → List Stamped) (request : RequestId) (stamp : Stamp) (answer : Reply) : Type 0 where
+  pub home : Home
+  pub entry : Stamped
+  pub stands : Contains (entries home) entry
+  pub settles : Settles request answer stamp entry
+  pub where_ : Home
+  pub has : HasStamp (entries where_) stamp
+
+-- so it is with the request of the filling, if that has an answer
 abbrev pub HasEnd : (Home → List Stamped) → Fill Filling → Type 0
-HasEnd entries fill = (home : Home) × EndedFor (entries home) fill
+HasEnd entries fill = IfSome fill.answer.answer (EndsAt entries fill.opening.request fill.answer.stamp)
 
 -- so it is with each filling of the seat
 pub record AllEnded (entries : Home → List Stamped) (v : View Filling) : Type 0 where

@@ -26,7 +26,7 @@ ghost use Rattle.xa_cell.specs.Calls.{Began, AllTaken, TookAs, CancelledAs, Fill
 ghost use Rattle.xa_cell.specs.Growing.{Keeps, TakesMore, FillsMore, CancelTakes};
 ghost use Rattle.xa_cell.specs.Known.{known, named};
 ghost use Rattle.xa_cell.specs.Law.{Answered};
-ghost use Rattle.xa_cell.specs.Views.{fill};
+ghost use Rattle.xa_cell.specs.Views.{at, fill};
 ghost use Rattle.xa_caller.specs.declared.cargo.Filling.{Filling};
 ghost use Rattle.xa_caller.specs.Caller.{Standing as Caller};
 ghost use Rattle.xa_caller.specs.Changes.{Answers};
@@ -93,6 +93,13 @@ pub fn own_ends_stand()
 pub fn own_ends_are_kept()
     ensures keeps { (own : List Stamped) (v w : View Filling) → Keeps v w → FilledByEnds own v → FilledByEnds own w }
     ensures takes { (own : List Stamped) (k : ℕ) (a : Filling) (v w : View Filling) → TakesMore k a v w → FilledByEnds own v → FilledByEnds own w }
+{}
+
+/// Once the cells are closed, each filling that a seat took has its end or its sweep at some home, where all that the seats
+/// filled have it.
+pub fn taken_have_ends()
+    ensures { (entries : Home → List Stamped) (seats : List (Seat Filling)) → ((k : ℕ) → Answered k seats) → All (λ s. AllEnded entries (known s)) seats
+        → (seat : Seat Filling) → Contains seats seat → (k : ℕ) → All (HasEnd entries) (at k (known seat)).taken }
 {}
 
 /// All that a worker of a crew noted stands at the homes.

@@ -37,8 +37,8 @@ invariant_of-self c =
     let now : c.set.new.phase ≡ Prepared redrawn = c.set.ensures in
     let row : Row = c.in-Some.row in
     let a : Accepted = accepted_by draft.op draft.asked.request draft.version row c.in-Ok.payload in
-    let rows = subst (λ (t : Standing). AreRowsOf t.work.setup c.args.entry.cargo.«data».service c.args.found.now.rows) (sym c.self.view_is) c.requires.rows in
-    let all = at-all (λ (r : Row). r ≡ row_for w.setup c.args.entry.cargo.«data».service r.queue.0 r.routine) c.args.found.now.rows c.args.attempt row (sym c.row_at.ensures ∙ c.in-Some.is) rows in
+    let rows = subst (λ (t : Standing). AreRowsOf t.work.setup c.args.entry.cargo.invocation.service c.args.found.now.rows) (sym c.self.view_is) c.requires.rows in
+    let all = at-all (λ (r : Row). r ≡ row_for w.setup c.args.entry.cargo.invocation.service r.queue.0 r.routine) c.args.found.now.rows c.args.attempt row (sym c.row_at.ensures ∙ c.in-Some.is) rows in
     record {
       sound = record { reads = reads_redrawn w.setup _ s.op s.sent s.least s.phase c.set.new.phase draft redrawn was now i.sound.reads };
       holds = subst (Holds w.setup w.id w.room s.op s.sent s.least) (sym now) (
@@ -52,10 +52,10 @@ invariant_of-self c =
           request = refl;
           mine = sym d.request ∙ d.mine;
           mode = refl;
-          sound = ap (is_sound w.setup) c.in-Ok.ensures ∙ subst (λ (t : Standing). is_sound t.work.setup c.args.entry.cargo.«data».payload ≡ true) (sym c.self.view_is) c.requires.sound;
+          sound = ap (is_sound w.setup) c.in-Ok.ensures ∙ subst (λ (t : Standing). is_sound t.work.setup c.args.entry.cargo.invocation.payload ≡ true) (sym c.self.view_is) c.requires.sound;
           version = refl;
           recent = d.recent;
-          priority = row-priority w.setup c.args.entry.cargo.«data».service row all;
+          priority = row-priority w.setup c.args.entry.cargo.invocation.service row all;
         },
       );
       places = subst (λ p. OpenAre (places_in p) (known c.self.inside.seat)) (sym now) (subst (λ p. OpenAre (places_in p) (known c.self.inside.seat)) was i.places);

@@ -23,7 +23,7 @@ use Rattle.xa_types.specs.declared.reply.Answer.{Answer as Reply}
 use Rattle.xa_cell.specs.Calls.{TookAs}
 use Rattle.xa_caller.specs.declared.cargo.Filling.{Filling}
 use Rattle.xa_work.specs.declared.work.Halt.TheVariants.{Worn}
-use Rattle.xa_caller.specs.Changes.{Answers, Loses}
+use Rattle.xa_caller.specs.Changes.{Answers, Loses, Abandons}
 use Rattle.xa_caller.proofs.caller.Caller.call_reply.Goals as goal
 
 pub invariant_of-self-in-Ok : goal.invariant_of-self-in-Ok
@@ -77,6 +77,8 @@ returns-in-Ok-clause-step c =
       asked = (subst (λ p. OpenAre (places_in p) (known c.self.inside.seat)) (sym c.take_out.ensures.0 ∙ c.sent_in-open.ensures) c.self.invariant.places).asked sent.place.cell
           ∙ ap (λ b. cond b (sent.request ∷ []) []) (eq-eqb sent.place.cell sent.place.cell refl);
       filling = filling;
+      reply = c.in-Some.answer;
+      says = c.in-Some.is;
       took = subst (λ v. TookAs sent.place.cell filling v (known c.take-answer.new.seat)) c.in-Come.ensures.known.0 c.take-answer.ensures.known;
       noted = record { next = c.in-Ok.ensures.stamp.0 ∙ ap (λ n. n + 1) seen; bound = c.in-Ok.ensures.stamp.1; made = made };
     })
@@ -118,8 +120,43 @@ returns-in-Err-clause-step c =
       sent = sent;
       was = sym c.take_out.ensures.0 ∙ c.sent_in-open.ensures;
       filling = filling;
+      reply = c.in-Some.answer;
+      says = c.in-Some.is;
       took = subst (λ v. TookAs sent.place.cell filling v (known c.take-answer.new.seat)) c.in-Come.ensures.known.0 c.take-answer.ensures.known;
       worn = worn;
       last = ap (λ n. Worn (record { 0 = n })) (c.in-Err.ensures.worn.1 ∙ sym worn);
       made = ap (λ (v : Working). record s { work = v; seat = c.take-answer.new.seat; phase = c.set-in-Err.new.phase }) made ∙ ap (λ (p : Phase). record s { work = w1; seat = c.take-answer.new.seat; phase = p }) lost;
+    })
+
+pub invariant_of-self-in_default : goal.invariant_of-self-in_default
+invariant_of-self-in_default c =
+    let s : Standing = standing_of c.self.inside in
+    let i = c.self.invariant in
+    let w : Working = c.self.inside.work in
+    let sent : Open = c.sent_in-open.result in
+    let was : s.phase ≡ Sent sent = sym c.take_out.ensures.0 ∙ c.sent_in-open.ensures in
+    let lost : c.set-in_default.new.phase ≡ Lost sent.request = c.set-in_default.ensures in
+    record {
+      sound = record { reads = reads_lost w.setup (view_of w) s.op s.sent s.least s.phase c.set-in_default.new.phase sent was lost i.sound.reads };
+      holds = subst (Holds w.setup w.id w.room s.op s.sent s.least) (sym lost) tt;
+      places = subst (λ p. OpenAre (places_in p) (known c.take-answer.new.seat)) (sym lost)
+          (one_less_open [] [] sent.request c.look.new.seat (still_open (subst (λ p. OpenAre (places_in p) (known c.self.inside.seat)) was i.places) c.look.ensures.open) c.take-answer.ensures.shut);
+      seated = seated-but c.args.cells.now w.clients w.id c.look.new.seat c.take-answer.new.seat c.take-answer.ensures.seat (seated-stand c.args.cells.now w.clients w.id c.self.inside.seat c.look.new.seat c.look.ensures.seat i.seated c.look.ensures.open) sent.place.cell
+          (λ none. settled-took sent.place.cell c.take-answer.result (known c.look.new.seat) (known c.take-answer.new.seat) c.take-answer.ensures.known) c.take-answer.ensures.shut.others;
+      few = i.few;
+    }
+
+pub returns-in_default-clause-step : goal.returns-in_default-clause-step
+returns-in_default-clause-step c =
+    let s : Standing = standing_of c.self.inside in
+    let sent : Open = c.sent_in-open.result in
+    let filling : Filling = c.take-answer.result in
+    let lost : c.set-in_default.new.phase ≡ Lost sent.request = c.set-in_default.ensures in
+    subst (Abandons _) c.self.view_is (record {
+      sent = sent;
+      was = sym c.take_out.ensures.0 ∙ c.sent_in-open.ensures;
+      filling = filling;
+      none = c.in_default.is;
+      took = subst (λ v. TookAs sent.place.cell filling v (known c.take-answer.new.seat)) c.in-Come.ensures.known.0 c.take-answer.ensures.known;
+      made = ap (λ (p : Phase). record s { seat = c.take-answer.new.seat; phase = p }) lost;
     })

@@ -20,6 +20,6 @@ returns-in-Ok-clause-ok c =
       closes = record {
         entry = c.take_out-entry.result;
         in_hand = sym (ap (λ (u : ServerSlot). u.hand) ends.left) ∙ c.take_out-entry.ensures.was;
-        is = c.close.ensures ∙ ap (λ (a : Answer). record { ticket = Some c.take_out-entry.result.cargo.ticket; answer = a; stamp = c.in_ok-stamp.stamp }) c.death_reply.ensures;
+        is = c.close.ensures ∙ ap (λ (a : Answer). record { ticket = Some c.take_out-entry.result.cargo.ticket; answer = Some a; stamp = c.in_ok-stamp.stamp }) c.death_reply.ensures;
       };
     }
