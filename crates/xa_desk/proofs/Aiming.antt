@@ -1,0 +1,122 @@
+-- A request that is aimed by another row.
+use Rattle.std.proofs.Common.{◌≡◌, ℕ, ◌+◌, true, List, [], ◌∷◌, Some, refl, sym, ◌∙◌, ap, subst, append-nil, arith}
+use Rattle.std.specs.Prelude.{slice_get}
+use Rattle.std.specs.List.{All, Contains}
+use Rattle.std.proofs.lemmas.List.Elements.{All-contains, All-contains_itself}
+use Rattle.xa_types.specs.declared.call.Ask.{Ask}
+use Rattle.xa_types.specs.declared.data.Data.{Data}
+use Rattle.xa_types.specs.declared.ids.RequestId.{RequestId}
+use Rattle.xa_types.specs.declared.row.Row.{Row}
+use Rattle.xa_types.specs.Found.{FoundRows}
+use Rattle.xa_types.specs.declared.setup.Setup.{Setup}
+use Rattle.xa_types.specs.Kind.{kind_of, is_accepted, is_sound}
+use Rattle.xa_types.specs.Rows.{row_for}
+use Rattle.xa_types.specs.Setup.{service_named}
+use Rattle.xa_events.specs.declared.event.Event.{Event}
+use Rattle.xa_events.specs.declared.event.Event.TheVariants.{Accept}
+use Rattle.xa_cell.specs.declared.tokens.Ticket.{Ticket}
+use Rattle.xa_queue.specs.declared.entry.Entry.{Entry}
+use Rattle.xa_held.specs.Kept.{IsRight}
+use Rattle.xa_caller.specs.declared.cargo.Filling.{Filling}
+use Rattle.xa_caller.specs.declared.outcomes.Aimed.{Aimed}
+use Rattle.xa_caller.specs.declared.outcomes.Aimed.TheVariants as aims
+use Rattle.xa_caller.specs.declared.phase.Draft.{Draft}
+use Rattle.xa_caller.specs.declared.phase.Open.{Open}
+use Rattle.xa_caller.specs.declared.phase.Phase.{Phase}
+use Rattle.xa_caller.specs.Caller.{Standing as Caller, AreRowsOf}
+use Rattle.xa_caller.specs.Drafts.{Cargo, accepted_by, entry_by}
+use Rattle.xa_caller.specs.Phases.{IsOfVersion}
+use Rattle.xa_caller.specs.Unsent.{AimsAs, AimsAt, entry_in}
+use Rattle.xa_caller.proofs.Next.{same_kinds, row-service}
+use Rattle.xa_caller.proofs.Unsent.{at-all}
+use Rattle.xa_desk.specs.declared.domain.Domain.{Domain}
+use Rattle.xa_desk.specs.declared.desk.Desk.{Desk}
+use Rattle.xa_desk.specs.Whole.{Whole, IsKnown}
+use Rattle.xa_desk.specs.Desks.{GoesOn, IsDesk, Leads}
+use Rattle.xa_desk.specs.Found.{HasFound, IsAimed, StillAimed}
+use Rattle.xa_desk.specs.Steps.{FitsOn}
+use Rattle.xa_desk.proofs.Fitting.{no_more_fits}
+use Rattle.xa_desk.proofs.Quiet.{IsQuiet, quiet_before, quiet_leads}
+use Rattle.xa_desk.proofs.Sending.{same_draft}
+use Rattle.xa_desk.proofs.Staying.{aimed_stays}
+
+aims_at : (d : Domain) (found : FoundRows) (ask : Ask) (entry aimed : Entry Cargo) (event event' : Event) (row : Row) (attempt : ℕ) (old new : Desk) → slice_get found.rows attempt ≡ Some row → AimsAt row entry aimed event' new.caller old.caller → HasFound d ask.service found old
+    → IsAimed d found ask.payload entry event old → IsRight d.cells aimed → IsAimed d found ask.payload aimed event' new
+aims_at d found ask entry aimed event event' row attempt old new there by has before right =
+    let payload : Data = ask.payload in
+    let again : Draft = by.redrawn in
+    let first : by.draft ≡ before.draft = same_draft by.draft before.draft old.caller.phase by.was before.prepared in
+    let asked : again.asked ≡ before.draft.asked = ap (λ (t : Draft). t.asked) by.same ∙ ap (λ (t : Draft). t.asked) first in
+    let version : again.version ≡ found.version = ap (λ (t : Draft). t.version) by.same ∙ ap (λ (t : Draft). t.version) first ∙ before.version in
+    let request : entry.request ≡ again.asked.request = ap (λ (e : Entry Cargo). e.request) before.entry_is ∙ sym (ap (λ (open_ : Open). open_.request) asked) in
+    let data_is : entry.cargo.invocation.payload ≡ payload = ap (λ (e : Entry Cargo). e.cargo.invocation.payload) before.entry_is in
+    let among : Contains found.rows row = at-all (Contains found.rows) found.rows attempt row there (All-contains_itself found.rows) in
+    let IsIts : Row → Type 0 = λ r. r ≡ row_for d.setup ask.service r.queue.0 r.routine in
+    let kind : (r : Row) → Contains found.rows r → is_accepted d.setup r.accepts (kind_of payload) ≡ is_accepted d.setup (row_for d.setup ask.service 0 []).accepts (kind_of payload) = λ r here. same_kinds d.setup ask.service (service_named d.setup ask.service) (kind_of payload) r (All-contains IsIts found.rows r has.rows here) in
+    let ticket = ap (λ (e : Entry Cargo). e.cargo.ticket) by.entered in
+    record {
+      draft = again;
+      prepared = ap (λ (c : Caller). c.phase) by.made;
+      drafted = by.drafted;
+      turn = ap (λ (t : Draft). t.op) by.same ∙ ap (λ (t : Draft). t.op) first ∙ before.turn ∙ ap (λ (c : Caller). c.op + 1) (sym by.made);
+      version = version;
+      sound = before.sound;
+      row = row;
+      among = among;
+      accepts = kind row among ∙ sym (kind before.row before.among) ∙ before.accepts;
+      entry_is = by.entered ∙ ap (λ (r : RequestId). entry_by r row entry.cargo.invocation.payload entry.cargo.ticket) request ∙ ap (λ (p : Data). entry_by again.asked.request row p entry.cargo.ticket) data_is
+          ∙ ap (λ (t : Ticket Filling). entry_by again.asked.request row payload t) (sym ticket);
+      event_is = by.accepted ∙ ap (λ (t : Draft). Accept (accepted_by t.op t.asked.request t.version row entry.cargo.invocation.payload)) (sym by.same) ∙ ap (λ (v : ℕ). Accept (accepted_by again.op again.asked.request v row entry.cargo.invocation.payload)) version
+          ∙ ap (λ (p : Data). Accept (accepted_by again.op again.asked.request found.version row p)) data_is;
+      right = right;
+      cell = ap (λ (open_ : Open). open_.place.cell) asked ∙ before.cell ∙ sym (ap (λ (t : Ticket Filling). t.cell) ticket);
+    }
+
+-- nothing but the phase changed, or nothing
+same_but_phase : (entry : Entry Cargo) (found : FoundRows) (attempt : ℕ) (result : Aimed) (old new : Caller) → AimsAs entry found.rows attempt result new old → new ≡ record old { phase = new.phase }
+same_but_phase entry found attempt (aims.At aimed event) old new is = let made = is.2.made in made ∙ ap (λ (p : Phase). record old { phase = p }) (sym (ap (λ (c : Caller). c.phase) made))
+same_but_phase entry found attempt (aims.Past back) old new is = is.2 ∙ ap (λ (p : Phase). record old { phase = p }) (sym (ap (λ (c : Caller). c.phase) is.2))
+same_but_phase entry found attempt (aims.NoMemory back) old new is = is.1 ∙ ap (λ (p : Phase). record old { phase = p }) (sym (ap (λ (c : Caller). c.phase) is.1))
+
+module _ (d : Domain) (desk : Desk) (new : Caller) (found : FoundRows) (entry : Entry Cargo) (attempt : ℕ) (result : Aimed) (so : AimsAs entry found.rows attempt result new desk.caller) where
+  phase_alone : new ≡ record desk.caller { phase = new.phase }
+  phase_alone = same_but_phase entry found attempt result desk.caller new so
+
+  pub aim_least : new.least ≡ desk.caller.least
+  aim_least = ap (λ (c : Caller). c.least) phase_alone
+
+  quiet : IsDesk d desk → IsQuiet d desk new
+  quiet is = subst (IsQuiet d desk) (sym phase_alone) (record {
+    grew = record { setup = refl; clients = refl; id = refl; own = sym (append-nil desk.caller.work.own); stamp = omega arith };
+    seat = is.seat;
+    takes = record { taken = λ k f here. here; filled = λ k. refl };
+    least = refl;
+  })
+
+  pub aim_leads : IsDesk d desk → Leads d desk (record desk { caller = new })
+  aim_leads is = quiet_leads d desk new (quiet is) is (λ whole on. subst (IsKnown whole) (sym (ap (λ (c : Caller). c.work.stamp) phase_alone)) (is.known_stamp whole (quiet_before d desk new (quiet is) whole on)))
+
+  pub aim_aims : (ask : Ask) (event : Event) → IsRight d.cells (entry_in result) → HasFound d ask.service found desk → IsAimed d found ask.payload entry event desk → StillAimed d found ask.payload event result (record desk { caller = new })
+  aim_aims = by_result result so
+    where
+      by_result : (r : Aimed) → AimsAs entry found.rows attempt r new desk.caller → (ask : Ask) (event : Event) → IsRight d.cells (entry_in r) → HasFound d ask.service found desk → IsAimed d found ask.payload entry event desk → StillAimed d found ask.payload event r (record desk { caller = new })
+      by_result (aims.At aimed event') is ask event right has before = aims_at d found ask entry aimed event event' is.0 attempt desk (record desk { caller = new }) is.1 is.2 has before right
+      by_result (aims.Past back) is ask event right has before =
+          aimed_stays d found ask.payload back event desk (record desk { caller = new }) (ap (λ (c : Caller). c.phase) is.2) (ap (λ (c : Caller). c.op) is.2) (subst (λ (e : Entry Cargo). IsAimed d found ask.payload e event desk) (sym is.1) before)
+      by_result (aims.NoMemory back) is ask event right has before =
+          aimed_stays d found ask.payload back event desk (record desk { caller = new }) (ap (λ (c : Caller). c.phase) is.1) (ap (λ (c : Caller). c.op) is.1) (subst (λ (e : Entry Cargo). IsAimed d found ask.payload e event desk) (sym is.0) before)
+
+  pub aim_fits : IsDesk d desk → (op : ℕ) (ask : Ask) → FitsOn d op ask desk (record desk { caller = new })
+  aim_fits is op ask = no_more_fits d desk (record desk { caller = new }) (aim_leads is) (quiet is).grew op ask
+
+-- what a caller asks of an aim
+pub aim_requires : (d : Domain) (desk : Desk) (found : FoundRows) (entry : Entry Cargo) → IsDesk d desk → (ask : Ask) (event : Event) → HasFound d ask.service found desk → IsAimed d found ask.payload entry event desk
+    → IsOfVersion found.version desk.caller.phase × (is_sound desk.caller.work.setup entry.cargo.invocation.payload ≡ true) × AreRowsOf desk.caller.work.setup entry.cargo.invocation.service found.rows
+aim_requires d desk found entry is ask event has aimed =
+    let IsIts : Row → Type 0 = λ r. r ≡ row_for d.setup ask.service r.queue.0 r.routine in
+    let service : entry.cargo.invocation.service ≡ ask.service =
+    ap (λ (e : Entry Cargo). e.cargo.invocation.service) aimed.entry_is ∙ row-service d.setup ask.service aimed.row (All-contains IsIts found.rows aimed.row has.rows aimed.among) in (
+      subst (IsOfVersion found.version) (sym aimed.prepared) aimed.version,
+      ap (is_sound desk.caller.work.setup) (ap (λ (e : Entry Cargo). e.cargo.invocation.payload) aimed.entry_is) ∙ subst (λ (s : Setup). is_sound s ask.payload ≡ true) (sym is.setup) aimed.sound,
+      subst (λ (s : Setup). AreRowsOf s entry.cargo.invocation.service found.rows) (sym is.setup) (subst (λ (name : List ℕ). AreRowsOf d.setup name found.rows) (sym service) has.rows),
+    )

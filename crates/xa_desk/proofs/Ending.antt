@@ -1,0 +1,114 @@
+-- The end of a request that a server has in hand, and what its caller is told.
+use Rattle.std.proofs.Common.{◌≡◌, ◌≤◌, ◌<◌, ℕ, ◌+◌, ℤ, max, Bool, true, false, List, [], ◌∷◌, ◌++◌, Result, Ok, Err, Option, Some, None, if◌then◌else◌, refl, sym, ◌∙◌, ap, subst, append-nil, arith}
+use Rattle.std.specs.Prelude.{OnErr, IfOk, IfErr, IfSome, IsSome}
+use Rattle.xa_types.specs.declared.call.Rval.{Rval}
+use Rattle.xa_types.specs.declared.call.Rval.TheVariants.{Success, Fail, Exit}
+use Rattle.xa_types.specs.declared.data.Data.{Data}
+use Rattle.xa_types.specs.declared.ids.RequestId.{RequestId}
+use Rattle.xa_types.specs.declared.reply.Answer.{Answer}
+use Rattle.xa_types.specs.declared.setup.Setup.{Setup}
+use Rattle.xa_types.specs.declared.stamp.Stamp.{Stamp}
+use Rattle.xa_types.specs.Kind.{is_sound}
+use Rattle.xa_events.specs.declared.event.Event.{Event}
+use Rattle.xa_events.specs.declared.event.Event.TheVariants.{End}
+use Rattle.xa_events.specs.declared.event.Ended.{Ended}
+use Rattle.xa_events.specs.declared.event.Outcome.{Outcome}
+use Rattle.xa_events.specs.declared.event.Outcome.TheVariants.{BadReturn}
+use Rattle.xa_events.specs.Answers.{reply_of}
+use Rattle.xa_events.specs.Caller.{version_of}
+use Rattle.xa_events.specs.Conversation.{connections}
+use Rattle.xa_events.specs.Finishing.{returned, return_by}
+use Rattle.xa_events.specs.Homes.Home.{CallerHome}
+use Rattle.xa_events.specs.Request.Settlement.{EndedBy}
+use Rattle.xa_events.specs.State.{caller_of}
+use Rattle.xa_stamp.specs.declared.home.Stamped.{Stamped}
+use Rattle.xa_stamp.specs.Home.{last_stamp}
+use Rattle.xa_crew.specs.Crew.{no_stamp}
+use Rattle.xa_queue.specs.declared.entry.Entry.{Entry}
+use Rattle.xa_cell.specs.declared.tokens.Ticket.{Ticket}
+use Rattle.xa_cell.specs.declared.view.Opening.{Opening}
+use Rattle.xa_cell.specs.Known.{named, IsTicketOf}
+use Rattle.xa_work.specs.declared.work.Halt.{Halt}
+use Rattle.xa_work.specs.declared.work.Halt.TheVariants.{NoMemory, Worn}
+use Rattle.xa_work.specs.Work.{Standing as Working, theirs}
+use Rattle.xa_caller.specs.Drafts.{Cargo}
+use Rattle.xa_server.specs.declared.closing.Closing.{Closing}
+use Rattle.xa_server.specs.declared.slot.ServerSlot.{ServerSlot}
+use Rattle.xa_server.specs.Changes.{Ends, Closes, Finishes}
+use Rattle.xa_server.specs.Doings.{life_in}
+use Rattle.xa_server.specs.Noting.{Notes, HaltsWith, with_room}
+use Rattle.xa_server.specs.Told.{NamesIts, IsBacked}
+use Rattle.xa_server.proofs.Telling.{finish_backed}
+use Rattle.xa_desk.specs.declared.domain.Domain.{Domain}
+use Rattle.xa_desk.specs.declared.desk.Desk.{Desk}
+use Rattle.xa_desk.specs.Desks.{IsDesk, Leads}
+use Rattle.xa_desk.specs.Serving.{IsTaken, IsServing, IsToTell}
+use Rattle.xa_desk.proofs.Leading.{Grew, still_leads}
+use Rattle.xa_desk.proofs.Stopping.{event_leads, same_leads}
+
+abbrev pub reworked : Desk → Working → Desk
+reworked desk w = record desk { caller = record desk.caller { work = w } }
+
+-- ---- the request in hand, by what is known of its entry
+
+pub same_opening : (o p : Opening) → o ∷ [] ≡ p ∷ [] → o ≡ p
+same_opening o p same = cc same
+
+pub names_its : (d : Domain) (queue : ℕ) (desk : Desk) (hand : Option (Entry Cargo)) → IfSome hand (IsTaken d queue desk) → NamesIts hand
+names_its d queue desk None is = tt
+names_its d queue desk (Some entry) is = λ o named_so. ap (λ (p : Opening). p.request) (same_opening o is.right.opening (sym named_so ∙ is.right.names)) ∙ is.right.request
+
+its_ticket : (d : Domain) (queue : ℕ) (desk : Desk) (hand : Option (Entry Cargo)) (entry : Entry Cargo) → hand ≡ Some entry → IfSome hand (IsTaken d queue desk) → IsTicketOf d.cells entry.cargo.ticket
+its_ticket d queue desk hand entry is taken = (subst (λ h. IfSome h (IsTaken d queue desk)) is taken).right.table
+
+pub closes_ticket : (d : Domain) (queue : ℕ) (desk : Desk) (answer : Answer) (stamp : Stamp) (hand : Option (Entry Cargo)) (closing : Closing) → Closes answer stamp hand closing → IfSome hand (IsTaken d queue desk) → IfSome closing.ticket (IsTicketOf d.cells)
+closes_ticket d queue desk answer stamp hand closing closes taken = subst (λ (c : Closing). IfSome c.ticket (IsTicketOf d.cells)) (sym closes.is) (its_ticket d queue desk hand closes.entry closes.in_hand taken)
+
+-- a list with one more at its end isn't empty
+pub not_empty : (own : List Stamped) (x : Stamped) (new : List Stamped) → new ≡ own ++ x ∷ [] → new ≡ [] → ⊥
+not_empty [] x new is none = cc (is, none)
+not_empty (y ∷ own) x new is none = cc (is, none)
+
+-- ---- an End
+
+no_version : (setup : Setup) (open_ : List RequestId) (value : Rval) (code : ℤ) (payload : Data) (sound : Bool) → version_of (if sound then returned value code payload else BadReturn) ≡ None
+no_version setup open_ value code payload false = refl
+no_version setup open_ Success code payload true = refl
+no_version setup open_ Fail code payload true = refl
+no_version setup open_ Exit code payload true = refl
+
+pub end_leads : (d : Domain) (queue : ℕ) (desk : Desk) (slot slot' : ServerSlot) (outcome : Outcome) (stamp : Stamp) (room : ℕ) (new : Working) → IsDesk d desk → IsServing d queue slot desk → version_of outcome ≡ None
+    → Ends outcome stamp slot' slot new (record desk.caller.work { room = room }) → Leads d desk (reworked desk new)
+end_leads d queue desk slot slot' outcome stamp room new is serving none ends =
+    let number = serving.stands.tables.worker.number in
+    let booted = is.booted in
+    let next = ends.noted.next in
+    event_leads d desk stamp (End (record { request = ends.entry.request; server = slot.server; generation = life_in slot.doing; outcome = outcome })) room new ends.noted is
+    (ap CallerHome (ap (λ n. caller_of n slot.server.0) (sym is.clients) ∙ number)) (omega (arith, booted, next)) (λ whole on version some. cc (none, some)) (λ whole on. tt)
+
+-- ---- a return
+
+pub halted_leads : (d : Domain) (desk : Desk) (n : ℕ) (new : Working) (halt : Halt) → IsDesk d desk → HaltsWith n new desk.caller.work halt → Leads d desk (reworked desk new)
+halted_leads d desk n new NoMemory is same = subst (λ (w : Working). Leads d desk (reworked desk w)) (sym same) (same_leads d desk is)
+halted_leads d desk n new (Worn last) is worn =
+    subst (λ (w : Working). Leads d desk (reworked desk w)) (sym worn.0)
+    (still_leads d desk (with_room n desk.caller.work) is (record { setup = refl; clients = refl; id = refl; own = sym (append-nil desk.caller.work.own); stamp = omega arith }) is.known_stamp)
+
+module _ (d : Domain) (queue : ℕ) (desk : Desk) (slot slot' : ServerSlot) (value : Rval) (code : ℤ) (payload : Data) (new : Working) (is : IsDesk d desk) (serving : IsServing d queue slot desk) where
+  abbrev outcome : Outcome
+  outcome = return_by desk.caller.work.setup (connections desk.caller.work.id.0 (theirs desk.caller.work)) value code payload
+
+  pub finish_leads : (r : Result Closing Halt) → IfOk r (λ closing. Finishes outcome closing slot' slot new desk.caller.work) → IfErr r (HaltsWith 3 new desk.caller.work) → Leads d desk (reworked desk new)
+  finish_leads (Ok closing) f halted = end_leads d queue desk slot f.ended outcome f.stamp (max desk.caller.work.room 3) new is serving (no_version desk.caller.work.setup (connections desk.caller.work.id.0 (theirs desk.caller.work)) value code payload _) f.ends
+  finish_leads (Err halt) f halted = halted_leads d desk 3 new halt is halted
+
+  pub finish_told : (r : Result Closing Halt) → IfOk r (λ closing. Finishes outcome closing slot' slot new desk.caller.work) → IfOk r (IsToTell d (reworked desk new))
+  finish_told (Ok closing) f =
+      let backed = finish_backed outcome closing slot' slot new desk.caller.work f (names_its d queue desk slot.hand serving.hand) in
+      record {
+        backed = backed.0;
+        ticket = closes_ticket d queue desk (reply_of (EndedBy outcome)) f.stamp slot.hand closing f.closes serving.hand;
+        reached = backed.1;
+        noted = λ answered. not_empty desk.caller.work.own _ new.own (ap (λ (w : Working). w.own) f.ends.noted.made);
+      }
+  finish_told (Err halt) f = tt

@@ -1,0 +1,181 @@
+-- What a look at the answer of a request leaves.
+use Rattle.std.proofs.Common.{◌≡◌, ◌≤◌, ◌<◌, ℕ, ◌+◌, ◌-◌, max, List, [], ◌∷◌, ◌++◌, Option, Some, None, inl, inr, refl, sym, ◌∙◌, ap, subst, append-nil, arith}
+use Rattle.std.specs.Prelude.{IfSome, IsSomeAnd}
+use Rattle.std.specs.List.{All, Contains}
+use Rattle.std.proofs.lemmas.List.Elements.{All-contains, Contains-push}
+use Rattle.xa_types.specs.declared.call.Ask.{Ask}
+use Rattle.xa_types.specs.declared.data.Kind.{Kind}
+use Rattle.xa_types.specs.declared.ids.RequestId.{RequestId}
+use Rattle.xa_types.specs.declared.reply.Answer.{Answer as Reply}
+use Rattle.xa_types.specs.declared.stamp.Stamp.{Stamp}
+use Rattle.xa_events.specs.declared.event.Event.{Event}
+use Rattle.xa_events.specs.declared.event.Event.TheVariants.{Answer}
+use Rattle.xa_events.specs.declared.event.Replied.{Replied}
+use Rattle.xa_events.specs.Answers.{reply_of, answer_to, IsAnswerTo}
+use Rattle.xa_events.specs.Homes.{Home}
+use Rattle.xa_events.specs.Request.{Settlement, settlement_in}
+use Rattle.xa_stamp.specs.declared.home.Stamped.{Stamped}
+use Rattle.xa_crew.specs.Seen.{SawEntry}
+use Rattle.xa_cell.specs.declared.view.Fill.{Fill}
+use Rattle.xa_cell.specs.declared.view.View.{View}
+use Rattle.xa_cell.specs.Calls.{TookAs}
+use Rattle.xa_cell.specs.Changes.{looked}
+use Rattle.xa_cell.specs.Growing.{Keeps, TakesMore}
+use Rattle.xa_cell.specs.Known.{known, IsSeatOf}
+use Rattle.xa_cell.specs.Views.{at, fill}
+use Rattle.xa_cell.proofs.Growing.{looked_keeps, more_behind}
+use Rattle.xa_work.specs.Work.{seeing}
+use Rattle.xa_caller.specs.declared.cargo.Filling.{Filling}
+use Rattle.xa_caller.specs.declared.outcomes.Step.{Step}
+use Rattle.xa_caller.specs.declared.outcomes.Step.TheVariants as steps
+use Rattle.xa_caller.specs.Caller.{Standing as Caller}
+use Rattle.xa_caller.specs.Changes.{Answers, Loses, Abandons, StepsAs}
+use Rattle.xa_caller.specs.Phases.{just_in}
+use Rattle.xa_told.specs.Told.{EndsAt, HasEnd}
+use Rattle.xa_told.proofs.Calls.{asked_looked, took_is_more}
+use Rattle.xa_told.proofs.Growth.{only_at, takes_grows}
+use Rattle.xa_told.proofs.Joining.{shown}
+use Rattle.xa_desk.specs.declared.domain.Domain.{Domain}
+use Rattle.xa_desk.specs.declared.desk.Desk.{Desk}
+use Rattle.xa_desk.specs.Whole.{Whole, entries_of, IsKnown}
+use Rattle.xa_desk.specs.Desks.{GoesOn, IsDesk, Leads}
+use Rattle.xa_desk.specs.Steps.{FitsOn}
+use Rattle.xa_desk.proofs.Fitting.{IsRead, no_more_fits, one_more_fits}
+use Rattle.xa_desk.proofs.Leading.{Grew, NotesOwn, own_before, own_leads}
+use Rattle.xa_desk.proofs.Quiet.{TakesOn, IsQuiet, keeps_on, quiet_before, quiet_leads}
+use Rattle.xa_desk.proofs.Visiting.{larger_known}
+
+takes_on : (k : ℕ) (a : Filling) (v w : View Filling) → TakesMore k a v w → TakesOn v w
+takes_on k a v w more = record { taken = (takes_grows k a v w more).taken; filled = only_at (λ j. (at j w).filled ≡ (at j v).filled) k more.filled (λ j apart. (more.others j apart).filled) }
+
+-- the reply tells what befell the request, by the caller's own kind
+told_by : (expect : Option Kind) (answer reply : Reply) (how : Option Settlement) → answer ≡ answer_to expect reply → IsSomeAnd how (λ settlement. reply ≡ reply_of settlement) → IsSomeAnd how (λ settlement. answer ≡ answer_to expect (reply_of settlement))
+told_by expect answer reply None is tells = tells
+told_by expect answer reply (Some settlement) is tells = is ∙ ap (answer_to expect) tells
+
+module _ (d : Domain) (desk : Desk) (new : Caller) (is : IsDesk d desk) (its : IsSeatOf d.cells new.seat) where
+  abbrev Next : Desk
+  Next = record desk { caller = new }
+
+  -- an answer was taken from the cell
+  module _ (cell : ℕ) (filling : Filling) (took : TookAs cell filling (looked cell 0 (known desk.caller.seat)) (known new.seat)) where
+    more : TakesMore cell filling (known desk.caller.seat) (known new.seat)
+    more =
+        let v : View Filling = known desk.caller.seat in
+        more_behind cell filling v (looked cell 0 v) (known new.seat) (asked_looked cell 0 v) (looked_keeps cell 0 v) (took_is_more cell filling (looked cell 0 v) (known new.seat) took)
+
+    takes : TakesOn (known desk.caller.seat) (known new.seat)
+    takes = takes_on cell filling (known desk.caller.seat) (known new.seat) more
+
+    -- its request had ended by then
+    ended : (reply : Reply) → filling.answer ≡ Some reply → (whole : Whole) → GoesOn d whole Next → EndsAt (entries_of whole) more.opening.request filling.stamp reply
+    ended reply says whole on =
+        subst (λ (o : Option Reply). IfSome o (EndsAt (entries_of whole) more.opening.request filling.stamp)) says
+        (All-contains (HasEnd (entries_of whole)) (at cell (known new.seat)).taken (fill more.opening filling) (on.ended cell)
+        (subst (λ (l : List (Fill Filling)). Contains l (fill more.opening filling)) (sym {A = List (Fill Filling)} more.taken) (Contains-push (at cell (known desk.caller.seat)).taken (fill more.opening filling))))
+
+    stamp_known : (reply : Reply) → filling.answer ≡ Some reply → (whole : Whole) → GoesOn d whole Next → IsKnown whole filling.stamp
+    stamp_known reply says whole on = let end = ended reply says whole on in inr (inl (end.where_, end.has))
+
+  -- and told
+  module _ (expect : Option Kind) (stamp : Stamp) (answers : Answers expect stamp new desk.caller) where
+    abbrev replied : Replied
+    replied = record { by = desk.caller.work.id; op = desk.caller.op; request = answers.sent.request; answer = answer_to expect answers.reply }
+
+    abbrev One : Stamped
+    One = record { stamp = stamp; event = Answer replied }
+
+    abbrev cell : ℕ
+    cell = answers.sent.place.cell
+
+    notes : NotesOwn d desk new One
+    notes =
+        let made = answers.noted.made in
+        let next = answers.noted.next in
+        let now = ap (λ (c : Caller). c.work.stamp.0) made in
+        let on = takes cell answers.filling answers.took in
+        let low = is.least in
+        let least = ap (λ (c : Caller). c.least) made in
+        record {
+          grew = record {
+            setup = ap (λ (c : Caller). c.work.setup) made;
+            clients = ap (λ (c : Caller). c.work.clients) made;
+            id = ap (λ (c : Caller). c.work.id) made;
+            own = ap (λ (c : Caller). c.work.own) made;
+            stamp = omega (arith, next, now);
+          };
+          last = ap (λ (c : Caller). c.work.stamp) made;
+          home = refl;
+          seat = its;
+          taken = on.taken;
+          filled = on.filled;
+          least = omega (arith, low, least);
+        }
+
+    told_so : (P : Event → Type 0) → ((end : Stamped) → IsSomeAnd (settlement_in answers.sent.request end.event) (λ settlement. answers.reply ≡ reply_of settlement) → P end.event) → (whole : Whole) → GoesOn d whole Next → (home : Home) × SawEntry (entries_of whole home) stamp P
+    told_so P holds whole on =
+        let first = more cell answers.filling answers.took in
+        let same : first.opening.request ≡ answers.sent.request = cc (sym first.asked ∙ answers.asked) in
+        let end = ended cell answers.filling answers.took answers.reply answers.says whole on in
+        let by = end.settles.by in
+        let next = answers.noted.next in
+        (end.home, record { entry = end.entry; stands = end.stands; before = omega (arith, by, next); shows = holds end.entry (subst (λ (r : RequestId). IsSomeAnd (settlement_in r end.entry.event) (λ settlement. answers.reply ≡ reply_of settlement)) same end.settles.tells) })
+
+    pub told_leads : Leads d desk Next
+    told_leads = own_leads d desk new One notes is (λ whole on.
+        let back : GoesOn d whole desk = own_before d desk new One notes whole on in
+        let next = answers.noted.next in
+        let booted = is.booted in
+        record {
+          behind = omega (arith, next, booted);
+          saw = tt;
+          told = told_so (λ e. IsSomeAnd (settlement_in answers.sent.request e) (IsAnswerTo (answer_to expect answers.reply))) (λ end tells. shown (settlement_in answers.sent.request end.event) (answer_to expect answers.reply) expect answers.reply refl tells) whole on;
+          before = record { 0 = max desk.caller.work.stamp.0 answers.filling.stamp.0 };
+          next = next;
+          known_before = larger_known whole desk.caller.work.stamp answers.filling.stamp (is.known_stamp whole back) (stamp_known answers.sent.place.cell answers.filling answers.took answers.reply answers.says whole on);
+        })
+
+    pub told_fits : IsRead d desk → (ask : Ask) → expect ≡ ask.expect → FitsOn d desk.caller.op ask desk Next
+    told_fits reads ask same =
+        one_more_fits d desk Next One told_leads notes.grew desk.caller.op ask refl (λ ops turn. let called = reads.called in absurd (omega (arith, turn, called))) (λ whole on.
+        let told = told_so (λ e. IsSomeAnd (settlement_in answers.sent.request e) (λ settlement. answer_to expect answers.reply ≡ answer_to ask.expect (reply_of settlement)))
+        (λ end tells. told_by ask.expect (answer_to expect answers.reply) answers.reply (settlement_in answers.sent.request end.event) (ap (λ e. answer_to e answers.reply) same) tells) whole on in
+        record { same = sym reads.called; request = reads.just ∙ ap just_in answers.was; home = told.0; told = told.1 })
+
+  -- or nothing was noted
+  module _ (takes : TakesOn (known desk.caller.seat) (known new.seat)) (seen : Stamp) (grew : Grew desk.caller.work new.work []) (least : new.least ≡ desk.caller.least) (now : new.work.stamp ≡ seen) (is_known : (whole : Whole) → GoesOn d whole Next → GoesOn d whole desk → IsKnown whole seen) where
+    quiet : IsQuiet d desk new
+    quiet = record { grew = grew; seat = its; takes = takes; least = least }
+
+    silent_leads : Leads d desk Next
+    silent_leads = quiet_leads d desk new quiet is (λ whole on. subst (IsKnown whole) (sym now) (is_known whole on (quiet_before d desk new quiet whole on)))
+
+    silent_fits : (op : ℕ) (ask : Ask) → FitsOn d op ask desk Next
+    silent_fits op ask = no_more_fits d desk Next silent_leads grew op ask
+
+  -- what changed but the seat and the phase, by a caller that is else as it was with a seat and a phase more
+  pub step_leads : (expect : Option Kind) (step : Step) → StepsAs expect step new desk.caller → Leads d desk Next × (IsRead d desk → (ask : Ask) → expect ≡ ask.expect → FitsOn d desk.caller.op ask desk Next)
+  step_leads expect (steps.Told stamp) answers = (told_leads expect stamp answers, told_fits expect stamp answers)
+  step_leads expect steps.Wait waits =
+      let made = waits.3 in
+      let kept = keeps_on (known desk.caller.seat) (known new.seat) (subst (Keeps (known desk.caller.seat)) (sym waits.2) (looked_keeps waits.0.place.cell 1 (known desk.caller.seat))) in
+      let grew : Grew desk.caller.work new.work [] = subst (λ (c : Caller). Grew desk.caller.work c.work []) (sym made) (record { setup = refl; clients = refl; id = refl; own = sym (append-nil desk.caller.work.own); stamp = omega arith }) in
+      let least = ap (λ (c : Caller). c.least) made in
+      let now = ap (λ (c : Caller). c.work.stamp) made in
+      (silent_leads kept desk.caller.work.stamp grew least now (λ whole on back. is.known_stamp whole back), λ reads ask same. silent_fits kept desk.caller.work.stamp grew least now (λ whole on back. is.known_stamp whole back) desk.caller.op ask)
+  step_leads expect (steps.Halt halt) loses =
+      let made = loses.made in
+      let seen : Stamp = (seeing loses.filling.stamp desk.caller.work).stamp in
+      let kept = takes loses.sent.place.cell loses.filling loses.took in
+      let grew : Grew desk.caller.work new.work [] = subst (λ (c : Caller). Grew desk.caller.work c.work []) (sym made) (record { setup = refl; clients = refl; id = refl; own = sym (append-nil desk.caller.work.own); stamp = omega arith }) in
+      let least = ap (λ (c : Caller). c.least) made in
+      let now = ap (λ (c : Caller). c.work.stamp) made in
+      let is_known : (whole : Whole) → GoesOn d whole Next → GoesOn d whole desk → IsKnown whole seen = λ whole on back. larger_known whole desk.caller.work.stamp loses.filling.stamp (is.known_stamp whole back) (stamp_known loses.sent.place.cell loses.filling loses.took loses.reply loses.says whole on) in
+      (silent_leads kept seen grew least now is_known, λ reads ask same. silent_fits kept seen grew least now is_known desk.caller.op ask)
+  step_leads expect steps.Halted abandons =
+      let made = abandons.made in
+      let kept = takes abandons.sent.place.cell abandons.filling abandons.took in
+      let grew : Grew desk.caller.work new.work [] = subst (λ (c : Caller). Grew desk.caller.work c.work []) (sym made) (record { setup = refl; clients = refl; id = refl; own = sym (append-nil desk.caller.work.own); stamp = omega arith }) in
+      let least = ap (λ (c : Caller). c.least) made in
+      let now = ap (λ (c : Caller). c.work.stamp) made in
+      (silent_leads kept desk.caller.work.stamp grew least now (λ whole on back. is.known_stamp whole back), λ reads ask same. silent_fits kept desk.caller.work.stamp grew least now (λ whole on back. is.known_stamp whole back) desk.caller.op ask)

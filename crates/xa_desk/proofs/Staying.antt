@@ -1,0 +1,65 @@
+-- What a worker found and saw stands as it goes on.
+use Rattle.std.proofs.Common.{◌≡◌, ◌≤◌, ◌<◌, ℕ, ◌+◌, true, false, List, sym, ◌∙◌, ap, subst, arith}
+use Rattle.std.proofs.lemmas.List.Elements.{All-weaker}
+use Rattle.xa_types.specs.declared.data.Data.{Data}
+use Rattle.xa_types.specs.declared.row.Row.{Row}
+use Rattle.xa_types.specs.Found.{FoundRows}
+use Rattle.xa_types.specs.Kind.{is_accepted, kind_of}
+use Rattle.xa_events.specs.declared.event.Event.{Event}
+use Rattle.xa_events.specs.Board.{published}
+use Rattle.xa_events.specs.Cases.{RowStands, RowAdmits}
+use Rattle.xa_crew.specs.Seen.{past_in, SawSince}
+use Rattle.xa_held.specs.Joins.{changes_at}
+use Rattle.xa_queue.specs.declared.entry.Entry.{Entry}
+use Rattle.xa_caller.specs.Drafts.{Cargo}
+use Rattle.xa_desk.specs.declared.domain.Domain.{Domain}
+use Rattle.xa_desk.specs.declared.desk.Desk.{Desk}
+use Rattle.xa_desk.specs.Whole.{Whole, entries_of}
+use Rattle.xa_desk.specs.Desks.{Leads, page_in}
+use Rattle.xa_desk.specs.Found.{SawOnBoard, SawAtQueue, SawItsOwnAt, HasFound, IsAimed}
+
+module _ (d : Domain) (old new : Desk) (leads : Leads d old new) where
+  pub board_stays : (P : List Event → Type 0) → SawOnBoard d old P → SawOnBoard d new P
+  board_stays P saw whole on stamp less = let later = leads.stamp in saw whole (leads.before whole on) stamp (omega (arith, less, later))
+
+  pub queue_stays : (queue : ℕ) (P : List Event → Type 0) → SawAtQueue d queue old P → SawAtQueue d queue new P
+  queue_stays queue P saw whole on stamp less = let later = leads.stamp in saw whole (leads.before whole on) stamp (omega (arith, less, later))
+
+  -- where the same worker noted no more there
+  pub itself_stays : (queue : ℕ) (P : List Event → Type 0) → new.caller.work.id ≡ old.caller.work.id → new.caller.work.own ≡ old.caller.work.own → SawItsOwnAt d queue old P → SawItsOwnAt d queue new P
+  itself_stays queue P id own saw whole on stamp less =
+      let later = leads.stamp in
+      let seen = saw whole (leads.before whole on) stamp (omega (arith, less, later)) in
+      let past = ap past_in own in
+      let is = ap (λ i. i.0) id in
+      subst (λ (n : ℕ). SawSince d.setup d.clients (entries_of whole) stamp n queue P (past_in new.caller.work.own)) (sym is) (subst (SawSince d.setup d.clients (entries_of whole) stamp old.caller.work.id.0 queue P) (sym {A = List Event} past) seen)
+
+  -- where the board wasn't visited, and the least version is what it was, or the one that was found
+  pub found_stays : (service : List ℕ) (found : FoundRows) → new.board ≡ old.board → new.caller.least ≤ found.version → HasFound d service found old → HasFound d service found new
+  found_stays service found board recent has = record {
+    rows = has.rows;
+    places = has.places;
+    recent = recent;
+    seen = subst (λ o. found.version ≤ published (past_in (changes_at (page_in o).seen))) (sym board) has.seen;
+    listed = board_stays _ has.listed;
+    stand = λ payload. All-weaker (λ (row : Row). is_accepted d.setup row.accepts (kind_of payload) ≡ true → SawOnBoard d old (RowStands d.setup found.version service row.queue.0 (RowAdmits d.setup false row.routine payload)))
+        (λ (row : Row). is_accepted d.setup row.accepts (kind_of payload) ≡ true → SawOnBoard d new (RowStands d.setup found.version service row.queue.0 (RowAdmits d.setup false row.routine payload))) (λ row saw accepts. board_stays _ (saw accepts)) found.rows (has.stand payload);
+  }
+
+-- a request is aimed as it was, where its caller's call stands as it did
+pub aimed_stays : (d : Domain) (found : FoundRows) (payload : Data) (entry : Entry Cargo) (event : Event) (old new : Desk) → new.caller.phase ≡ old.caller.phase → new.caller.op ≡ old.caller.op → IsAimed d found payload entry event old → IsAimed d found payload entry event new
+aimed_stays d found payload entry event old new phase op aimed = record {
+  draft = aimed.draft;
+  prepared = phase ∙ aimed.prepared;
+  drafted = aimed.drafted;
+  turn = aimed.turn ∙ ap (λ n. n + 1) (sym op);
+  version = aimed.version;
+  sound = aimed.sound;
+  row = aimed.row;
+  among = aimed.among;
+  accepts = aimed.accepts;
+  entry_is = aimed.entry_is;
+  event_is = aimed.event_is;
+  right = aimed.right;
+  cell = aimed.cell;
+}

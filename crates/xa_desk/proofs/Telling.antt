@@ -1,0 +1,47 @@
+-- What a closing that is given leaves.
+use Rattle.std.proofs.Common.{◌≡◌, ◌≤◌, ℕ, List, [], ◌∷◌, ◌++◌, Option, Some, None, refl, sym, subst}
+use Rattle.std.specs.List.{Contains}
+use Rattle.std.proofs.lemmas.List.Elements.{Contains-push, Contains-append_right}
+use Rattle.xa_types.specs.declared.reply.Answer.{Answer}
+use Rattle.xa_types.specs.declared.stamp.Stamp.{Stamp}
+use Rattle.xa_stamp.specs.declared.home.Stamped.{Stamped}
+use Rattle.xa_stamp.specs.Home.{last_stamp}
+use Rattle.xa_crew.specs.Crew.{no_stamp}
+use Rattle.xa_cell.specs.declared.tokens.Ticket.{Ticket}
+use Rattle.xa_cell.specs.declared.tokens.Seat.{Seat}
+use Rattle.xa_cell.specs.declared.view.View.{View}
+use Rattle.xa_cell.specs.Known.{known, IsSeatOf}
+use Rattle.xa_caller.specs.declared.cargo.Filling.{Filling}
+use Rattle.xa_server.specs.declared.closing.Closing.{Closing}
+use Rattle.xa_server.specs.declared.closing.Given.{Given}
+use Rattle.xa_server.specs.Told.{GivenTo, GivenAs, HasStamp}
+use Rattle.xa_server.proofs.Telling.{given_ended}
+use Rattle.xa_told.specs.Growing.{Grows}
+use Rattle.xa_told.proofs.Calls.{fill_grows}
+use Rattle.xa_desk.specs.declared.domain.Domain.{Domain}
+use Rattle.xa_desk.specs.declared.desk.Desk.{Desk}
+use Rattle.xa_desk.specs.Desks.{IsDesk, Leads}
+use Rattle.xa_desk.specs.Serving.{IsToTell}
+use Rattle.xa_desk.proofs.Seating.{reseated, seat_leads}
+
+given_grows : (ticket : Option (Ticket Filling)) (answer : Option Answer) (stamp : Stamp) (v w : View Filling) (became : Given) → GivenTo ticket answer stamp v w became → Grows v w
+given_grows None answer stamp v w became is = subst (Grows v) (sym is.1) (record { taken = λ k f here. here; filled = λ k f here. here })
+given_grows (Some ticket) answer stamp v w became spent = fill_grows ticket spent.filling v w spent.outcome spent.filled
+
+-- the last event has the last stamp
+last_has : (x : Stamped) (rest : List Stamped) → HasStamp (x ∷ rest) (record { 0 = last_stamp x.stamp rest })
+last_has x [] = (x, Contains-push [] x, refl)
+last_has x (y ∷ rest) = let later = last_has y rest in (later.0, Contains-append_right (x ∷ []) (y ∷ rest) later.0 later.1, later.2)
+
+pub latest_has : (own : List Stamped) → (own ≡ [] → ⊥) → HasStamp own (record { 0 = last_stamp no_stamp own })
+latest_has [] some = absurd (some refl)
+latest_has (x ∷ rest) some = last_has x rest
+
+pub give_leads : (d : Domain) (desk : Desk) (closing : Closing) (became : Given) (seat : Seat Filling) → IsDesk d desk → IsToTell d desk closing → IsSeatOf d.cells seat
+    → GivenAs closing (record { 0 = last_stamp no_stamp desk.caller.work.own }) (known desk.caller.seat) (known seat) became → Leads d desk (reseated desk seat)
+give_leads d desk closing became seat is told its given =
+    let own : List Stamped = desk.caller.work.own in
+    let stamp : Stamp = record { 0 = last_stamp no_stamp own } in
+    let grows = given_grows closing.ticket closing.answer stamp (known desk.caller.seat) (known seat) became given in
+    seat_leads d desk seat grows.taken is its
+    (given_ended own closing stamp (known desk.caller.seat) (known seat) became given told.reached (λ answered. latest_has own (told.noted answered)) told.backed is.filled)

@@ -1,0 +1,145 @@
+-- A worker's desk: what its passes know of the homes, and what it has shown of all that it noted (this project's own).
+use Rattle.std.specs.Prelude.{◌≡◌, ℕ, zero, suc, ◌+◌, ◌<◌, ◌≤◌, true, List, [], map, reverse, length, Option, Some, None, slice_index_or}
+use Rattle.std.specs.List.{All, filter}
+use Rattle.xa_types.specs.Configured.{is_configured}
+use Rattle.xa_types.specs.Setup.{capacity_of}
+use Rattle.xa_types.specs.declared.call.Op.{Op}
+use Rattle.xa_types.specs.declared.stamp.Stamp.{Stamp}
+use Rattle.xa_events.specs.Board.{boot, published}
+use Rattle.xa_events.specs.Homes.Home.{BoardHome, QueueHome}
+use Rattle.xa_events.specs.Words.{AtEach}
+use Rattle.xa_stamp.specs.declared.home.Stamped.{Stamped}
+use Rattle.xa_lock.specs.declared.makers.Made.{Made}
+use Rattle.xa_lock.specs.declared.guarded.Guarded.{Guarded}
+use Rattle.xa_lock.specs.declared.pass.LockPass.{LockPass}
+use Rattle.xa_lock.specs.declared.pass.Page.{Page}
+use Rattle.xa_lock.specs.Known.{known as page_of, IsPassOf}
+use Rattle.xa_lock.specs.Pages.{StartsWith, page}
+use Rattle.xa_lock.specs.Makers.{noted_in}
+use Rattle.xa_crew.specs.Crew.{MayNote, TellsEach, stands_at}
+use Rattle.xa_crew.specs.Seen.{past_in, IsBehind, SawFronts}
+use Rattle.xa_cell.specs.Known.{known, IsSeatOf}
+use Rattle.xa_cell.specs.Views.{at}
+use Rattle.xa_queue.specs.Reading.{AllNew}
+use Rattle.xa_held.specs.declared.kept_board.BoardNote.{BoardNote}
+use Rattle.xa_held.specs.declared.kept_queue.KeptQueue.{KeptQueue}
+use Rattle.xa_held.specs.declared.kept_queue.QueueNote.{QueueNote}
+use Rattle.xa_held.specs.declared.kept_queue.Setting.{Setting}
+use Rattle.xa_held.specs.Board.{IsSoundBoard}
+use Rattle.xa_held.specs.BoardVisits.{SeesBoard}
+use Rattle.xa_held.specs.Joins.{HasServers, changes_page, changes_at, events_at}
+use Rattle.xa_held.specs.Kept.{notes_of}
+use Rattle.xa_held.specs.Notes.{made_page}
+use Rattle.xa_held.specs.Visits.{Sees}
+use Rattle.xa_work.specs.Work.{Standing as Working}
+use Rattle.xa_work.specs.Going.{FitEach}
+use Rattle.xa_caller.specs.declared.cargo.Filling.{Filling}
+use Rattle.xa_server.specs.Told.{FilledByEnds}
+use Rattle.xa_told.specs.Told.{HasEnd, StandAt}
+use Rattle.xa_desk.specs.declared.domain.Domain.{Domain}
+use Rattle.xa_desk.specs.declared.desk.Desk.{Desk}
+use Rattle.xa_desk.specs.Whole.{Whole, entries_of, IsKnown}
+
+-- the domain is of a setup that a configuration may describe, with its shapes, and a queue for each that is configured
+pub record IsDomain (d : Domain) : Type 0 where
+  pub configured : is_configured d.setup ≡ true
+  pub shapes : d.shapes ≡ d.setup.shapes
+  pub queues : length d.queues.items ≡ length d.setup.queues
+
+-- ---- what passes know
+
+abbrev pub page_in : {E : Type 0} → Option (LockPass E) → Page E
+page_in None = page 0 [] []
+page_in (Some pass) = page_of pass
+
+-- what the desk knows of the board, and of the queue with that number
+abbrev pub board_page : Desk → Page BoardNote
+board_page desk = page_in desk.board
+
+abbrev pub page_at : List (Option (LockPass (QueueNote Filling))) → ℕ → Page (QueueNote Filling)
+page_at passes zero = page 0 [] []
+page_at passes (suc k) = page_in (slice_index_or passes k None)
+
+abbrev pub queue_page : Desk → ℕ → Page (QueueNote Filling)
+queue_page desk queue = page_at desk.queues.items queue
+
+-- a worker's pass of the board: it saw the boot, its own entries are what the worker noted there, and the worker's stamp is behind none that it saw
+pub record IsBoardPass (d : Domain) (w : Working) (pass : LockPass BoardNote) : Type 0 where
+  pub lock : IsPassOf d.board pass
+  pub maker : (page_of pass).maker ≡ w.id.0
+  pub sees : SeesBoard d.setup (page_of pass)
+  pub booted : boot d.setup ≤ published (past_in (changes_at (page_of pass).seen))
+  pub own : noted_in (changes_page (page_of pass)).own ≡ filter (stands_at d.setup d.clients BoardHome) w.own
+  pub reached : All (λ noted. noted.stamp.0 ≤ w.stamp.0) (changes_at (page_of pass).seen)
+
+-- what a queue with that number is
+pub record IsSettingOf (d : Domain) (queue : ℕ) (its : Setting Filling) : Type 0 where
+  pub id : its.id.0 ≡ queue
+  pub capacity : its.capacity ≡ capacity_of d.setup queue
+  pub servers : HasServers d.setup queue its.servers
+  pub first : its.first.0 ≤ d.booted.0
+  pub clients : its.clients ≡ d.clients
+  pub cells : its.cells ≡ d.cells
+
+-- and of a queue, where they are counted from 0
+pub record IsQueuePass (d : Domain) (w : Working) (k : ℕ) (pass : LockPass (QueueNote Filling)) : Type 0 where
+  pub lock : (default : Guarded (KeptQueue Filling) (QueueNote Filling)) → IsPassOf (slice_index_or d.queues.items k default) pass
+  pub maker : (page_of pass).maker ≡ w.id.0
+  pub its : Setting Filling
+  pub sees : Sees its (page_of pass)
+  pub is : IsSettingOf d (k + 1) its
+  pub own : noted_in (made_page (page_of pass)).own ≡ filter (stands_at d.setup d.clients (QueueHome (k + 1))) w.own
+  pub reached : All (λ noted. noted.stamp.0 ≤ w.stamp.0) (events_at (page_of pass).seen)
+
+abbrev pub IsThere : {E : Type 0} → (LockPass E → Type 0) → Option (LockPass E) → Type 0
+IsThere P None = ⊥
+IsThere P (Some pass) = P pass
+
+-- ---- what a worker shows in the end
+
+-- these may be the homes in the end: they go on from what the desk's passes saw, each worker noted there what it may, no request was sent to a queue
+-- while it waited there, all that the desk's own worker noted stands there, and what its seat took had ended
+pub record GoesOn (d : Domain) (whole : Whole) (desk : Desk) : Type 0 where
+  pub sound : IsSoundBoard whole.board
+  pub board : StartsWith whole.board.notes (board_page desk).seen
+  pub queues : (queue : ℕ) → StartsWith (notes_of (whole.queues queue)) (queue_page desk queue).seen
+  pub may : (queue : ℕ) → All (λ (made : Made). MayNote d.clients made.maker.0 made.noted.event) (whole.queues queue).queue.entries
+  pub once : (queue : ℕ) → AllNew d.setup queue (past_in (entries_of whole (QueueHome queue)))
+  pub stand : StandAt d.setup d.clients (entries_of whole) desk.caller.work.own
+  pub ended : (k : ℕ) → All (HasEnd (entries_of whole)) (at k (known desk.caller.seat)).taken
+
+-- each event that the worker noted came behind the boot, the fronts that it rests on were seen, it was told what it rests on, and its stamp is one more
+-- than one that is known
+pub record Shows (d : Domain) (whole : Whole) (w : Working) : Type 0 where
+  pub behind : All (λ (x : Stamped). IsBehind d.booted x.stamp x.event) w.own
+  pub saw : AtEach (λ (x : Stamped) older. SawFronts d.setup d.clients (entries_of whole) x.stamp x.event (map (λ (y : Stamped). y.event) older)) (reverse w.own)
+  pub told : TellsEach d.setup d.clients (entries_of whole) w.id.0 w.own
+  pub next : All (λ (x : Stamped). (before : Stamp) × (x.stamp.0 ≡ before.0 + 1) × IsKnown whole before) w.own
+
+-- ---- the desk
+
+-- a desk of the domain: its passes are of the domain's locks, each filling of its seat has its end among what the worker noted, and in the end the
+-- worker shows all that it noted
+pub record IsDesk (d : Domain) (desk : Desk) : Type 0 where
+  pub setup : desk.caller.work.setup ≡ d.setup
+  pub clients : desk.caller.work.clients ≡ d.clients
+  pub booted : d.booted.0 ≤ desk.caller.work.stamp.0
+  pub seat : IsSeatOf d.cells desk.caller.seat
+  pub board : IsThere (IsBoardPass d desk.caller.work) desk.board
+  pub least : desk.caller.least ≤ published (past_in (changes_at (board_page desk).seen))
+  pub count : length desk.queues.items ≡ length d.queues.items
+  pub queues : (k : ℕ) → k < length d.queues.items → IsThere (IsQueuePass d desk.caller.work k) (slice_index_or desk.queues.items k None)
+  pub filled : FilledByEnds desk.caller.work.own (known desk.caller.seat)
+  pub known_stamp : (whole : Whole) → GoesOn d whole desk → IsKnown whole desk.caller.work.stamp
+  pub shows : (whole : Whole) → GoesOn d whole desk → Shows d whole desk.caller.work
+
+-- it is a desk still, with all that its worker noted before; what may be in the end behind it may be behind the old one, and its stamp is no smaller
+pub record Leads (d : Domain) (old new : Desk) : Type 0 where
+  pub desk : IsDesk d new
+  pub own : StartsWith new.caller.work.own old.caller.work.own
+  pub before : (whole : Whole) → GoesOn d whole new → GoesOn d whole old
+  pub stamp : old.caller.work.stamp.0 ≤ new.caller.work.stamp.0
+
+-- each event of a call that the worker noted is one of the call with its number, of these that it makes
+abbrev pub FitsCalls : Domain → List Op → Desk → Type 0
+FitsCalls d ops desk = (whole : Whole) → GoesOn d whole desk → FitEach d.setup d.clients (entries_of whole) desk.caller.work.id.0 ops desk.caller.work.own

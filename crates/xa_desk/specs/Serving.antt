@@ -1,0 +1,126 @@
+-- A server's worker at its desk, and what its steps leave (this project's own).
+use Rattle.std.specs.Prelude.{◌≡◌, ◌⊎◌, ℕ, ◌+◌, ◌-◌, ◌<◌, ◌≤◌, ◌^◌, Bool, true, false, List, [], ◌∷◌, ◌++◌, length, Option, Some, None, IfSome, IsSome, Result, Ok, Err}
+use Rattle.std.specs.List.{All, Contains, flat_map}
+use Rattle.xa_types.specs.declared.ids.RequestId.{RequestId}
+use Rattle.xa_types.specs.declared.stamp.Stamp.{Stamp}
+use Rattle.xa_types.specs.declared.stamp.Worn.{Worn}
+use Rattle.xa_types.specs.Setup.{queue_of}
+use Rattle.xa_events.specs.declared.event.Event.{Event}
+use Rattle.xa_events.specs.declared.event.Event.TheVariants.{Take, Gone}
+use Rattle.xa_events.specs.declared.event.Doing.TheVariants.{Busy}
+use Rattle.xa_events.specs.Cases.{IsShut}
+use Rattle.xa_events.specs.Homes.Home.{BoardHome, QueueHome}
+use Rattle.xa_stamp.specs.Home.{last_stamp}
+use Rattle.xa_crew.specs.Crew.{IsOfDomain, no_stamp}
+use Rattle.xa_crew.specs.Seen.{SawDeserted}
+use Rattle.xa_cell.specs.Known.{IsTicketOf}
+use Rattle.xa_held.specs.Joins.{SawLeft}
+use Rattle.xa_stamp.specs.declared.home.Stamped.{Stamped}
+use Rattle.xa_lock.specs.declared.makers.Made.{Made}
+use Rattle.xa_queue.specs.declared.entry.Entry.{Entry}
+use Rattle.xa_held.specs.Kept.{IsRight, Brings}
+use Rattle.xa_held.specs.Notes.{made_of, IsOther, is_down_in}
+use Rattle.xa_work.specs.Work.{Standing as Working, noted, seeing}
+use Rattle.xa_work.specs.declared.work.Halt.{Halt}
+use Rattle.xa_work.specs.declared.work.Halt.TheVariants as halts
+use Rattle.xa_caller.specs.declared.phase.Phase.TheVariants.{Idle}
+use Rattle.xa_caller.specs.Caller.{Standing as Caller}
+use Rattle.xa_caller.specs.Drafts.{Cargo}
+use Rattle.xa_caller.specs.Serving.{noted_off}
+use Rattle.xa_server.specs.declared.closing.Closing.{Closing}
+use Rattle.xa_server.specs.declared.slot.ServerSlot.{ServerSlot}
+use Rattle.xa_server.specs.declared.slot.Last.TheVariants.{Nothing as NoLast}
+use Rattle.xa_server.specs.Doings.{life_in}
+use Rattle.xa_server.specs.Slot.{Stands}
+use Rattle.xa_server.specs.Told.{IsBacked}
+use Rattle.xa_desk.specs.declared.domain.Domain.{Domain}
+use Rattle.xa_desk.specs.declared.desk.Desk.{Desk}
+use Rattle.xa_desk.specs.declared.serving.Took.{Took}
+use Rattle.xa_desk.specs.declared.serving.Took.TheVariants as takes
+use Rattle.xa_desk.specs.declared.serving.SweptOut.{SweptOut}
+use Rattle.xa_desk.specs.Whole.{Whole, entries_of}
+use Rattle.xa_desk.specs.Desks.{GoesOn, queue_page}
+use Rattle.xa_desk.specs.Found.{SawAtQueue}
+
+-- the entry's request is to be answered by a cell of the domain, and an event that the desk saw at that queue brought it with what its server is
+-- asked for
+pub record IsTaken (d : Domain) (queue : ℕ) (desk : Desk) (entry : Entry Cargo) : Type 0 where
+  pub right : IsRight d.cells entry
+  pub brought : Made
+  pub stands : Contains (flat_map made_of (queue_page desk queue).seen) brought
+  pub brings : Brings entry.request entry.cargo.invocation brought.noted.event
+
+-- the desk is that of the server of the slot, whose queue has that number; the request in hand, if there is one, was taken there
+pub record IsServing (d : Domain) (queue : ℕ) (slot : ServerSlot) (desk : Desk) : Type 0 where
+  pub stands : Stands slot desk.caller.work
+  pub idle : desk.caller.phase ≡ Idle
+  pub its : queue_of d.setup slot.server.0 ≡ queue
+  pub some : 0 < queue
+  pub least : queue < length d.queues.items + 1
+  pub left : slot.gone ≡ false → All (IsOther slot.server) (queue_page desk queue).own
+  pub hand : IfSome slot.hand (IsTaken d queue desk)
+
+-- the caller with an event of its server or of the domain, which was noted at another home
+abbrev pub with_event : Stamp → Event → Caller → Caller
+with_event = noted_off
+
+-- the caller saw a stamp
+abbrev pub Sees : Caller → Caller → Type 0
+Sees old new = (seen : Stamp) × (new ≡ record old { work = seeing seen old.work })
+
+-- stamps came to their end at the worker's or the queue's last one, which the worker saw
+pub record IsAtEnd (worn : Worn) (old new : Desk) : Type 0 where
+  pub last : worn.0.0 ≡ 2 ^ 63
+  pub caller : Sees old.caller new.caller
+
+-- what a take comes to
+abbrev pub TakesAs : Domain → ℕ → Result Took Worn → ServerSlot → ServerSlot → Desk → Desk → Type 0
+TakesAs d queue (Ok takes.Request) slot slot' old new = (entry : Entry Cargo) × (stamp : Stamp) × (k : ℕ) × (slot' ≡ record slot { doing = Busy (life_in slot.doing) entry.request; hand = Some entry; last = NoLast })
+    × (old.caller.work.stamp.0 < stamp.0) × (new.caller ≡ with_event stamp (Take (record { request = entry.request; server = slot.server; generation = life_in slot.doing; k = k })) old.caller)
+TakesAs d queue (Ok takes.Nothing) slot slot' old new = (slot' ≡ slot) × Sees old.caller new.caller
+TakesAs d queue (Ok takes.Closed) slot slot' old new = (slot' ≡ slot) × Sees old.caller new.caller × SawAtQueue d queue new (IsShut d.setup queue)
+TakesAs d queue (Err worn) slot slot' old new = (slot' ≡ slot) × IsAtEnd worn old new
+
+-- the desk's pass saw each server of the queue given up
+abbrev pub IsDeserted : Domain → ℕ → Desk → Type 0
+IsDeserted d queue desk = SawLeft d.setup queue desk.caller.work.stamp (queue_page desk queue)
+
+-- behind that it found no row of the queue on the board, and whatever stands there in the end came later
+abbrev pub IsCleared : Domain → ℕ → Desk → Type 0
+IsCleared d queue desk = (whole : Whole) → GoesOn d whole desk → (stamp : Stamp) → desk.caller.work.stamp.0 < stamp.0
+    → SawDeserted d.setup queue (entries_of whole BoardHome) (entries_of whole (QueueHome queue)) stamp
+
+-- the desk's pass saw the queue go down
+abbrev pub IsFallen : ℕ → Desk → Type 0
+IsFallen queue desk = is_down_in queue (queue_page desk queue).seen ≡ true
+
+-- the server was given up at its queue, and each other server of the queue before, or not
+abbrev pub LeavesAs : Domain → ℕ → Result Bool Worn → ServerSlot → ServerSlot → Desk → Desk → Type 0
+LeavesAs d queue (Ok last) slot slot' old new = (slot' ≡ record slot { gone = true }) × ((stamp : Stamp) × (old.caller.work.stamp.0 < stamp.0) × (new.caller ≡ with_event stamp (Gone slot.server) old.caller))
+    × (last ≡ true → IsDeserted d queue new)
+LeavesAs d queue (Err worn) slot slot' old new = (slot' ≡ slot) × IsAtEnd worn old new
+
+-- the worker noted events of the domain at most, and its caller is else as it was
+pub record OfDomain (old new : Desk) : Type 0 where
+  pub more : List Stamped
+  pub own : new.caller.work.own ≡ old.caller.work.own ++ more
+  pub theirs : All (λ (x : Stamped). IsOfDomain x.event) more
+  pub rest : new.caller ≡ record old.caller { work = record old.caller.work { stamp = new.caller.work.stamp; own = new.caller.work.own } }
+
+-- memory ran out, or stamps would pass their end
+abbrev pub IsHaltNear : Halt → Type 0
+IsHaltNear halts.NoMemory = Unit {0}
+IsHaltNear (halts.Worn stamp) = stamp.0 ≡ 2 ^ 63
+
+-- what a closing tells is backed by what the worker noted, and its ticket is of the domain's cells
+pub record IsToTell (d : Domain) (desk : Desk) (closing : Closing) : Type 0 where
+  pub backed : IsBacked desk.caller.work.own closing
+  pub ticket : IfSome closing.ticket (IsTicketOf d.cells)
+  pub reached : closing.stamp.0 ≤ last_stamp no_stamp desk.caller.work.own
+  pub noted : IsSome closing.answer → desk.caller.work.own ≡ [] → ⊥
+
+-- a request that waited was swept, and its caller is to be told; or none waits
+abbrev pub SweepsAs : Domain → Result (Option SweptOut) Worn → Desk → Desk → Type 0
+SweepsAs d (Ok None) old new = Sees old.caller new.caller
+SweepsAs d (Ok (Some out)) old new = OfDomain old new × IsToTell d new out.closing × IsSome out.closing.ticket
+SweepsAs d (Err worn) old new = IsAtEnd worn old new

@@ -1,0 +1,216 @@
+// The steps of a tpcall.
+ghost use Rattle.std.specs.Prelude.{◌≡◌, ℕ, List, ◌+◌, ◌≤◌, ◌<◌, ◌^◌, true, false, IfOk, IfErr, OnOk, OnErr};
+ghost use Rattle.xa_types.specs.declared.call.Ask.{Ask as Asked};
+ghost use Rattle.xa_events.specs.Calls.{is_invalid_call};
+ghost use Rattle.xa_types.specs.declared.stamp.Stamp.{Stamp};
+ghost use Rattle.xa_events.specs.declared.event.Event.{Event as Accepting};
+ghost use Rattle.xa_caller.specs.declared.phase.Phase.TheVariants as phases;
+ghost use Rattle.xa_caller.specs.Caller.{MayCall};
+ghost use Rattle.xa_caller.specs.Changes.{Prepares, StopsAs, Sends, StepsAs};
+ghost use Rattle.xa_caller.specs.Phases.{IsSent};
+ghost use Rattle.xa_caller.specs.Unsent.{ChecksAs, AimsAs, UnsentAs};
+ghost use Rattle.xa_work.specs.Work.{seeing};
+ghost use Rattle.xa_desk.specs.Desks.{IsDomain, IsDesk, Leads};
+ghost use Rattle.xa_desk.specs.Found.{HasFound, IsAimed, StillAimed, ShowsWhy, IsAccept, queue_in};
+ghost use Rattle.xa_desk.specs.Steps.{FitsOn, IsWhy};
+
+use crate::desk::{Desk, put_back, take_from};
+use crate::domain::Domain;
+use std::alloc::Global;
+use std::sync::Wait;
+use xa_caller::{Aimed, Cargo, Note, Prepared, Step, Stop, Why};
+use xa_events::Event;
+use xa_held::{AtQueue, put_at};
+use xa_queue::{Entry, PutRefused, Refusal};
+use xa_types::{Ask, Kind, Name, QueueId};
+
+// The queue that the event sends a request to.
+fn queue_of(event: &Event) -> QueueId
+    requires { IsAccept event.now }
+    ensures { result.0 ≡ queue_in event.now }
+{
+    match event {
+        Event::Accept(accepted) => accepted.queue,
+        _ => unreachable!(),
+    }
+}
+
+/// A request that its queue didn't take.
+pub struct Unsent {
+    pub queue: QueueId,
+    pub entry: Entry<Cargo>,
+    pub note: Note,
+    pub why: Refusal,
+}
+
+impl Desk {
+    /// The service of its caller's next call, a tpcall, unless TPEINVAL refuses that, as `check` of a caller.
+    pub fn check(&mut self, domain: &Domain, op: u32, ask: &Ask) -> Result<Name, Stop>
+        requires domain { IsDomain domain.now }
+        requires desk { IsDesk domain.now self.old }
+        requires active { MayCall self.old.caller }
+        requires idle { self.old.caller.phase ≡ phases.Idle }
+        requires turn { op ≡ self.old.caller.op + 1 }
+        ensures ok { IfOk result (λ name. (is_invalid_call domain.now.setup ask.now ≡ false) × (name ≡ ask.now.service)) }
+        ensures kept { OnOk result (self.new ≡ self.old) }
+        ensures leads { Leads domain.now self.old self.new }
+        ensures refused { IfErr result (λ stop. ChecksAs op stop self.new.caller self.old.caller) }
+        ensures fits { FitsOn domain.now op ask.now self.old self.new }
+    {
+        let _itself = self.caller.id();
+        self.caller.check(&domain.shapes, op, ask)
+    }
+
+    /// Makes a request for its caller's next call by the rows that were found, as `prepare` of a caller.
+    pub fn prepare(
+        &mut self,
+        alloc: Global,
+        domain: &Domain,
+        op: u32,
+        ask: &Ask,
+    ) -> Result<Prepared, Stop>
+        requires domain { IsDomain domain.now }
+        requires desk { IsDesk domain.now self.old }
+        requires active { MayCall self.old.caller }
+        requires idle { self.old.caller.phase ≡ phases.Idle }
+        requires turn { op ≡ self.old.caller.op + 1 }
+        requires valid { is_invalid_call domain.now.setup ask.now ≡ false }
+        requires found { HasFound domain.now ask.now.service self.old.reader.found self.old }
+        ensures leads { Leads domain.now self.old self.new }
+        ensures made { IfOk result (λ prepared. Prepares domain.now.setup domain.now.cells op ask.now.payload self.old.reader.found prepared self.new.caller self.old.caller) }
+        ensures aimed { IfOk result (λ prepared. IsAimed domain.now self.old.reader.found ask.now.payload prepared.entry prepared.event self.new) }
+        ensures found { OnOk result (HasFound domain.now ask.now.service self.old.reader.found self.new) }
+        ensures rest { self.new ≡ record self.old { caller = self.new.caller } }
+        ensures stopped { IfErr result (λ stop. StopsAs domain.now.setup op ask.now.payload self.old.reader.found stop self.new.caller self.old.caller) }
+        ensures fits { FitsOn domain.now op ask.now self.old self.new }
+    {
+        let _itself = self.caller.id();
+        self.caller.prepare(
+            alloc,
+            &domain.setup,
+            &domain.cells,
+            op,
+            ask,
+            self.reader.found(),
+        )
+    }
+
+    /// Puts the request that was prepared on the queue that it is aimed at. Where that takes it, its caller sent it; else it
+    /// comes back, and the worker saw the queue's stamp.
+    pub fn send<W: Wait>(
+        &mut self,
+        rt: &W,
+        domain: &Domain,
+        prepared: Prepared,
+    ) -> Result<QueueId, Unsent>
+        requires domain { IsDomain domain.now }
+        requires desk { IsDesk domain.now self.old }
+        requires active { MayCall self.old.caller }
+        requires found { (ask : Asked) × (is_invalid_call domain.now.setup ask ≡ false) × HasFound domain.now ask.service self.old.reader.found self.old
+            × IsAimed domain.now self.old.reader.found ask.payload prepared.entry prepared.event self.old }
+        ensures leads { Leads domain.now self.old self.new }
+        ensures sent { OnOk result ((stamp : Stamp) × Sends stamp self.new.caller self.old.caller) }
+        ensures fits { (ask : Asked) → is_invalid_call domain.now.setup ask ≡ false → HasFound domain.now ask.service self.old.reader.found self.old → IsAimed domain.now self.old.reader.found ask.payload prepared.entry prepared.event self.old
+            → FitsOn domain.now (self.old.caller.op + 1) ask self.old self.new }
+        ensures reader { self.new.reader ≡ self.old.reader }
+        ensures board { self.new.board ≡ self.old.board }
+        ensures back { IfErr result (λ back. back.entry ≡ prepared.entry) }
+        ensures kept { OnErr result ((seen : Stamp) × (self.new.caller ≡ record self.old.caller { work = seeing seen self.old.caller.work })) }
+        ensures why { IfErr result (λ back. ShowsWhy domain.now (queue_in prepared.event) back.why self.new) }
+    {
+        let Prepared { entry, event, note } = prepared;
+        let queue = queue_of(&event);
+        let place = usize::from(queue.0) - 1;
+        let pass = take_from(&mut self.queues, place);
+        let AtQueue { pass, last, answer } = put_at(
+            rt,
+            &domain.queues[place],
+            pass,
+            self.caller.stamp(),
+            self.caller.id(),
+            event,
+            entry,
+        );
+        put_back(&mut self.queues, place, pass);
+        match answer {
+            Ok(stamp) => {
+                self.caller.sent(note, stamp);
+                Ok(queue)
+            }
+            Err(refused) => {
+                let PutRefused { entry, why } = refused;
+                self.caller.saw(last);
+                Err(Unsent {
+                    queue,
+                    entry,
+                    note,
+                    why,
+                })
+            }
+        }
+    }
+
+    /// Aims a request that a queue refused by the row at that attempt, as `aim` of a caller.
+    pub fn aim(
+        &mut self,
+        alloc: Global,
+        domain: &Domain,
+        entry: Entry<Cargo>,
+        attempt: u32,
+    ) -> Aimed
+        requires domain { IsDomain domain.now }
+        requires desk { IsDesk domain.now self.old }
+        requires found { (ask : Asked) × (event : Accepting) × HasFound domain.now ask.service self.old.reader.found self.old × IsAimed domain.now self.old.reader.found ask.payload entry event self.old }
+        ensures leads { Leads domain.now self.old self.new }
+        ensures aims { AimsAs entry self.old.reader.found.rows attempt result self.new.caller self.old.caller }
+        ensures found { (service : List ℕ) → HasFound domain.now service self.old.reader.found self.old → HasFound domain.now service self.old.reader.found self.new }
+        ensures aimed { (ask : Asked) (event : Accepting) → HasFound domain.now ask.service self.old.reader.found self.old → IsAimed domain.now self.old.reader.found ask.payload entry event self.old
+            → StillAimed domain.now self.old.reader.found ask.payload event result self.new }
+        ensures rest { self.new ≡ record self.old { caller = self.new.caller } }
+        ensures fits { (op : ℕ) (ask : Asked) → FitsOn domain.now op ask self.old self.new }
+    {
+        let _ = domain;
+        self.caller.aim(alloc, entry, self.reader.found(), attempt)
+    }
+
+    /// No queue took the request that was prepared, for that reason: its cell is given back, and its caller is refused or
+    /// waits, as by `unsent` of a caller.
+    pub fn unsent(
+        &mut self,
+        domain: &Domain,
+        note: Note,
+        entry: Entry<Cargo>,
+        why: Why,
+        no_block: bool,
+    ) -> Step
+        requires domain { IsDomain domain.now }
+        requires desk { IsDesk domain.now self.old }
+        requires active { MayCall self.old.caller }
+        requires found { (ask : Asked) × (event : Accepting) × HasFound domain.now ask.service self.old.reader.found self.old × IsAimed domain.now self.old.reader.found ask.payload entry event self.old }
+        requires why { IsWhy domain.now self.old.reader.found why self.old }
+        ensures leads { Leads domain.now self.old self.new }
+        ensures unsent { UnsentAs entry.cargo.ticket.cell why no_block result self.new.caller self.old.caller }
+        ensures rest { self.new ≡ record self.old { caller = self.new.caller } }
+        ensures fits { (ask : Asked) → is_invalid_call domain.now.setup ask ≡ false → no_block ≡ ask.flags.no_block → HasFound domain.now ask.service self.old.reader.found self.old
+            → FitsOn domain.now (self.old.caller.op + 1) ask self.old self.new }
+    {
+        let _itself = self.caller.id();
+        self.caller
+            .unsent(&domain.cells, note, entry, why, no_block)
+    }
+
+    /// Looks for the answer to its caller's request, and notes it where it has come, as `call_reply` of a caller.
+    pub fn look_for_reply(&mut self, domain: &Domain, expect: &Option<Kind>) -> Step
+        requires domain { IsDomain domain.now }
+        requires desk { IsDesk domain.now self.old }
+        requires active { MayCall self.old.caller }
+        requires sent { IsSent self.old.caller.phase }
+        ensures leads { Leads domain.now self.old self.new }
+        ensures step { StepsAs expect.now result self.new.caller self.old.caller }
+        ensures rest { self.new ≡ record self.old { caller = self.new.caller } }
+        ensures fits { (ask : Asked) → expect.now ≡ ask.expect → FitsOn domain.now self.old.caller.op ask self.old self.new }
+    {
+        let _itself = self.caller.id();
+        self.caller.call_reply(&domain.cells, expect)
+    }
+}

@@ -1,0 +1,16 @@
+//! What the workers of a domain share, and what one of them has: its caller, and its passes of the board and of the queues.
+//! Each call here is one step of that worker, at a shared home or at its own. Its contract speaks of what the worker noted,
+//! saw and may tell, and of no other worker.
+#![tactic(auto)]
+
+mod calls;
+mod desk;
+mod domain;
+mod halting;
+mod serving;
+
+pub use calls::Unsent;
+pub use desk::Desk;
+pub use domain::{Domain, Waits};
+pub use halting::HaltWord;
+pub use serving::{SweptOut, Took};
