@@ -1,9 +1,8 @@
 // The data of a call, as a script writes it.
-ghost use Rattle.std.specs.Prelude.{◌≡◌, ◌==◌, not, if◌then◌else◌, [], Some, None, length, replicate, option_map};
+ghost use Rattle.std.specs.Prelude.{◌≡◌, ◌==◌, not, if◌then◌else◌, [], Some, None, length, replicate, option_map, IfOk};
 ghost use Rattle.std.specs.List.{position};
-ghost use Rattle.xa_types.specs.Configured.{is_among};
 ghost use Rattle.xa_script.specs.Words.{Reads, Makes, decimal};
-ghost use Rattle.xa_script.specs.Payload.{signed_of, whole_of, below_of, value_at, is_equals, has_field, name_of, field_at, given_names, fields_from, struct_at, text_at, octets_at, one_octet, fill_at, form_at, payload_at};
+ghost use Rattle.xa_script.specs.Payload.{signed_of, whole_of, below_of, value_at, is_equals, has_field, name_of, field_at, fields_from, struct_at, text_at, octets_at, one_octet, fill_at, form_at, payload_at};
 ghost use Rattle.xa_script.specs.Layout.{struct_of};
 
 use crate::layout::{Field, Value, struct_of};
@@ -13,6 +12,7 @@ use crate::words::{
 };
 use memchr::memchr;
 use std::alloc::Global;
+use std::collections::BTreeSet;
 use xa_types::{Data, Name, Octets, Setup};
 
 /// Data and the octets behind it; there is none where the setup doesn't take what is written.
@@ -87,29 +87,20 @@ fn name_of(octets: &[u8]) -> Result<Name, NoForm>
     }
 }
 
-// FIELD=VALUE.
+// FIELD=VALUE, and the octets of FIELD.
 #[tactic(auto, unfolding(crate::specs::Payload::field_at))]
-fn field_at(alloc: Global, octets: &[u8]) -> Result<(Field, &[u8]), ReadError>
-    ensures { Makes (λ x. (x.0, x.1.now)) result (field_at octets.now) }
+fn field_at(alloc: Global, octets: &[u8]) -> Result<(Field, &[u8], &[u8]), ReadError>
+    ensures found { Makes (λ x. (x.0, x.2.now)) result (field_at octets.now) }
+    ensures named { IfOk result (λ x. x.1.now ≡ x.0.name) }
 {
     let front = skip_spaces(octets);
     let Some(place) = place_of_equals(front) else {
         return Err(ReadError::NoForm);
     };
-    let name = name_of(&front[..place])?;
+    let word = &front[..place];
+    let name = name_of(word)?;
     let (value, rest) = value_at(alloc, &front[place + 1..])?;
-    Ok((Field { name, value }, rest))
-}
-
-fn is_given(given: &[Field], name: &Name) -> bool
-    ensures { result ≡ is_among (given_names given.now) name.now }
-{
-    for field in given {
-        if name.octets() == field.name.octets() {
-            return true;
-        }
-    }
-    false
+    Ok((Field { name, value }, word, rest))
 }
 
 // The fields in front, of which there are no more than octets.
@@ -117,13 +108,15 @@ fn fields_at(alloc: Global, octets: &[u8]) -> Result<(Vec<Field>, &[u8]), ReadEr
     ensures { Makes (λ x. (x.0.items, x.1.now)) result (fields_from (length octets.now) [] octets.now) }
 {
     let mut given = Vec::new(alloc);
+    let mut names = BTreeSet::new(alloc);
     let mut rest = octets;
     for turn in 0..octets.len() {
         if !has_field(rest) {
             return Ok((given, rest));
         }
-        let (field, behind) = field_at(alloc, rest)?;
-        if is_given(given.as_slice(), &field.name) {
+        let (field, name, behind) = field_at(alloc, rest)?;
+        let is_new = names.insert(name)?;
+        if !is_new {
             return Err(ReadError::NoForm);
         }
         given.push(field)?;
