@@ -1,14 +1,13 @@
 -- The clients of lines that are read: calls of the last one, and lines one after another.
-use Rattle.std.proofs.Common.{◌≡◌, ℕ, suc, ◌+◌, is_some, Bool, true, false, cond, List, [], ◌∷◌, ◌++◌, length, drop, take, Option, Some, None, Ok, Err, refl, ap, sym, ◌∙◌, subst, append_assoc, append-nil, arith}
+use Rattle.std.proofs.Common.{◌≡◌, ℕ, is_some, true, cond, List, [], ◌∷◌, ◌++◌, Option, Some, None, Ok, Err, refl, ap, sym, ◌∙◌}
 use Rattle.xa_types.specs.declared.setup.Setup.{Setup}
 use Rattle.xa_types.specs.declared.call.Op.{Op}
 use Rattle.xa_script.specs.declared.calls.Verb.{Verb}
 use Rattle.xa_script.specs.declared.script.Client.{Client}
-use Rattle.xa_script.specs.declared.draft.Cause.{Cause}
 use Rattle.xa_script.specs.declared.draft.Cause.TheVariants.{NotServed}
 use Rattle.xa_script.specs.Calls.{op_of}
 use Rattle.xa_script.specs.Served.{is_served}
-use Rattle.xa_script.specs.Script.{Taken, client_with, with_call, with_op, called, and_then, with_line, read_all}
+use Rattle.xa_script.specs.Script.{Taken, client_with, with_call, with_op, called}
 use Rattle.xa_script.specs.Draft.{drafted}
 
 last_call : (done : List Client) (client : Client) (op : Op) → with_call (done ++ client ∷ []) op ≡ done ++ client_with client.name (client.ops ++ op ∷ []) ∷ []

@@ -1,8 +1,8 @@
 -- The flags that are read so far.
-use Rattle.std.proofs.Common.{◌≡◌, ℕ, suc, ◌+◌, ◌-◌, ◌≤◌, ◌<◌, Bool, true, false, cond, List, [], ◌∷◌, length, Option, Some, None, refl, ap, sym, ◌∙◌, arith}
+use Rattle.std.proofs.Common.{◌≡◌, ℕ, suc, ◌+◌, ◌-◌, ◌≤◌, ◌<◌, Bool, true, false, cond, List, length, Option, Some, None, ap, sym, ◌∙◌, arith}
 use Rattle.xa_types.specs.declared.setup.Setup.{Setup}
 use Rattle.xa_script.specs.declared.flags.Flags.{Flags}
-use Rattle.xa_script.specs.Words.{◌>>=◌, is_blank, word_at, no_more}
+use Rattle.xa_script.specs.Words.{◌>>=◌, is_blank, word_at}
 use Rattle.xa_types.specs.declared.call.CallFlags.{CallFlags}
 use Rattle.xa_script.specs.Calls.{no_flags, flag_by, flags_from, flags_of}
 

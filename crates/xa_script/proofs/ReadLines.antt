@@ -1,5 +1,5 @@
 -- Lines that are read one after another: their script, or their first fault.
-use Rattle.std.proofs.Common.{◌≡◌, ℕ, suc, ◌+◌, List, [], ◌∷◌, ◌++◌, length, Option, Some, None, Ok, Err, refl, ap, sym, ◌∙◌, append_assoc, append-nil, length-append, arith}
+use Rattle.std.proofs.Common.{◌≡◌, ℕ, ◌+◌, List, [], ◌∷◌, ◌++◌, length, Option, Some, None, Ok, Err, refl, ap, sym, ◌∙◌, append_assoc, append-nil, length-append, arith}
 use Rattle.std.specs.Str.Lines.{lines}
 use Rattle.xa_types.specs.declared.setup.Setup.{Setup}
 use Rattle.xa_script.specs.declared.script.Client.{Client}

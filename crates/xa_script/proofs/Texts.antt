@@ -1,5 +1,5 @@
 -- Quoted texts: what reading them gives.
-use Rattle.std.proofs.Common.{◌≡◌, ℕ, suc, ◌==◌, not, Bool, true, false, cond, List, [], ◌∷◌, ◌++◌, ◌+◌, ◌≤◌, nat_lt, take, drop, arith, Some, None, unwrap_or, refl, ap, sym, ◌∙◌, append_assoc, ◌||◌, ◌&&◌}
+use Rattle.std.proofs.Common.{◌≡◌, ℕ, suc, ◌==◌, not, Bool, true, false, cond, List, [], ◌∷◌, ◌++◌, ◌+◌, ◌≤◌, nat_lt, take, drop, arith, Some, None, unwrap_or, refl, ap, sym, ◌∙◌, append_assoc}
 use Rattle.std.specs.List.{position_or_len}
 use Rattle.std.proofs.lemmas.Bool.Decides.{nat_tests}
 use Rattle.xa_script.specs.Words.{next_octet, is_marked, put, text_in_front}

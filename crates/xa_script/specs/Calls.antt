@@ -1,6 +1,6 @@
 -- The calls of a script: a line's first word tells the kind of call, and its parts follow in order (this project's own). A line that is of its form
 -- may still have what the setup doesn't take: then it says no call.
-use Rattle.std.specs.Prelude.{ℕ, zero, suc, ℤ, ◌&&◌, nat_le, nat_lt, Bool, true, false, if◌then◌else◌, List, [], ◌∷◌, length, drop, take, codes, Option, Some, None, option_map, is_some, not, pos, negsuc}
+use Rattle.std.specs.Prelude.{ℕ, zero, suc, ℤ, ◌&&◌, nat_le, nat_lt, Bool, true, false, if◌then◌else◌, List, length, drop, take, codes, Option, Some, None, option_map, is_some, not, pos, negsuc}
 use Rattle.std.specs.Str.{bytes_eq}
 use Rattle.xa_types.specs.declared.setup.Setup.{Setup}
 use Rattle.xa_types.specs.declared.setup.ShapeSetup.{ShapeSetup}

@@ -1,5 +1,5 @@
 -- The data of a call, as a script writes it (this project's own). A setup may not take what is written: then there is none.
-use Rattle.std.specs.Prelude.{ℕ, zero, suc, ◌+◌, ◌==◌, Bool, true, false, if◌then◌else◌, List, [], ◌∷◌, ◌++◌, length, take, drop, map, replicate, codes, Option, Some, None, is_some}
+use Rattle.std.specs.Prelude.{ℕ, zero, suc, ◌+◌, ◌==◌, Bool, if◌then◌else◌, List, [], ◌∷◌, ◌++◌, length, take, drop, map, replicate, codes, Option, Some, None, is_some}
 use Rattle.std.specs.List.{position}
 use Rattle.std.specs.Str.{bytes_eq}
 use Rattle.xa_types.specs.Name.{is_name}
@@ -10,7 +10,7 @@ use Rattle.xa_types.specs.declared.data.Data.TheVariants.{Absent, Octet}
 use Rattle.xa_script.specs.declared.layout.Value.{Value}
 use Rattle.xa_script.specs.declared.layout.Value.TheVariants.{Whole, Below, Outside, Text}
 use Rattle.xa_script.specs.declared.layout.Field.{Field}
-use Rattle.xa_script.specs.Words.{◌>>=◌, is_space, skip_spaces, next_word, cut_word, word_at, is_quoted, quoted_at, decimal, is_decimal, number_of, hex_octet, hex_from}
+use Rattle.xa_script.specs.Words.{◌>>=◌, skip_spaces, next_word, cut_word, word_at, is_quoted, quoted_at, decimal, is_decimal, number_of, hex_octet, hex_from}
 use Rattle.xa_script.specs.Layout.{struct_of}
 use Rattle.std.specs.Prelude.{◌-◌, nat_lt, ◌&&◌, not}
 

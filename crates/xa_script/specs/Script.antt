@@ -1,6 +1,6 @@
 -- What a script says: the clients that its lines begin and the calls that they make, or the first line at fault (this project's own). `lines` cuts
 -- the octets at each 0x0A and drops a 0x0D before it; the last line may lack its end, and where nothing stands behind the last 0x0A no line begins.
-use Rattle.std.specs.Prelude.{ℕ, ◌+◌, ◌≡◌, ◌==◌, not, nat_le, Bool, if◌then◌else◌, List, [], ◌∷◌, ◌++◌, length, map, codes, Option, Some, None, Result, Ok, Err}
+use Rattle.std.specs.Prelude.{ℕ, ◌+◌, ◌≡◌, not, nat_le, if◌then◌else◌, List, [], ◌∷◌, ◌++◌, length, map, codes, Option, Some, None, Result, Ok, Err}
 use Rattle.std.specs.List.{list_all}
 use Rattle.std.specs.Str.{bytes_eq}
 use Rattle.std.specs.Str.Lines.{lines}
@@ -13,7 +13,7 @@ use Rattle.xa_script.specs.declared.script.Client.{Client}
 use Rattle.xa_script.specs.declared.script.Script.{Script}
 use Rattle.xa_script.specs.declared.draft.Cause.{Cause}
 use Rattle.xa_script.specs.declared.draft.Cause.TheVariants.{Unprinted, Unknown, BeforeClients, Misshapen, NoName, Doubled, OneTooMany, NotTaken, NotServed}
-use Rattle.xa_script.specs.Words.{is_printed, is_skipped, is_blank, word_at, next_word, no_more, ◌>>=◌}
+use Rattle.xa_script.specs.Words.{is_printed, is_skipped, word_at, next_word, no_more, ◌>>=◌}
 use Rattle.xa_script.specs.Calls.{verb_of, op_of}
 use Rattle.xa_script.specs.Served.{is_served}
 

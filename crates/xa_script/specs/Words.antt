@@ -1,8 +1,7 @@
 -- The parts of a line: words, quoted texts and numbers, each with the octets behind it (this project's own).
-use Rattle.std.specs.Prelude.{ℕ, ◌+◌, ◌-◌, ◌*◌, ◌^◌, ◌≡◌, ◌==◌, ◌||◌, ◌&&◌, not, nat_lt, nat_le, Bool, true, false, if◌then◌else◌, List, [], ◌∷◌, ◌++◌, length, drop, codes, Option, Some, None, Result, Ok, Err}
+use Rattle.std.specs.Prelude.{ℕ, ◌+◌, ◌-◌, ◌*◌, ◌≡◌, ◌==◌, ◌||◌, ◌&&◌, not, nat_le, Bool, true, false, if◌then◌else◌, List, [], ◌∷◌, ◌++◌, length, drop, Option, Some, None, Result, Ok, Err}
 use Rattle.std.specs.List.{before_first, position_or_len, list_all}
-use Rattle.std.specs.Str.{bytes_eq}
-use Rattle.xa_types.specs.Name.{is_name, is_digit}
+use Rattle.xa_types.specs.Name.{is_digit}
 use Rattle.xa_script.specs.declared.words.NoForm.{NoForm}
 use Rattle.xa_script.specs.declared.words.ReadError.{ReadError}
 use Rattle.xa_script.specs.declared.words.ReadError.TheVariants as errors
