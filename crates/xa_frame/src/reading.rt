@@ -102,7 +102,7 @@ fn body_of(alloc: Global, kind: FrameKind, octets: &[u8]) -> Result<Body, ReadEr
 
 /// The frame that stands first, and in `size` how many octets it has; `None` where more octets are to come. What is no
 /// frame stands at that place. Each wrapping of a frame copies it, so its size comes beside it, and it is answered as
-/// the reader answers it.
+/// the reader answers it; what is refused leaves first, since a frame is copied where the ways of a `match` join.
 #[tactic(auto, unfolding(crate::specs::Reading::front_at))]
 #[inline(never)]
 fn front_at(
@@ -125,17 +125,16 @@ fn front_at(
         return Ok(None);
     }
     let (octets, _) = rest.split_at(body_size);
-    match body_of(alloc, header.kind, octets) {
-        Ok(body) => {
-            *size = HEADER + body_size;
-            Ok(Some(Frame {
-                tag: header.tag,
-                body,
-            }))
-        }
-        Err(ReadError::NoFrame) => Err(NextRefused::BadFrame(place)),
-        Err(ReadError::NoMemory) => Err(NextRefused::NoMemory),
-    }
+    let body = match body_of(alloc, header.kind, octets) {
+        Ok(body) => body,
+        Err(ReadError::NoFrame) => return Err(NextRefused::BadFrame(place)),
+        Err(ReadError::NoMemory) => return Err(NextRefused::NoMemory),
+    };
+    *size = HEADER + body_size;
+    Ok(Some(Frame {
+        tag: header.tag,
+        body,
+    }))
 }
 
 /// The same of the octets after so many.

@@ -125,6 +125,16 @@ fn put_header(out: &mut Vec<u8>, kind: u8, size: u32, tag: u32) -> Result<(), No
     Ok(())
 }
 
+// Puts the octets of a frame whose body has that size at the end.
+fn put_frame(out: &mut Vec<u8>, frame: &Frame, size: usize) -> Result<(), NoMemory>
+    requires spelling { HasSpelling frame.now }
+    requires size { size ≡ length (body_octets frame.now.body) }
+    ensures { OnOk result (out.new.items ≡ out.old.items ++ spelled frame.now) }
+{
+    put_header(out, kind_octet(&frame.body), size as u32, frame.tag)?;
+    put_body(out, &frame.body)
+}
+
 /// Puts the octets of a frame at the end. Its data has at most 65,536 octets and its words 255, and the format has a
 /// place for all that it holds. Where memory runs out, nothing is said of what stands there.
 pub fn append(out: &mut Vec<u8>, frame: &Frame) -> Result<(), NoMemory>
@@ -133,8 +143,7 @@ pub fn append(out: &mut Vec<u8>, frame: &Frame) -> Result<(), NoMemory>
 {
     let size = body_len(&frame.body);
     out.reserve(HEADER + size)?;
-    put_header(out, kind_octet(&frame.body), size as u32, frame.tag)?;
-    put_body(out, &frame.body)
+    put_frame(out, frame, size)
 }
 
 /// The same of a RETURN, whose data stays with the caller.
@@ -177,7 +186,8 @@ pub fn encode(alloc: Global, frame: &Frame) -> Result<Octets, NoMemory>
     requires { HasSpelling frame.now }
     ensures { IfOk result (λ octets. octets ≡ spelled frame.now) }
 {
-    let mut out = Vec::new(alloc);
-    append(&mut out, frame)?;
+    let size = body_len(&frame.body);
+    let mut out = Vec::with_capacity(alloc, HEADER + size)?;
+    put_frame(&mut out, frame, size)?;
     Ok(Octets::from_vec(out))
 }

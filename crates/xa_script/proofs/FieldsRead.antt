@@ -10,7 +10,7 @@ use Rattle.std.proofs.lemmas.Cmp.{nat_list_cmp_total, eq_by_cmp_equiv}
 use Rattle.std.proofs.lemmas.Map.Text.{is_eq-slice_cmp}
 use denote.Ref.{Bor}
 use Rattle.xa_types.specs.Configured.{is_among}
-use Rattle.xa_script.specs.declared.layout.Field.{Field}
+use Rattle.xa_script.specs.declared.structures.Field.{Field}
 use Rattle.xa_script.specs.declared.words.ReadError.{ReadError}
 use Rattle.xa_script.specs.declared.words.ReadError.TheVariants as errors
 use Rattle.xa_script.specs.Words.{◌>>=◌, Fails}

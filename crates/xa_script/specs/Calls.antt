@@ -16,10 +16,8 @@ use Rattle.xa_types.specs.declared.call.Op.TheVariants as ops
 use Rattle.xa_script.specs.declared.flags.Flags.{Flags}
 use Rattle.xa_script.specs.declared.calls.Verb.{Verb}
 use Rattle.xa_script.specs.declared.calls.Verb.TheVariants as verbs
-use Rattle.xa_script.specs.declared.layout.Value.{Value}
-use Rattle.xa_script.specs.declared.layout.Value.TheVariants.{Whole, Below, Outside, Text}
 use Rattle.xa_script.specs.Words.{◌>>=◌, word_at, next_word, is_blank, number_of, no_more}
-use Rattle.xa_script.specs.Layout.{shape_named}
+use Rattle.xa_buffer.specs.Contents.{shape_of}
 use Rattle.xa_script.specs.Payload.{payload_at, signed_of}
 
 -- ---- flags
@@ -33,7 +31,7 @@ shape_kind shape = kinds.Struct shape.name
 -- the kind of a TPNOCHANGE buffer: `octet`, or `c:` and a shape, which the setup may not have
 unfoldable pub expect_of : Setup → List ℕ → Option (Option Kind)
 expect_of setup word = if bytes_eq word (codes "octet") then Some (Some kinds.Octet)
-    else (if bytes_eq (take 2 word) (codes "c:") then Some (option_map shape_kind (shape_named setup (drop 2 word))) else None)
+    else (if bytes_eq (take 2 word) (codes "c:") then Some (option_map shape_kind (shape_of setup.shapes (drop 2 word))) else None)
 
 -- one flag more, which doesn't stand already
 unfoldable pub flagged : CallFlags → List ℕ → Option CallFlags
@@ -165,11 +163,10 @@ disconnect_of octets = do
   no_more (Some (ops.Disconnect descriptor.0)) descriptor.1
 
 -- a number from -1,000 to 1,000
-abbrev pub amount_of : Value → Option ℤ
-amount_of (Whole n) = if nat_le n 1000 then Some (pos n) else None
-amount_of (Below n) = if nat_lt n 1000 then Some (negsuc n) else None
-amount_of Outside = None
-amount_of (Text text) = None
+abbrev pub amount_of : Option ℤ → Option ℤ
+amount_of (Some (pos n)) = if nat_le n 1000 then Some (pos n) else None
+amount_of (Some (negsuc n)) = if nat_lt n 1000 then Some (negsuc n) else None
+amount_of None = None
 
 abbrev pub is_absolute : List ℕ → Option Bool
 is_absolute word = if bytes_eq word (codes "abs") then Some true else (if bytes_eq word (codes "add") then Some false else None)

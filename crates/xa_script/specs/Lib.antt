@@ -1,5 +1,5 @@
 pub mod Words
-pub mod Layout
+pub mod Structures
 pub mod Payload
 pub mod Calls
 pub mod Served

@@ -1,35 +1,38 @@
 -- The data of a call, as a script writes it (this project's own). A setup may not take what is written: then there is none.
-use Rattle.std.specs.Prelude.{ℕ, zero, suc, ◌+◌, ◌==◌, Bool, if◌then◌else◌, List, [], ◌∷◌, ◌++◌, length, take, drop, map, replicate, codes, Option, Some, None, is_some}
+use Rattle.std.specs.Prelude.{ℕ, zero, suc, ◌+◌, ◌-◌, ◌==◌, ◌&&◌, not, nat_lt, nat_le, ℤ, pos, negsuc, Bool, if◌then◌else◌, List, [], ◌∷◌, ◌++◌, length, take, drop, map, replicate, codes, Option, Some, None, option_map, is_some}
 use Rattle.std.specs.List.{position}
 use Rattle.std.specs.Str.{bytes_eq}
-use Rattle.xa_types.specs.Name.{is_name}
 use Rattle.xa_types.specs.Configured.{is_among}
 use Rattle.xa_types.specs.declared.setup.Setup.{Setup}
 use Rattle.xa_types.specs.declared.data.Data.{Data}
 use Rattle.xa_types.specs.declared.data.Data.TheVariants.{Absent, Octet}
-use Rattle.xa_script.specs.declared.layout.Value.{Value}
-use Rattle.xa_script.specs.declared.layout.Value.TheVariants.{Whole, Below, Outside, Text}
-use Rattle.xa_script.specs.declared.layout.Field.{Field}
-use Rattle.xa_script.specs.Words.{◌>>=◌, skip_spaces, next_word, cut_word, word_at, is_quoted, quoted_at, decimal, is_decimal, number_of, hex_octet, hex_from}
-use Rattle.xa_script.specs.Layout.{struct_of}
-use Rattle.std.specs.Prelude.{◌-◌, nat_lt, ◌&&◌, not}
+use Rattle.xa_buffer.specs.declared.value.FieldValue.{FieldValue}
+use Rattle.xa_buffer.specs.declared.value.FieldValue.TheVariants.{Whole, Text}
+use Rattle.xa_script.specs.declared.structures.Field.{Field}
+use Rattle.xa_script.specs.Words.{◌>>=◌, skip_spaces, next_word, cut_word, word_at, name_of, is_quoted, quoted_at, decimal, is_decimal, number_of, hex_octet, hex_from}
+use Rattle.xa_script.specs.Structures.{struct_of}
 
-abbrev pub whole_of : ℕ → Value
-whole_of n = if nat_lt n 18446744073709551616 then Whole n else Outside
+-- the number, if 64 bits hold it with its sign
+abbrev pub whole_of : ℕ → Option ℤ
+whole_of n = if nat_lt n 9223372036854775808 then Some (pos n) else None
 
-abbrev pub below_of : ℕ → Value
-below_of n = if nat_lt n 18446744073709551616 then Below (n - 1) else Outside
+-- that number below 0, which isn't 0
+abbrev pub below_of : ℕ → Option ℤ
+below_of n = if nat_le n 9223372036854775808 then Some (negsuc (n - 1)) else None
 
 -- a number in decimal, with `-` where it is below 0
-unfoldable pub signed_of : List ℕ → Option Value
+unfoldable pub signed_of : List ℕ → Option (Option ℤ)
 signed_of [] = None
 signed_of (sign ∷ digits) = if sign == 45 then (if is_decimal digits && not (decimal digits == 0) then Some (below_of (decimal digits)) else None)
     else (if is_decimal (sign ∷ digits) then Some (whole_of (decimal (sign ∷ digits))) else None)
 
+abbrev pub text_value : List ℕ → Option FieldValue
+text_value text = Some (Text text)
+
 -- a text in quotes, or a number
-unfoldable pub value_at : List ℕ → Option (Value × List ℕ)
-value_at octets = if is_quoted octets then (quoted_at octets >>= λ text. Some (Text text.0, text.1))
-    else (signed_of (cut_word octets).0 >>= λ value. Some (value, (cut_word octets).1))
+unfoldable pub value_at : List ℕ → Option (Option FieldValue × List ℕ)
+value_at octets = if is_quoted octets then (quoted_at octets >>= λ text. Some (text_value text.0, text.1))
+    else (signed_of (cut_word octets).0 >>= λ number. Some (option_map Whole number, (cut_word octets).1))
 
 abbrev pub is_equals : ℕ → Bool
 is_equals octet = octet == 61
@@ -37,9 +40,6 @@ is_equals octet = octet == 61
 -- the next word has a `=`, so it is a field
 abbrev pub has_field : List ℕ → Bool
 has_field octets = is_some (position is_equals (next_word octets).0)
-
-abbrev pub name_of : List ℕ → Option (List ℕ)
-name_of octets = if is_name octets then Some octets else None
 
 -- FIELD=VALUE, where FIELD is a name
 unfoldable pub field_at : List ℕ → Option (Field × List ℕ)

@@ -1,7 +1,7 @@
 -- The parts of a line: words, quoted texts and numbers, each with the octets behind it (this project's own).
 use Rattle.std.specs.Prelude.{ℕ, ◌+◌, ◌-◌, ◌*◌, ◌≡◌, ◌==◌, ◌||◌, ◌&&◌, not, nat_le, Bool, true, false, if◌then◌else◌, List, [], ◌∷◌, ◌++◌, length, drop, Option, Some, None, Result, Ok, Err}
 use Rattle.std.specs.List.{before_first, position_or_len, list_all}
-use Rattle.xa_types.specs.Name.{is_digit}
+use Rattle.xa_types.specs.Name.{is_name, is_digit}
 use Rattle.xa_script.specs.declared.words.NoForm.{NoForm}
 use Rattle.xa_script.specs.declared.words.ReadError.{ReadError}
 use Rattle.xa_script.specs.declared.words.ReadError.TheVariants as errors
@@ -58,6 +58,9 @@ next_word octets = cut_word (skip_spaces octets)
 
 unfoldable pub word_at : List ℕ → Option (List ℕ × List ℕ)
 word_at octets = if length (next_word octets).0 == 0 then None else Some (next_word octets)
+
+abbrev pub name_of : List ℕ → Option (List ℕ)
+name_of octets = if is_name octets then Some octets else None
 
 -- nothing more stands in the line
 abbrev pub no_more : {A : Type 0} → A → List ℕ → Option A

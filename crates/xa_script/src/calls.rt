@@ -6,11 +6,11 @@ ghost use Rattle.xa_script.specs.Words.{Reads, Makes, no_more};
 ghost use Rattle.xa_script.specs.Calls.{service_at, descriptor_at, direction_of, ask_with, ask_of, connect_of, kind_with, get_of, get_any_of, passes_at, send_of, receive_of, cancel_of, disconnect_of, amount_of, is_absolute, priority_of, advertise_of, unadvertise_of, tick_of, verb_of, op_of};
 
 use crate::flags::{Flags, flags_of};
-use crate::layout::Value;
 use crate::payload::{payload_at, signed_of};
+use crate::structures::Shaped;
 use crate::words::{NoForm, ReadError, is_blank, next_word, number_of, word_at};
 use std::alloc::Global;
-use xa_types::{Ask, Data, Direction, Kind, Octets, Op, Setup};
+use xa_types::{Ask, Data, Direction, Kind, Octets, Op};
 
 /// The kinds of calls.
 #[derive(Clone, Copy)]
@@ -157,7 +157,7 @@ fn ask_with(
 #[tactic(auto, unfolding(crate::specs::Calls::ask_of))]
 fn ask_of(
     alloc: Global,
-    setup: &Setup,
+    setup: &Shaped,
     buffered: bool,
     octets: &[u8],
 ) -> Result<Option<Ask>, ReadError>
@@ -171,7 +171,7 @@ fn ask_of(
 
 // SERVICE DATA DIRECTION FLAGS.
 #[tactic(auto, unfolding(crate::specs::Calls::connect_of))]
-fn connect_of(alloc: Global, setup: &Setup, octets: &[u8]) -> Result<Option<Ask>, ReadError>
+fn connect_of(alloc: Global, setup: &Shaped, octets: &[u8]) -> Result<Option<Ask>, ReadError>
     ensures { Makes (λ x. x) result (connect_of setup.now octets.now) }
 {
     let (service, rest) = service_at(octets)?;
@@ -184,7 +184,7 @@ fn connect_of(alloc: Global, setup: &Setup, octets: &[u8]) -> Result<Option<Ask>
 
 // CD FLAGS.
 #[tactic(auto, unfolding(crate::specs::Calls::get_of))]
-fn get_of(setup: &Setup, octets: &[u8]) -> Result<Option<Op>, NoForm>
+fn get_of(setup: &Shaped, octets: &[u8]) -> Result<Option<Op>, NoForm>
     ensures { Reads (λ x. x) result (get_of setup.now octets.now) }
 {
     let (descriptor, rest) = descriptor_at(octets)?;
@@ -197,7 +197,7 @@ fn get_of(setup: &Setup, octets: &[u8]) -> Result<Option<Op>, NoForm>
 
 // FLAGS.
 #[tactic(auto, unfolding(crate::specs::Calls::get_any_of))]
-fn get_any_of(setup: &Setup, octets: &[u8]) -> Result<Option<Op>, NoForm>
+fn get_any_of(setup: &Shaped, octets: &[u8]) -> Result<Option<Op>, NoForm>
     ensures { Reads (λ x. x) result (get_any_of setup.now octets.now) }
 {
     let flags = flags_of(setup, true, octets)?;
@@ -222,7 +222,7 @@ fn passes_at(octets: &[u8]) -> (bool, &[u8])
 
 // CD DATA FLAGS, or CD DATA recv FLAGS.
 #[tactic(auto, unfolding(crate::specs::Calls::send_of))]
-fn send_of(alloc: Global, setup: &Setup, octets: &[u8]) -> Result<Option<Op>, ReadError>
+fn send_of(alloc: Global, setup: &Shaped, octets: &[u8]) -> Result<Option<Op>, ReadError>
     ensures { Makes (λ x. x) result (send_of setup.now octets.now) }
 {
     let (descriptor, rest) = descriptor_at(octets)?;
@@ -237,7 +237,7 @@ fn send_of(alloc: Global, setup: &Setup, octets: &[u8]) -> Result<Option<Op>, Re
 
 // CD FLAGS.
 #[tactic(auto, unfolding(crate::specs::Calls::receive_of))]
-fn receive_of(setup: &Setup, octets: &[u8]) -> Result<Option<Op>, NoForm>
+fn receive_of(setup: &Shaped, octets: &[u8]) -> Result<Option<Op>, NoForm>
     ensures { Reads (λ x. x) result (receive_of setup.now octets.now) }
 {
     let (descriptor, rest) = descriptor_at(octets)?;
@@ -264,12 +264,11 @@ fn disconnect_of(octets: &[u8]) -> Result<Option<Op>, NoForm>
 }
 
 // A number from -1,000 to 1,000.
-fn amount_of(value: Value) -> Result<i32, NoForm>
-    ensures { Reads (λ x. x) result (amount_of value) }
+fn amount_of(number: Option<i64>) -> Result<i32, NoForm>
+    ensures { Reads (λ x. x) result (amount_of number) }
 {
-    match value {
-        Value::Whole(number) if number <= 1_000 => Ok(number as i32),
-        Value::Below(number) if number < 1_000 => Ok(-1 - number as i32),
+    match number {
+        Some(number) if -1_000 <= number && number <= 1_000 => Ok(number as i32),
         _ => Err(NoForm),
     }
 }
@@ -292,8 +291,8 @@ fn priority_of(octets: &[u8]) -> Result<Option<Op>, NoForm>
     let (word, rest) = word_at(octets)?;
     let absolute = is_absolute(word)?;
     let (number, rest) = word_at(rest)?;
-    let value = signed_of(number)?;
-    let amount = amount_of(value)?;
+    let number = signed_of(number)?;
+    let amount = amount_of(number)?;
     no_more(Op::Priority(absolute, amount), rest)
 }
 
@@ -332,7 +331,7 @@ fn tick_of(octets: &[u8]) -> Result<Option<Op>, NoForm>
 /// The call that the rest of a line of that kind is, if the setup takes each part.
 pub fn op_of(
     alloc: Global,
-    setup: &Setup,
+    setup: &Shaped,
     verb: Verb,
     octets: &[u8],
 ) -> Result<Option<Op>, ReadError>

@@ -9,11 +9,12 @@ ghost use Rattle.xa_script.specs.Draft.{kept};
 
 use crate::calls::{Verb, op_of, verb_of};
 use crate::script::{Client, Script};
+use crate::structures::Shaped;
 use crate::words::{NoForm, ReadError, all_printed, is_blank, is_skipped, next_word, word_at};
 use std::alloc::Global;
 use std::marker::Model;
 use std::mem;
-use xa_types::{Name, NoMemory, Op, Sequence, Setup};
+use xa_types::{Name, NoMemory, Op, Sequence};
 
 /// What is wrong with a line.
 #[derive(Clone, Copy)]
@@ -185,7 +186,7 @@ impl Draft {
     fn add(
         &mut self,
         alloc: Global,
-        setup: &Setup,
+        setup: &Shaped,
         verb: Verb,
         octets: &[u8],
     ) -> Result<Option<Cause>, NoMemory>
@@ -212,7 +213,7 @@ impl Draft {
     pub fn take_line(
         &mut self,
         alloc: Global,
-        setup: &Setup,
+        setup: &Shaped,
         most: u16,
         line: &[u8],
     ) -> Result<Option<Cause>, NoMemory>

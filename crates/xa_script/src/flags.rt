@@ -3,9 +3,9 @@ ghost use Rattle.std.specs.Prelude.{◌≡◌, Some, None, length, if◌then◌e
 ghost use Rattle.xa_script.specs.Words.{Reads};
 ghost use Rattle.xa_script.specs.Calls.{no_flags, expect_of, flagged, nochange_at, flag_by, flags_from, flags_of};
 
-use crate::layout::shape_named;
+use crate::structures::Shaped;
 use crate::words::{NoForm, is_blank, word_at};
-use xa_types::{CallFlags, Kind, Setup};
+use xa_types::{CallFlags, Kind};
 
 /// The flags of a call, and the kind of its TPNOCHANGE buffer where it has one; a buffer of a shape that the setup
 /// hasn't got is of no kind.
@@ -23,14 +23,14 @@ fn no_flags() -> CallFlags
 
 // A kind is `octet`, or `c:` and the name of a shape.
 #[tactic(auto, unfolding(crate::specs::Calls::expect_of))]
-fn expect_of(setup: &Setup, word: &[u8]) -> Result<Option<Kind>, NoForm>
+fn expect_of(setup: &Shaped, word: &[u8]) -> Result<Option<Kind>, NoForm>
     ensures { Reads (λ x. x) result (expect_of setup.now word.now) }
 {
     if word == b"octet".as_slice() {
         return Ok(Some(Kind::Octet));
     }
     match word {
-        [b'c', b':', name @ ..] => match shape_named(setup, name) {
+        [b'c', b':', name @ ..] => match setup.find(name) {
             Some(shape) => Ok(Some(Kind::Struct(shape.name))),
             None => Ok(None),
         },
@@ -98,7 +98,7 @@ fn flagged(flags: CallFlags, word: &[u8]) -> Result<CallFlags, NoForm>
 // Takes the kind behind `nochange`, where such a call may have it and it doesn't stand already.
 #[tactic(auto, unfolding(crate::specs::Calls::nochange_at))]
 fn nochange_at<'a>(
-    setup: &Setup,
+    setup: &Shaped,
     buffered: bool,
     flags: &mut Flags,
     octets: &'a [u8],
@@ -116,7 +116,7 @@ fn nochange_at<'a>(
 // Takes one flag more by that word, and answers what stands behind it.
 #[tactic(auto, unfolding(crate::specs::Calls::flag_by))]
 fn flag_by<'a>(
-    setup: &Setup,
+    setup: &Shaped,
     buffered: bool,
     flags: &mut Flags,
     word: &[u8],
@@ -134,7 +134,7 @@ fn flag_by<'a>(
 /// The flags that the rest of a line is, of which there are no more than octets; `nochange` is among them for a call
 /// with a buffer alone.
 #[tactic(auto, unfolding(crate::specs::Calls::flags_of))]
-pub fn flags_of(setup: &Setup, buffered: bool, octets: &[u8]) -> Result<Flags, NoForm>
+pub fn flags_of(setup: &Shaped, buffered: bool, octets: &[u8]) -> Result<Flags, NoForm>
     ensures { Reads (λ x. x) result (flags_of setup.now buffered octets.now) }
 {
     let mut flags = Flags {

@@ -4,9 +4,9 @@
 mod calls;
 mod draft;
 mod flags;
-mod layout;
 mod payload;
 mod script;
+mod structures;
 mod words;
 
 pub use script::{Client, Script, ScriptRefused, one_reading, read, read_upto};

@@ -2,46 +2,46 @@
 ghost use Rattle.std.specs.Prelude.{◌≡◌, ◌==◌, not, if◌then◌else◌, [], Some, None, length, replicate, option_map, IfOk};
 ghost use Rattle.std.specs.List.{position};
 ghost use Rattle.xa_script.specs.Words.{Reads, Makes, decimal};
-ghost use Rattle.xa_script.specs.Payload.{signed_of, whole_of, below_of, value_at, is_equals, has_field, name_of, field_at, fields_from, struct_at, text_at, octets_at, one_octet, fill_at, form_at, payload_at};
-ghost use Rattle.xa_script.specs.Layout.{struct_of};
+ghost use Rattle.xa_script.specs.Payload.{signed_of, whole_of, below_of, value_at, is_equals, has_field, field_at, fields_from, struct_at, text_at, octets_at, one_octet, fill_at, form_at, payload_at};
+ghost use Rattle.xa_script.specs.Structures.{struct_of};
 
-use crate::layout::{Field, Value, struct_of};
+use crate::structures::{Field, Shaped};
 use crate::words::{
-    NoForm, ReadError, cut_word, decimal, hex_octet, hex_octets, is_decimal, is_quoted, next_word,
-    number_of, quoted_at, skip_spaces, word_at,
+    NoForm, ReadError, cut_word, decimal, hex_octet, hex_octets, is_decimal, is_quoted, name_of,
+    next_word, number_of, quoted_at, skip_spaces, word_at,
 };
 use memchr::memchr;
 use std::alloc::Global;
 use std::collections::BTreeSet;
-use xa_types::{Data, Name, Octets, Setup};
+use xa_buffer::FieldValue;
+use xa_types::{Data, Octets};
 
 /// Data and the octets behind it; there is none where the setup doesn't take what is written.
 pub type Payload<'a> = (Option<Data>, &'a [u8]);
 
-fn whole_of(digits: &[u8]) -> Value
+fn whole_of(digits: &[u8]) -> Option<i64>
     ensures { result ≡ whole_of (decimal digits.now) }
 {
     match decimal(digits) {
-        Some(number) => Value::Whole(number),
-        None => Value::Outside,
+        Some(number) if number < 1 << 63 => Some(number as i64),
+        _ => None,
     }
 }
 
-// The number -1 - n is held by n.
-fn below_of(digits: &[u8]) -> Result<Value, NoForm>
-    ensures { Reads (λ value. value) result (if not (decimal digits.now == 0) then Some (below_of (decimal digits.now)) else None) }
+fn below_of(digits: &[u8]) -> Result<Option<i64>, NoForm>
+    ensures { Reads (λ number. number) result (if not (decimal digits.now == 0) then Some (below_of (decimal digits.now)) else None) }
 {
     match decimal(digits) {
         Some(0) => Err(NoForm),
-        Some(number) => Ok(Value::Below(number - 1)),
-        None => Ok(Value::Outside),
+        Some(number) if number <= 1 << 63 => Ok(Some(-1 - (number - 1) as i64)),
+        _ => Ok(None),
     }
 }
 
-// A number in decimal, with `-` where it is below 0.
+// A number in decimal, with `-` where it is below 0, if 64 bits hold it with its sign.
 #[tactic(auto, unfolding(crate::specs::Payload::signed_of))]
-pub fn signed_of(word: &[u8]) -> Result<Value, NoForm>
-    ensures { Reads (λ value. value) result (signed_of word.now) }
+pub fn signed_of(word: &[u8]) -> Result<Option<i64>, NoForm>
+    ensures { Reads (λ number. number) result (signed_of word.now) }
 {
     match word {
         [b'-', digits @ ..] if is_decimal(digits) => below_of(digits),
@@ -51,18 +51,18 @@ pub fn signed_of(word: &[u8]) -> Result<Value, NoForm>
     }
 }
 
-// A text in quotes, or a number.
+// A text in quotes, or a number, if 64 bits hold it with its sign.
 #[tactic(auto, unfolding(crate::specs::Payload::value_at))]
-fn value_at(alloc: Global, octets: &[u8]) -> Result<(Value, &[u8]), ReadError>
+fn value_at(alloc: Global, octets: &[u8]) -> Result<(Option<FieldValue>, &[u8]), ReadError>
     ensures { Makes (λ x. (x.0, x.1.now)) result (value_at octets.now) }
 {
     if is_quoted(octets) {
         let (text, rest) = quoted_at(alloc, octets)?;
-        return Ok((Value::Text(text), rest));
+        return Ok((Some(FieldValue::Text(text)), rest));
     }
     let (word, rest) = cut_word(octets);
-    let value = signed_of(word)?;
-    Ok((value, rest))
+    let number = signed_of(word)?;
+    Ok((number.map(FieldValue::Whole), rest))
 }
 
 fn place_of_equals(octets: &[u8]) -> Option<usize>
@@ -76,15 +76,6 @@ fn has_field(octets: &[u8]) -> bool
 {
     let (word, _) = next_word(octets);
     place_of_equals(word).is_some()
-}
-
-fn name_of(octets: &[u8]) -> Result<Name, NoForm>
-    ensures { Reads (λ name. name) result (name_of octets.now) }
-{
-    match Name::read(octets) {
-        Ok(name) => Ok(name),
-        Err(_) => Err(NoForm),
-    }
 }
 
 // FIELD=VALUE, and the octets of FIELD.
@@ -127,12 +118,12 @@ fn fields_at(alloc: Global, octets: &[u8]) -> Result<(Vec<Field>, &[u8]), ReadEr
 
 // SUBTYPE FIELD=VALUE ..
 #[tactic(auto, unfolding(crate::specs::Payload::struct_at))]
-fn struct_at<'a>(alloc: Global, setup: &Setup, octets: &'a [u8]) -> Result<Payload<'a>, ReadError>
+fn struct_at<'a>(alloc: Global, setup: &Shaped, octets: &'a [u8]) -> Result<Payload<'a>, ReadError>
     ensures { Makes (λ x. (x.0, x.1.now)) result (struct_at setup.now octets.now) }
 {
     let (subtype, rest) = word_at(octets)?;
     let (given, rest) = fields_at(alloc, rest)?;
-    match struct_of(alloc, setup, subtype, given.as_slice()) {
+    match setup.struct_of(alloc, subtype, given.as_slice()) {
         Ok(data) => Ok((Some(data), rest)),
         Err(ReadError::NoForm) => Ok((None, rest)),
         Err(ReadError::NoMemory) => Err(ReadError::NoMemory),
@@ -190,7 +181,7 @@ fn fill_at(alloc: Global, octets: &[u8]) -> Result<Payload<'_>, ReadError>
 #[tactic(auto, unfolding(crate::specs::Payload::payload_at))]
 pub fn payload_at<'a>(
     alloc: Global,
-    setup: &Setup,
+    setup: &Shaped,
     octets: &'a [u8],
 ) -> Result<Payload<'a>, ReadError>
     ensures { Makes (λ x. (x.0, x.1.now)) result (payload_at setup.now octets.now) }

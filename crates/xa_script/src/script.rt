@@ -8,6 +8,7 @@ ghost use Rattle.xa_script.specs.Script.{read_all};
 ghost use Rattle.xa_script.specs.Draft.{is_line_end};
 
 use crate::draft::Draft;
+use crate::structures::Shaped;
 use memchr::memchr;
 use std::alloc::Global;
 use xa_types::{Name, NoMemory, Op, Sequence, Setup};
@@ -78,7 +79,7 @@ fn next_line(octets: &[u8]) -> Option<(&[u8], &[u8])>
 fn read_lines(
     alloc: Global,
     octets: &[u8],
-    setup: &Setup,
+    setup: &Shaped,
     most: u16,
 ) -> Result<Draft, ScriptRefused>
     requires { length octets.now < 2 ^ 32 }
@@ -118,7 +119,8 @@ pub fn read_upto(
     ensures found { IfOk result (IsScript setup.now clients octets.now) }
     ensures refused { IfErr result (NamesFirstFault setup.now clients octets.now) }
 {
-    let draft = read_lines(alloc, octets, setup, clients)?;
+    let setup = Shaped::new(alloc, setup)?;
+    let draft = read_lines(alloc, octets, &setup, clients)?;
     Ok(draft.finish()?)
 }
 

@@ -4,11 +4,11 @@ ghost use Rattle.std.specs.List.{list_all, position, position_or_len};
 ghost use Rattle.xa_types.specs.Name.{is_digit, is_name};
 ghost use Rattle.xa_script.specs.declared.words.NoForm.{NoForm};
 ghost use Rattle.xa_script.specs.declared.words.ReadError.TheVariants as errors;
-ghost use Rattle.xa_script.specs.Words.{Reads, Makes, is_printed, is_space, skip_spaces, is_blank, is_end, is_skipped, cut_word, next_word, word_at, next_octet, is_marked, put, text_in_front, quoted_at, is_quoted, decimal, is_decimal, number_of, hex_digit, hex_octet, hex_from};
+ghost use Rattle.xa_script.specs.Words.{Reads, Makes, is_printed, is_space, skip_spaces, is_blank, is_end, is_skipped, cut_word, next_word, word_at, name_of, next_octet, is_marked, put, text_in_front, quoted_at, is_quoted, decimal, is_decimal, number_of, hex_digit, hex_octet, hex_from};
 
 use memchr::{memchr, memchr2};
 use std::alloc::{AllocError, AllocFailed, Global};
-use xa_types::{NoMemory, Octets};
+use xa_types::{Name, NoMemory, Octets};
 
 /// The octets are not of that form.
 #[derive(Clone, Copy)]
@@ -150,6 +150,16 @@ pub fn word_at(octets: &[u8]) -> Result<(&[u8], &[u8]), NoForm>
         return Err(NoForm);
     }
     Ok((word, rest))
+}
+
+/// The name that these octets are.
+pub fn name_of(octets: &[u8]) -> Result<Name, NoForm>
+    ensures { Reads (λ name. name) result (name_of octets.now) }
+{
+    match Name::read(octets) {
+        Ok(name) => Ok(name),
+        Err(_) => Err(NoForm),
+    }
 }
 
 // Whether nothing follows, or a space.

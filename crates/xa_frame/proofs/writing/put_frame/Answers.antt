@@ -1,7 +1,7 @@
 use Rattle.std.proofs.Common.{rules, ◌≡◌, ◌++◌, ◌∙◌, ap, List, ℕ, length, append_assoc, OnOk}
 use Rattle.std.proofs.lemmas.Result.{on_ok_weaker}
 use Rattle.xa_frame.specs.Spelling.{kind_octet, body_octets, header}
-use Rattle.xa_frame.proofs.writing.append.Goals as goal
+use Rattle.xa_frame.proofs.writing.put_frame.Goals as goal
 
 pub returns : goal.returns
 returns c =
