@@ -26,7 +26,7 @@ row_with-configured : (setup : Setup) (service : List ℕ) (queue : ℕ) (routin
 row_with-configured setup service queue routine None is = ap (λ c. row_with c service queue routine) is
 row_with-configured setup service queue routine (Some configured) is = ap (λ c. row_with c service queue routine) is
 
-rows-configured : (setup : Setup) (made : List Change) → All (IsAsConfigured setup) (rows setup made)
+pub rows-configured : (setup : Setup) (made : List Change) → All (IsAsConfigured setup) (rows setup made)
 rows-configured setup [] = All-nil (IsAsConfigured setup)
 rows-configured setup (Put service queue routine ∷ made) =
     All-append (IsAsConfigured setup) _ _ (All-filter _ (IsAsConfigured setup) (rows setup made) (rows-configured setup made)) (All-cons (IsAsConfigured setup) _ [] (row_with-configured setup service queue routine (service_named setup service) refl) (All-nil (IsAsConfigured setup)))

@@ -1,8 +1,7 @@
 -- What a pass knows of the board once it has left.
-use Rattle.std.proofs.Common.{◌≡◌, ◌<◌, ◌≤◌, ℕ, zero, suc, arith, inl, inr, List, [], ◌∷◌, ◌++◌, append_assoc, Result, Ok, Err, drop, length, refl, sym, ap, ◌∙◌, subst}
+use Rattle.std.proofs.Common.{◌≡◌, ◌<◌, ◌≤◌, ℕ, zero, suc, arith, inl, inr, List, [], ◌∷◌, ◌++◌, append_assoc, Result, Ok, Err, length, refl, sym, ap, ◌∙◌, subst}
 use Rattle.std.specs.Prelude.{◌⊎◌}
 use Rattle.std.specs.List.{All}
-use Rattle.std.proofs.Math.Seq.{drop-append_seam}
 use Rattle.std.proofs.lemmas.List.Elements.{All-nil, All-cons, All-map, All-weaker}
 use Rattle.xa_types.specs.declared.ids.CallerId.{CallerId}
 use Rattle.xa_types.specs.declared.ids.QueueId.{QueueId}
@@ -26,6 +25,7 @@ use Rattle.xa_held.specs.Joins.{changes_at}
 use Rattle.xa_held.proofs.Climbing.{below, topped}
 use Rattle.xa_held.specs.BoardSteps.{AdvertisedAs, WithdrewAs, ClearedAs}
 use Rattle.xa_held.specs.BoardVisits.{SeesBoard, BoardVisits, HasStampIn, ReachesBoard}
+use Rattle.xa_held.proofs.Pages.{grown_by, same_maker, own_more}
 
 nothing : (entries : List Stamped) → length entries ≡ 0 → entries ≡ []
 nothing [] none = refl
@@ -74,24 +74,23 @@ setup_is p board begins sound s sees = ap (setup_in s) (sym sound.opened.1 ∙ b
 
 -- the pass p entered, was q there, found `old`, and left `new`
 module _ (p q : Page BoardNote) (old new : Held) (found : q ≡ page_seeing p old.notes) (knows : Knows maker_of p old.notes) where
-  seen_more : (more : List BoardNote) → new.notes ≡ old.notes ++ more → new.notes ≡ q.seen ++ more
-  seen_more more grew = grew ∙ ap (λ (l : List BoardNote). l ++ more) (sym (ap (λ (z : Page BoardNote). z.seen) found))
-
   grown : (more : List BoardNote) (How : Held → Held → Type 0) → All (λ (z : BoardNote). maker_of z ≡ p.maker) more → Turns old new more How → GrewBy maker_of q.maker q.seen new.notes
-  grown more How ours t = (more, seen_more more t.notes, subst (λ (n : ℕ). All (λ (z : BoardNote). maker_of z ≡ n) more) (sym (ap (λ (z : Page BoardNote). z.maker) found)) ours)
+  grown more How ours t = grown_by p q old.notes new.notes more found t.notes maker_of ours
 
-  module _ (q' : Page BoardNote) (after : q' ≡ page_leaving q new.notes) (sound : IsSoundBoard new) (reads : ReadsAsNoted new.board) where
+  module _ (q' : Page BoardNote) (after : q' ≡ page_leaving q new.notes) (was : IsSoundBoard old) (read : ReadsAsNoted old.board) (sound : IsSoundBoard new) (reads : ReadsAsNoted new.board) where
     pub visits : (more : List BoardNote) (How : Held → Held → Type 0) → Turns old new more How → BoardVisits p q' more How
     visits more How t = record {
       old = old;
       new = new;
       knew = knows;
+      was = was;
+      read = read;
       setup = λ s sees. sym t.setup ∙ setup_is p new (knows.1.0 ++ more, t.notes ∙ ap (λ (l : List BoardNote). l ++ more) knows.1.1 ∙ append_assoc p.seen knows.1.0 more) sound s sees;
       same = t.setup;
       first = t.first;
       grew = t.notes;
-      maker = ap (λ (z : Page BoardNote). z.maker) after ∙ ap (λ (z : Page BoardNote). z.maker) found;
-      own = ap (λ (z : Page BoardNote). z.own) after ∙ (ap (λ (l : List BoardNote). q.own ++ drop (length q.seen) l) (seen_more more t.notes) ∙ (ap (λ (l : List BoardNote). q.own ++ l) (drop-append_seam q.seen more) ∙ ap (λ (l : List BoardNote). l ++ more) (ap (λ (z : Page BoardNote). z.own) found)));
+      maker = same_maker p q old.notes new.notes more found t.notes q' after;
+      own = own_more p q old.notes new.notes more found t.notes q' after;
       saw = ap (λ (z : Page BoardNote). z.seen) after;
       sound = sound;
       reads = reads;
@@ -109,7 +108,7 @@ module _ (p q : Page BoardNote) (old new : Held) (found : q ≡ page_seeing p ol
 
     pub clear_visits : (seen : Stamp) (maker : CallerId) (queue : QueueId) (r : Result Clearing BoardRefused) → ClearedAs (Turns old new) seen maker queue r → ClearedAs (BoardVisits p q') seen maker queue r
     clear_visits seen maker queue (Ok (Withdrew noted)) t = visits _ _ t
-    clear_visits seen maker queue (Ok (Clear stamp)) t = visits _ _ t
+    clear_visits seen maker queue (Ok (Clear look)) t = visits _ _ t
     clear_visits seen maker queue (Err why) t = visits _ _ t
 
   -- whose entries these are
@@ -130,5 +129,5 @@ module _ (p q : Page BoardNote) (old new : Held) (found : q ≡ page_seeing p ol
 
     pub clear_grown : (queue : QueueId) (r : Result Clearing BoardRefused) → ClearedAs (Turns old new) seen maker queue r → GrewBy maker_of q.maker q.seen new.notes
     clear_grown queue (Ok (Withdrew noted)) t = grown _ _ (mine _ refl) t
-    clear_grown queue (Ok (Clear stamp)) t = grown _ _ (mine _ refl) t
+    clear_grown queue (Ok (Clear look)) t = grown _ _ (mine _ (ap (λ (m : CallerId). m.0) t.how.0.its)) t
     clear_grown queue (Err why) t = grown _ _ (All-nil Its) t

@@ -1,5 +1,5 @@
 -- A board under a lock stays as it is kept.
-use Rattle.std.proofs.Common.{◌≡◌, ℕ, ◌+◌, ◌<◌, ◌≤◌, ◌^◌, max, List, [], ◌∷◌, ◌++◌, map, refl, sym, ap, ◌∙◌, subst, arith, append-nil, None, inl, inr, reverse}
+use Rattle.std.proofs.Common.{◌≡◌, ℕ, ◌+◌, ◌<◌, ◌≤◌, ◌^◌, max, List, [], ◌∷◌, ◌++◌, map, refl, sym, ap, ◌∙◌, subst, arith, append-nil, Some, None, inl, inr, reverse}
 use Rattle.std.specs.Prelude.{◌⊎◌, option_map, slice_get}
 use Rattle.std.specs.declared.snapshot.Snapshot.{Snapshot}
 use Rattle.std.specs.List.{All, Contains}
@@ -20,9 +20,10 @@ use Rattle.xa_lock.specs.declared.makers.Made.{Made}
 use Rattle.xa_lock.specs.Makers.{noted_in}
 use Rattle.xa_lock.specs.Pages.{StartsWith}
 use Rattle.xa_board.specs.Board.{Standing, ReadsAsNoted, stamp_of, put_of}
-use Rattle.xa_board.specs.Changes.{larger}
+use Rattle.xa_board.specs.Changes.{larger, rows_on}
 use Rattle.xa_board.proofs.Noted.{new-noted}
 use Rattle.xa_held.specs.declared.kept_board.Mark.{Mark}
+use Rattle.xa_held.specs.declared.kept_board.Look.{Look}
 use Rattle.xa_held.specs.declared.kept_board.BoardNote.{BoardNote}
 use Rattle.xa_held.specs.declared.kept_board.BoardNote.TheVariants.{Opened, By, Looked}
 use Rattle.xa_held.specs.Board.{Held, IsPlaced, IsSoundBoard, Climbs, top, made_of, made_in, raised}
@@ -34,7 +35,7 @@ Climbs-append : (least : ℕ) (notes more : List BoardNote) → Climbs least not
 Climbs-append least [] more climbs on = on
 Climbs-append least (Opened s ∷ rest) more climbs on = Climbs-append least rest more climbs on
 Climbs-append least (By m ∷ rest) more climbs on = (climbs.0, Climbs-append m.noted.stamp.0 rest more climbs.1 on)
-Climbs-append least (Looked l ∷ rest) more climbs on = (climbs.0, Climbs-append l.stamp.0 rest more climbs.1 on)
+Climbs-append least (Looked l ∷ rest) more climbs on = (climbs.0, Climbs-append l.stamp.0 rest more climbs.1 on, climbs.2)
 
 Climbs-behind : (least : ℕ) (notes more : List BoardNote) → Climbs least (notes ++ more) → Climbs (top least notes) more
 Climbs-behind least [] more climbs = climbs
@@ -79,10 +80,10 @@ topped least (By m ∷ rest) last is = inr (elim (topped m.noted.stamp.0 rest la
 topped least (Looked l ∷ rest) last is = inr (elim (topped l.stamp.0 rest last is) [ inl none ↦ inr (l, first_in (Looked l) rest, sym none.0 ∙ is) | inr some ↦ further (Looked l) rest last some ])
 
 -- behind a look all changes have greater stamps
-pub behind-look : (least : ℕ) (front rest : List BoardNote) (maker : CallerId) (stamp : Stamp) → Climbs least (front ++ Looked (record { maker = maker; stamp = stamp }) ∷ rest) → All (λ (m : Made). stamp.0 < m.noted.stamp.0) (made_in rest)
-behind-look least front rest maker stamp climbs =
-    let on = Climbs-behind least front (Looked (record { maker = maker; stamp = stamp }) ∷ rest) climbs in
-    above stamp.0 stamp.0 rest (omega arith) on.1
+pub behind-look : (least : ℕ) (front rest : List BoardNote) (look : Look) → Climbs least (front ++ Looked look ∷ rest) → All (λ (m : Made). look.stamp.0 < m.noted.stamp.0) (made_in rest)
+behind-look least front rest look climbs =
+    let on = Climbs-behind least front (Looked look ∷ rest) climbs in
+    above look.stamp.0 look.stamp.0 rest (omega arith) on.1
 
 -- no first one is there
 pub no_row : (rows : List Row) → None ≡ option_map (λ (row : Row). row.service) (slice_get rows 0) → rows ≡ []
@@ -111,6 +112,21 @@ sound_new setup board first items none entries is bound reads =
 
 made_in-append : (notes more : List BoardNote) → made_in (notes ++ more) ≡ made_in notes ++ made_in more
 made_in-append notes more = flat_map-append made_of notes more
+
+bare_rows : (rows : List Row) → map put_of rows ≡ [] → rows ≡ []
+bare_rows [] none = refl
+bare_rows (row ∷ rows) none = absurd (cc none)
+
+-- where a row stands the last stamp is that of a change or a look
+pub stamped : (queue : ℕ) (held : Held) → IsSoundBoard held → ReadsAsNoted held.board → (row : Row) → slice_get (rows_on queue held.board.rows) 0 ≡ Some row → HasStampIn held.notes held.last
+stamped queue held sound reads row first = elim (topped held.board.first.0 held.notes held.last sound.latest) [
+  | inl bare ↦
+      let changed : List Stamped → List Event = λ l. reverse (map (λ (x : Stamped). x.event) l) in
+      let none : held.board.entries ≡ [] = sym sound.noted ∙ ap noted_in bare.1 in
+      let rows : held.board.rows ≡ [] = bare_rows held.board.rows (reads.standing held.setup ∙ ap (λ (l : List Stamped). map put_of (rows_of_version held.setup (changed l) (published (changed l)))) none ∙ sym ((new-noted held.board.first).standing held.setup)) in
+      absurd (cc (first, ap (λ (l : List Row). slice_get (rows_on queue l) 0) rows))
+  | inr stands ↦ stands
+]
 
 -- what is kept is noted behind the others
 pub kept_behind : (setup : Setup) (old new : List (Mark × Snapshot Event)) (x : Mark × Snapshot Event) → new ≡ old ++ x ∷ [] → Opened setup ∷ map note_of new ≡ (Opened setup ∷ map note_of old) ++ note_of x ∷ []
@@ -145,9 +161,11 @@ module _ (seen : Stamp) (old new : Held) (sound : IsSoundBoard old) (same : new.
       }
 
   -- no row stands
-  pub sound_look : (maker : CallerId) (stamp : Stamp) → stamp ≡ raised seen old → seen.0 ≤ 2 ^ 63 → new.board ≡ old.board → new.last ≡ stamp → new.notes ≡ old.notes ++ Looked (record { maker = maker; stamp = stamp }) ∷ [] → IsSoundBoard new
-  sound_look maker stamp is low board last' notes =
-      let look : List BoardNote = Looked (record { maker = maker; stamp = stamp }) ∷ [] in
+  pub sound_look : (its : Look) → its.stamp ≡ raised seen old → its.before ≡ old.last → seen.0 ≤ 2 ^ 63 → new.board ≡ old.board → new.last ≡ its.stamp → new.notes ≡ old.notes ++ Looked its ∷ [] → IsSoundBoard new
+  sound_look its is before low board last' notes =
+      let look : List BoardNote = Looked its ∷ [] in
+      let stamp : Stamp = its.stamp in
+      let at : its.before.0 ≡ old.last.0 = ap (λ (s : Stamp). s.0) before in
       let first : new.board.first ≡ old.board.first = ap (λ (s : Standing). s.first) board in
       let high : stamp.0 ≡ max seen.0 old.last.0 = ap (λ (s : Stamp). s.0) is in
       let last : new.last.0 ≡ stamp.0 = ap (λ (s : Stamp). s.0) last' in
@@ -156,7 +174,7 @@ module _ (seen : Stamp) (old new : Held) (sound : IsSoundBoard old) (same : new.
         placed = subst (λ (s : Setup). All (IsPlaced s) new.board.rows) (sym same) (subst (All (IsPlaced old.setup)) (sym (ap (λ (s : Standing). s.rows) board)) sound.placed);
         noted = ap (λ l. noted_in (made_in l)) notes ∙ ap noted_in (made_in-append old.notes look ∙ append-nil (made_in old.notes)) ∙ sound.noted ∙ sym (ap (λ (s : Standing). s.entries) board);
         climbs = subst (λ (f : Stamp). Climbs f.0 new.notes) (sym first) (subst (Climbs old.board.first.0) (sym notes)
-            (Climbs-append old.board.first.0 old.notes look sound.climbs (omega (arith, sound.latest, high), tt)));
+            (Climbs-append old.board.first.0 old.notes look sound.climbs (omega (arith, sound.latest, high), tt, omega (arith, sound.latest, at))));
         latest = ap (λ (f : Stamp). top f.0 new.notes) first ∙ ap (top old.board.first.0) notes ∙ top-append old.board.first.0 old.notes look ∙ sym last;
         bound = omega (arith, last, high, low, sound.bound);
         behind = let same : stamp_of new.board ≡ stamp_of old.board = ap (λ (s : Standing). stamp_of s) board in omega (arith, same, last, high, sound.behind);

@@ -25,6 +25,7 @@ use Rattle.xa_board.specs.Board.{Standing, ReadsAsNoted, past_of, version_of, pu
 use Rattle.xa_board.specs.Changes.{is_on, rows_on}
 use Rattle.xa_held.specs.declared.kept_board.BoardNote.{BoardNote}
 use Rattle.xa_held.specs.declared.kept_board.BoardNote.TheVariants.{Opened, By, Looked}
+use Rattle.xa_held.specs.declared.kept_board.Look.{Look}
 use Rattle.xa_held.specs.declared.kept_board.Clearing.TheVariants.{Clear}
 use Rattle.xa_held.specs.declared.kept_queue.QueueNote.{QueueNote}
 use Rattle.xa_held.specs.Board.{Held, IsSoundBoard, Climbs, top, made_of, made_in, maker_of}
@@ -118,20 +119,21 @@ none_on service queue (x ∷ rows) (y ∷ others) same none =
 no_rows : (setup : Setup) (board : Standing) (queue : ℕ) → ReadsAsNoted board → rows_on queue board.rows ≡ [] → NoRows setup queue (past_of board)
 no_rows setup board queue reads none = λ service. none_on service queue board.rows (rows_of_version setup (past_of board) (version_of board)) (reads.standing setup) none
 
-pub deserted : {A : Type 0} (setup : Setup) (p p' : Page BoardNote) (q : Page (QueueNote A)) (seen stamp later : Stamp) (maker : CallerId) (queue : QueueId) (board : Held) (k : Kept A)
-    → ClearedAs (BoardVisits p p') seen maker queue (Ok (Clear stamp)) → boot setup ≤ published (past_in (changes_at p.seen)) → SawLeft setup queue.0 seen q → stamp.0 < later.0
+pub deserted : {A : Type 0} (setup : Setup) (p p' : Page BoardNote) (q : Page (QueueNote A)) (seen later : Stamp) (maker : CallerId) (queue : QueueId) (its : Look) (board : Held) (k : Kept A)
+    → ClearedAs (BoardVisits p p') seen maker queue (Ok (Clear its)) → boot setup ≤ published (past_in (changes_at p.seen)) → SawLeft setup queue.0 seen q → its.stamp.0 < later.0
     → IsSoundBoard board → StartsWith board.notes p'.seen → StartsWith (notes_of k) q.seen → SawDeserted setup queue.0 (noted_in (made_in board.notes)) (noted_in k.queue.entries) later
 unfolding changes_front made_in-front
-deserted {A} setup p p' q seen stamp later maker queue board k visits booted left less sound stands begins =
-    let look : List BoardNote = Looked (record { maker = maker; stamp = stamp }) ∷ [] in
+deserted {A} setup p p' q seen later maker queue its board k visits booted left less sound stands begins =
+    let look : List BoardNote = Looked its ∷ [] in
+    let stamp : Stamp = its.stamp in
     let how = visits.how in
     let saw : p'.seen ≡ visits.new.notes = visits.saw in
     let front : changes_at p'.seen ≡ visits.new.board.entries = ap changes_at saw ∙ visits.sound.noted in
-    let none : NoRows setup queue.0 (past_of visits.new.board) = no_rows setup visits.new.board queue.0 visits.reads (ap (λ (b : Standing). rows_on queue.0 b.rows) how.3 ∙ how.2) in
-    let last : top visits.new.board.first.0 visits.new.notes ≡ stamp.0 = visits.sound.latest ∙ ap (λ (s : Stamp). s.0) how.4 in
+    let none : NoRows setup queue.0 (past_of visits.new.board) = no_rows setup visits.new.board queue.0 visits.reads (ap (λ (b : Standing). rows_on queue.0 b.rows) how.2 ∙ how.1) in
+    let last : top visits.new.board.first.0 visits.new.notes ≡ stamp.0 = visits.sound.latest ∙ ap (λ (s : Stamp). s.0) how.3 in
     let below = below_top visits.new.board.first.0 visits.new.notes visits.sound.climbs in
-    let reach : stamp.0 ≡ max seen.0 visits.old.last.0 = ap (λ (s : Stamp). s.0) how.0 in
-    let whole : board.notes ≡ visits.old.notes ++ Looked (record { maker = maker; stamp = stamp }) ∷ stands.0 = stands.1 ∙ ap (λ (l : List BoardNote). l ++ stands.0) (saw ∙ visits.grew) ∙ append_assoc visits.old.notes look stands.0 in
+    let reach : stamp.0 ≡ max seen.0 visits.old.last.0 = ap (λ (s : Stamp). s.0) how.0.raised in
+    let whole : board.notes ≡ visits.old.notes ++ Looked its ∷ stands.0 = stands.1 ∙ ap (λ (l : List BoardNote). l ++ stands.0) (saw ∙ visits.grew) ∙ append_assoc visits.old.notes look stands.0 in
     let on = changes_front board.notes p'.seen stands in
     let gone = events_front A (notes_of k) q.seen begins in
     record {
@@ -143,7 +145,7 @@ deserted {A} setup p p' q seen stamp later maker queue board k visits booted lef
       reached = subst (λ (n : ℕ). All (λ (x : Stamped). x.stamp.0 ≤ n) (changes_at p'.seen)) last
           (subst (λ (l : List BoardNote). All (λ (x : Stamped). x.stamp.0 ≤ top visits.new.board.first.0 visits.new.notes) (changes_at l)) (sym saw) below.1);
       later = All-map (λ (x : Stamped). stamp.0 < x.stamp.0) (λ (z : Made). z.noted) (made_in stands.0)
-          (behind-look board.board.first.0 visits.old.notes stands.0 maker stamp (subst (Climbs board.board.first.0) whole sound.climbs));
+          (behind-look board.board.first.0 visits.old.notes stands.0 its (subst (Climbs board.board.first.0) whole sound.climbs));
       booted = let more = published-front (changes_at p'.seen) (changes_at p.seen) (changes_front p'.seen p.seen (seen_more p p' look visits)) in omega (arith, more, booted);
       none = subst (λ (l : List Stamped). NoRows setup queue.0 (past_in l)) (sym front) none;
       gone = events_at q.seen;

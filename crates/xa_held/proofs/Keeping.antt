@@ -1,5 +1,5 @@
 -- A queue under a lock stays as it is kept.
-use Rattle.std.proofs.Common.{◌≡◌, ℕ, ◌+◌, ◌==◌, ◌||◌, Bool, true, false, cond, List, [], ◌∷◌, ◌++◌, map, Result, Ok, Err, Option, Some, None, IfOk, IfErr, OnErr, MatchOption, inl, inr, refl, sym, ap, ◌∙◌, subst, append-nil, eq-eqb, ne_eqb}
+use Rattle.std.proofs.Common.{◌≡◌, ℕ, ◌+◌, ◌<◌, ◌==◌, ◌||◌, Bool, true, false, cond, List, [], ◌∷◌, ◌++◌, map, length, Result, Ok, Err, Option, Some, None, IfOk, IfErr, OnErr, MatchOption, inl, inr, refl, sym, ap, ◌∙◌, subst, append-nil, eq-eqb, ne_eqb}
 use Rattle.std.specs.List.{All, flat_map}
 use Rattle.std.proofs.lemmas.Bool.{cases_Bool, true≢false}
 use Rattle.std.proofs.lemmas.List.Elements.{All-push, All-head, All-tail, All-weaker, Contains-push, Contains-append_left}
@@ -132,9 +132,9 @@ module _ {A : Type 0} where
         middle P [] x back all = All-head P x back all
         middle P (y ∷ front) x back all = middle P front x back (All-tail P y (front ++ x ∷ back) all)
 
-        pub took : (r : Result (Taken (Cargo A)) Worn) (new : Standing (Cargo A)) → IfOk r (λ taken. TakesAs seen maker server generation taken new k.queue) → IfErr r (λ worn. IsWorn seen worn new k.queue) → IsKept k
+        pub took : (r : Result (Taken (Cargo A)) Worn) (new : Standing (Cargo A)) → IfOk r (λ taken. TakesAs seen maker server generation taken new k.queue) → IfErr r (λ worn. IsWorn seen worn new k.queue) → OnErr r (0 < length k.queue.waiting) → IsKept k
             → TookAs (Becomes (kept_of k) (kept_of (inside new))) seen maker server generation r
-        took (Ok (Request out)) new n w i =
+        took (Ok (Request out)) new n w some i =
             let q = k.queue in
             let x : Event → Made = λ e. record { maker = maker; noted = record { stamp = out.noted.stamp; event = e } } in
             record {
@@ -142,9 +142,9 @@ module _ {A : Type 0} where
               entries = ap (λ (z : Standing (Cargo A)). z.entries) n.noted.notes.made ∙ ap (λ e. q.entries ++ x e ∷ []) (sym n.noted.event_is);
               how = (n, middle Right n.front out.entry n.back (subst (All Right) n.waited i.right), middle Brought n.front out.entry n.back (subst (All Brought) n.waited i.brought));
             }
-        took (Ok Empty) new n w i = stays new n.same (n.none, n.closed)
-        took (Ok Closed) new n w i = stays new n.same (n.none, n.closed)
-        took (Err worn) new n w i = stays new w.same (record { larger = w.larger; told = w.told; same = refl })
+        took (Ok Empty) new n w some i = stays new n.same (n.none, n.closed)
+        took (Ok Closed) new n w some i = stays new n.same (n.none, n.closed)
+        took (Err worn) new n w some i = stays new w.same (record { larger = w.larger; told = w.told; same = refl }, some)
 
       pub gone_kept : (server : ServerId) (r : Result GivenUp Worn) (new : Standing (Cargo A)) → maker.0 ≡ k.clients + server.0 → IfOk r (λ done. NotesAs seen maker done.noted (Gone server) (with_gone server k.queue) new k.queue) → IfErr r (λ worn. IsWorn seen worn new k.queue) → IsKept k → IsKept (inside new)
       gone_kept server (Ok done) new ours n w i = quiet_kept done.noted (Gone server) (with_gone server k.queue) new n refl refl ours i

@@ -1,7 +1,6 @@
 -- Servers that are given up, as the machine has it.
-use Rattle.std.proofs.Common.{◌≡◌, ℕ, ◌<◌, ◌≤◌, ◌==◌, ◌||◌, true, inl, inr, List, [], ◌∷◌, ◌++◌, map, reverse, refl, sym, ap, ◌∙◌, arith, eq-eqb, eqb-true}
+use Rattle.std.proofs.Common.{◌≡◌, ℕ, ◌<◌, ◌≤◌, ◌==◌, ◌||◌, true, List, [], ◌∷◌, ◌++◌, map, reverse, refl, sym, ap, ◌∙◌, arith, eq-eqb}
 use Rattle.std.specs.List.{flat_map, list_any}
-use Rattle.std.proofs.lemmas.Bool.{cases_Bool, and_parts, false≢true}
 use Rattle.std.proofs.lemmas.Grind.{flat_map-append}
 use Rattle.std.proofs.lemmas.List.{map-append}
 use Rattle.std.proofs.lemmas.List.Elements.{All-weaker}
@@ -18,7 +17,8 @@ use Rattle.xa_lock.specs.declared.pass.Page.{Page}
 use Rattle.xa_lock.specs.Pages.{StartsWith}
 use Rattle.xa_lock.specs.Makers.{noted_in}
 use Rattle.xa_crew.specs.Seen.{past_in, SawFront}
-use Rattle.xa_queue.specs.Queue.{IsSound, gives_up, has_server, all_gone, none_left}
+use Rattle.xa_queue.specs.Queue.{IsSound, gives_up, all_gone, none_left}
+use Rattle.xa_queue.proofs.Ending.{is_among}
 use Rattle.xa_queue.proofs.Waiting.{eqb-flips, list_any-reverse}
 use Rattle.xa_held.specs.declared.kept_queue.QueueNote.{QueueNote}
 use Rattle.xa_held.specs.declared.kept_queue.QueueNote.TheVariants.{Opened, By}
@@ -33,15 +33,6 @@ gone_one server _ rest = refl
 gone_read : (server : ℕ) (events : List Event) → list_any (λ g. server == g.0) (flat_map gives_up events) ≡ list_any (is_gone_of server) events
 gone_read server [] = refl
 gone_read server (e ∷ events) = gone_one server e (flat_map gives_up events) ∙ ap (λ b. is_gone_of server e || b) (gone_read server events)
-
-is_among : (server : ℕ) (gone servers : List ServerId) → all_gone gone servers ≡ true → list_any (λ own. server == own.0) servers ≡ true → list_any (λ g. server == g.0) gone ≡ true
-is_among server gone [] all own = absurd (false≢true own)
-is_among server gone (s ∷ servers) all own =
-    let parts = and_parts (has_server s gone) (all_gone gone servers) all in
-    elim (cases_Bool (server == s.0)) [
-      | inl so ↦ ap (λ n. list_any (λ g. n == g.0) gone) (eqb-true server s.0 so) ∙ parts.0
-      | inr not_so ↦ is_among server gone servers parts.1 (sym (ap (λ b. b || list_any (λ own. server == own.0) servers) not_so) ∙ own)
-    ]
 
 -- events that give up each of these servers leave none at a queue that has them
 all_gone-read : (setup : Setup) (queue : ℕ) (servers : List ServerId) (events : List Event) → HasServers setup queue servers → all_gone (flat_map gives_up events) servers ≡ true → AllGone setup queue (reverse events)

@@ -1,5 +1,6 @@
 pub mod Front
 pub mod Keeping
+pub mod Pages
 pub mod Passing
 pub mod Climbing
 pub mod BoardPassing

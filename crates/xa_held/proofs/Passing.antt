@@ -1,8 +1,7 @@
 -- What a pass knows of a queue once it has left.
-use Rattle.std.proofs.Common.{◌≡◌, ℕ, ◌≤◌, ◌^◌, List, [], ◌∷◌, ◌++◌, map, Result, Ok, Err, Option, Some, None, drop, length, sym, ap, ◌∙◌, subst, arith}
+use Rattle.std.proofs.Common.{◌≡◌, ℕ, ◌≤◌, ◌^◌, List, [], ◌∷◌, ◌++◌, map, Result, Ok, Err, Option, Some, None, sym, ap, ◌∙◌, subst, arith}
 use Rattle.std.specs.List.{All, flat_map}
 use Rattle.std.proofs.lemmas.List.{map-append}
-use Rattle.std.proofs.Math.Seq.{drop-append_seam}
 use Rattle.std.proofs.lemmas.List.Elements.{All-nil, All-cons, All-head, All-tail}
 use Rattle.xa_types.specs.declared.ids.CallerId.{CallerId}
 use Rattle.xa_types.specs.declared.ids.ServerId.{ServerId}
@@ -33,6 +32,7 @@ use Rattle.xa_held.specs.Notes.{one, maker_of, made_of}
 use Rattle.xa_held.specs.Kept.{Kept, setting_of, notes_of, Becomes}
 use Rattle.xa_held.specs.Steps.{PutAs, TookAs, GaveUpAs, WentDownAs, SweptAs, ClosedAs}
 use Rattle.xa_held.specs.Visits.{Sees, Visits, Reaches}
+use Rattle.xa_held.proofs.Pages.{grown_by, same_maker, own_more}
 use Rattle.xa_held.proofs.Front.{note, made_in-notes}
 
 abbrev head_of : {A : Type 0} → Setting A → List (QueueNote A) → Setting A
@@ -99,26 +99,14 @@ module _ {A : Type 0} {p q : Page (QueueNote A)} {old : Kept A} (at : Entered p 
   pub setting_is : (s : Setting A) → Sees s p → setting_of old ≡ s
   setting_is s sees = ap (head_of s) (at.knows.1.1 ∙ ap (λ (l : List (QueueNote A)). l ++ at.knows.1.0) sees.seen)
 
-  seen_is : q.seen ≡ notes_of old
-  seen_is = ap (λ (z : Page (QueueNote A)). z.seen) at.found
-
-  maker_is : q.maker ≡ p.maker
-  maker_is = ap (λ (z : Page (QueueNote A)). z.maker) at.found
-
-  own_is : q.own ≡ p.own
-  own_is = ap (λ (z : Page (QueueNote A)). z.own) at.found
-
   -- it left `new`
   module _ (new : Kept A) where
     grew : (more : List Made) (How : Kept A → Kept A → Type 0) → Becomes old new more How → notes_of new ≡ notes_of old ++ map (note {A = A}) more
     grew more How b =
         ap (λ (s : Setting A). Opened s ∷ map (note {A = A}) new.queue.entries) b.setting ∙ ap (λ (l : List (QueueNote A)). Opened (setting_of old) ∷ l) (ap (map (note {A = A})) b.entries ∙ map-append (note {A = A}) old.queue.entries more)
 
-    seen_more : (more : List (QueueNote A)) → notes_of new ≡ notes_of old ++ more → notes_of new ≡ q.seen ++ more
-    seen_more more is = is ∙ ap (λ (l : List (QueueNote A)). l ++ more) (sym seen_is)
-
     grown : (more : List Made) (How : Kept A → Kept A → Type 0) → All (λ (m : Made). m.maker.0 ≡ p.maker) more → Becomes old new more How → GrewBy maker_of q.maker q.seen (notes_of new)
-    grown more How ours b = (map (note {A = A}) more, seen_more (map (note {A = A}) more) (grew more How b), subst (λ (n : ℕ). All (λ (z : QueueNote A). maker_of z ≡ n) (map (note {A = A}) more)) (sym maker_is) (by_one p.maker more ours))
+    grown more How ours b = grown_by p q (notes_of old) (notes_of new) (map (note {A = A}) more) at.found (grew more How b) maker_of (by_one p.maker more ours)
 
     -- whose events these are
     module _ (seen : Stamp) (maker : CallerId) (ours : p.maker ≡ maker.0) where
@@ -169,8 +157,8 @@ module _ {A : Type 0} {p q : Page (QueueNote A)} {old : Kept A} (at : Entered p 
           setting = setting_is;
           same = b.setting;
           grew = grew new more How b;
-          maker = ap (λ (z : Page (QueueNote A)). z.maker) on.after ∙ maker_is;
-          own = ap (λ (z : Page (QueueNote A)). z.own) on.after ∙ (ap (λ (l : List (QueueNote A)). q.own ++ drop (length q.seen) l) (seen_more new further (grew new more How b)) ∙ (ap (λ (l : List (QueueNote A)). q.own ++ l) (drop-append_seam q.seen further) ∙ ap (λ (l : List (QueueNote A)). l ++ further) own_is));
+          maker = same_maker p q (notes_of old) (notes_of new) further at.found (grew new more How b) q' on.after;
+          own = own_more p q (notes_of old) (notes_of new) further at.found (grew new more How b) q' on.after;
           saw = ap (λ (z : Page (QueueNote A)). z.seen) on.after;
           sound = on.sound;
           reads = on.reads;

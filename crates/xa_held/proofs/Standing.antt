@@ -29,7 +29,7 @@ use Rattle.xa_cell.proofs.Lists.{below}
 use Rattle.xa_board.specs.Board.{Standing, ReadsAsNoted, IsAsConfigured, past_of, version_of, stamp_of, put_of, rows_seen}
 use Rattle.xa_board.specs.Reader.{Finds}
 use Rattle.xa_board.proofs.Noted.{rows_of_version-last}
-use Rattle.xa_board.proofs.Listed.{rows_seen-listed}
+use Rattle.xa_board.proofs.Listed.{rows-configured, rows_seen-listed}
 use Rattle.xa_held.specs.declared.kept_board.BoardNote.{BoardNote}
 use Rattle.xa_held.specs.declared.kept_board.BoardNote.TheVariants.{Opened, By, Looked}
 use Rattle.xa_held.specs.Board.{Held, IsPlaced, Climbs}
@@ -130,16 +130,6 @@ across setup whole (x ∷ standing) (y ∷ others) same found configured =
     ap (λ s. row_for setup s x.queue.0 x.routine) services ∙ ap (λ n. row_for setup y.service n x.routine) queues ∙ ap (λ r. row_for setup y.service y.queue.0 r) routines in
     All-cons (Stands setup whole) x standing (here ∙ All-head (Finds-in whole) y others found ∙ ap (λ (r : Row). Some r) (All-head (IsAsConfigured setup) y others configured ∙ sym put))
     (across setup whole standing others rest (All-tail (Finds-in whole) y others found) (All-tail (IsAsConfigured setup) y others configured))
-
-row_with-configured : (setup : Setup) (service : List ℕ) (queue : ℕ) (routine : List ℕ) (configured : Option ServiceSetup) → configured ≡ service_named setup service → IsAsConfigured setup (row_with configured service queue routine)
-row_with-configured setup service queue routine None is = ap (λ c. row_with c service queue routine) is
-row_with-configured setup service queue routine (Some configured) is = ap (λ c. row_with c service queue routine) is
-
-rows-configured : (setup : Setup) (made : List Change) → All (IsAsConfigured setup) (rows setup made)
-rows-configured setup [] = All-nil (IsAsConfigured setup)
-rows-configured setup (Put service queue routine ∷ made) =
-    All-push (IsAsConfigured setup) _ _ (All-filter _ (IsAsConfigured setup) (rows setup made) (rows-configured setup made)) (row_with-configured setup service queue routine (service_named setup service) refl)
-rows-configured setup (Remove service queue ∷ made) = All-filter _ (IsAsConfigured setup) (rows setup made) (rows-configured setup made)
 
 stands-all : (setup : Setup) (board : Standing) → ReadsAsNoted board → All (Stands setup (rows_of_version setup (past_of board) (version_of board))) board.rows
 stands-all setup board reads =

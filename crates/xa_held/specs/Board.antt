@@ -33,12 +33,12 @@ made_of (Looked look) = []
 abbrev pub made_in : List BoardNote → List Made
 made_in notes = flat_map made_of notes
 
--- a change has a greater stamp than all that stands before it, and a look no smaller one
+-- a change has a greater stamp than all that stands before it, and a look no smaller one; a look says which was the last one before it
 abbrev pub Climbs : ℕ → List BoardNote → Type 0
 Climbs least [] = Unit {0}
 Climbs least (Opened setup ∷ rest) = Climbs least rest
 Climbs least (By made ∷ rest) = (least < made.noted.stamp.0) × Climbs made.noted.stamp.0 rest
-Climbs least (Looked look ∷ rest) = (least ≤ look.stamp.0) × Climbs look.stamp.0 rest
+Climbs least (Looked look ∷ rest) = (least ≤ look.stamp.0) × Climbs look.stamp.0 rest × (look.before.0 ≡ least)
 
 -- the stamp of the last change or look
 abbrev pub top : ℕ → List BoardNote → ℕ

@@ -14,9 +14,10 @@ use Rattle.xa_board.specs.Board.{version_of}
 use Rattle.xa_board.specs.Changes.{next_change, changed, without, rows_on, advertise_refused, withdraw_refused}
 use Rattle.xa_held.specs.declared.kept_board.BoardNote.{BoardNote}
 use Rattle.xa_held.specs.declared.kept_board.BoardNote.TheVariants.{By, Looked}
+use Rattle.xa_held.specs.declared.kept_board.Look.{Look}
 use Rattle.xa_held.specs.declared.kept_board.Clearing.{Clearing}
 use Rattle.xa_held.specs.declared.kept_board.Clearing.TheVariants.{Withdrew, Clear}
-use Rattle.xa_held.specs.Board.{Held, raised}
+use Rattle.xa_held.specs.Board.{Held, raised as raised_by}
 
 -- the event that was told of
 abbrev pub change : CallerId → Noted → List BoardNote
@@ -24,10 +25,17 @@ change maker noted = By (record { maker = maker; noted = record { stamp = noted.
 
 -- the board has that event more, which is told with the next version and the next stamp, and these rows
 pub record Makes (seen : Stamp) (version : ℕ) (noted : Noted) (event : Event) (rows : List Row) (old new : Held) : Type 0 where
-  pub next : (version, noted.stamp) ≡ next_change (raised seen old) old.board
+  pub next : (version, noted.stamp) ≡ next_change (raised_by seen old) old.board
   pub event_is : noted.event.value ≡ event
   pub board : new.board ≡ changed old.board noted.stamp event rows
   pub last : new.last ≡ noted.stamp
+
+-- that maker looked at the board, and had seen that stamp
+pub record IsLook (seen : Stamp) (maker : CallerId) (look : Look) (old : Held) : Type 0 where
+  pub its : look.maker ≡ maker
+  pub before : look.before ≡ old.last
+  pub raised : look.stamp ≡ raised_by seen old
+  pub bound : look.stamp.0 ≤ 2 ^ 63
 
 -- the row is withdrawn, for that caller
 abbrev pub withdrawal : CallerId → ℕ → List ℕ → QueueId → ℕ → Event
@@ -39,18 +47,18 @@ module _ (Change : List BoardNote → (Held → Held → Type 0) → Type 0) whe
   Refuses barred why = Change [] (λ old new. (new ≡ old) × ((barred old ≡ Some why) ⊎ (why ≡ NoMemory)))
 
   abbrev pub AdvertisedAs : Stamp → CallerId → CallerId → ℕ → Row → Result Changed BoardRefused → Type 0
-  AdvertisedAs seen maker by op row (Ok done) = Change (change maker done.noted) (λ old new. (advertise_refused (raised seen old) row old.board ≡ None)
+  AdvertisedAs seen maker by op row (Ok done) = Change (change maker done.noted) (λ old new. (advertise_refused (raised_by seen old) row old.board ≡ None)
       × Makes seen done.version done.noted (Advertise (record { by = by; op = op; service = row.service; queue = row.queue; routine = row.routine; version = done.version })) (without row.service row.queue.0 old.board.rows ++ row ∷ []) old new)
-  AdvertisedAs seen maker by op row (Err why) = Refuses (λ old. advertise_refused (raised seen old) row old.board) why
+  AdvertisedAs seen maker by op row (Err why) = Refuses (λ old. advertise_refused (raised_by seen old) row old.board) why
 
   abbrev pub WithdrewAs : Stamp → CallerId → CallerId → ℕ → List ℕ → QueueId → Result Changed BoardRefused → Type 0
-  WithdrewAs seen maker by op service queue (Ok done) = Change (change maker done.noted) (λ old new. (withdraw_refused (raised seen old) service queue.0 old.board ≡ None)
+  WithdrewAs seen maker by op service queue (Ok done) = Change (change maker done.noted) (λ old new. (withdraw_refused (raised_by seen old) service queue.0 old.board ≡ None)
       × Makes seen done.version done.noted (withdrawal by op service queue done.version) (without service queue.0 old.board.rows) old new)
-  WithdrewAs seen maker by op service queue (Err why) = Refuses (λ old. withdraw_refused (raised seen old) service queue.0 old.board) why
+  WithdrewAs seen maker by op service queue (Err why) = Refuses (λ old. withdraw_refused (raised_by seen old) service queue.0 old.board) why
 
   -- the domain withdraws the first row of the queue, or none stands
   abbrev pub ClearedAs : Stamp → CallerId → QueueId → Result Clearing BoardRefused → Type 0
   ClearedAs seen maker queue (Ok (Withdrew noted)) = Change (change maker noted) (λ old new. (row : Row) × (slice_get (rows_on queue.0 old.board.rows) 0 ≡ Some row)
       × Makes seen (version_of old.board + 1) noted (withdrawal (record { 0 = 0 }) 0 row.service queue (version_of old.board + 1)) (without row.service queue.0 old.board.rows) old new)
-  ClearedAs seen maker queue (Ok (Clear stamp)) = Change (Looked (record { maker = maker; stamp = stamp }) ∷ []) (λ old new. (stamp ≡ raised seen old) × (stamp.0 ≤ 2 ^ 63) × (rows_on queue.0 old.board.rows ≡ []) × (new.board ≡ old.board) × (new.last ≡ stamp))
-  ClearedAs seen maker queue (Err why) = Change [] (λ old new. (new ≡ old) × (row : Row) × (slice_get (rows_on queue.0 old.board.rows) 0 ≡ Some row) × ((withdraw_refused (raised seen old) row.service queue.0 old.board ≡ Some why) ⊎ (why ≡ NoMemory)))
+  ClearedAs seen maker queue (Ok (Clear look)) = Change (Looked look ∷ []) (λ old new. IsLook seen maker look old × (rows_on queue.0 old.board.rows ≡ []) × (new.board ≡ old.board) × (new.last ≡ look.stamp))
+  ClearedAs seen maker queue (Err why) = Change [] (λ old new. (new ≡ old) × (row : Row) × (slice_get (rows_on queue.0 old.board.rows) 0 ≡ Some row) × ((withdraw_refused (raised_by seen old) row.service queue.0 old.board ≡ Some why) ⊎ (why ≡ NoMemory)))

@@ -23,6 +23,8 @@ pub record BoardVisits (p p' : Page BoardNote) (more : List BoardNote) (How : He
   pub old : Held
   pub new : Held
   pub knew : Knows maker_of p old.notes
+  pub was : IsSoundBoard old
+  pub read : ReadsAsNoted old.board
   pub setup : (s : Setup) → SeesBoard s p → old.setup ≡ s
   pub same : new.setup ≡ old.setup
   pub first : new.board.first ≡ old.board.first

@@ -10,7 +10,7 @@ use Rattle.xa_held.specs.declared.kept_board.KeptBoard.TheInside.{Inside}
 use Rattle.xa_held.specs.Board.{Held, IsSoundBoard}
 
 abbrev pub note_of : Mark × Snapshot Event → BoardNote
-note_of (Changed look, event) = By (record { maker = look.maker; noted = record { stamp = look.stamp; event = event.value } })
+note_of (Changed maker stamp, event) = By (record { maker = maker; noted = record { stamp = stamp; event = event.value } })
 note_of (LookedAt look, event) = Looked look
 
 abbrev pub held_of : Inside → Held

@@ -73,6 +73,7 @@ pub fn withdraw_at<W: Wait>(
     ensures withdrawn { WithdrewAs (BoardVisits (known pass) (known result.pass)) seen maker by op service.now queue result.answer }
 {
     let mut held = board.enter(rt, pass);
+    let _found = held.get().version();
     let answer = held.value().withdraw(seen, maker, by, op, service, queue);
     let last = held.get().stamp();
     AtBoard {
@@ -100,6 +101,7 @@ pub fn clear_at<W: Wait>(
     ensures cleared { ClearedAs (BoardVisits (known pass) (known result.pass)) seen maker queue result.answer }
 {
     let mut held = board.enter(rt, pass);
+    let _found = held.get().version();
     let answer = held.value().clear(seen, maker, queue);
     let last = held.get().stamp();
     AtBoard {

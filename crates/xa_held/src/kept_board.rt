@@ -15,11 +15,12 @@ use xa_lock::{Chronicle, Made};
 use xa_stamp::{Home, Noted};
 use xa_types::{CallerId, Name, QueueId, Row, Setup, Stamp};
 
-/// A worker that found no row of a queue on the board, and the stamp that all later changes are behind.
+/// A worker that found no row of a queue on the board, the stamp that all later changes are behind, and the last one before.
 #[derive(Clone, Copy)]
 pub struct Look {
     pub maker: CallerId,
     pub stamp: Stamp,
+    pub before: Stamp,
 }
 
 /// An entry of the board's home as its lock knows it: first what setup its rows are by, then each change or such a look. No
@@ -30,19 +31,19 @@ pub enum BoardNote {
     Looked(Look),
 }
 
-// What a look or a change is kept as, beside the event: of a look that of the queue that goes down.
+// What a change or a look is kept as, beside the event: of a look that of the queue that goes down.
 #[derive(Clone, Copy)]
 pub(crate) enum Mark {
-    Changed(Look),
+    Changed(CallerId, Stamp),
     Looked(Look),
 }
 
 /// What came of a step that clears the board of a queue: the domain withdrew its first row, or no row of it stands, and all
-/// later changes have greater stamps than this one, which is at most 2^63.
+/// later changes have greater stamps than that look, whose stamp is at most 2^63.
 #[derive(Drop)]
 pub enum Clearing {
     Withdrew(Noted),
-    Clear(Stamp),
+    Clear(Look),
 }
 
 /// The board, whose rows are as that setup gives them, and whose changes and looks have their makers. The setup and these
@@ -116,7 +117,7 @@ impl KeptBoard {
         let seen = Stamp(seen.0.max(self.last.0));
         let changed = self.board.advertise(seen, by, op, row)?;
         let stamp = changed.noted.stamp;
-        let mark = Mark::Changed(Look { maker, stamp });
+        let mark = Mark::Changed(maker, stamp);
         self.notes = self.notes.and(&mark, &changed.noted.event);
         self.last = stamp;
         Ok(changed)
@@ -138,7 +139,7 @@ impl KeptBoard {
         let seen = Stamp(seen.0.max(self.last.0));
         let changed = self.board.withdraw(seen, by, op, service, queue)?;
         let stamp = changed.noted.stamp;
-        let mark = Mark::Changed(Look { maker, stamp });
+        let mark = Mark::Changed(maker, stamp);
         self.notes = self.notes.and(&mark, &changed.noted.event);
         self.last = stamp;
         Ok(changed)
@@ -156,11 +157,16 @@ impl KeptBoard {
         ensures { ClearedAs (Turns self.old self.new) seen maker queue result }
     {
         let Some(service) = self.board.service_on(queue) else {
-            let stamp = Stamp(seen.0.max(self.last.0));
-            let mark = Mark::Looked(Look { maker, stamp });
-            self.notes = self.notes.and(&mark, &down_of(queue));
+            let before = self.last;
+            let stamp = Stamp(seen.0.max(before.0));
+            let look = Look {
+                maker,
+                stamp,
+                before,
+            };
+            self.notes = self.notes.and(&Mark::Looked(look), &down_of(queue));
             self.last = stamp;
-            return Ok(Clearing::Clear(stamp));
+            return Ok(Clearing::Clear(look));
         };
         let changed = self.withdraw(seen, maker, CallerId(0), 0, &service, queue)?;
         Ok(Clearing::Withdrew(changed.noted))

@@ -62,8 +62,8 @@ pub fn all_are_gone<A>()
 /// A queue of which a pass saw each server given up, and then found no row on the board, which was behind the boot, was seen
 /// deserted, for any greater stamp, by what stands at both homes in the end.
 pub fn a_clear_board_was_deserted<A>()
-    ensures { (setup : Setup) (p p' : Page BoardNote) (q : Page (QueueNote A)) (seen stamp later : Stamp) (maker : CallerId) (queue : QueueId) (board : Held) (k : Kept A)
-        → ClearedAs (BoardVisits p p') seen maker queue (Ok (Clear stamp)) → boot setup ≤ published (past_in (changes_at p.seen)) → SawLeft setup queue.0 seen q → stamp.0 < later.0
+    ensures { (setup : Setup) (p p' : Page BoardNote) (q : Page (QueueNote A)) (seen later : Stamp) (maker : CallerId) (queue : QueueId) (look : Look) (board : Held) (k : Kept A)
+        → ClearedAs (BoardVisits p p') seen maker queue (Ok (Clear look)) → boot setup ≤ published (past_in (changes_at p.seen)) → SawLeft setup queue.0 seen q → look.stamp.0 < later.0
         → IsSoundBoard board → StartsWith board.notes p'.seen → StartsWith (notes_of k) q.seen → SawDeserted setup queue.0 (noted_in (made_in board.notes)) (noted_in k.queue.entries) later }
 {}
 

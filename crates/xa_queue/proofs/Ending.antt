@@ -40,7 +40,7 @@ gone_read setup queue server at [] = refl
 gone_read setup queue server at (e ∷ past) = gone_one setup queue server at e (filter_map (gone_from setup queue) past) ∙ ap (λ b. is_gone_of server e || b) (gone_read setup queue server at past)
 
 -- each server of the queue is given up
-is_among : (server : ℕ) (gone servers : List ServerId) → all_gone gone servers ≡ true → list_any (λ own. server == own.0) servers ≡ true → list_any (λ g. server == g.0) gone ≡ true
+pub is_among : (server : ℕ) (gone servers : List ServerId) → all_gone gone servers ≡ true → list_any (λ own. server == own.0) servers ≡ true → list_any (λ g. server == g.0) gone ≡ true
 is_among server gone [] all own = absurd (false≢true own)
 is_among server gone (s ∷ servers) all own =
     let parts = and_parts (has_server s gone) (all_gone gone servers) all in

@@ -24,9 +24,11 @@ returns-clause-advertised g c =
     let old : Held = c.value.result.now in
     let sees = c.enter-held.ensures.found ∙ ap (λ (z : Held). page_seeing p z.notes) (sym c.value.ensures.value) in
     let knows = subst (λ (z : Held). Knows maker_of p z.notes) (sym c.value.ensures.value) c.enter-held.ensures.knows in
+    let was = subst (λ (z : Held). IsSoundBoard z) (c.get.ensures ∙ sym c.value.ensures.value) c.version-found.ensures.sound in
+    let read = subst (λ (z : Held). ReadsAsNoted z.board) (c.get.ensures ∙ sym c.value.ensures.value) c.version-found.ensures.reads in
     let sound = subst (λ (z : Held). IsSoundBoard z) c.get-2.ensures c.stamp-last.ensures.sound in
     let reads = subst (λ (z : Held). ReadsAsNoted z.board) c.get-2.ensures c.stamp-last.ensures.reads in
-    advertise_visits p q old c.advertise-answer.new.self sees knows (known c.leave.result) c.leave.ensures.known sound reads c.args.seen c.args.maker c.args.by c.args.op c.args.row c.advertise-answer.result c.advertise-answer.ensures
+    advertise_visits p q old c.advertise-answer.new.self sees knows (known c.leave.result) c.leave.ensures.known was read sound reads c.args.seen c.args.maker c.args.by c.args.op c.args.row c.advertise-answer.result c.advertise-answer.ensures
 
 pub returns-clause-reached : goal.returns-clause-reached
 returns-clause-reached g c =

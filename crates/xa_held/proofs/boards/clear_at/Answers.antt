@@ -24,16 +24,18 @@ returns-clause-cleared g c =
     let old : Held = c.value.result.now in
     let sees = c.enter-held.ensures.found ∙ ap (λ (z : Held). page_seeing p z.notes) (sym c.value.ensures.value) in
     let knows = subst (λ (z : Held). Knows maker_of p z.notes) (sym c.value.ensures.value) c.enter-held.ensures.knows in
-    let sound = subst (λ (z : Held). IsSoundBoard z) c.get.ensures c.stamp-last.ensures.sound in
-    let reads = subst (λ (z : Held). ReadsAsNoted z.board) c.get.ensures c.stamp-last.ensures.reads in
-    clear_visits p q old c.clear-answer.new.self sees knows (known c.leave.result) c.leave.ensures.known sound reads c.args.seen c.args.maker c.args.queue c.clear-answer.result c.clear-answer.ensures
+    let was = subst (λ (z : Held). IsSoundBoard z) (c.get.ensures ∙ sym c.value.ensures.value) c.version-found.ensures.sound in
+    let read = subst (λ (z : Held). ReadsAsNoted z.board) (c.get.ensures ∙ sym c.value.ensures.value) c.version-found.ensures.reads in
+    let sound = subst (λ (z : Held). IsSoundBoard z) c.get-2.ensures c.stamp-last.ensures.sound in
+    let reads = subst (λ (z : Held). ReadsAsNoted z.board) c.get-2.ensures c.stamp-last.ensures.reads in
+    clear_visits p q old c.clear-answer.new.self sees knows (known c.leave.result) c.leave.ensures.known was read sound reads c.args.seen c.args.maker c.args.queue c.clear-answer.result c.clear-answer.ensures
 
 pub returns-clause-reached : goal.returns-clause-reached
 returns-clause-reached g c =
     let new : Held = c.clear-answer.new.self in
     let last = c.stamp-last.result in
-    let sound = subst (λ (z : Held). IsSoundBoard z) c.get.ensures c.stamp-last.ensures.sound in
-    let reads = subst (λ (z : Held). ReadsAsNoted z.board) c.get.ensures c.stamp-last.ensures.reads in
-    let none = subst (λ (z : Held). version_of z.board ≡ 0 → last.0 ≡ 0) c.get.ensures c.stamp-last.ensures.none in
-    let some = subst (λ (z : Held). 0 < version_of z.board → last ≡ z.last) c.get.ensures c.stamp-last.ensures.some in
+    let sound = subst (λ (z : Held). IsSoundBoard z) c.get-2.ensures c.stamp-last.ensures.sound in
+    let reads = subst (λ (z : Held). ReadsAsNoted z.board) c.get-2.ensures c.stamp-last.ensures.reads in
+    let none = subst (λ (z : Held). version_of z.board ≡ 0 → last.0 ≡ 0) c.get-2.ensures c.stamp-last.ensures.none in
+    let some = subst (λ (z : Held). 0 < version_of z.board → last ≡ z.last) c.get-2.ensures c.stamp-last.ensures.some in
     reaches new (known c.leave.result) last (ap (λ (z : Page BoardNote). z.seen) c.leave.ensures.known) sound reads none some

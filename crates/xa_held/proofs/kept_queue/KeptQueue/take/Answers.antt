@@ -20,4 +20,4 @@ invariant_of-self g c = take_kept c.self.inside c.args.seen c.args.maker c.args.
 pub returns : goal.returns
 returns g c =
     subst (λ (k : Kept g.row.A.Denot). TookAs (Becomes k (kept_of (record { queue = c.take.new.self; clients = c.self.inside.clients; cells = c.self.inside.cells }))) c.args.seen c.args.maker c.args.server c.args.generation c.take.result) c.self.view_is
-    (took c.self.inside c.args.seen c.args.maker c.args.server c.args.generation c.take.result c.take.new.self c.take.ensures.taken c.take.ensures.worn c.self.invariant)
+    (took c.self.inside c.args.seen c.args.maker c.args.server c.args.generation c.take.result c.take.new.self c.take.ensures.taken c.take.ensures.worn c.take.ensures.some c.self.invariant)
