@@ -1,12 +1,14 @@
 -- A server's slot with its starter and its lives (this project's own).
 use Rattle.std.specs.Prelude.{◌≡◌, ◌⊎◌, ℕ, List, Option, Some, None}
 use Rattle.xa_types.specs.declared.ids.Generation.{Generation}
+use Rattle.xa_link.specs.Starts.{AsksFor}
 use Rattle.xa_link.specs.Told.{Empty, Rose}
 use Rattle.xa_pipe.specs.Life.{LinkShows}
 use Rattle.xa_pipe.specs.Standing.{Standing as Life}
 use Rattle.xa_pipe.specs.Changes.{begun}
 use Rattle.xa_work.specs.Work.{Standing}
 use Rattle.xa_work.specs.declared.work.Halt.{Halt}
+use Rattle.xa_work.specs.declared.work.Halt.TheVariants.{NoMemory}
 use Rattle.xa_server.specs.Noting.{HaltsWith}
 use Rattle.xa_server.specs.declared.slot.ServerSlot.{ServerSlot}
 use Rattle.xa_server.specs.Changes.{Starts, FailsToStart, next_life}
@@ -35,6 +37,29 @@ abbrev pub Counts : Option Life → ℕ → ℕ → Type 0
 Counts (Some life) before now = now ≡ before
 Counts None before now = Rose before now
 
--- at a halt nothing was noted, whether the start had failed or not
-abbrev pub Halts : Standing → Standing → Halt → Type 0
-Halts new old halt = HaltsWith 3 new old halt ⊎ HaltsWith 1 new old halt
+-- what a starter shows: the starts that it was asked for, where it tells them, and how often one failed
+pub record StarterShows : Type 0 where
+  pub asked : Option (List (List ℕ × Generation))
+  pub faults : ℕ
+
+-- memory ran out before a start was asked for
+pub record HaltsUnasked (shows' shows : StarterShows) (new old : Standing) (halt : Halt) : Type 0 where
+  pub starter : shows' ≡ shows
+  pub noted : new ≡ old
+  pub starved : halt ≡ NoMemory
+
+-- the program was started, and its Start isn't noted
+pub record HaltsStarted (name : List ℕ) (life : Generation) (shows' shows : StarterShows) (new old : Standing) (halt : Halt) : Type 0 where
+  pub asked : AsksFor shows.asked shows'.asked name life
+  pub faults : shows'.faults ≡ shows.faults
+  pub halts : HaltsWith 3 new old halt
+
+-- the start failed, and its StartFailed isn't noted
+pub record HaltsFailed (name : List ℕ) (life : Generation) (shows' shows : StarterShows) (new old : Standing) (halt : Halt) : Type 0 where
+  pub asked : AsksFor shows.asked shows'.asked name life
+  pub faults : Rose shows.faults shows'.faults
+  pub halts : HaltsWith 1 new old halt
+
+-- at a halt nothing was noted; the starter shows how far the start came
+abbrev pub Halts : List ℕ → Generation → StarterShows → StarterShows → Standing → Standing → Halt → Type 0
+Halts name life shows' shows new old halt = HaltsUnasked shows' shows new old halt ⊎ HaltsStarted name life shows' shows new old halt ⊎ HaltsFailed name life shows' shows new old halt

@@ -56,7 +56,7 @@ impl<L: Link, T: Starter<L>> Served<L, T> {
         ensures rest { caller.new ≡ record caller.old { work = caller.new.work } }
         ensures lives { self.new.lives.items ≡ self.old.lives.items }
         ensures room { OnOk result (vec_len self.new.lives < vec_capacity self.new.lives) }
-        ensures halted { IfErr result (Halts caller.new.work caller.old.work) }
+        ensures halted { IfErr result (Halts name.now (next_life self.old.slot) (record { asked = T.asked self.new.starter; faults = T.start_faults self.new.starter }) (record { asked = T.asked self.old.starter; faults = T.start_faults self.old.starter }) caller.new.work caller.old.work) }
         ensures kept { OnErr result (self.new.slot ≡ self.old.slot) }
     {
         if self.lives.reserve(1).is_err() {
