@@ -21,7 +21,7 @@ pub use arguments::{Arguments, MemoryArguments, SystemArguments};
 pub use child::{ChildLink, ChildStarter, ChildYard};
 pub use escaped::Escaped;
 pub use file::{FileShelf, read_all};
-pub use gate::{Gate, OpenGate, Point};
+pub use gate::{Gate, HoldUntil, MeetAt, OpenGate, Point, stay};
 pub use link::{Killed, Link};
 pub use memory::{MemoryLink, MemoryShelf, MemorySink, MemorySource, MemoryStarter, MemoryYard};
 pub use shelf::{Shelf, ShelfRefused};

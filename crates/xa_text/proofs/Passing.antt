@@ -15,23 +15,23 @@ use Rattle.xa_text.proofs.InTurn.{both}
 
 -- ---- the replies
 
-reply_here : (client : ℕ) (e : Event) (past : List Event) → is_call_of client e ≡ true → reply_at (e ∷ past) client (op_in e) ≡ reply_shown_by e past
+pub reply_here : (client : ℕ) (e : Event) (past : List Event) → is_call_of client e ≡ true → reply_at (e ∷ past) client (op_in e) ≡ reply_shown_by e past
 unfolding reply_at
 reply_here client e past is = rw (is, eq-eqb (op_in e) (op_in e) refl) refl
 
-reply_there : (client op : ℕ) (e : Event) (past : List Event) → (op_in e ≡ op → ⊥) → reply_at (e ∷ past) client op ≡ reply_at past client op
+pub reply_there : (client op : ℕ) (e : Event) (past : List Event) → (op_in e ≡ op → ⊥) → reply_at (e ∷ past) client op ≡ reply_at past client op
 unfolding reply_at
 reply_there client op e past other = elim (cases_Bool (is_call_of client e)) [
   | inl is ↦ rw (is, ne_eqb (op_in e) op other) refl
   | inr not ↦ rw not refl
 ]
 
-reply_of_others : (client op : ℕ) (e : Event) (past : List Event) → is_call_of client e ≡ false → reply_at (e ∷ past) client op ≡ reply_at past client op
+pub reply_of_others : (client op : ℕ) (e : Event) (past : List Event) → is_call_of client e ≡ false → reply_at (e ∷ past) client op ≡ reply_at past client op
 unfolding reply_at
 reply_of_others client op e past not = rw not refl
 
 -- the lines of the first calls stay as they are where their replies do
-lines_kept : (name : List ℕ) (client : ℕ) (before after : List Event) (n : ℕ) → ((k : ℕ) → k ≤ n → reply_at after client k ≡ reply_at before client k) → lines_up_to name client after n ≡ lines_up_to name client before n
+pub lines_kept : (name : List ℕ) (client : ℕ) (before after : List Event) (n : ℕ) → ((k : ℕ) → k ≤ n → reply_at after client k ≡ reply_at before client k) → lines_up_to name client after n ≡ lines_up_to name client before n
 lines_kept name client before after zero kept = refl
 lines_kept name client before after (suc n) kept =
     ap (λ lines. lines ++ line_text name (suc n) (reply_at after client (suc n))) (lines_kept name client before after n (λ k low. kept k (omega (arith, low))))

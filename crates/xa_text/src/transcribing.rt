@@ -1,10 +1,11 @@
 // The transcript of a history: the lines of each client.
-ghost use Rattle.std.specs.Prelude.{◌≡◌, ◌++◌, ◌∷◌, ◌+◌, ◌<◌, ◌↔◌, ℕ, true, false, List, length, reverse, IsTrue, OnOk, IfOk, MatchOption};
+ghost use Rattle.std.specs.Prelude.{◌≡◌, ◌++◌, ◌∷◌, ◌+◌, ◌<◌, ◌==◌, ◌↔◌, ℕ, true, false, List, length, reverse, IsTrue, OnOk, IfOk, MatchOption};
 ghost use Rattle.xa_events.specs.declared.event.Event.{Event};
 ghost use Rattle.xa_events.specs.Caller.{call_in, is_call_of, op_in, last_op};
 ghost use Rattle.xa_events.specs.Said.{descriptor_given, descriptor_of, refusal_reply, item_reply, reply_shown_by};
 ghost use Rattle.xa_text.specs.Line.{reply_text, line_text};
 ghost use Rattle.xa_text.specs.Telling.{IsTold};
+ghost use Rattle.xa_text.specs.Parting.{IsParted, lists_of, pointed};
 ghost use Rattle.xa_text.specs.InTurn.{IsInTurn, CallsInTurn, AllInTurn};
 ghost use Rattle.xa_text.specs.Transcript.{lines_up_to, transcript};
 
@@ -54,6 +55,16 @@ fn call_of(event: &Event, client: usize) -> Option<u32>
 {
     match call_in(event) {
         Some((by, op)) if usize::from(by) == client && op > 0 => Some(op),
+        _ => None,
+    }
+}
+
+// Of which caller's call the event is, where it is of one; no call has the number 0.
+fn maker_of(event: &Event) -> Option<u16>
+    ensures { MatchOption result ((client : ℕ) → is_call_of client event.now ≡ false) (λ by. (client : ℕ) → is_call_of client event.now ≡ (by == client)) }
+{
+    match call_in(event) {
+        Some((by, op)) if op > 0 => Some(by),
         _ => None,
     }
 }
@@ -188,16 +199,16 @@ fn push_lines(
     out: &mut Vec<u8>,
     name: &Name,
     client: usize,
-    history: &[Event],
+    events: &[&Event],
 ) -> Result<(), NoMemory>
-    requires { CallsInTurn client (reverse history.now) }
-    ensures { OnOk result (out.new.items ≡ out.old.items ++ lines_up_to name.now client (reverse history.now) (last_op client (reverse history.now))) }
+    requires { CallsInTurn client (reverse (pointed events.now)) }
+    ensures { OnOk result (let past = reverse (pointed events.now) in out.new.items ≡ out.old.items ++ lines_up_to name.now client past (last_op client past)) }
 {
     let mut place = Place {
         op: 0,
         start: out.len(),
     };
-    for event in history {
+    for event in events {
         place = tell(out, place, name, client, event)?;
     }
     Ok(())
@@ -278,6 +289,39 @@ fn room_for(history: &[Event]) -> usize {
     room
 }
 
+// Puts the event behind those of its client, where it is of a call of one of so many.
+fn keep<'a>(own: &mut Vec<Vec<&'a Event>>, event: &'a Event) -> Result<(), NoMemory>
+    ensures { OnOk result ((clients : ℕ) (past : List Event) → IsParted clients past (lists_of own.old.items)
+        → IsParted clients (event.entry.now ∷ past) (lists_of own.new.items)) }
+{
+    let Some(by) = maker_of(event) else {
+        return Ok(());
+    };
+    let by = usize::from(by);
+    if 0 < by && by <= own.len() {
+        own[by - 1].push(event)?;
+    }
+    Ok(())
+}
+
+// The events of each of so many clients' calls, in their order.
+fn by_client<'a>(
+    alloc: Global,
+    history: &'a [Event],
+    clients: usize,
+) -> Result<Vec<Vec<&'a Event>>, NoMemory>
+    ensures { IfOk result (λ own. IsParted clients (reverse history.now) (lists_of own.items)) }
+{
+    let mut own = Vec::with_capacity(alloc, clients)?;
+    for _ in 0..clients {
+        own.push(Vec::new(alloc))?;
+    }
+    for event in history {
+        keep(&mut own, event)?;
+    }
+    Ok(own)
+}
+
 /// The transcript of a history, whose events stand in the order in which they were made: the lines of the clients with
 /// these names, one client after another, and of each a line for each of its calls, of what the call was told by its
 /// newest event. The clients are the callers from 1 on. The one error is that memory runs out.
@@ -285,9 +329,10 @@ pub fn transcript(alloc: Global, history: &[Event], names: &[Name]) -> Result<Oc
     requires { AllInTurn (length names.now) (reverse history.now) }
     ensures { IfOk result (λ lines. lines ≡ transcript names.now (reverse history.now)) }
 {
+    let own = by_client(alloc, history, names.len())?;
     let mut lines = Vec::with_capacity(alloc, room_for(history))?;
     for (place, name) in names.iter().enumerate() {
-        push_lines(&mut lines, name, place + 1, history)?;
+        push_lines(&mut lines, name, place + 1, &own[place])?;
     }
     Ok(Octets::from_vec(lines))
 }

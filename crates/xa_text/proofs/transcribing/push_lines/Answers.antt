@@ -1,6 +1,9 @@
 use Rattle.std.proofs.Common.{◌≡◌, ◌<◌, ℕ, List, [], length, reverse, take, sym, subst, arith}
+use Rattle.std.proofs.lemmas.List.{length-map}
 use Rattle.xa_events.specs.declared.event.Event.{Event}
+use Rattle.xa_text.specs.Parting.{pointed}
 use Rattle.xa_text.specs.Telling.{IsTold}
+use Rattle.xa_text.proofs.Parting.{pointed_at}
 use Rattle.xa_text.proofs.Passing.{nothing_told, one_more, turn_at}
 use Rattle.xa_text.proofs.transcribing.push_lines.Goals as goal
 
@@ -12,10 +15,12 @@ loop-event-init c =
 
 pub loop-event-preserved : goal.loop-event-preserved
 loop-event-preserved c =
-    let history = c.args.history.now in
+    let xs = c.args.events.now in
+    let events = pointed xs in
     let i = c.loop-event.event-index in
-    let e = c.event-item.result in
-    let low : i < length history = omega arith in
+    let e = c.event-item.result.now in
+    let is = pointed_at xs i c.event-item.result (omega arith) c.event-item.is in
+    let low : i < length events = omega (arith, length-map xs (λ x. x.now)) in
     subst (λ (past : List Event). IsTold c.args.out.now.items c.args.name.now c.args.client past c.in_ok-place.place.op c.in_ok-place.place.start c.tell.new.out.items)
-    (sym (one_more history i e c.event-item.is low))
-    (c.in_ok-place.ensures c.args.out.now.items (reverse (take i history)) c.loop-event.invariant (turn_at c.args.client history i e c.event-item.is low c.requires))
+    (sym (one_more events i e is low))
+    (c.in_ok-place.ensures c.args.out.now.items (reverse (take i events)) c.loop-event.invariant (turn_at c.args.client events i e is low c.requires))

@@ -1,7 +1,9 @@
 use Rattle.std.proofs.Common.{◌≡◌, ℕ, suc, ◌+◌, ◌<◌, List, ◌∷◌, ◌++◌, length, reverse, drop, get_or, sym, ap, subst, ◌∙◌, append_assoc, drop-cons, arith}
 use Rattle.xa_events.specs.declared.event.Event.{Event}
 use Rattle.xa_events.specs.Caller.{last_op}
+use Rattle.xa_text.specs.InTurn.{CallsInTurn}
 use Rattle.xa_text.specs.Transcript.{lines_up_to, transcript_from, transcript}
+use Rattle.xa_text.proofs.Parting.{lines_own, turn_own, list_at}
 use Rattle.xa_text.proofs.transcribing.transcript.Goals as goal
 
 -- the lines of one client more
@@ -17,11 +19,22 @@ next_client names past place name front more all inside is pushed before =
     ap (λ lines. lines ++ later) pushed ∙ (append_assoc front own later ∙ (ap (λ left. front ++ transcript_from client left past) (sym here) ∙ before))
 
 pub push_lines-requires : goal.push_lines-requires
-push_lines-requires c = c.requires (c.loop-place.place + 1) (omega arith) (omega arith)
+push_lines-requires c =
+    let client = c.loop-place.place + 1 in
+    let past = reverse c.args.history.now in
+    subst (λ own. CallsInTurn client own)
+    (sym (list_at (length c.args.names.now) c.loop-place.place past c.in_ok-own.own.items c.index.result.now c.deref.result.now c.in_ok-own.ensures (omega arith) c.index.ensures c.deref.ensures.value))
+    (turn_own client past (c.requires client (omega arith) (omega arith)))
 
 pub loop-place-preserved : goal.loop-place-preserved
 loop-place-preserved c =
     let names = c.args.names.now in
     let past = reverse c.args.history.now in
-    next_client names past c.loop-place.place c.index-names-place.result c.loop-place.lines.items c.push_lines.new.out.items (transcript names past) (omega arith)
-    c.index-names-place.is c.in_ok-push_lines.ensures c.loop-place.invariant
+    let place = c.loop-place.place in
+    let name = c.index-names-place.result in
+    let lines = c.loop-place.lines.items in
+    let new = c.push_lines.new.out.items in
+    let own = list_at (length names) place past c.in_ok-own.own.items c.index.result.now c.deref.result.now c.in_ok-own.ensures (omega arith) c.index.ensures c.deref.ensures.value in
+    next_client names past place name lines new (transcript names past) (omega arith) c.index-names-place.is
+    (subst (λ events. new ≡ lines ++ lines_up_to name (place + 1) events (last_op (place + 1) events)) own c.in_ok-push_lines.ensures ∙ ap (λ text. lines ++ text) (lines_own name (place + 1) past))
+    c.loop-place.invariant
