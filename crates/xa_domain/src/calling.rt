@@ -1,8 +1,7 @@
 // A call of a client, carried to its answer.
-ghost use Rattle.std.specs.Prelude.{◌≡◌, ℕ, ◌+◌, ◌<◌, ◌≤◌, ◌==◌, IfOk, IfErr, OnOk, OnErr, IsSomeAnd, MatchOption, None, List, length, slice_get, true, false};
-ghost use Rattle.std.specs.List.{sum_by};
+ghost use Rattle.std.specs.Prelude.{◌≡◌, ℕ, ◌+◌, ◌<◌, ◌≤◌, IfOk, IfErr, OnOk, OnErr, IsSomeAnd, MatchOption, None, List, length, slice_get, true, false};
 ghost use Rattle.xa_types.specs.Configured.{is_configured};
-ghost use Rattle.xa_types.specs.Kind.{field_size, is_sound};
+ghost use Rattle.xa_types.specs.Kind.{is_sound};
 ghost use Rattle.xa_types.specs.declared.setup.Setup.{Setup};
 ghost use Rattle.xa_types.specs.declared.call.Ask.{Ask};
 ghost use Rattle.xa_frame.specs.Spelling.{IsData};
@@ -21,70 +20,27 @@ ghost use Rattle.xa_domain.specs.Standing.{IsReady, HasCalled, NoneRestarts, Sta
 ghost use Rattle.xa_domain.specs.Calling.{ChoiceIs, outcome_heard, cause_heard, is_lost, refused_of, Sends, Receives, Delivers, Exchanges, IsBusy, MayEndWith, Settles, Tells, Concludes, Frees};
 
 use crate::retiring::{fall, place_of};
+use crate::shaped::Shaped;
 use std::alloc::Global;
 use xa_events::{Accepted, Ended, Evidence, Outcome, Refused, Replied, StopCause, Taken};
 use xa_link::Link;
 use xa_pipe::Return;
-use xa_route::{admits, is_same, place_of_shape, priority};
+use xa_route::{is_same, priority};
 use xa_tables::{Domain, Halt, LIFE};
 use xa_types::{
-    Answer, Ask, Data, Fault, FieldKind, FieldSetup, Kind, Mode, Name, NoMemory, QueueId,
-    RequestId, Row, Rval, Setup,
+    Answer, Ask, Data, Fault, Kind, Mode, Name, NoMemory, QueueId, RequestId, Row, Rval,
 };
 
 // ---- what is refused
 
-fn field_size(kind: FieldKind) -> usize
-    ensures { result ≡ field_size kind }
-{
-    match kind {
-        FieldKind::Short => 2,
-        FieldKind::Int => 4,
-        FieldKind::Long => 8,
-        FieldKind::Char => 1,
-        FieldKind::Text(n) => n as usize,
-    }
-}
-
-// Whether the fields, one after another, have that size.
-fn have_size(fields: &[FieldSetup], size: usize) -> bool
-    ensures { result ≡ (sum_by (λ field. field_size field.kind) fields.now == size) }
-{
-    let mut rest = size;
-    for field in fields {
-        match rest.checked_sub(field_size(field.kind)) {
-            Some(left) => rest = left,
-            None => return false,
-        }
-    }
-    rest == 0
-}
-
-// Whether the data is sound: X_C_TYPE has the size of its configured shape.
-fn is_sound(setup: &Setup, payload: &Data) -> bool
-    ensures { result ≡ is_sound setup.now payload.now }
-{
-    match payload {
-        Data::Absent => true,
-        Data::Octet(octets) => octets.slice().len() <= 65_536,
-        Data::Struct(subtype, octets) => match place_of_shape(setup, subtype) {
-            Some(place) => {
-                let shape = &setup.shapes.slice()[place];
-                have_size(shape.fields.slice(), octets.slice().len())
-            }
-            None => false,
-        },
-    }
-}
-
 // The service of a tpcall that TPEINVAL doesn't refuse.
-fn service_of(setup: &Setup, ask: &Ask) -> Option<Name>
+fn service_of(setup: &Shaped, ask: &Ask) -> Option<Name>
     ensures { MatchOption result (is_invalid_call setup.now ask.now ≡ true) (λ name. (is_invalid_call setup.now ask.now ≡ false) × (name ≡ ask.now.service)) }
 {
     let Ok(name) = Name::read(ask.service.slice()) else {
         return None;
     };
-    if !is_sound(setup, &ask.payload) || ask.flags.no_reply {
+    if !setup.is_sound(&ask.payload) || ask.flags.no_reply {
         return None;
     }
     Some(name)
@@ -97,23 +53,23 @@ enum Choice {
     ByRow(Row),
 }
 
-fn choose(setup: &Setup, rows: &[Row], kind: &Option<Kind>) -> Choice
+fn choose(setup: &Shaped, rows: &[Row], kind: &Option<Kind>) -> Choice
     requires { is_configured setup.now ≡ true }
     ensures { ChoiceIs setup.now rows.now kind.now result }
 {
     match rows {
         [] => Choice::NoRow,
-        [row, ..] if admits(row, kind, setup) => Choice::ByRow(*row),
+        [row, ..] if setup.admits(row, kind) => Choice::ByRow(*row),
         _ => Choice::NoKind,
     }
 }
 
 // ---- what becomes of a request
 
-fn outcome_of(setup: &Setup, back: Return) -> Outcome
+fn outcome_of(setup: &Shaped, back: Return) -> Outcome
     ensures { result ≡ outcome_by setup.now back.value back.code back.payload }
 {
-    if !is_sound(setup, &back.payload) {
+    if !setup.is_sound(&back.payload) {
         return Outcome::BadReturn;
     }
     match back.value {
@@ -123,7 +79,7 @@ fn outcome_of(setup: &Setup, back: Return) -> Outcome
 }
 
 // How the request ends by what was heard.
-fn outcome_heard(setup: &Setup, heard: Result<Return, StopCause>) -> Outcome
+fn outcome_heard(setup: &Shaped, heard: Result<Return, StopCause>) -> Outcome
     ensures { result ≡ outcome_heard setup.now heard }
 {
     match heard {
@@ -458,7 +414,7 @@ fn conclude<L: Link>(
 // Carries a request by that row, at the server at that place, to its answer.
 fn carry<L: Link>(
     alloc: Global,
-    setup: &Setup,
+    setup: &Shaped,
     domain: &mut Domain<L>,
     client: usize,
     op: u32,
@@ -504,7 +460,7 @@ fn carry<L: Link>(
 /// The client at that place makes a tpcall, its call number `op`.
 pub fn call<L: Link>(
     alloc: Global,
-    setup: &Setup,
+    setup: &Shaped,
     domain: &mut Domain<L>,
     client: usize,
     op: u32,

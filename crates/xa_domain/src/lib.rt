@@ -7,6 +7,7 @@ mod closing;
 mod handing;
 mod retiring;
 mod serving;
+mod shaped;
 mod starting;
 
 pub use serving::{Life, Served, serve};

@@ -19,6 +19,7 @@ ghost use Rattle.xa_domain.specs.Serving.{IsBuiltOp, IsBuilt, NoneRestarts, Serv
 use crate::calling::call;
 use crate::closing::close_all;
 use crate::handing::{Handed, Room, hand_back, room_for};
+use crate::shaped::Shaped;
 use crate::starting::start_all;
 use std::alloc::Global;
 use xa_link::{Gate, Link, Starter, Yard};
@@ -48,7 +49,7 @@ pub struct Served<Y: Yard> {
 // The client at that place makes its calls, and leaves.
 fn make_calls<L: Link>(
     alloc: Global,
-    setup: &Setup,
+    setup: &Shaped,
     domain: &mut Domain<L>,
     client: usize,
     ops: &[Op],
@@ -100,9 +101,10 @@ fn run<L: Link, S: Starter<L>>(
     ensures goes { OnOk result ((past : List Event) → NoneRestarts setup.now → Stands setup.now clients.now past domain.old → GoesOn setup.now clients.now domain.new) }
     ensures failed { IfErr result (λ halt. (past : List Event) → NoneRestarts setup.now → Stands setup.now clients.now past domain.old → IsHalted setup.now (length clients.now) halt domain.new) }
 {
+    let shaped = Shaped::new(alloc, setup)?;
     start_all(alloc, domain, starters)?;
     for (place, client) in clients.iter().enumerate() {
-        make_calls(alloc, setup, domain, place, client.ops.slice())?;
+        make_calls(alloc, &shaped, domain, place, client.ops.slice())?;
     }
     close_all(domain)
 }

@@ -1,7 +1,10 @@
-use Rattle.std.proofs.Common.{◌≡◌, ◌<◌, length, Some, refl, sym, ◌∙◌, ap, subst, All}
+use Rattle.std.proofs.Common.{◌≡◌, ◌<◌, true, length, Some, refl, sym, ◌∙◌, ap, subst, All}
 use Rattle.std.specs.Prelude.{slice_get}
 use Rattle.std.proofs.lemmas.Result.{IfErr-weaker, on_ok_weaker}
+use Rattle.xa_types.specs.declared.setup.Setup.{Setup}
+use Rattle.xa_types.specs.Configured.{is_configured}
 use Rattle.xa_script.specs.declared.script.Client.{Client as ScriptClient}
+use Rattle.xa_domain.specs.Standing.{IsHalted}
 use Rattle.xa_domain.specs.Serving.{IsBuiltOp}
 use Rattle.xa_tables.proofs.Kept.{stood_here, passed_on}
 use Rattle.xa_tables.proofs.Places.{on_ok_both}
@@ -31,7 +34,7 @@ make_calls-requires g c =
     let calls = subst (λ (x : ScriptClient). All IsBuiltOp x.ops × (length x.ops < 4294967296)) (sym c.index-clients-place.is) (c.requires.built.calls at.place client c.loop-place-test.true) in
     record {
       ready = at.invariant.runs.ready;
-      configured = c.requires.configured;
+      configured = subst (λ (s : Setup). is_configured s ≡ true) (sym c.in_ok-shaped.ensures) c.requires.configured;
       built = subst (λ ops. All IsBuiltOp ops) (sym c.slice.ensures) calls.0;
       few = subst (λ ops. length ops < 4294967296) (sym c.slice.ensures) calls.1;
       here = here_fresh c.args.setup.now clients at.place c.args.domain.now at.domain at.domain at.invariant.runs client is;
@@ -44,11 +47,12 @@ loop-place-preserved g c =
     let client = c.index-clients-place.result in
     let new = c.make_calls.new.domain in
     let its = c.in_ok-make_calls.ensures in
+    let same = c.in_ok-shaped.ensures in
     let is : slice_get clients at.place ≡ Some client = stood_here clients at.place client c.loop-place-test.true c.index-clients-place.is in
     record {
       tried = c.make_calls.ensures.attempts ∙ at.invariant.tried;
       runs = runs_more c.args.setup.now clients at.place c.args.domain.now at.domain new at.invariant.runs client is its.ready
-          (rw (← c.slice.ensures) its.gone) (λ script past none stands asked. its.goes script past none stands (rw c.slice.ensures asked));
+          (rw (← c.slice.ensures) its.gone) (λ script past none stands asked. rw (← same) (its.goes script past (rw same none) (rw same stands) (rw c.slice.ensures asked)));
     }
 
 pub close_all-requires : goal.close_all-requires
@@ -73,13 +77,13 @@ returns g c =
 
 pub returns-in_err-start_all : goal.returns-in_err-start_all
 returns-in_err-start_all g c =
-    let result = c.from_residual.result in
+    let result = c.from_residual-in_err-start_all.result in
     record {
       numbered = c.start_all.ensures.numbered;
       starters = c.start_all.ensures.starters;
-      over = none_done result _ _ c.from_residual.ensures.1;
-      goes = none_done result _ _ c.from_residual.ensures.1;
-      failed = passed_on result _ _ c.from_residual.ensures.1 (λ past none stands. c.in_err-start_all.ensures.failed c.args.setup.now c.args.clients.now past c.requires.configured none stands);
+      over = none_done result _ _ c.from_residual-in_err-start_all.ensures.1;
+      goes = none_done result _ _ c.from_residual-in_err-start_all.ensures.1;
+      failed = passed_on result _ _ c.from_residual-in_err-start_all.ensures.1 (λ past none stands. c.in_err-start_all.ensures.failed c.args.setup.now c.args.clients.now past c.requires.configured none stands);
     }
 
 pub returns-in_err-make_calls : goal.returns-in_err-make_calls
@@ -96,5 +100,7 @@ returns-in_err-make_calls g c =
       goes = none_done result _ _ c.from_residual-in_err-make_calls.ensures.1;
       failed = passed_on result _ _ c.from_residual-in_err-make_calls.ensures.1 (λ past none stands.
           let before = at.invariant.runs.goes past none stands in
-          c.in_err-make_calls.ensures.failed clients before.now none before.stands (rw c.slice.ensures (its_calls c.args.setup.now clients at.place c.args.domain.now at.domain at.domain at.invariant.runs client is)));
+          let same = c.in_ok-shaped.ensures in
+          subst (λ (s : Setup). IsHalted s (length clients) c.in_err-make_calls.field-0.0 c.make_calls.new.domain) same
+          (c.in_err-make_calls.ensures.failed clients before.now (rw same none) (rw same before.stands) (rw c.slice.ensures (its_calls c.args.setup.now clients at.place c.args.domain.now at.domain at.domain at.invariant.runs client is))));
     }
