@@ -30,6 +30,7 @@ use Rattle.xa_caller.specs.Unsent.{AimsAs, AimsAt, entry_in}
 use Rattle.xa_caller.proofs.Next.{same_kinds, row-service}
 use Rattle.xa_caller.proofs.Unsent.{at-all}
 use Rattle.xa_desk.specs.declared.domain.Domain.{Domain}
+use Rattle.xa_desk.proofs.Leading.{none_made}
 use Rattle.xa_desk.specs.declared.desk.Desk.{Desk}
 use Rattle.xa_desk.specs.Whole.{Whole, IsKnown}
 use Rattle.xa_desk.specs.Desks.{GoesOn, IsDesk, Leads}
@@ -87,7 +88,7 @@ module _ (d : Domain) (desk : Desk) (new : Caller) (found : FoundRows) (entry : 
 
   quiet : IsDesk d desk → IsQuiet d desk new
   quiet is = subst (IsQuiet d desk) (sym phase_alone) (record {
-    grew = record { setup = refl; clients = refl; id = refl; own = sym (append-nil desk.caller.work.own); stamp = omega arith };
+    grew = record { setup = refl; clients = refl; id = refl; own = sym (append-nil desk.caller.work.own); stamp = omega arith; made = none_made };
     seat = is.seat;
     takes = record { taken = λ k f here. here; filled = λ k. refl };
     least = refl;

@@ -34,18 +34,18 @@ use Rattle.xa_desk.specs.Desks.{IsDesk, Leads, queue_page}
 use Rattle.xa_desk.specs.Serving.{IsTaken, IsServing, IsToTell}
 use Rattle.xa_desk.proofs.Leading.{leads_trans}
 use Rattle.xa_desk.proofs.Stopping.{stop_leads, same_leads}
-use Rattle.xa_desk.proofs.Ending.{reworked, end_leads, names_its, closes_ticket, not_empty}
+use Rattle.xa_desk.proofs.Ending.{IsPlain, reworked, end_leads, names_its, closes_ticket, not_empty}
 
--- a death is no shutdown, and ends a request without a version of the board
+-- a death is no shutdown, and ends a request by itself
 not_shutdown : (cause : StopCause) → is_death cause ≡ true → cause ≡ Shutdown → ⊥
 not_shutdown cause death is = cc (sym (subst (λ c. is_death c ≡ true) is death))
 
-no_version : (cause : StopCause) → version_of (outcome_of cause) ≡ None
-no_version cause = by (is_starved cause)
+plain_death : (cause : StopCause) → IsPlain (outcome_of cause)
+plain_death cause = by (is_starved cause)
   where
-    by : (b : Bool) → version_of (cond b outcomes.Starved outcomes.Died) ≡ None
-    by true = refl
-    by false = refl
+    by : (b : Bool) → IsPlain (cond b outcomes.Starved outcomes.Died)
+    by true = (refl, tt)
+    by false = (refl, tt)
 
 -- what a server's worker has goes on with its slot, where no pass changed
 pub serving_on : (d : Domain) (queue : ℕ) (desk : Desk) (slot slot' : ServerSlot) (new : Working) → IsServing d queue slot desk → Stands slot' new → slot'.server ≡ slot.server → slot'.gone ≡ slot.gone
@@ -72,7 +72,7 @@ module _ (d : Domain) (queue : ℕ) (desk : Desk) (slot : ServerSlot) (cause : S
   busy_leads : (closing : Closing) (slot' : ServerSlot) (new : Working) → DiesBusy cause closing slot' slot new desk.caller.work → Leads d desk (reworked desk new)
   busy_leads closing slot' new dies =
       let number = serving.stands.tables.worker.number in
-      let ended = end_leads d queue desk slot dies.ended (outcome_of cause) dies.stamp desk.caller.work.room dies.between is serving (no_version cause) dies.ends in
+      let ended = end_leads d queue desk slot dies.ended (outcome_of cause) dies.stamp desk.caller.work.room dies.between is serving (plain_death cause) dies.ends in
       let server = ap (λ (s : ServerSlot). s.server) dies.ends.left in
       leads_trans d desk (reworked desk dies.between) (reworked desk new) ended
       (stop_leads d queue (reworked desk dies.between) (record dies.ended { hand = None }) slot' cause dies.stop new ended.desk
@@ -89,7 +89,7 @@ module _ (d : Domain) (queue : ℕ) (desk : Desk) (slot : ServerSlot) (cause : S
   pub died_leads : (slot' : ServerSlot) (new : Working) (r : Result Closing Worn) → IfOk r (λ closing. Dies cause closing slot' slot new desk.caller.work) → IfErr r (λ worn. DiesWorn cause worn slot' slot new desk.caller.work) → Leads d desk (reworked desk new)
   died_leads slot' new (Ok closing) dies worn = dies_leads slot.doing closing slot' new dies
   died_leads slot' new (Err end) dies (at, inl same) = subst (λ (w : Working). Leads d desk (reworked desk w)) (sym same.1) (same_leads d desk is)
-  died_leads slot' new (Err end) dies (at, inr ended) = end_leads d queue desk slot slot' (outcome_of cause) ended.0 desk.caller.work.room new is serving (no_version cause) ended.1
+  died_leads slot' new (Err end) dies (at, inr ended) = end_leads d queue desk slot slot' (outcome_of cause) ended.0 desk.caller.work.room new is serving (plain_death cause) ended.1
 
   dies_told : (doing : Doing) (closing : Closing) (slot' : ServerSlot) (new : Working) → DiesFrom doing cause closing slot' slot new desk.caller.work → IfSome closing.ticket (IsTicketOf d.cells) × (new.own ≡ [] → ⊥)
   dies_told (Busy generation request) closing slot' new dies =

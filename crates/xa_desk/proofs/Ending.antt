@@ -39,11 +39,12 @@ use Rattle.xa_server.specs.Doings.{life_in}
 use Rattle.xa_server.specs.Noting.{Notes, HaltsWith, with_room}
 use Rattle.xa_server.specs.Told.{NamesIts, IsBacked}
 use Rattle.xa_server.proofs.Telling.{finish_backed}
+use Rattle.xa_desk.specs.Made.{IsEnded}
 use Rattle.xa_desk.specs.declared.domain.Domain.{Domain}
 use Rattle.xa_desk.specs.declared.desk.Desk.{Desk}
 use Rattle.xa_desk.specs.Desks.{IsDesk, Leads}
 use Rattle.xa_desk.specs.Serving.{IsTaken, IsServing, IsToTell}
-use Rattle.xa_desk.proofs.Leading.{Grew, still_leads}
+use Rattle.xa_desk.proofs.Leading.{none_made, Grew, still_leads}
 use Rattle.xa_desk.proofs.Stopping.{event_leads, same_leads}
 
 abbrev pub reworked : Desk → Working → Desk
@@ -71,20 +72,24 @@ not_empty (y ∷ own) x new is none = cc (is, none)
 
 -- ---- an End
 
-no_version : (setup : Setup) (open_ : List RequestId) (value : Rval) (code : ℤ) (payload : Data) (sound : Bool) → version_of (if sound then returned value code payload else BadReturn) ≡ None
-no_version setup open_ value code payload false = refl
-no_version setup open_ Success code payload true = refl
-no_version setup open_ Fail code payload true = refl
-no_version setup open_ Exit code payload true = refl
+-- it has no version of the board, and is by no forward that failed
+abbrev pub IsPlain : Outcome → Type 0
+IsPlain outcome = (version_of outcome ≡ None) × IsEnded outcome
 
-pub end_leads : (d : Domain) (queue : ℕ) (desk : Desk) (slot slot' : ServerSlot) (outcome : Outcome) (stamp : Stamp) (room : ℕ) (new : Working) → IsDesk d desk → IsServing d queue slot desk → version_of outcome ≡ None
+plain_return : (value : Rval) (code : ℤ) (payload : Data) (sound : Bool) → IsPlain (if sound then returned value code payload else BadReturn)
+plain_return value code payload false = (refl, tt)
+plain_return Success code payload true = (refl, tt)
+plain_return Fail code payload true = (refl, tt)
+plain_return Exit code payload true = (refl, tt)
+
+pub end_leads : (d : Domain) (queue : ℕ) (desk : Desk) (slot slot' : ServerSlot) (outcome : Outcome) (stamp : Stamp) (room : ℕ) (new : Working) → IsDesk d desk → IsServing d queue slot desk → IsPlain outcome
     → Ends outcome stamp slot' slot new (record desk.caller.work { room = room }) → Leads d desk (reworked desk new)
-end_leads d queue desk slot slot' outcome stamp room new is serving none ends =
+end_leads d queue desk slot slot' outcome stamp room new is serving plain ends =
     let number = serving.stands.tables.worker.number in
     let booted = is.booted in
     let next = ends.noted.next in
     event_leads d desk stamp (End (record { request = ends.entry.request; server = slot.server; generation = life_in slot.doing; outcome = outcome })) room new ends.noted is
-    (ap CallerHome (ap (λ n. caller_of n slot.server.0) (sym is.clients) ∙ number)) (omega (arith, booted, next)) (λ whole on version some. cc (none, some)) (λ whole on. tt)
+    (ap CallerHome (ap (λ n. caller_of n slot.server.0) (sym is.clients) ∙ number)) plain.1 (omega (arith, booted, next)) (λ whole on version some. cc (plain.0, some)) (λ whole on. tt)
 
 -- ---- a return
 
@@ -92,14 +97,14 @@ pub halted_leads : (d : Domain) (desk : Desk) (n : ℕ) (new : Working) (halt : 
 halted_leads d desk n new NoMemory is same = subst (λ (w : Working). Leads d desk (reworked desk w)) (sym same) (same_leads d desk is)
 halted_leads d desk n new (Worn last) is worn =
     subst (λ (w : Working). Leads d desk (reworked desk w)) (sym worn.0)
-    (still_leads d desk (with_room n desk.caller.work) is (record { setup = refl; clients = refl; id = refl; own = sym (append-nil desk.caller.work.own); stamp = omega arith }) is.known_stamp)
+    (still_leads d desk (with_room n desk.caller.work) is (record { setup = refl; clients = refl; id = refl; own = sym (append-nil desk.caller.work.own); stamp = omega arith; made = none_made }) is.known_stamp)
 
 module _ (d : Domain) (queue : ℕ) (desk : Desk) (slot slot' : ServerSlot) (value : Rval) (code : ℤ) (payload : Data) (new : Working) (is : IsDesk d desk) (serving : IsServing d queue slot desk) where
   abbrev outcome : Outcome
   outcome = return_by desk.caller.work.setup (connections desk.caller.work.id.0 (theirs desk.caller.work)) value code payload
 
   pub finish_leads : (r : Result Closing Halt) → IfOk r (λ closing. Finishes outcome closing slot' slot new desk.caller.work) → IfErr r (HaltsWith 3 new desk.caller.work) → Leads d desk (reworked desk new)
-  finish_leads (Ok closing) f halted = end_leads d queue desk slot f.ended outcome f.stamp (max desk.caller.work.room 3) new is serving (no_version desk.caller.work.setup (connections desk.caller.work.id.0 (theirs desk.caller.work)) value code payload _) f.ends
+  finish_leads (Ok closing) f halted = end_leads d queue desk slot f.ended outcome f.stamp (max desk.caller.work.room 3) new is serving (plain_return value code payload _) f.ends
   finish_leads (Err halt) f halted = halted_leads d desk 3 new halt is halted
 
   pub finish_told : (r : Result Closing Halt) → IfOk r (λ closing. Finishes outcome closing slot' slot new desk.caller.work) → IfOk r (IsToTell d (reworked desk new))

@@ -1,8 +1,8 @@
 -- A queue without servers that goes down, and what still waits there: events of the domain at a queue.
-use Rattle.std.proofs.Common.{◌≡◌, ◌≤◌, ◌<◌, ℕ, suc, ◌+◌, ◌^◌, true, false, List, [], ◌∷◌, ◌++◌, map, reverse, length, Option, Some, None, Ok, Err, refl, sym, ◌∙◌, ap, subst, append-nil, arith}
+use Rattle.std.proofs.Common.{◌≡◌, ◌≤◌, ◌<◌, ℕ, suc, ◌+◌, ◌^◌, true, false, List, [], ◌∷◌, ◌++◌, map, reverse, length, Option, Some, None, Ok, Err, refl, sym, ◌∙◌, ap, subst, append-nil, append_assoc, arith}
 use Rattle.std.specs.Prelude.{slice_index_or, slice_set, IfSome, IsSome}
 use Rattle.std.specs.List.{All, Contains, flat_map}
-use Rattle.std.proofs.lemmas.List.Elements.{All-nil, All-cons, Contains-push}
+use Rattle.std.proofs.lemmas.List.Elements.{All-nil, All-cons, All-append, Contains-push}
 use Rattle.xa_types.specs.declared.ids.CallerId.{CallerId}
 use Rattle.xa_types.specs.declared.ids.QueueId.{QueueId}
 use Rattle.xa_types.specs.declared.stamp.Stamp.{Stamp}
@@ -47,7 +47,9 @@ use Rattle.xa_caller.specs.Serving.{noted_off}
 use Rattle.xa_server.specs.declared.closing.Closing.{Closing}
 use Rattle.xa_server.specs.Told.{IsBacked}
 use Rattle.xa_server.proofs.Telling.{sweep_backed}
+use Rattle.xa_desk.specs.Made.{IsMade}
 use Rattle.xa_desk.specs.declared.domain.Domain.{Domain}
+use Rattle.xa_desk.proofs.Leading.{one_made}
 use Rattle.xa_desk.specs.declared.desk.Desk.{Desk}
 use Rattle.xa_desk.specs.Whole.{Whole, entries_of}
 use Rattle.xa_desk.specs.Desks.{GoesOn, IsDesk, IsQueuePass, IsThere, Leads, queue_page}
@@ -113,9 +115,9 @@ module _ (d : Domain) (queue k : ℕ) (desk : Desk) (same : queue ≡ suc k) (le
       pub later : desk.caller.work.stamp.0 < out.stamp.0
       later = let is_next = ap (λ (s : Stamp). s.0) next in omega (arith, is_next)
 
-      pub domain_lead : home_of d.setup d.clients e ≡ QueueHome queue → IsBehind d.booted out.stamp e → ((whole : Whole) → GoesOn d whole desk → SawFronts d.setup d.clients (entries_of whole) out.stamp e (past_in desk.caller.work.own))
+      pub domain_lead : home_of d.setup d.clients e ≡ QueueHome queue → IsMade e → IsBehind d.booted out.stamp e → ((whole : Whole) → GoesOn d whole desk → SawFronts d.setup d.clients (entries_of whole) out.stamp e (past_in desk.caller.work.own))
           → ((whole : Whole) → GoesOn d whole desk → WasTold d.setup d.clients (entries_of whole) out.stamp (worker_events d.clients desk.caller.work.id.0 (past_in desk.caller.work.own)) e) → Leads d desk new
-      domain_lead home behind saw told =
+      domain_lead home kind behind saw told =
           let stamp = ap (λ (c : Caller). c.work.stamp) caller in
           let now = ap (λ (s : Stamp). s.0) stamp in
           let rises = later in
@@ -130,6 +132,7 @@ module _ (d : Domain) (queue k : ℕ) (desk : Desk) (same : queue ≡ suc k) (le
               id = ap (λ (c : Caller). c.work.id) caller;
               own = ap (λ (c : Caller). c.work.own) caller;
               stamp = omega (arith, rises, now);
+              made = one_made (record { stamp = out.stamp; event = out.event.value }) (subst IsMade (sym event) kind);
             };
             home = All-cons (λ (x : Stamped). home_of d.setup d.clients x.event ≡ QueueHome (k + 1)) (record { stamp = out.stamp; event = out.event.value }) [] (ap (home_of d.setup d.clients) event ∙ home ∙ ap QueueHome (same ∙ suc_is)) (All-nil (λ (x : Stamped). home_of d.setup d.clients x.event ≡ QueueHome (k + 1)));
             seat = ap (λ (c : Caller). c.seat) caller;
@@ -154,6 +157,14 @@ of_none desk new seen caller = record {
   own = ap (λ (c : Caller). c.work.own) caller ∙ sym (append-nil desk.caller.work.own);
   theirs = All-nil (λ (x : Stamped). IsOfDomain x.event);
   rest = caller ∙ ap (λ (s : Stamp). record desk.caller { work = record desk.caller.work { stamp = s; own = desk.caller.work.own } }) (ap (λ (c : Caller). c.work.stamp) (sym caller)) ∙ ap (λ (own : List Stamped). record desk.caller { work = record desk.caller.work { stamp = new.caller.work.stamp; own = own } }) (ap (λ (c : Caller). c.work.own) (sym caller));
+}
+
+pub of_both : (a b c : Desk) → OfDomain a b → OfDomain b c → OfDomain a c
+of_both a b c first second = record {
+  more = first.more ++ second.more;
+  own = second.own ∙ ap (λ (l : List Stamped). l ++ second.more) first.own ∙ append_assoc a.caller.work.own first.more second.more;
+  theirs = All-append (λ (x : Stamped). IsOfDomain x.event) first.more second.more first.theirs second.theirs;
+  rest = second.rest ∙ ap (λ (x : Caller). record x { work = record x.work { stamp = c.caller.work.stamp; own = c.caller.work.own } }) first.rest;
 }
 
 -- what the caller of a request that was swept is to be told

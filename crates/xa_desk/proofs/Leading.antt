@@ -1,9 +1,9 @@
 -- What a desk knows and shows goes on, as its worker notes an event at its own home.
-use Rattle.std.proofs.Common.{◌≡◌, ◌≤◌, ◌<◌, ℕ, ◌+◌, true, false, List, [], ◌∷◌, ◌++◌, map, reverse, Option, Some, None, inl, inr, refl, sym, ◌∙◌, ap, subst, append-nil, arith}
+use Rattle.std.proofs.Common.{◌≡◌, ◌≤◌, ◌<◌, ℕ, ◌+◌, Bool, true, false, cond, length, List, [], ◌∷◌, ◌++◌, map, reverse, Option, Some, None, inl, inr, refl, sym, ◌∙◌, ap, subst, append-nil, arith}
 use Rattle.std.specs.Prelude.{slice_index_or}
 use Rattle.std.proofs.lemmas.List.{append_assoc}
 use Rattle.std.specs.List.{All, Contains, filter}
-use Rattle.std.proofs.lemmas.List.Elements.{All-nil, All-cons, All-push, All-weaker, Contains-push, Contains-append_left}
+use Rattle.std.proofs.lemmas.List.Elements.{All-nil, All-cons, All-push, All-append, All-weaker, filter-append, Contains-push, Contains-append_left}
 use Rattle.xa_types.specs.declared.stamp.Stamp.{Stamp}
 use Rattle.xa_events.specs.declared.event.Event.{Event}
 use Rattle.xa_types.specs.declared.ids.CallerId.{CallerId}
@@ -15,13 +15,14 @@ use Rattle.xa_events.specs.Board.{published}
 use Rattle.xa_stamp.specs.declared.home.Stamped.{Stamped}
 use Rattle.xa_lock.specs.declared.pass.LockPass.{LockPass}
 use Rattle.xa_crew.specs.Seen.{past_in, IsBehind, SawFronts, WasTold}
-use Rattle.xa_crew.specs.Crew.{stands_at, TellsEach}
+use Rattle.xa_crew.specs.Crew.{MetAmong, stands_at, TellsEach}
 use Rattle.xa_crew.proofs.Growing.{page_stays}
 use Rattle.xa_cell.specs.declared.tokens.Seat.{Seat}
 use Rattle.xa_cell.specs.declared.view.Fill.{Fill}
 use Rattle.xa_cell.specs.Known.{known, IsSeatOf}
 use Rattle.xa_cell.specs.Views.{at}
 use Rattle.xa_held.specs.declared.kept_board.BoardNote.{BoardNote}
+use Rattle.xa_held.specs.declared.kept_board.BoardNote.TheVariants.{Opened, By, Looked}
 use Rattle.xa_held.specs.declared.kept_queue.QueueNote.{QueueNote}
 use Rattle.xa_held.specs.Joins.{changes_at, events_at}
 use Rattle.xa_lock.specs.Known.{known as page_of}
@@ -30,13 +31,27 @@ use Rattle.xa_work.proofs.Noting.{each-more}
 use Rattle.xa_caller.specs.declared.cargo.Filling.{Filling}
 use Rattle.xa_caller.specs.Caller.{Standing as Caller}
 use Rattle.xa_told.specs.Told.{StandAt}
-use Rattle.xa_server.specs.Told.{EndedFor, FilledByEnds}
+use Rattle.xa_server.specs.Told.{HasStamp, EndedFor, FilledByEnds}
 use Rattle.xa_server.proofs.Telling.{fillings_stay}
 use Rattle.xa_desk.specs.declared.domain.Domain.{Domain}
 use Rattle.xa_desk.specs.declared.desk.Desk.{Desk}
 use Rattle.xa_desk.specs.Whole.{Whole, entries_of, IsKnown}
-use Rattle.xa_desk.specs.Desks.{IsBoardPass, IsQueuePass, IsThere, GoesOn, Shows, IsDesk, Leads, board_page}
+use Rattle.xa_desk.specs.Made.{IsMade}
+use Rattle.xa_desk.specs.Desks.{IsAmong, IsGrounded, IsBoardPass, IsQueuePass, IsThere, GoesOn, Shows, IsDesk, Leads, board_page}
 use Rattle.xa_desk.proofs.Seating.{taken_before}
+
+-- the events are such as workers make
+abbrev pub AllMade : List Stamped → Type 0
+AllMade own = All (λ (x : Stamped). IsMade x.event) own
+
+abbrev pub AllAmong : Domain → List Stamped → Type 0
+AllAmong d own = All (λ (x : Stamped). IsAmong (length d.queues.items) (home_of d.setup d.clients x.event)) own
+
+pub none_made : AllMade []
+none_made = All-nil (λ (x : Stamped). IsMade x.event)
+
+pub one_made : (x : Stamped) → IsMade x.event → AllMade (x ∷ [])
+one_made x is = All-cons (λ (y : Stamped). IsMade y.event) x [] is none_made
 
 -- the work went on, by these events
 pub record Grew (w w' : Working) (more : List Stamped) : Type 0 where
@@ -45,6 +60,30 @@ pub record Grew (w w' : Working) (more : List Stamped) : Type 0 where
   pub id : w'.id ≡ w.id
   pub own : w'.own ≡ w.own ++ more
   pub stamp : w.stamp.0 ≤ w'.stamp.0
+  pub made : AllMade more
+
+-- and they stand where the domain has homes
+pub among_more : (d : Domain) (w w' : Working) (more : List Stamped) → Grew w w' more → AllAmong d more → AllAmong d w.own → AllAmong d w'.own
+among_more d w w' more grew new old = subst (AllAmong d) (sym {A = List Stamped} grew.own) (All-append (λ (x : Stamped). IsAmong (length d.queues.items) (home_of d.setup d.clients x.event)) w.own more old new)
+
+-- those of one home do if that is one
+pub among_at : (d : Domain) (home : Home) (more : List Stamped) → IsAmong (length d.queues.items) home → All (λ (x : Stamped). home_of d.setup d.clients x.event ≡ home) more → AllAmong d more
+among_at d home more is at = All-weaker (λ (x : Stamped). home_of d.setup d.clients x.event ≡ home) (λ (x : Stamped). IsAmong (length d.queues.items) (home_of d.setup d.clients x.event)) (λ x here. subst (IsAmong (length d.queues.items)) (sym here) is) more at
+
+pub made_more : (w w' : Working) (more : List Stamped) → Grew w w' more → AllMade w.own → AllMade w'.own
+made_more w w' more grew made = subst AllMade (sym {A = List Stamped} grew.own) (All-append (λ (x : Stamped). IsMade x.event) w.own more made grew.made)
+
+-- a stamp of an event stays one
+pub stamp_stays : (w w' : Working) (more : List Stamped) → Grew w w' more → (stamp : Stamp) → HasStamp w.own stamp → HasStamp w'.own stamp
+stamp_stays w w' more grew stamp has = (has.0, subst (λ (l : List Stamped). Contains l has.0) (sym {A = List Stamped} grew.own) (Contains-append_left w.own more has.0 has.1), has.2)
+
+grounded_one : (w w' : Working) (more : List Stamped) → Grew w w' more → (note : BoardNote) → IsGrounded w.own note → IsGrounded w'.own note
+grounded_one w w' more grew (Opened setup) is = tt
+grounded_one w w' more grew (By change) is = tt
+grounded_one w w' more grew (Looked look) is = elim is [ inl left ↦ inl left | inr has ↦ inr (stamp_stays w w' more grew look.stamp has) ]
+
+pub grounded_stay : (w w' : Working) (more : List Stamped) → Grew w w' more → (notes : List BoardNote) → All (IsGrounded w.own) notes → All (IsGrounded w'.own) notes
+grounded_stay w w' more grew notes all = All-weaker (IsGrounded w.own) (IsGrounded w'.own) (grounded_one w w' more grew) notes all
 
 -- what a worker shows of its next event
 pub record IsShown (d : Domain) (whole : Whole) (w : Working) (x : Stamped) : Type 0 where
@@ -66,6 +105,7 @@ module _ (d : Domain) where
       sees = is.sees;
       booted = is.booted;
       own = page_stays d.setup d.clients BoardHome _ w.own more is.own off ∙ ap (filter (stands_at d.setup d.clients BoardHome)) (sym grew.own);
+      grounded = grounded_stay w w' more grew (page_of pass).own is.grounded;
       reached = let later = grew.stamp in All-weaker (λ (x : Stamped). x.stamp.0 ≤ w.stamp.0) (λ (x : Stamped). x.stamp.0 ≤ w'.stamp.0) (λ x le. omega (arith, le, later)) (changes_at (page_of pass).seen) is.reached;
     }
 
@@ -89,15 +129,30 @@ module _ (d : Domain) where
   abbrev Saw : Whole → List Stamped → Type 0
   Saw whole own = AtEach (λ (y : Stamped) older. SawFronts d.setup d.clients (entries_of whole) y.stamp y.event (map (λ (z : Stamped). z.event) older)) (reverse own)
 
+  abbrev MetAt : Whole → List Stamped → Type 0
+  MetAt whole own = All (MetAmong d.setup (entries_of whole BoardHome)) (filter (stands_at d.setup d.clients BoardHome) own)
+
   abbrev IsNextOf : Whole → Stamped → Type 0
   IsNextOf whole y = (before : Stamp) × (y.stamp.0 ≡ before.0 + 1) × IsKnown whole before
 
-  pub shows_one_more : (whole : Whole) (w w' : Working) (x : Stamped) → Grew w w' (x ∷ []) → Shows d whole w → IsShown d whole w x → Shows d whole w'
-  shows_one_more whole w w' x grew shows shown = record {
+  pub met_one_more : (whole : Whole) (own : List Stamped) (x : Stamped) (b : Bool) → stands_at d.setup d.clients BoardHome x ≡ b → (b ≡ true → MetAmong d.setup (entries_of whole BoardHome) x) → MetAt whole own → MetAt whole (own ++ x ∷ [])
+  met_one_more whole own x b is met old =
+      let P : Stamped → Type 0 = MetAmong d.setup (entries_of whole BoardHome) in
+      let p : Stamped → Bool = stands_at d.setup d.clients BoardHome in
+      subst (All P) (sym (filter-append p own (x ∷ []) ∙ ap (λ (c : Bool). filter p own ++ cond c (x ∷ []) []) is)) (All-append P (filter p own) (cond b (x ∷ []) []) old (by P x b met))
+    where
+      by : (P : Stamped → Type 0) (x : Stamped) (b : Bool) → (b ≡ true → P x) → All P (cond b (x ∷ []) [])
+      by P x true met = All-cons P x [] (met refl) (All-nil P)
+      by P x false met = All-nil P
+
+  -- what stands at the board met what is asked there
+  pub shows_one_more : (whole : Whole) (w w' : Working) (x : Stamped) → Grew w w' (x ∷ []) → (stands_at d.setup d.clients BoardHome x ≡ true → MetAmong d.setup (entries_of whole BoardHome) x) → Shows d whole w → IsShown d whole w x → Shows d whole w'
+  shows_one_more whole w w' x grew met shows shown = record {
     behind = subst (All (λ (y : Stamped). IsBehind d.booted y.stamp y.event)) (sym {A = List Stamped} grew.own) (All-push (λ (y : Stamped). IsBehind d.booted y.stamp y.event) w.own x shows.behind shown.behind);
     saw = subst (Saw whole) (sym {A = List Stamped} grew.own) (each-more (λ (y : Stamped) (past : List Event). SawFronts d.setup d.clients (entries_of whole) y.stamp y.event past) w.own x shows.saw shown.saw);
     told = subst (λ (own : List Stamped). TellsEach d.setup d.clients (entries_of whole) w'.id.0 own) (sym {A = List Stamped} grew.own) (subst (λ (id : CallerId). TellsEach d.setup d.clients (entries_of whole) id.0 (w.own ++ x ∷ [])) (sym grew.id)
         (each-more (λ (y : Stamped) (past : List Event). WasTold d.setup d.clients (entries_of whole) y.stamp (worker_events d.clients w.id.0 past) y.event) w.own x shows.told shown.told));
+    met = subst (MetAt whole) (sym {A = List Stamped} grew.own) (met_one_more whole w.own x (stands_at d.setup d.clients BoardHome x) refl met shows.met);
     next = subst (All (IsNextOf whole)) (sym {A = List Stamped} grew.own) (All-push (IsNextOf whole) w.own x shows.next (shown.before, shown.next, shown.known_before));
   }
 
@@ -108,6 +163,7 @@ module _ (d : Domain) where
         behind = subst (All (λ (y : Stamped). IsBehind d.booted y.stamp y.event)) (sym {A = List Stamped} own) shows.behind;
         saw = subst (Saw whole) (sym {A = List Stamped} own) shows.saw;
         told = subst (λ (l : List Stamped). TellsEach d.setup d.clients (entries_of whole) w'.id.0 l) (sym {A = List Stamped} own) (subst (λ (id : CallerId). TellsEach d.setup d.clients (entries_of whole) id.0 w.own) (sym grew.id) shows.told);
+        met = subst (MetAt whole) (sym {A = List Stamped} own) shows.met;
         next = subst (All (IsNextOf whole)) (sym {A = List Stamped} own) shows.next;
       }
 
@@ -153,9 +209,11 @@ module _ (d : Domain) where
         least = notes.least;
         count = is.count;
         queues = λ k low. there (IsQueuePass d desk.caller.work k) (IsQueuePass d new.work k) (slice_index_or desk.queues.items k None) (queue_pass_stays desk.caller.work new.work (x ∷ []) notes.grew k (elsewhere (QueueHome (k + 1)) refl)) (is.queues k low);
+        made = made_more desk.caller.work new.work (x ∷ []) notes.grew is.made;
+        among = among_more d desk.caller.work new.work (x ∷ []) notes.grew (among_at d (CallerHome desk.caller.work.id.0) (x ∷ []) tt (All-cons (λ (y : Stamped). home_of d.setup d.clients y.event ≡ CallerHome desk.caller.work.id.0) x [] notes.home (All-nil (λ (y : Stamped). home_of d.setup d.clients y.event ≡ CallerHome desk.caller.work.id.0)))) is.among;
         filled = λ k. subst (All (EndedFor new.work.own)) (sym {A = List (Fill Filling)} (notes.filled k)) (subst (λ (l : List Stamped). FilledByEnds l (known desk.caller.seat)) (sym {A = List Stamped} notes.grew.own) (fillings_stay desk.caller.work.own (x ∷ []) (known desk.caller.seat) is.filled) k);
         known_stamp = λ whole on. inr (inl (home_of d.setup d.clients x.event, (x, on.stand x (subst (λ (l : List Stamped). Contains l x) (sym {A = List Stamped} notes.grew.own) (Contains-push desk.caller.work.own x)), sym notes.last)));
-        shows = λ whole on. shows_one_more whole desk.caller.work new.work x notes.grew (is.shows whole (own_before whole on)) (shown whole on);
+        shows = λ whole on. shows_one_more whole desk.caller.work new.work x notes.grew (λ there_. absurd (cc (ap (λ h. same_home h BoardHome) notes.home, there_))) (is.shows whole (own_before whole on)) (shown whole on);
       };
       own = (x ∷ [], notes.grew.own);
       before = own_before;
@@ -197,6 +255,8 @@ module _ (d : Domain) where
           least = is.least;
           count = is.count;
           queues = λ k low. there (IsQueuePass d desk.caller.work k) (IsQueuePass d w k) (slice_index_or desk.queues.items k None) (queue_pass_stays desk.caller.work w [] grew k (All-nil (λ (y : Stamped). stands_at d.setup d.clients (QueueHome (k + 1)) y ≡ false))) (is.queues k low);
+          made = made_more desk.caller.work w [] grew is.made;
+          among = subst (AllAmong d) (sym {A = List Stamped} own) is.among;
           filled = subst (λ (l : List Stamped). FilledByEnds l (known desk.caller.seat)) (sym {A = List Stamped} own) is.filled;
           known_stamp = λ whole on. is_known whole (back whole on);
           shows = λ whole on. shows_still whole desk.caller.work w grew (is.shows whole (back whole on));

@@ -63,7 +63,7 @@ module _ (d : Domain) (queue k : ℕ) (desk : Desk) (slot : ServerSlot) (same : 
       let booted = is.booted in
       let suc_is : suc k ≡ k + 1 = omega arith in
       notes_lead d queue k desk slot same is serving p was new p' passes board maker done.noted last left reaches lock at of next caller (Gone server) left.how.0.event_is
-      (ap QueueHome (ap (λ s. queue_of d.setup s.0) serves ∙ serving.its ∙ same ∙ suc_is)) (omega (arith, rises, booted)) (λ whole on. tt) (λ whole on. tt)
+      (ap QueueHome (ap (λ s. queue_of d.setup s.0) serves ∙ serving.its ∙ same ∙ suc_is)) tt (omega (arith, rises, booted)) (λ whole on. tt) (λ whole on. tt)
 
   there : slice_index_or new.queues.items k None ≡ Some p'
   there = now_there d desk new k p p' is (low d queue k desk slot same is serving p was) was passes board

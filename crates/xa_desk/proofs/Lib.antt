@@ -11,6 +11,9 @@ pub mod Falling
 pub mod Dying
 pub mod Starting
 pub mod Quiet
+pub mod Changed
+pub mod Cleared
+pub mod Parting
 pub mod Fitting
 pub mod Refusing
 pub mod Showing

@@ -3,7 +3,7 @@ use Rattle.std.proofs.Common.{◌≡◌, ◌≤◌, ◌<◌, ℕ, ◌+◌, ◌^�
 use Rattle.std.specs.List.{All, Contains, filter}
 use Rattle.std.specs.Str.{bytes_eq}
 use Rattle.std.proofs.lemmas.Bool.{and_parts}
-use Rattle.std.proofs.lemmas.List.Elements.{All-head, All-tail, All-weaker, All-contains, All-contains_itself, filter_passes}
+use Rattle.std.proofs.lemmas.List.Elements.{All-nil, All-head, All-tail, All-weaker, All-contains, All-contains_itself, filter_passes}
 use Rattle.xa_types.specs.declared.data.Data.{Data}
 use Rattle.xa_types.specs.declared.row.Row.{Row}
 use Rattle.xa_types.specs.declared.setup.Setup.{Setup}
@@ -34,7 +34,7 @@ use Rattle.xa_caller.specs.Caller.{Standing as Caller}
 use Rattle.xa_desk.specs.declared.domain.Domain.{Domain}
 use Rattle.xa_desk.specs.declared.desk.Desk.{Desk}
 use Rattle.xa_desk.specs.Whole.{Whole, entries_of}
-use Rattle.xa_desk.specs.Desks.{IsDomain, GoesOn, IsDesk, Leads, page_in}
+use Rattle.xa_desk.specs.Desks.{IsGrounded, IsDomain, GoesOn, IsDesk, Leads, page_in}
 use Rattle.xa_desk.specs.Found.{SawOnBoard, HasFound}
 use Rattle.xa_desk.proofs.Boarding.{board_front, board_before, board_seen_leads, reach_known}
 
@@ -64,7 +64,7 @@ module _ (d : Domain) (old new : Desk) (p p' : LockPass BoardNote) (name : List 
   count_is = version_is ∙ ap (λ (l : List Stamped). published (past_in l)) changes_are ∙ looks.reads.changes ∙ ap length (sym changes_are)
 
   pub look_leads : IsPassOf d.board p' → Leads d old new
-  look_leads lock = board_seen_leads d old new p p' is was now queues [] looks refl last lock caller reaches.each (λ whole on. reach_known d whole new p' now on last reaches)
+  look_leads lock = board_seen_leads d old new p p' is was now queues [] looks refl (All-nil (IsGrounded old.caller.work.own)) last lock caller reaches.each (λ whole on. reach_known d whole new p' now on last reaches)
 
   later : (stamp : Stamp) → new.caller.work.stamp.0 < stamp.0 → 0 < found.version → found.stamp.0 < stamp.0
   later stamp less more =
@@ -112,6 +112,8 @@ looks_as p p' name answer found v = record {
   old = v.old;
   new = v.new;
   knew = v.knew;
+  was = v.was;
+  read = v.read;
   setup = v.setup;
   same = v.same;
   first = v.first;

@@ -42,6 +42,7 @@ use Rattle.xa_caller.specs.Phases.{just_in}
 use Rattle.xa_caller.specs.Unsent.{ChecksAs}
 use Rattle.xa_caller.proofs.Next.{found-all, sound_ask}
 use Rattle.xa_told.proofs.Calls.{began_keeps, full_keeps}
+use Rattle.xa_desk.specs.Made.{IsRefusal}
 use Rattle.xa_desk.specs.declared.domain.Domain.{Domain}
 use Rattle.xa_desk.specs.declared.desk.Desk.{Desk}
 use Rattle.xa_desk.specs.Whole.{Whole, entries_of, IsKnown}
@@ -49,7 +50,7 @@ use Rattle.xa_desk.specs.Desks.{GoesOn, IsDesk, Leads}
 use Rattle.xa_desk.specs.Found.{HasFound, IsAimed}
 use Rattle.xa_desk.specs.Steps.{FitsOn}
 use Rattle.xa_desk.proofs.Fitting.{its_events, IsRead, no_more_fits}
-use Rattle.xa_desk.proofs.Leading.{Grew}
+use Rattle.xa_desk.proofs.Leading.{none_made, Grew}
 use Rattle.xa_desk.proofs.Quiet.{IsQuiet, keeps_on, quiet_before, quiet_leads}
 use Rattle.xa_desk.proofs.Refusing.{IsSame, same_as, refuse_leads, refuse_fits}
 use Rattle.xa_desk.proofs.Staying.{found_stays}
@@ -94,7 +95,7 @@ module _ (d : Domain) (desk : Desk) (found : FoundRows) (op : ℕ) (ask : Ask) (
     quiet =
         let made = makes.made in
         record {
-          grew = record { setup = ap (λ (c : Caller). c.work.setup) made; clients = ap (λ (c : Caller). c.work.clients) made; id = ap (λ (c : Caller). c.work.id) made; own = ap (λ (c : Caller). c.work.own) made ∙ sym (append-nil desk.caller.work.own); stamp = let now = ap (λ (c : Caller). c.work.stamp.0) made in omega (arith, now) };
+          grew = record { setup = ap (λ (c : Caller). c.work.setup) made; clients = ap (λ (c : Caller). c.work.clients) made; id = ap (λ (c : Caller). c.work.id) made; own = ap (λ (c : Caller). c.work.own) made ∙ sym (append-nil desk.caller.work.own); stamp = let now = ap (λ (c : Caller). c.work.stamp.0) made in omega (arith, now); made = none_made };
           seat = seat;
           takes = keeps_on (known desk.caller.seat) (known new.seat) (began_keeps d.cells _ desk.caller.seat new.seat makes.draft.asked.place prepared.entry.cargo.ticket makes.began);
           least = ap (λ (c : Caller). c.least) made;
@@ -133,7 +134,7 @@ module _ (d : Domain) (desk : Desk) (found : FoundRows) (op : ℕ) (ask : Ask) (
   -- ---- a call that was refused
 
   -- by the version that was found
-  module _ (fault : Fault) (stamp : Stamp) (refuses : Refuses op fault (Version found.version) stamp new desk.caller) where
+  module _ (fault : Fault) (stamp : Stamp) (kind : IsRefusal fault (Version found.version)) (refuses : Refuses op fault (Version found.version) stamp new desk.caller) where
     later : desk.caller.work.stamp.0 < stamp.0
     later = let next = refuses.next in omega (arith, next)
 
@@ -142,12 +143,12 @@ module _ (d : Domain) (desk : Desk) (found : FoundRows) (op : ℕ) (ask : Ask) (
         weaker_front (entries_of whole BoardHome) stamp (λ past. (found.version ≤ published past) × (listed_in d.setup past found.version ask.service false ≡ found.rows)) (λ past. found.version ≤ published past) (λ past shows. shows.0) (has.listed whole on stamp later)
 
     pub version_leads : Leads d desk Next
-    version_leads = refuse_leads d desk desk.caller new op fault (Version found.version) stamp is (same_as d desk is) refuses has.seen version_saw (λ whole on. tt)
+    version_leads = refuse_leads d desk desk.caller new op fault (Version found.version) stamp is (same_as d desk is) refuses has.seen kind version_saw (λ whole on. tt)
 
     pub version_fits : IsRead d desk → just_in desk.caller.phase ≡ None → (P : List Row → Type 0) → P found.rows
         → ((whole : Whole) → SawListed d.setup d.clients (entries_of whole) stamp found.version ask.service false P → AskRefusedOwn d.setup d.clients (entries_of whole) stamp desk.caller.work.id.0 (as_call d.setup ask) ask fault (Version found.version) (its_events d desk)) → FitsOn d op ask desk Next
     version_fits reads none P holds refused =
-        refuse_fits d desk desk.caller new op fault (Version found.version) stamp is (same_as d desk is) refuses has.seen version_saw (λ whole on. tt) reads none ask (λ whole on. refused whole (listed_shows d found ask.service desk P has holds whole on stamp later))
+        refuse_fits d desk desk.caller new op fault (Version found.version) stamp is (same_as d desk is) refuses has.seen kind version_saw (λ whole on. tt) reads none ask (λ whole on. refused whole (listed_shows d found ask.service desk P has holds whole on stamp later))
 
   -- with all cells in use
   module _ (stamp : Stamp) (seat : IsSeatOf d.cells new.seat) (limits : Limits op stamp new desk.caller) where
@@ -158,19 +159,19 @@ module _ (d : Domain) (desk : Desk) (found : FoundRows) (op : ℕ) (ask : Ask) (
     same = record { work = refl; seat = subst (IsSeatOf d.cells) (ap (λ (c : Caller). c.seat) limits.refuses.made) seat; takes = keeps_on (known desk.caller.seat) (known limits.seat) (full_keeps desk.caller.seat limits.seat limits.taken); least = refl }
 
     pub limit_leads : Leads d desk Next
-    limit_leads = refuse_leads d desk Left new op Limit (Cells desk.caller.seat.count) stamp is same limits.refuses tt (λ whole on. tt) (λ whole on. tt)
+    limit_leads = refuse_leads d desk Left new op Limit (Cells desk.caller.seat.count) stamp is same limits.refuses tt tt (λ whole on. tt) (λ whole on. tt)
 
     pub limit_fits : IsRead d desk → just_in desk.caller.phase ≡ None → FitsOn d op ask desk Next
-    limit_fits reads none = refuse_fits d desk Left new op Limit (Cells desk.caller.seat.count) stamp is same limits.refuses tt (λ whole on. tt) (λ whole on. tt) reads none ask (λ whole on. (valid, refl))
+    limit_fits reads none = refuse_fits d desk Left new op Limit (Cells desk.caller.seat.count) stamp is same limits.refuses tt tt (λ whole on. tt) (λ whole on. tt) reads none ask (λ whole on. (valid, refl))
 
   turned_leads : (stamp : Stamp) → TurnsDown op found (stops.Refused stamp) new desk.caller → Leads d desk Next
-  turned_leads stamp (inl down) = version_leads NoEnt stamp down.1
-  turned_leads stamp (inr down) = version_leads IType stamp down.1
+  turned_leads stamp (inl down) = version_leads NoEnt stamp tt down.1
+  turned_leads stamp (inr down) = version_leads IType stamp tt down.1
 
   turned_fits : (stamp : Stamp) → find (λ (row : Row). is_accepted d.setup row.accepts (kind_of ask.payload)) found.rows ≡ None → TurnsDown op found (stops.Refused stamp) new desk.caller → IsRead d desk → just_in desk.caller.phase ≡ None → FitsOn d op ask desk Next
-  turned_fits stamp none (inl down) reads idle = version_fits NoEnt stamp down.1 reads idle (λ rows. rows ≡ []) down.0 (λ whole saw. (valid, saw))
+  turned_fits stamp none (inl down) reads idle = version_fits NoEnt stamp tt down.1 reads idle (λ rows. rows ≡ []) down.0 (λ whole saw. (valid, saw))
   turned_fits stamp none (inr down) reads idle =
-      version_fits IType stamp down.1 reads idle (λ rows. (rows ≡ [] → ⊥) × (is_accepted_by d.setup ask.payload rows ≡ false)) (down.0, none_passes (λ (row : Row). is_accepted d.setup row.accepts (kind_of ask.payload)) found.rows none) (λ whole saw. (valid, saw))
+      version_fits IType stamp tt down.1 reads idle (λ rows. (rows ≡ [] → ⊥) × (is_accepted_by d.setup ask.payload rows ≡ false)) (down.0, none_passes (λ (row : Row). is_accepted d.setup row.accepts (kind_of ask.payload)) found.rows none) (λ whole saw. (valid, saw))
 
   pub stop_leads : (stop : Stop) → IsSeatOf d.cells new.seat → StopsAs d.setup op ask.payload found stop new desk.caller → Leads d desk Next
   stop_leads (stops.Refused stamp) seat (inl down) = turned_leads stamp down.1
@@ -186,11 +187,11 @@ module _ (d : Domain) (desk : Desk) (found : FoundRows) (op : ℕ) (ask : Ask) (
 
 module _ (d : Domain) (desk : Desk) (op : ℕ) (ask : Ask) (is : IsDesk d desk) (invalid : is_invalid_call d.setup ask ≡ true) (new : Caller) where
   pub check_leads : (stop : Stop) → ChecksAs op stop new desk.caller → Leads d desk (record desk { caller = new })
-  check_leads (stops.Refused stamp) refuses = refuse_leads d desk desk.caller new op Inval Argument stamp is (same_as d desk is) refuses tt (λ whole on. tt) (λ whole on. tt)
+  check_leads (stops.Refused stamp) refuses = refuse_leads d desk desk.caller new op Inval Argument stamp is (same_as d desk is) refuses tt tt (λ whole on. tt) (λ whole on. tt)
   check_leads (stops.Halt halt) kept = subst (λ (c : Caller). Leads d desk (record desk { caller = c })) (sym kept.1) (same_leads d desk is)
 
   pub check_fits : (stop : Stop) → IsRead d desk → just_in desk.caller.phase ≡ None → ChecksAs op stop new desk.caller → FitsOn d op ask desk (record desk { caller = new })
-  check_fits (stops.Refused stamp) reads idle refuses = refuse_fits d desk desk.caller new op Inval Argument stamp is (same_as d desk is) refuses tt (λ whole on. tt) (λ whole on. tt) reads idle ask (λ whole on. invalid)
+  check_fits (stops.Refused stamp) reads idle refuses = refuse_fits d desk desk.caller new op Inval Argument stamp is (same_as d desk is) refuses tt tt (λ whole on. tt) (λ whole on. tt) reads idle ask (λ whole on. invalid)
   check_fits (stops.Halt halt) reads idle kept = subst (λ (c : Caller). FitsOn d op ask desk (record desk { caller = c })) (sym kept.1) (λ ops its fits. fits)
 
 -- ---- by what a call answers

@@ -23,7 +23,7 @@ use Rattle.xa_desk.specs.declared.domain.Domain.{Domain}
 use Rattle.xa_desk.specs.declared.desk.Desk.{Desk}
 use Rattle.xa_desk.specs.Whole.{Whole, entries_of, IsKnown}
 use Rattle.xa_desk.specs.Desks.{IsBoardPass, IsQueuePass, GoesOn, IsDesk, Leads, board_page}
-use Rattle.xa_desk.proofs.Leading.{Grew, board_pass_stays, queue_pass_stays, there, shows_still}
+use Rattle.xa_desk.proofs.Leading.{AllAmong, made_more, Grew, board_pass_stays, queue_pass_stays, there, shows_still}
 use Rattle.xa_desk.proofs.Seating.{taken_before}
 
 -- what the one seat took the other did too, and it filled no more
@@ -76,6 +76,8 @@ module _ (d : Domain) (desk : Desk) (new : Caller) (quiet : IsQuiet d desk new) 
           least = subst (λ (n : ℕ). n ≤ published (past_in (changes_at (board_page desk).seen))) (sym quiet.least) is.least;
           count = is.count;
           queues = λ k low. there d (IsQueuePass d w k) (IsQueuePass d new.work k) (slice_index_or desk.queues.items k None) (queue_pass_stays d w new.work [] grew k (All-nil (λ (y : Stamped). stands_at d.setup d.clients (QueueHome (k + 1)) y ≡ false))) (is.queues k low);
+          made = made_more w new.work [] grew is.made;
+          among = subst (AllAmong d) (sym {A = List Stamped} own_same) is.among;
           filled = filled_on new.work.own (known desk.caller.seat) (known new.seat) quiet.takes (subst (λ (l : List Stamped). FilledByEnds l (known desk.caller.seat)) (sym {A = List Stamped} own_same) is.filled);
           known_stamp = is_known;
           shows = λ whole on. shows_still d whole w new.work grew (is.shows whole (quiet_before whole on));

@@ -22,12 +22,13 @@ use Rattle.xa_caller.specs.Caller.{Standing as Caller}
 use Rattle.xa_caller.specs.Changes.{refused, Refuses}
 use Rattle.xa_caller.specs.Phases.{just_in, least_by}
 use Rattle.xa_desk.specs.declared.domain.Domain.{Domain}
+use Rattle.xa_desk.specs.Made.{IsRefusal}
 use Rattle.xa_desk.specs.declared.desk.Desk.{Desk}
 use Rattle.xa_desk.specs.Whole.{Whole, entries_of}
 use Rattle.xa_desk.specs.Desks.{GoesOn, IsDesk, Leads, board_page}
 use Rattle.xa_desk.specs.Steps.{FitsOn}
 use Rattle.xa_desk.proofs.Fitting.{its_events, IsRead, call_over, one_more_fits}
-use Rattle.xa_desk.proofs.Leading.{Grew, NotesOwn, own_before, own_leads}
+use Rattle.xa_desk.proofs.Leading.{one_made, Grew, NotesOwn, own_before, own_leads}
 use Rattle.xa_desk.proofs.Quiet.{TakesOn}
 
 least_low : (version : Option ℕ) (least seen : ℕ) → least ≤ seen → IfSome version (λ v. v ≤ seen) → least_by version least ≤ seen
@@ -45,7 +46,7 @@ pub same_as : (d : Domain) (desk : Desk) → IsDesk d desk → IsSame d desk des
 same_as d desk is = record { work = refl; seat = is.seat; takes = record { taken = λ k f here. here; filled = λ k. refl }; least = refl }
 
 module _ (d : Domain) (desk : Desk) (left new : Caller) (op : ℕ) (fault : Fault) (evidence : Evidence) (stamp : Stamp) (is : IsDesk d desk) (same : IsSame d desk left) (refuses : Refuses op fault evidence stamp new left)
-    (shown : IfSome (version_in evidence) (λ v. v ≤ published (past_in (changes_at (board_page desk).seen)))) where
+    (shown : IfSome (version_in evidence) (λ v. v ≤ published (past_in (changes_at (board_page desk).seen)))) (kind : IsRefusal fault evidence) where
   abbrev One : Stamped
   One = record { stamp = stamp; event = refused op fault evidence left }
 
@@ -63,6 +64,7 @@ module _ (d : Domain) (desk : Desk) (left new : Caller) (op : ℕ) (fault : Faul
           id = ap (λ (c : Caller). c.work.id) made ∙ ap (λ (w : Working). w.id) same.work;
           own = ap (λ (c : Caller). c.work.own) made ∙ ap (λ (w : Working). w.own ++ One ∷ []) same.work;
           stamp = omega (arith, next, stood, now);
+          made = one_made One kind;
         };
         last = ap (λ (c : Caller). c.work.stamp) made;
         home = ap (λ (w : Working). CallerHome w.id.0) same.work;

@@ -41,7 +41,7 @@ use Rattle.xa_desk.specs.Whole.{Whole, entries_of, IsKnown}
 use Rattle.xa_desk.specs.Desks.{GoesOn, IsDesk, Leads}
 use Rattle.xa_desk.specs.Steps.{FitsOn}
 use Rattle.xa_desk.proofs.Fitting.{IsRead, no_more_fits, one_more_fits}
-use Rattle.xa_desk.proofs.Leading.{Grew, NotesOwn, own_before, own_leads}
+use Rattle.xa_desk.proofs.Leading.{one_made, none_made, Grew, NotesOwn, own_before, own_leads}
 use Rattle.xa_desk.proofs.Quiet.{TakesOn, IsQuiet, keeps_on, quiet_before, quiet_leads}
 use Rattle.xa_desk.proofs.Visiting.{larger_known}
 
@@ -103,6 +103,7 @@ module _ (d : Domain) (desk : Desk) (new : Caller) (is : IsDesk d desk) (its : I
             id = ap (λ (c : Caller). c.work.id) made;
             own = ap (λ (c : Caller). c.work.own) made;
             stamp = omega (arith, next, now);
+            made = one_made One tt;
           };
           last = ap (λ (c : Caller). c.work.stamp) made;
           home = refl;
@@ -159,7 +160,7 @@ module _ (d : Domain) (desk : Desk) (new : Caller) (is : IsDesk d desk) (its : I
   step_leads expect steps.Wait waits =
       let made = waits.3 in
       let kept = keeps_on (known desk.caller.seat) (known new.seat) (subst (Keeps (known desk.caller.seat)) (sym waits.2) (looked_keeps waits.0.place.cell 1 (known desk.caller.seat))) in
-      let grew : Grew desk.caller.work new.work [] = subst (λ (c : Caller). Grew desk.caller.work c.work []) (sym made) (record { setup = refl; clients = refl; id = refl; own = sym (append-nil desk.caller.work.own); stamp = omega arith }) in
+      let grew : Grew desk.caller.work new.work [] = subst (λ (c : Caller). Grew desk.caller.work c.work []) (sym made) (record { setup = refl; clients = refl; id = refl; own = sym (append-nil desk.caller.work.own); stamp = omega arith; made = none_made }) in
       let least = ap (λ (c : Caller). c.least) made in
       let now = ap (λ (c : Caller). c.work.stamp) made in
       (silent_leads kept desk.caller.work.stamp grew least now (λ whole on back. is.known_stamp whole back), λ reads ask same. silent_fits kept desk.caller.work.stamp grew least now (λ whole on back. is.known_stamp whole back) desk.caller.op ask)
@@ -167,7 +168,7 @@ module _ (d : Domain) (desk : Desk) (new : Caller) (is : IsDesk d desk) (its : I
       let made = loses.made in
       let seen : Stamp = (seeing loses.filling.stamp desk.caller.work).stamp in
       let kept = takes loses.sent.place.cell loses.filling loses.took in
-      let grew : Grew desk.caller.work new.work [] = subst (λ (c : Caller). Grew desk.caller.work c.work []) (sym made) (record { setup = refl; clients = refl; id = refl; own = sym (append-nil desk.caller.work.own); stamp = omega arith }) in
+      let grew : Grew desk.caller.work new.work [] = subst (λ (c : Caller). Grew desk.caller.work c.work []) (sym made) (record { setup = refl; clients = refl; id = refl; own = sym (append-nil desk.caller.work.own); stamp = omega arith; made = none_made }) in
       let least = ap (λ (c : Caller). c.least) made in
       let now = ap (λ (c : Caller). c.work.stamp) made in
       let is_known : (whole : Whole) → GoesOn d whole Next → GoesOn d whole desk → IsKnown whole seen = λ whole on back. larger_known whole desk.caller.work.stamp loses.filling.stamp (is.known_stamp whole back) (stamp_known loses.sent.place.cell loses.filling loses.took loses.reply loses.says whole on) in
@@ -175,7 +176,7 @@ module _ (d : Domain) (desk : Desk) (new : Caller) (is : IsDesk d desk) (its : I
   step_leads expect steps.Halted abandons =
       let made = abandons.made in
       let kept = takes abandons.sent.place.cell abandons.filling abandons.took in
-      let grew : Grew desk.caller.work new.work [] = subst (λ (c : Caller). Grew desk.caller.work c.work []) (sym made) (record { setup = refl; clients = refl; id = refl; own = sym (append-nil desk.caller.work.own); stamp = omega arith }) in
+      let grew : Grew desk.caller.work new.work [] = subst (λ (c : Caller). Grew desk.caller.work c.work []) (sym made) (record { setup = refl; clients = refl; id = refl; own = sym (append-nil desk.caller.work.own); stamp = omega arith; made = none_made }) in
       let least = ap (λ (c : Caller). c.least) made in
       let now = ap (λ (c : Caller). c.work.stamp) made in
       (silent_leads kept desk.caller.work.stamp grew least now (λ whole on back. is.known_stamp whole back), λ reads ask same. silent_fits kept desk.caller.work.stamp grew least now (λ whole on back. is.known_stamp whole back) desk.caller.op ask)

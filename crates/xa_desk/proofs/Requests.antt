@@ -62,7 +62,7 @@ module _ (d : Domain) (queue k : ℕ) (desk : Desk) (slot : ServerSlot) (same : 
       let booted = is.booted in
       let suc_is : suc k ≡ k + 1 = omega arith in
       notes_lead d queue k desk slot same is serving p was new p' passes board maker out.noted last took reaches lock at of next caller (taken out.entry server generation took.old.queue) event
-      (ap QueueHome (ap (λ s. queue_of d.setup s.0) serves ∙ serving.its ∙ same ∙ suc_is)) (omega (arith, rises, booted)) (λ whole on. tt) (λ whole on. tt)
+      (ap QueueHome (ap (λ s. queue_of d.setup s.0) serves ∙ serving.its ∙ same ∙ suc_is)) tt (omega (arith, rises, booted)) (λ whole on. tt) (λ whole on. tt)
 
   -- what brought it was seen
   pub took_taken : IsTaken d queue new out.entry

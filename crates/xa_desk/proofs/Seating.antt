@@ -46,6 +46,8 @@ module _ (d : Domain) (desk : Desk) (seat : Seat Filling) (stands : (k : ℕ) (f
       least = is.least;
       count = is.count;
       queues = is.queues;
+      made = is.made;
+      among = is.among;
       filled = filled;
       known_stamp = λ whole on. is.known_stamp whole (seat_before whole on);
       shows = λ whole on. is.shows whole (seat_before whole on);

@@ -52,6 +52,7 @@ use Rattle.xa_caller.specs.Changes.{Sends}
 use Rattle.xa_caller.specs.Drafts.{Cargo, entry_by}
 use Rattle.xa_caller.specs.Phases.{just_in}
 use Rattle.xa_caller.proofs.Next.{row-service}
+use Rattle.xa_desk.specs.Made.{IsMade}
 use Rattle.xa_desk.specs.declared.domain.Domain.{Domain}
 use Rattle.xa_desk.specs.declared.desk.Desk.{Desk}
 use Rattle.xa_desk.specs.Whole.{Whole, entries_of}
@@ -60,7 +61,7 @@ use Rattle.xa_desk.specs.Found.{SawOnBoard, HasFound, IsAimed, SawItsOwnAt, Show
 use Rattle.xa_desk.specs.Steps.{FitsOn}
 use Rattle.xa_desk.proofs.Configured.{has_capacity, row_priority}
 use Rattle.xa_desk.proofs.Fitting.{its_events, IsRead, call_over, one_more_fits}
-use Rattle.xa_desk.proofs.Leading.{Grew}
+use Rattle.xa_desk.proofs.Leading.{one_made, none_made, Grew}
 use Rattle.xa_desk.proofs.Showing.{Why, why_is, saw_there, capacity_is, down_seen, closed_seen, waits, own_seen}
 use Rattle.xa_desk.proofs.Visiting.{now_there, looked_leads, noted_leads}
 
@@ -145,6 +146,7 @@ module _ (d : Domain) (found : FoundRows) (ask : Ask) (old : Desk) (entry : Entr
           id = ap (λ (c : Caller). c.work.id) sends.made;
           own = made;
           stamp = omega (arith, now, more);
+          made = one_made Its (subst IsMade (sym aimed.event_is) refl);
         }
 
         pub sent_leads : Leads d old new
@@ -176,6 +178,7 @@ module _ (d : Domain) (found : FoundRows) (ask : Ask) (old : Desk) (entry : Entr
           id = ap (λ (c : Caller). c.work.id) caller;
           own = ap (λ (c : Caller). c.work.own) caller ∙ sym (append-nil old.caller.work.own);
           stamp = omega (arith, higher);
+          made = none_made;
         }
 
         pub back_leads : Leads d old new

@@ -14,7 +14,8 @@ use Rattle.xa_work.specs.declared.work.Halt.{Halt}
 use Rattle.xa_work.specs.Work.{Standing as Working}
 use Rattle.xa_server.specs.declared.slot.ServerSlot.{ServerSlot}
 use Rattle.xa_server.specs.Changes.{next_life}
-use Rattle.xa_server.specs.Served.{Tries, Halts}
+use Rattle.xa_server.specs.Noting.{HaltsWith}
+use Rattle.xa_server.specs.Served.{StarterShows, Tries, Halts}
 use Rattle.xa_pipe.specs.Standing.{Standing as Life}
 use Rattle.xa_desk.specs.declared.domain.Domain.{Domain}
 use Rattle.xa_desk.specs.declared.desk.Desk.{Desk}
@@ -30,19 +31,20 @@ unfolding is_shown
 shown_at_first whole stamp tick zero = subst (λ t. SawFront (entries_of whole ClockHome) stamp (λ past. is_shown t past ≡ true)) (sym zero)
     (record { front = []; stands = ([], refl); before = All-nil (λ (noted : Stamped). noted.stamp.0 < stamp.0); shows = refl })
 
-pub start_leads : (d : Domain) (queue : ℕ) (desk : Desk) (slot slot' : ServerSlot) (name : List ℕ) (tick : ℕ) (new : Working) (r : Result (Option Life) Halt) → IsDesk d desk → IsServing d queue slot desk → tick ≡ 0
-    → IfOk r (λ life. Tries name tick life slot' slot new desk.caller.work) → IfErr r (Halts new desk.caller.work) → Leads d desk (reworked desk new)
-start_leads d queue desk slot slot' name tick new (Ok (Some life)) is serving zero tries halts =
+pub start_leads : (d : Domain) (queue : ℕ) (desk : Desk) (slot slot' : ServerSlot) (name : List ℕ) (tick : ℕ) (shows' shows : StarterShows) (new : Working) (r : Result (Option Life) Halt) → IsDesk d desk → IsServing d queue slot desk → tick ≡ 0
+    → IfOk r (λ life. Tries name tick life slot' slot new desk.caller.work) → IfErr r (Halts name (next_life slot) shows' shows new desk.caller.work) → Leads d desk (reworked desk new)
+start_leads d queue desk slot slot' name tick shows' shows new (Ok (Some life)) is serving zero tries halts =
     let noted = tries.starts.noted in
     let booted = is.booted in
     let next = noted.next in
     event_leads d desk tries.starts.stamp (Start (record { server = slot.server; generation = next_life slot; tick = tick })) (max desk.caller.work.room 3) new noted is
-    (ap CallerHome (ap (λ n. caller_of n slot.server.0) (sym is.clients) ∙ serving.stands.tables.worker.number)) (omega (arith, booted, next)) (λ whole on. shown_at_first whole tries.starts.stamp tick zero) (λ whole on. tt)
-start_leads d queue desk slot slot' name tick new (Ok None) is serving zero tries halts =
+    (ap CallerHome (ap (λ n. caller_of n slot.server.0) (sym is.clients) ∙ serving.stands.tables.worker.number)) tt (omega (arith, booted, next)) (λ whole on. shown_at_first whole tries.starts.stamp tick zero) (λ whole on. tt)
+start_leads d queue desk slot slot' name tick shows' shows new (Ok None) is serving zero tries halts =
     let noted = tries.noted in
     let booted = is.booted in
     let next = noted.next in
     event_leads d desk tries.stamp (StartFailed (record { server = slot.server; generation = next_life slot; tick = tick })) (max desk.caller.work.room 1) new noted is
-    (ap CallerHome (ap (λ n. caller_of n slot.server.0) (sym is.clients) ∙ serving.stands.tables.worker.number)) (omega (arith, booted, next)) (λ whole on. shown_at_first whole tries.stamp tick zero) (λ whole on. tt)
-start_leads d queue desk slot slot' name tick new (Err halt) is serving zero tries (inl three) = halted_leads d desk 3 new halt is three
-start_leads d queue desk slot slot' name tick new (Err halt) is serving zero tries (inr one) = halted_leads d desk 1 new halt is one
+    (ap CallerHome (ap (λ n. caller_of n slot.server.0) (sym is.clients) ∙ serving.stands.tables.worker.number)) tt (omega (arith, booted, next)) (λ whole on. shown_at_first whole tries.stamp tick zero) (λ whole on. tt)
+start_leads d queue desk slot slot' name tick shows' shows new (Err halt) is serving zero tries (inl unasked) = halted_leads d desk 3 new halt is (subst (HaltsWith 3 new desk.caller.work) (sym unasked.starved) unasked.noted)
+start_leads d queue desk slot slot' name tick shows' shows new (Err halt) is serving zero tries (inr (inl begun)) = halted_leads d desk 3 new halt is begun.halts
+start_leads d queue desk slot slot' name tick shows' shows new (Err halt) is serving zero tries (inr (inr failed)) = halted_leads d desk 1 new halt is failed.halts

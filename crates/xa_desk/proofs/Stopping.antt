@@ -22,13 +22,14 @@ use Rattle.xa_server.specs.declared.slot.ServerSlot.{ServerSlot}
 use Rattle.xa_server.specs.Changes.{Stops}
 use Rattle.xa_server.specs.Doings.{life_in}
 use Rattle.xa_server.specs.Noting.{Notes}
+use Rattle.xa_desk.specs.Made.{IsMade}
 use Rattle.xa_desk.specs.declared.domain.Domain.{Domain}
 use Rattle.xa_desk.specs.declared.desk.Desk.{Desk}
 use Rattle.xa_desk.specs.Whole.{Whole, entries_of}
 use Rattle.xa_desk.specs.Found.{SawAtQueue}
 use Rattle.xa_desk.specs.Serving.{IsServing}
 use Rattle.xa_desk.specs.Desks.{GoesOn, IsDesk, Leads}
-use Rattle.xa_desk.proofs.Leading.{Grew, IsShown, NotesOwn, own_before, own_leads}
+use Rattle.xa_desk.proofs.Leading.{one_made, Grew, IsShown, NotesOwn, own_before, own_leads}
 
 -- nothing changed
 pub same_leads : (d : Domain) (desk : Desk) → IsDesk d desk → Leads d desk desk
@@ -36,8 +37,8 @@ same_leads d desk is = record { desk = is; own = ([], sym (append-nil desk.calle
 
 module _ (d : Domain) (desk : Desk) (stamp : Stamp) (e : Event) (room : ℕ) (new : Working) (notes : Notes stamp e new (record desk.caller.work { room = room })) where
   -- the event was noted, and the caller is else as it was
-  pub noted_own : IsDesk d desk → home_of d.setup d.clients e ≡ CallerHome desk.caller.work.id.0 → NotesOwn d desk (record desk.caller { work = new }) (record { stamp = stamp; event = e })
-  noted_own is home =
+  pub noted_own : IsDesk d desk → home_of d.setup d.clients e ≡ CallerHome desk.caller.work.id.0 → IsMade e → NotesOwn d desk (record desk.caller { work = new }) (record { stamp = stamp; event = e })
+  noted_own is home kind =
       let next = notes.next in
       let now = ap (λ (w : Working). w.stamp.0) notes.made in
       record {
@@ -47,6 +48,7 @@ module _ (d : Domain) (desk : Desk) (stamp : Stamp) (e : Event) (room : ℕ) (ne
           id = ap (λ (w : Working). w.id) notes.made;
           own = ap (λ (w : Working). w.own) notes.made;
           stamp = omega (arith, next, now);
+          made = one_made (record { stamp = stamp; event = e }) kind;
         };
         last = ap (λ (w : Working). w.stamp) notes.made;
         home = home;
@@ -57,12 +59,12 @@ module _ (d : Domain) (desk : Desk) (stamp : Stamp) (e : Event) (room : ℕ) (ne
       }
 
   -- and in the end the worker shows it
-  pub event_leads : IsDesk d desk → home_of d.setup d.clients e ≡ CallerHome desk.caller.work.id.0 → IsBehind d.booted stamp e
+  pub event_leads : IsDesk d desk → home_of d.setup d.clients e ≡ CallerHome desk.caller.work.id.0 → IsMade e → IsBehind d.booted stamp e
       → ((whole : Whole) → GoesOn d whole desk → SawFronts d.setup d.clients (entries_of whole) stamp e (past_in desk.caller.work.own))
       → ((whole : Whole) → GoesOn d whole desk → WasTold d.setup d.clients (entries_of whole) stamp (worker_events d.clients desk.caller.work.id.0 (past_in desk.caller.work.own)) e)
       → Leads d desk (record desk { caller = record desk.caller { work = new } })
-  event_leads is home behind saw told =
-      let own = noted_own is home in
+  event_leads is home kind behind saw told =
+      let own = noted_own is home kind in
       own_leads d desk (record desk.caller { work = new }) (record { stamp = stamp; event = e }) own is (λ whole on.
       let back = own_before d desk (record desk.caller { work = new }) (record { stamp = stamp; event = e }) own whole on in
       record {
@@ -84,7 +86,7 @@ pub stop_leads : (d : Domain) (queue : ℕ) (desk : Desk) (slot slot' : ServerSl
 stop_leads d queue desk slot slot' cause stamp new is number its shut stops =
     let booted = is.booted in
     let next = stops.noted.next in
-    event_leads d desk stamp (stop_event slot cause) desk.caller.work.room new stops.noted is (ap CallerHome (ap (λ n. caller_of n slot.server.0) (sym is.clients) ∙ number)) (omega (arith, booted, next))
+    event_leads d desk stamp (stop_event slot cause) desk.caller.work.room new stops.noted is (ap CallerHome (ap (λ n. caller_of n slot.server.0) (sym is.clients) ∙ number)) tt (omega (arith, booted, next))
     (λ whole on shutdown. subst (λ q. SawFront (entries_of whole (QueueHome q)) stamp (IsShut d.setup q)) (sym its) (shut shutdown whole on stamp (omega (arith, next)))) (λ whole on. tt)
 
 pub stopped_leads : (d : Domain) (queue : ℕ) (desk : Desk) (slot slot' : ServerSlot) (cause : StopCause) (new : Working) (r : Result Stamp Worn) → IsDesk d desk → IsServing d queue slot desk

@@ -42,7 +42,9 @@ use Rattle.xa_caller.specs.Drafts.{Cargo}
 use Rattle.xa_caller.specs.Serving.{noted_off}
 use Rattle.xa_server.specs.declared.slot.ServerSlot.{ServerSlot}
 use Rattle.xa_server.specs.Slot.{Stands}
+use Rattle.xa_desk.specs.Made.{IsMade}
 use Rattle.xa_desk.specs.declared.domain.Domain.{Domain}
+use Rattle.xa_desk.proofs.Leading.{one_made}
 use Rattle.xa_desk.specs.declared.desk.Desk.{Desk}
 use Rattle.xa_desk.specs.Whole.{Whole, entries_of}
 use Rattle.xa_desk.specs.Desks.{GoesOn, IsQueuePass, IsThere, IsDesk, Leads, page_in, page_at, queue_page}
@@ -167,9 +169,9 @@ module _ (d : Domain) (queue k : ℕ) (desk : Desk) (slot : ServerSlot) (same : 
     pub later : desk.caller.work.stamp.0 < out.stamp.0
     later = let is_next = ap (λ (s : Stamp). s.0) next in omega (arith, is_next)
 
-    pub notes_lead : home_of d.setup d.clients e ≡ QueueHome (k + 1) → IsBehind d.booted out.stamp e → ((whole : Whole) → GoesOn d whole desk → SawFronts d.setup d.clients (entries_of whole) out.stamp e (past_in desk.caller.work.own))
+    pub notes_lead : home_of d.setup d.clients e ≡ QueueHome (k + 1) → IsMade e → IsBehind d.booted out.stamp e → ((whole : Whole) → GoesOn d whole desk → SawFronts d.setup d.clients (entries_of whole) out.stamp e (past_in desk.caller.work.own))
         → ((whole : Whole) → GoesOn d whole desk → WasTold d.setup d.clients (entries_of whole) out.stamp (worker_events d.clients desk.caller.work.id.0 (past_in desk.caller.work.own)) e) → Leads d desk new
-    notes_lead home behind saw told =
+    notes_lead home kind behind saw told =
         let stamp = ap (λ (c : Caller). c.work.stamp) caller in
         let now = ap (λ (s : Stamp). s.0) stamp in
         let rises = later in
@@ -183,6 +185,7 @@ module _ (d : Domain) (queue k : ℕ) (desk : Desk) (slot : ServerSlot) (same : 
             id = ap (λ (c : Caller). c.work.id) caller;
             own = ap (λ (c : Caller). c.work.own) caller;
             stamp = omega (arith, rises, now);
+            made = one_made (record { stamp = out.stamp; event = out.event.value }) (subst IsMade (sym event) kind);
           };
           home = All-cons (λ (x : Stamped). home_of d.setup d.clients x.event ≡ QueueHome (k + 1)) (record { stamp = out.stamp; event = out.event.value }) [] (ap (home_of d.setup d.clients) event ∙ home) (All-nil (λ (x : Stamped). home_of d.setup d.clients x.event ≡ QueueHome (k + 1)));
           seat = ap (λ (c : Caller). c.seat) caller;

@@ -42,6 +42,7 @@ use Rattle.xa_caller.specs.Changes.{Refuses}
 use Rattle.xa_caller.specs.Phases.{just_in, IsPreparedAt}
 use Rattle.xa_caller.specs.Unsent.{MayBe, UnsentAs, EndsAs, refused_for, other_step}
 use Rattle.xa_desk.specs.declared.domain.Domain.{Domain}
+use Rattle.xa_desk.proofs.Leading.{none_made}
 use Rattle.xa_desk.specs.declared.desk.Desk.{Desk}
 use Rattle.xa_desk.specs.Whole.{Whole, entries_of, IsKnown}
 use Rattle.xa_desk.specs.Desks.{GoesOn, IsDesk, Leads, board_page}
@@ -83,7 +84,7 @@ module _ (d : Domain) (desk : Desk) (found : FoundRows) (cell : ℕ) (is : IsDes
   module _ (left : new ≡ Left) where
     quiet : IsQuiet d desk new
     quiet = subst (IsQuiet d desk) (sym left) (record {
-      grew = record { setup = refl; clients = refl; id = refl; own = sym (append-nil desk.caller.work.own); stamp = omega arith };
+      grew = record { setup = refl; clients = refl; id = refl; own = sym (append-nil desk.caller.work.own); stamp = omega arith; made = none_made };
       seat = its;
       takes = keeps_on (known desk.caller.seat) (known seat) keeps;
       least = refl;
@@ -106,10 +107,10 @@ module _ (d : Domain) (desk : Desk) (found : FoundRows) (cell : ℕ) (is : IsDes
         weaker_front (entries_of whole BoardHome) stamp (λ past. (found.version ≤ published past) × (listed_in d.setup past found.version has.0 false ≡ found.rows)) (λ past. draft.version ≤ published past) (λ past shows. let le = shows.0 in omega (arith, version, le)) (has.1.listed whole on stamp (omega (arith, next)))
 
     down_leads : Leads d desk Next
-    down_leads = refuse_leads d desk Left new draft.op System (AllDown draft.version) stamp is same refuses shown down_saw (λ whole on. tt)
+    down_leads = refuse_leads d desk Left new draft.op System (AllDown draft.version) stamp is same refuses shown tt down_saw (λ whole on. tt)
 
     down_fits : IsWhy d found reasons.AllShut desk → IsRead d desk → (ask : Ask) → is_invalid_call d.setup ask ≡ false → HasFound d ask.service found desk → FitsOn d draft.op ask desk Next
-    down_fits why reads ask valid its_found = refuse_fits d desk Left new draft.op System (AllDown draft.version) stamp is same refuses shown down_saw (λ whole on. tt) reads idle ask (λ whole on.
+    down_fits why reads ask valid its_found = refuse_fits d desk Left new draft.op System (AllDown draft.version) stamp is same refuses shown tt down_saw (λ whole on. tt) reads idle ask (λ whole on.
         let next = refuses.next in
         let Shut : Row → Type 0 = λ row. SawFront (entries_of whole (QueueHome row.queue.0)) stamp (λ past. (is_down row.queue.0 past ≡ true) ⊎ (is_closed row.queue.0 past ≡ true)) in (
           valid,
@@ -121,11 +122,11 @@ module _ (d : Domain) (desk : Desk) (found : FoundRows) (cell : ℕ) (is : IsDes
   -- a queue was full, and the call doesn't wait
   module _ (queue : QueueId) (n : ℕ) (stamp : Stamp) (refuses : Refuses draft.op Block (Queue queue n) stamp new Left) (why : IsWhy d found (reasons.Full queue n) desk) where
     full_leads : Leads d desk Next
-    full_leads = refuse_leads d desk Left new draft.op Block (Queue queue n) stamp is same refuses tt (λ whole on. let next = refuses.next in why.filled.2 whole on stamp (omega (arith, next))) (λ whole on. tt)
+    full_leads = refuse_leads d desk Left new draft.op Block (Queue queue n) stamp is same refuses tt tt (λ whole on. let next = refuses.next in why.filled.2 whole on stamp (omega (arith, next))) (λ whole on. tt)
 
     full_fits : IsRead d desk → (ask : Ask) → is_invalid_call d.setup ask ≡ false → true ≡ ask.flags.no_block → HasFound d ask.service found desk → FitsOn d draft.op ask desk Next
     full_fits reads ask valid blocks its_found =
-        refuse_fits d desk Left new draft.op Block (Queue queue n) stamp is same refuses tt (λ whole on. let next = refuses.next in why.filled.2 whole on stamp (omega (arith, next))) (λ whole on. tt) reads idle ask (λ whole on. (valid, sym blocks, no_room whole on))
+        refuse_fits d desk Left new draft.op Block (Queue queue n) stamp is same refuses tt tt (λ whole on. let next = refuses.next in why.filled.2 whole on stamp (omega (arith, next))) (λ whole on. tt) reads idle ask (λ whole on. (valid, sym blocks, no_room whole on))
       where
         no_room : (whole : Whole) → GoesOn d whole desk → SawNoRoom d.setup d.clients (entries_of whole) stamp desk.caller.work.id.0 ask.service false queue.0 (its_events d desk)
         no_room whole on =

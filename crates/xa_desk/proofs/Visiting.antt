@@ -6,7 +6,7 @@ use Rattle.std.proofs.lemmas.Bool.{ne_eqb}
 use Rattle.std.proofs.Common.{eq-eqb}
 use Rattle.std.proofs.lemmas.Grind.{flat_map-append}
 use Rattle.std.proofs.lemmas.List.{append_assoc, map-append, set-set, length-set, get_or-set_same, get_or-set_other, get_or_default}
-use Rattle.std.proofs.lemmas.List.Elements.{All-nil, All-cons, All-weaker, Contains-push, Contains-append_left}
+use Rattle.std.proofs.lemmas.List.Elements.{All-nil, All-cons, All-head, All-weaker, Contains-push, Contains-append_left}
 use Rattle.xa_types.specs.declared.stamp.Stamp.{Stamp}
 use Rattle.xa_types.specs.declared.ids.CallerId.{CallerId}
 use Rattle.xa_events.specs.declared.event.Event.{Event}
@@ -50,7 +50,7 @@ use Rattle.xa_desk.specs.declared.domain.Domain.{Domain}
 use Rattle.xa_desk.specs.declared.desk.Desk.{Desk}
 use Rattle.xa_desk.specs.Whole.{Whole, entries_of, IsKnown}
 use Rattle.xa_desk.specs.Desks.{IsBoardPass, IsQueuePass, IsThere, GoesOn, Shows, IsDesk, Leads, page_in, board_page, queue_page}
-use Rattle.xa_desk.proofs.Leading.{Grew, IsShown, board_pass_stays, queue_pass_stays, there, shows_one_more, shows_still}
+use Rattle.xa_desk.proofs.Leading.{Grew, none_made, made_more, among_more, among_at, IsShown, board_pass_stays, queue_pass_stays, there, shows_one_more, shows_still}
 use Rattle.xa_desk.proofs.Telling.{latest_has}
 
 -- ---- what is known
@@ -58,7 +58,7 @@ use Rattle.xa_desk.proofs.Telling.{latest_has}
 pub starts_trans : {X : Type 0} (whole middle front : List X) → StartsWith whole middle → StartsWith middle front → StartsWith whole front
 starts_trans whole middle front more less = (less.0 ++ more.0, more.1 ∙ ap (λ l. l ++ more.0) less.1 ∙ append_assoc front less.0 more.0)
 
-stamp_is : (a : Stamp) (n : ℕ) → a.0 ≡ n → a ≡ record { 0 = n }
+pub stamp_is : (a : Stamp) (n : ℕ) → a.0 ≡ n → a ≡ record { 0 = n }
 stamp_is a n is = let wrap : ℕ → Stamp = λ m. record { 0 = m } in ap wrap is
 
 in_front : (entries front : List Stamped) (stamp : Stamp) → StartsWith entries front → HasStamp front stamp → HasStamp entries stamp
@@ -191,6 +191,8 @@ module _ (d : Domain) where
                   | inl e ↦ subst (λ (i : ℕ). IsThere (IsQueuePass d w' i) (slice_index_or new.queues.items i None)) (sym e) (subst (IsThere (IsQueuePass d w' k)) (sym now_there) visited)
                   | inr apart ↦ subst (IsThere (IsQueuePass d w' j)) (sym (other_there j apart)) (stays j apart (is.queues j there_))
                 ];
+                made = made_more w w' (noted_in more) grew is.made;
+                among = among_more d w w' (noted_in more) grew (among_at d here (noted_in more) (omega arith, omega (arith, low)) turned.home) is.among;
                 filled = subst (λ (s : Seat Filling). FilledByEnds w'.own (known s)) (sym turned.seat) (subst (λ (l : List Stamped). FilledByEnds l (known old.caller.seat)) (sym {A = List Stamped} grew.own) (fillings_stay w.own (noted_in more) (known old.caller.seat) is.filled));
                 known_stamp = is_known;
                 shows = shows;
@@ -213,6 +215,7 @@ module _ (d : Domain) where
           id = ap (λ (c : Caller). c.work.id) caller;
           own = ap (λ (c : Caller). c.work.own) caller ∙ sym (append-nil w.own);
           stamp = omega (arith, higher);
+          made = none_made;
         } in
         let turned : Turned old new (QueueHome (k + 1)) [] = record { grew = grew; home = All-nil (λ (x : Stamped). home_of d.setup d.clients x.event ≡ QueueHome (k + 1)); seat = ap (λ (c : Caller). c.seat) caller } in
         let least = is.least in
@@ -243,7 +246,7 @@ module _ (d : Domain) where
           visit_leads more visits turned lock least
           (All-weaker (λ (x : Stamped). x.stamp.0 ≤ last.0) (λ (x : Stamped). x.stamp.0 ≤ new.caller.work.stamp.0) (λ x le. omega (arith, le, lasts, higher)) (events_at (page_of p').seen) reaches.each)
           (λ whole on. subst (IsKnown whole) (sym now) (inr (inl (home_of d.setup d.clients event, (Its, on.stand Its (subst (λ (l : List Stamped). Contains l Its) (sym {A = List Stamped} turned.grew.own) (Contains-push w.own Its)), refl)))))
-          (λ whole on. shows_one_more d whole w new.caller.work Its turned.grew (is.shows whole (before whole on)) (record {
+          (λ whole on. shows_one_more d whole w new.caller.work Its turned.grew (λ there_. absurd (cc (ap (λ h. same_home h BoardHome) (All-head (λ (x : Stamped). home_of d.setup d.clients x.event ≡ QueueHome (k + 1)) Its [] turned.home), there_))) (is.shows whole (before whole on)) (record {
             behind = behind;
             saw = saw whole (before whole on);
             told = told whole (before whole on);

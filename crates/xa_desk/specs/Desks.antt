@@ -1,11 +1,12 @@
 -- A worker's desk: what its passes know of the homes, and what it has shown of all that it noted (this project's own).
-use Rattle.std.specs.Prelude.{◌≡◌, ℕ, zero, suc, ◌+◌, ◌<◌, ◌≤◌, true, List, [], map, reverse, length, Option, Some, None, slice_index_or}
+use Rattle.std.specs.Prelude.{◌≡◌, ◌⊎◌, ℕ, zero, suc, ◌+◌, ◌<◌, ◌≤◌, true, List, [], map, reverse, length, Option, Some, None, slice_index_or}
 use Rattle.std.specs.List.{All, filter}
 use Rattle.xa_types.specs.Configured.{is_configured}
 use Rattle.xa_types.specs.Setup.{capacity_of}
 use Rattle.xa_types.specs.declared.call.Op.{Op}
 use Rattle.xa_types.specs.declared.stamp.Stamp.{Stamp}
 use Rattle.xa_events.specs.Board.{boot, published}
+use Rattle.xa_events.specs.Homes.{Home, home_of}
 use Rattle.xa_events.specs.Homes.Home.{BoardHome, QueueHome}
 use Rattle.xa_events.specs.Words.{AtEach}
 use Rattle.xa_stamp.specs.declared.home.Stamped.{Stamped}
@@ -16,12 +17,13 @@ use Rattle.xa_lock.specs.declared.pass.Page.{Page}
 use Rattle.xa_lock.specs.Known.{known as page_of, IsPassOf}
 use Rattle.xa_lock.specs.Pages.{StartsWith, page}
 use Rattle.xa_lock.specs.Makers.{noted_in}
-use Rattle.xa_crew.specs.Crew.{MayNote, TellsEach, stands_at}
+use Rattle.xa_crew.specs.Crew.{MayNote, MetAmong, TellsEach, stands_at}
 use Rattle.xa_crew.specs.Seen.{past_in, IsBehind, SawFronts}
 use Rattle.xa_cell.specs.Known.{known, IsSeatOf}
 use Rattle.xa_cell.specs.Views.{at}
 use Rattle.xa_queue.specs.Reading.{AllNew}
 use Rattle.xa_held.specs.declared.kept_board.BoardNote.{BoardNote}
+use Rattle.xa_held.specs.declared.kept_board.BoardNote.TheVariants.{Looked}
 use Rattle.xa_held.specs.declared.kept_queue.KeptQueue.{KeptQueue}
 use Rattle.xa_held.specs.declared.kept_queue.QueueNote.{QueueNote}
 use Rattle.xa_held.specs.declared.kept_queue.Setting.{Setting}
@@ -34,10 +36,11 @@ use Rattle.xa_held.specs.Visits.{Sees}
 use Rattle.xa_work.specs.Work.{Standing as Working}
 use Rattle.xa_work.specs.Going.{FitEach}
 use Rattle.xa_caller.specs.declared.cargo.Filling.{Filling}
-use Rattle.xa_server.specs.Told.{FilledByEnds}
+use Rattle.xa_server.specs.Told.{HasStamp, FilledByEnds}
 use Rattle.xa_told.specs.Told.{HasEnd, StandAt}
 use Rattle.xa_desk.specs.declared.domain.Domain.{Domain}
 use Rattle.xa_desk.specs.declared.desk.Desk.{Desk}
+use Rattle.xa_desk.specs.Made.{IsMade}
 use Rattle.xa_desk.specs.Whole.{Whole, entries_of, IsKnown}
 
 -- the domain is of a setup that a configuration may describe, with its shapes, and a queue for each that is configured
@@ -63,6 +66,11 @@ page_at passes (suc k) = page_in (slice_index_or passes k None)
 abbrev pub queue_page : Desk → ℕ → Page (QueueNote Filling)
 queue_page desk queue = page_at desk.queues.items queue
 
+-- a look of the worker left the last stamp, or has that of an event that the worker noted
+abbrev pub IsGrounded : List Stamped → BoardNote → Type 0
+IsGrounded own (Looked look) = (look.stamp.0 ≡ look.before.0) ⊎ HasStamp own look.stamp
+IsGrounded own note = Unit {0}
+
 -- a worker's pass of the board: it saw the boot, its own entries are what the worker noted there, and the worker's stamp is behind none that it saw
 pub record IsBoardPass (d : Domain) (w : Working) (pass : LockPass BoardNote) : Type 0 where
   pub lock : IsPassOf d.board pass
@@ -70,6 +78,7 @@ pub record IsBoardPass (d : Domain) (w : Working) (pass : LockPass BoardNote) : 
   pub sees : SeesBoard d.setup (page_of pass)
   pub booted : boot d.setup ≤ published (past_in (changes_at (page_of pass).seen))
   pub own : noted_in (changes_page (page_of pass)).own ≡ filter (stands_at d.setup d.clients BoardHome) w.own
+  pub grounded : All (IsGrounded w.own) (page_of pass).own
   pub reached : All (λ noted. noted.stamp.0 ≤ w.stamp.0) (changes_at (page_of pass).seen)
 
 -- what a queue with that number is
@@ -108,18 +117,24 @@ pub record GoesOn (d : Domain) (whole : Whole) (desk : Desk) : Type 0 where
   pub stand : StandAt d.setup d.clients (entries_of whole) desk.caller.work.own
   pub ended : (k : ℕ) → All (HasEnd (entries_of whole)) (at k (known desk.caller.seat)).taken
 
--- each event that the worker noted came behind the boot, the fronts that it rests on were seen, it was told what it rests on, and its stamp is one more
--- than one that is known
+-- each event that the worker noted came behind the boot, the fronts that it rests on were seen, it was told what it rests on, a change of the board met
+-- what is asked of the changes before it, and its stamp is one more than one that is known
 pub record Shows (d : Domain) (whole : Whole) (w : Working) : Type 0 where
   pub behind : All (λ (x : Stamped). IsBehind d.booted x.stamp x.event) w.own
   pub saw : AtEach (λ (x : Stamped) older. SawFronts d.setup d.clients (entries_of whole) x.stamp x.event (map (λ (y : Stamped). y.event) older)) (reverse w.own)
   pub told : TellsEach d.setup d.clients (entries_of whole) w.id.0 w.own
+  pub met : All (MetAmong d.setup (entries_of whole BoardHome)) (filter (stands_at d.setup d.clients BoardHome) w.own)
   pub next : All (λ (x : Stamped). (before : Stamp) × (x.stamp.0 ≡ before.0 + 1) × IsKnown whole before) w.own
 
 -- ---- the desk
 
--- a desk of the domain: its passes are of the domain's locks, each filling of its seat has its end among what the worker noted, and in the end the
--- worker shows all that it noted
+-- an event of a queue stands at one of so many queues, which are counted from 1
+abbrev pub IsAmong : ℕ → Home → Type 0
+IsAmong n (QueueHome queue) = (0 < queue) × (queue < n + 1)
+IsAmong n home = Unit {0}
+
+-- a desk of the domain: its passes are of the domain's locks, its worker made events of tpcall and of lives, each filling of its seat has its end among
+-- them, and in the end the worker shows all that it noted
 pub record IsDesk (d : Domain) (desk : Desk) : Type 0 where
   pub setup : desk.caller.work.setup ≡ d.setup
   pub clients : desk.caller.work.clients ≡ d.clients
@@ -129,6 +144,8 @@ pub record IsDesk (d : Domain) (desk : Desk) : Type 0 where
   pub least : desk.caller.least ≤ published (past_in (changes_at (board_page desk).seen))
   pub count : length desk.queues.items ≡ length d.queues.items
   pub queues : (k : ℕ) → k < length d.queues.items → IsThere (IsQueuePass d desk.caller.work k) (slice_index_or desk.queues.items k None)
+  pub made : All (λ (x : Stamped). IsMade x.event) desk.caller.work.own
+  pub among : All (λ (x : Stamped). IsAmong (length d.queues.items) (home_of d.setup d.clients x.event)) desk.caller.work.own
   pub filled : FilledByEnds desk.caller.work.own (known desk.caller.seat)
   pub known_stamp : (whole : Whole) → GoesOn d whole desk → IsKnown whole desk.caller.work.stamp
   pub shows : (whole : Whole) → GoesOn d whole desk → Shows d whole desk.caller.work

@@ -1,5 +1,7 @@
 pub mod Whole
+pub mod Made
 pub mod Desks
 pub mod Found
 pub mod Steps
+pub mod Parting
 pub mod Serving

@@ -14,6 +14,8 @@ use Rattle.xa_stamp.specs.Home.{last_stamp}
 use Rattle.xa_crew.specs.Crew.{IsOfDomain, no_stamp}
 use Rattle.xa_crew.specs.Seen.{SawDeserted}
 use Rattle.xa_cell.specs.Known.{IsTicketOf}
+use Rattle.xa_board.specs.declared.board.BoardRefused.{BoardRefused}
+use Rattle.xa_board.specs.declared.board.BoardRefused.TheVariants as refusals
 use Rattle.xa_held.specs.Joins.{SawLeft}
 use Rattle.xa_stamp.specs.declared.home.Stamped.{Stamped}
 use Rattle.xa_lock.specs.declared.makers.Made.{Made}
@@ -111,6 +113,11 @@ pub record OfDomain (old new : Desk) : Type 0 where
 abbrev pub IsHaltNear : Halt → Type 0
 IsHaltNear halts.NoMemory = Unit {0}
 IsHaltNear (halts.Worn stamp) = stamp.0 ≡ 2 ^ 63
+
+-- how a worker halts where a row that stands isn't withdrawn
+abbrev pub halt_by : BoardRefused → Halt
+halt_by (refusals.Worn stamp) = halts.Worn stamp
+halt_by refused = halts.NoMemory
 
 -- what a closing tells is backed by what the worker noted, and its ticket is of the domain's cells
 pub record IsToTell (d : Domain) (desk : Desk) (closing : Closing) : Type 0 where

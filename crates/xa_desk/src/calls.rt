@@ -114,7 +114,9 @@ impl Desk {
             → FitsOn domain.now (self.old.caller.op + 1) ask self.old self.new }
         ensures reader { self.new.reader ≡ self.old.reader }
         ensures board { self.new.board ≡ self.old.board }
+        ensures queue { IfOk result (λ queue. queue.0 ≡ queue_in prepared.event) }
         ensures back { IfErr result (λ back. back.entry ≡ prepared.entry) }
+        ensures shut { IfErr result (λ back. back.queue.0 ≡ queue_in prepared.event) }
         ensures kept { OnErr result ((seen : Stamp) × (self.new.caller ≡ record self.old.caller { work = seeing seen self.old.caller.work })) }
         ensures why { IfErr result (λ back. ShowsWhy domain.now (queue_in prepared.event) back.why self.new) }
     {

@@ -4,13 +4,18 @@
 #![tactic(auto)]
 
 mod calls;
+mod clearing;
+mod departure;
 mod desk;
 mod domain;
 mod halting;
 mod serving;
+mod stopped;
 
 pub use calls::Unsent;
+pub use departure::Done;
 pub use desk::Desk;
 pub use domain::{Domain, Waits};
 pub use halting::HaltWord;
 pub use serving::{SweptOut, Took};
+pub use stopped::Stopped;

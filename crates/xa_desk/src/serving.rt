@@ -71,7 +71,7 @@ impl Desk {
         ensures same { T.server_name served.new.starter ≡ T.server_name served.old.starter }
         ensures rest { (self.new ≡ record self.old { caller = self.new.caller }) × (served.new.lives.items ≡ served.old.lives.items) }
         ensures room { OnOk result (vec_len served.new.lives < vec_capacity served.new.lives) }
-        ensures halted { IfErr result (Halts self.new.caller.work self.old.caller.work) }
+        ensures halted { IfErr result (Halts name.now (next_life served.old.slot) (record { asked = T.asked served.new.starter; faults = T.start_faults served.new.starter }) (record { asked = T.asked served.old.starter; faults = T.start_faults served.old.starter }) self.new.caller.work self.old.caller.work) }
         ensures kept { OnErr result (served.new.slot ≡ served.old.slot) }
     {
         let _ = domain;

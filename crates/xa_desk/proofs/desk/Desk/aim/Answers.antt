@@ -1,4 +1,4 @@
-use Rattle.std.proofs.Common.{◌≤◌, refl, sym, subst, arith}
+use Rattle.std.proofs.Common.{refl, sym, subst, arith}
 use Rattle.xa_types.specs.Found.{FoundRows}
 use Rattle.xa_caller.specs.Caller.{AreRowsOf}
 use Rattle.xa_caller.specs.Phases.{IsOfVersion}

@@ -1,4 +1,4 @@
-use Rattle.std.proofs.Common.{ℕ, sym, subst}
+use Rattle.std.proofs.Common.{sym, subst}
 use Rattle.std.specs.Prelude.{IfOk}
 use Rattle.xa_caller.specs.Caller.{Standing}
 use Rattle.xa_desk.specs.Desks.{Leads}

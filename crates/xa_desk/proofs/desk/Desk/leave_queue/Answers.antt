@@ -1,16 +1,9 @@
-use Rattle.std.proofs.Common.{ℕ, suc, ◌+◌, ◌-◌, ◌≡◌, Ok, Err, Some, refl, sym, ◌∙◌, ap, subst, arith}
+use Rattle.std.proofs.Common.{ℕ, ◌-◌, Some, refl, ◌∙◌, ap, subst, arith}
 use Rattle.std.specs.Prelude.{slice_set}
 use Rattle.xa_lock.specs.Known.{known as page_of}
 use Rattle.xa_held.specs.Steps.{GaveUpAs}
-use Rattle.xa_caller.specs.declared.cargo.Filling.{Filling}
-use Rattle.xa_held.specs.Kept.{Kept}
 use Rattle.xa_held.specs.Visits.{Visits}
-use Rattle.xa_types.specs.declared.ids.Generation.{Generation}
-use Rattle.xa_types.specs.declared.ids.ServerId.{ServerId}
-use Rattle.xa_events.specs.declared.event.Event.TheVariants.{Take}
-use Rattle.xa_caller.specs.Serving.{noted_off}
 use Rattle.xa_work.specs.Work.{Standing as Working}
-use Rattle.xa_server.specs.declared.slot.ServerSlot.{ServerSlot}
 use Rattle.xa_desk.specs.declared.desk.Desk.{Desk}
 use Rattle.xa_desk.proofs.Leaving.{left_later, left_caller, left_lead, left_serve, left_deserted}
 use Rattle.xa_desk.proofs.Taking.{its_setting, its_left, looks_lead, looks_serve}

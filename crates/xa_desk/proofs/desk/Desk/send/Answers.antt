@@ -1,4 +1,4 @@
-use Rattle.std.proofs.Common.{ℕ, ◌+◌, ◌-◌, ◌≡◌, ◌<◌, ◌≤◌, Ok, Err, Some, refl, sym, ◌∙◌, ap, subst, arith}
+use Rattle.std.proofs.Common.{ℕ, ◌+◌, ◌-◌, Some, refl, ◌∙◌, ap, subst}
 use Rattle.std.specs.Prelude.{slice_set}
 use Rattle.xa_types.specs.declared.stamp.Stamp.{Stamp}
 use Rattle.xa_lock.specs.Known.{known as page_of}
@@ -7,7 +7,7 @@ use Rattle.xa_held.specs.Steps.{PutAs}
 use Rattle.xa_held.specs.Visits.{Visits}
 use Rattle.xa_desk.specs.declared.desk.Desk.{Desk}
 use Rattle.xa_desk.proofs.Fitting.{is_read, no_more_fits}
-use Rattle.xa_desk.proofs.Sending.{place_at, place_low, pass_there, is_accept, brings, in_range, put_setting, sent_leads, sent_fits, back_grew, back_leads, shows_why, may_have}
+use Rattle.xa_desk.proofs.Sending.{place_at, place_low, is_accept, brings, in_range, put_setting, sent_leads, sent_fits, back_grew, back_leads, shows_why, may_have}
 use Rattle.xa_desk.proofs.Visiting.{lock_at}
 use Rattle.xa_desk.proofs.desk.Desk.send.Goals as goal
 

@@ -10,4 +10,4 @@ returns-clause-leads g c =
     let desk = c.args.self.now in
     let ask = c.requires.domain in
     subst (λ (caller : Standing). Leads d desk (record desk { caller = caller })) (sym c.start.ensures.rest)
-    (start_leads d ask.0 desk c.args.served.now.slot c.start.new.self.slot c.args.name.now c.args.tick c.start.new.caller.work c.start.result ask.2 ask.3 c.requires.may.1 c.start.ensures.tried c.start.ensures.halted)
+    (start_leads d ask.0 desk c.args.served.now.slot c.start.new.self.slot c.args.name.now c.args.tick _ _ c.start.new.caller.work c.start.result ask.2 ask.3 c.requires.may.1 c.start.ensures.tried c.start.ensures.halted)

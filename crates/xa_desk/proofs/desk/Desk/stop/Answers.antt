@@ -1,5 +1,4 @@
 use Rattle.std.proofs.Common.{sym, subst}
-use Rattle.std.specs.Prelude.{OnErr}
 use Rattle.xa_caller.specs.Caller.{Standing}
 use Rattle.xa_desk.specs.Desks.{Leads}
 use Rattle.xa_desk.proofs.Stopping.{stopped_leads}

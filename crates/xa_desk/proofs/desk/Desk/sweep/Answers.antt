@@ -1,7 +1,5 @@
-use Rattle.std.proofs.Common.{ℕ, suc, ◌+◌, ◌-◌, ◌≡◌, List, [], ◌∷◌, ◌++◌, Ok, Err, Some, None, refl, sym, ◌∙◌, ap, subst, arith}
+use Rattle.std.proofs.Common.{ℕ, ◌-◌, ◌≡◌, [], Ok, Some, refl, sym, ◌∙◌, ap, subst, arith}
 use Rattle.std.specs.Prelude.{slice_set, IsSome}
-use Rattle.xa_types.specs.declared.stamp.Stamp.{Stamp}
-use Rattle.xa_types.specs.declared.ids.QueueId.{QueueId}
 use Rattle.xa_events.specs.declared.event.Event.{Event}
 use Rattle.xa_events.specs.declared.event.Event.TheVariants.{Sweep}
 use Rattle.xa_events.specs.Homes.Home.{QueueHome}
@@ -96,7 +94,7 @@ returns-in-Ok-Some-clause-leads g c =
     let id : did.old.queue.id.0 ≡ c.args.queue.0 = id_found d c.args.queue.0 k desk (omega (arith, some, at)) least c.requires.desk c.take_from-pass.result c.take_from-pass.ensures.was pass did in
     let rises = later d c.args.queue.0 k desk (omega (arith, some, at)) least c.requires.desk c.take_from-pass.result c.take_from-pass.ensures.was new pass passes refl c.id.result out.noted c.sweep_at-pass.result.last did c.sweep_at-pass.ensures.reached c.index.result.now c.index.ensures c.sweep_at-pass.ensures.lock next c.noted_for_domain.ensures.noted (Sweep (record { request = out.entry.request; queue = did.old.queue.id })) did.how.0.noted.event_is in
     let booted = c.requires.desk.booted in
-    domain_lead d c.args.queue.0 k desk (omega (arith, some, at)) least c.requires.desk c.take_from-pass.result c.take_from-pass.ensures.was new pass passes refl c.id.result out.noted c.sweep_at-pass.result.last did c.sweep_at-pass.ensures.reached c.index.result.now c.index.ensures c.sweep_at-pass.ensures.lock next c.noted_for_domain.ensures.noted (Sweep (record { request = out.entry.request; queue = did.old.queue.id })) did.how.0.noted.event_is (ap QueueHome id) (omega (arith, rises, booted)) (λ whole on. tt) (λ whole on. tt)
+    domain_lead d c.args.queue.0 k desk (omega (arith, some, at)) least c.requires.desk c.take_from-pass.result c.take_from-pass.ensures.was new pass passes refl c.id.result out.noted c.sweep_at-pass.result.last did c.sweep_at-pass.ensures.reached c.index.result.now c.index.ensures c.sweep_at-pass.ensures.lock next c.noted_for_domain.ensures.noted (Sweep (record { request = out.entry.request; queue = did.old.queue.id })) did.how.0.noted.event_is (ap QueueHome id) tt (omega (arith, rises, booted)) (λ whole on. tt) (λ whole on. tt)
 
 pub returns-in-Ok-Some-clause-fallen : goal.returns-in-Ok-Some-clause-fallen
 returns-in-Ok-Some-clause-fallen g c =

@@ -1,8 +1,5 @@
-use Rattle.std.proofs.Common.{ℕ, suc, ◌+◌, ◌-◌, ◌≡◌, List, [], ◌∷◌, ◌++◌, Ok, Err, Some, None, refl, sym, ◌∙◌, ap, subst, arith}
-use Rattle.std.specs.Prelude.{slice_set, IfSome}
-use Rattle.xa_types.specs.declared.stamp.Stamp.{Stamp}
-use Rattle.xa_types.specs.declared.ids.QueueId.{QueueId}
-use Rattle.xa_events.specs.declared.event.Event.{Event}
+use Rattle.std.proofs.Common.{ℕ, ◌-◌, ◌≡◌, [], Ok, Some, refl, sym, ◌∙◌, ap, subst, arith}
+use Rattle.std.specs.Prelude.{slice_set}
 use Rattle.xa_events.specs.declared.event.Event.TheVariants.{Down}
 use Rattle.xa_events.specs.Homes.Home.{QueueHome, BoardHome}
 use Rattle.xa_crew.specs.Seen.{SawDeserted}
@@ -83,7 +80,7 @@ returns-in-Ok-Some-clause-leads g c =
     let id : did.old.queue.id.0 ≡ c.args.queue.0 = id_found d c.args.queue.0 k desk (omega (arith, some, at)) least c.requires.desk c.take_from-pass.result c.take_from-pass.ensures.was pass did in
     let rises = later d c.args.queue.0 k desk (omega (arith, some, at)) least c.requires.desk c.take_from-pass.result c.take_from-pass.ensures.was new pass passes refl c.id.result noted c.down_at-pass.result.last did c.down_at-pass.ensures.reached c.index.result.now c.index.ensures c.down_at-pass.ensures.lock next c.noted_for_domain.ensures.noted (Down did.old.queue.id) did.how.1.event_is in
     let booted = c.requires.desk.booted in
-    domain_lead d c.args.queue.0 k desk (omega (arith, some, at)) least c.requires.desk c.take_from-pass.result c.take_from-pass.ensures.was new pass passes refl c.id.result noted c.down_at-pass.result.last did c.down_at-pass.ensures.reached c.index.result.now c.index.ensures c.down_at-pass.ensures.lock next c.noted_for_domain.ensures.noted (Down did.old.queue.id) did.how.1.event_is (ap QueueHome id) (omega (arith, rises, booted)) (λ whole on. tt) (λ whole on. subst (λ n. SawDeserted d.setup n (entries_of whole BoardHome) (entries_of whole (QueueHome n)) noted.stamp) (sym id) (c.requires.clear whole on noted.stamp rises))
+    domain_lead d c.args.queue.0 k desk (omega (arith, some, at)) least c.requires.desk c.take_from-pass.result c.take_from-pass.ensures.was new pass passes refl c.id.result noted c.down_at-pass.result.last did c.down_at-pass.ensures.reached c.index.result.now c.index.ensures c.down_at-pass.ensures.lock next c.noted_for_domain.ensures.noted (Down did.old.queue.id) did.how.1.event_is (ap QueueHome id) tt (omega (arith, rises, booted)) (λ whole on. tt) (λ whole on. subst (λ n. SawDeserted d.setup n (entries_of whole BoardHome) (entries_of whole (QueueHome n)) noted.stamp) (sym id) (c.requires.clear whole on noted.stamp rises))
 
 pub returns-in-Ok-Some-clause-down : goal.returns-in-Ok-Some-clause-down
 returns-in-Ok-Some-clause-down g c =

@@ -1,0 +1,70 @@
+// How a worker leaves its desk.
+ghost use Rattle.std.specs.Prelude.{◌≡◌, None};
+ghost use Rattle.xa_caller.specs.declared.phase.Phase.TheVariants as phases;
+ghost use Rattle.xa_caller.specs.Changes.{LeavesAs};
+ghost use Rattle.xa_caller.specs.Phases.{IsPrepared};
+ghost use Rattle.xa_desk.specs.declared.desk.Desk.{Desk as Left_};
+ghost use Rattle.xa_desk.specs.Desks.{IsDomain, IsDesk, Leads};
+ghost use Rattle.xa_desk.specs.Parting.{IsLeft, FitsStill};
+
+use crate::desk::Desk;
+use crate::domain::Domain;
+use xa_board::Reader;
+use xa_caller::{Filling, Left};
+use xa_held::{BoardNote, QueueNote};
+use xa_lock::LockPass;
+
+/// What a worker leaves behind: what its caller does, and its reader and passes.
+pub struct Done {
+    pub left: Left,
+    pub reader: Reader,
+    pub board: Option<LockPass<BoardNote>>,
+    pub queues: Vec<Option<LockPass<QueueNote<Filling>>>>,
+}
+
+impl Desk {
+    /// Its caller leaves, behind its last call: a client notes that.
+    pub fn leave(self, domain: &Domain) -> Done
+        requires domain { IsDomain domain.now }
+        requires desk { IsDesk domain.now self }
+        requires idle { self.caller.phase ≡ phases.Idle }
+        ensures left { (ended : Left_) × IsLeft result ended × Leads domain.now self ended × LeavesAs result.left.halt ended.caller.work self.caller.work × FitsStill domain.now self ended }
+    {
+        let _ = domain;
+        let Desk {
+            caller,
+            reader,
+            board,
+            queues,
+        } = self;
+        let left = caller.leave();
+        Done {
+            left,
+            reader,
+            board,
+            queues,
+        }
+    }
+
+    /// Its caller leaves at a halt, and gives up what it waits for.
+    pub fn abandon(self, domain: &Domain) -> Done
+        requires domain { IsDomain domain.now }
+        requires desk { IsDesk domain.now self }
+        requires out { IsPrepared self.caller.phase → ⊥ }
+        ensures left { (ended : Left_) × IsLeft result ended × Leads domain.now self ended × (ended.caller.work ≡ self.caller.work) × (result.left.halt ≡ None) }
+    {
+        let Desk {
+            caller,
+            reader,
+            board,
+            queues,
+        } = self;
+        let left = caller.abandon(&domain.cells);
+        Done {
+            left,
+            reader,
+            board,
+            queues,
+        }
+    }
+}
