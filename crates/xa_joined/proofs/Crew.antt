@@ -1,0 +1,123 @@
+-- Workers that have left are a crew.
+use Rattle.std.proofs.Common.{◌≡◌, ℕ, ◌<◌, ◌≤◌, ◌^◌, Bool, List, [], ◌∷◌, map, reverse, Option, Some, None, inl, inr, refl, sym, subst, arith}
+use Rattle.std.specs.Prelude.{option_map}
+use Rattle.std.specs.List.{All, filter}
+use Rattle.std.proofs.lemmas.Bool.{cases_Bool, cases_lt}
+use mathlib.Core.Path.{fun_ext}
+use Rattle.xa_types.specs.declared.stamp.Stamp.{Stamp}
+use Rattle.xa_types.specs.Setup.{numbered}
+use Rattle.xa_events.specs.Homes.{Home}
+use Rattle.xa_events.specs.Homes.Home.{BoardHome, QueueHome, ClockHome, CallerHome}
+use Rattle.xa_events.specs.Words.{AtEach}
+use Rattle.xa_stamp.specs.declared.home.Stamped.{Stamped}
+use Rattle.xa_stamp.specs.Home.{Rises}
+use Rattle.xa_lock.specs.declared.makers.Made.{Made}
+use Rattle.xa_lock.specs.Makers.{noted_in}
+use Rattle.xa_crew.specs.Crew.{IsCrew, TellsEach, no_stamp, stands_at, MetAmong}
+use Rattle.xa_crew.specs.Ending.{list_in, workers_of}
+use Rattle.xa_crew.specs.Seen.{IsBehind, SawFronts}
+use Rattle.xa_crew.proofs.Growing.{noted_made}
+use Rattle.xa_crew.proofs.Lists.{filter-yes, filter-no}
+use Rattle.xa_held.specs.declared.kept_board.BoardNote.{BoardNote}
+use Rattle.xa_held.specs.declared.kept_board.BoardNote.TheVariants.{Opened, By, Looked}
+use Rattle.xa_held.specs.Board.{Climbs, top, made_in}
+use Rattle.xa_held.specs.Kept.{Kept}
+use Rattle.xa_work.specs.Work.{Standing as Working}
+use Rattle.xa_caller.specs.declared.cargo.Filling.{Filling}
+use Rattle.xa_desk.specs.declared.domain.Domain.{Domain}
+use Rattle.xa_desk.specs.declared.desk.Desk.{Desk}
+use Rattle.xa_desk.specs.Whole.{entries_of}
+use Rattle.xa_desk.specs.Desks.{Shows}
+use Rattle.xa_joined.specs.Joined.{Back, whole_of, kept_of, noted_of, AllLeft}
+use Rattle.xa_joined.proofs.Listed.{numbered_map, nothing_past}
+use Rattle.xa_joined.proofs.Left.{same_homes, each_worker, has_left, each_left}
+use Rattle.xa_joined.proofs.Standing.{makers_at}
+use Rattle.xa_joined.proofs.Going.{one_goes_on}
+
+-- ---- stamps that rise
+
+rises-lower : (low high : Stamp) (xs : List Stamped) → low.0 ≤ high.0 → Rises high xs → Rises low xs
+rises-lower low high [] le rises = omega (arith, le, rises)
+rises-lower low high (x ∷ xs) le rises = (omega (arith, le, rises.0), rises.1)
+
+rises-filter : (p : Stamped → Bool) (low : Stamp) (xs : List Stamped) → Rises low xs → Rises low (filter p xs)
+rises-filter p low [] rises = rises
+rises-filter p low (x ∷ xs) rises =
+    let rest = rises-filter p x.stamp xs rises.1 in
+    let first : low.0 < x.stamp.0 = rises.0 in
+    elim (cases_Bool (p x)) [
+      | inl y ↦ subst (Rises low) (sym (filter-yes p x xs y)) (first, rest)
+      | inr n ↦ subst (Rises low) (sym (filter-no p x xs n)) (rises-lower low x.stamp (filter p xs) (omega (arith, first)) rest)
+    ]
+
+-- the changes of the board, whose looks don't fall
+changes_rise : (least : Stamp) (notes : List BoardNote) → Climbs least.0 notes → top least.0 notes ≤ 2 ^ 63 → Rises least (noted_in (made_in notes))
+changes_rise least [] climbs bound = bound
+changes_rise least (Opened setup ∷ notes) climbs bound = changes_rise least notes climbs bound
+changes_rise least (By made ∷ notes) climbs bound = (climbs.0, changes_rise made.noted.stamp notes climbs.1 bound)
+changes_rise least (Looked look ∷ notes) climbs bound = rises-lower least look.stamp (noted_in (made_in notes)) climbs.0 (changes_rise look.stamp notes climbs.1 bound)
+
+-- what a worker shows of all that it noted, where the homes have these entries
+pub record IsShown (d : Domain) (entries : Home → List Stamped) (worker : ℕ) (own : List Stamped) : Type 0 where
+  pub behind : All (λ (x : Stamped). IsBehind d.booted x.stamp x.event) own
+  pub saw : AtEach (λ (x : Stamped) older. SawFronts d.setup d.clients entries x.stamp x.event (map (λ (y : Stamped). y.event) older)) (reverse own)
+  pub told : TellsEach d.setup d.clients entries worker own
+  pub met : All (MetAmong d.setup (entries BoardHome)) (filter (stands_at d.setup d.clients BoardHome) own)
+
+by_shows : (d : Domain) (b : Back) (w : Working) (worker : ℕ) → w.id.0 ≡ worker → Shows d (whole_of d b) w → IsShown d (entries_of (whole_of d b)) worker w.own
+by_shows d b w worker id shows = record {
+  behind = shows.behind;
+  saw = shows.saw;
+  told = subst (λ (n : ℕ). TellsEach d.setup d.clients (entries_of (whole_of d b)) n w.own) id shows.told;
+  met = shows.met;
+}
+
+module _ (d : Domain) (b : Back) (domain : Working) (desks : List Desk) (all : AllLeft d b domain desks) where
+  abbrev pub workers : ℕ
+  workers = workers_of d.setup d.clients
+
+  abbrev pub held : Home → List Stamped
+  held home = noted_in (kept_of b home)
+
+  whole_is : entries_of (whole_of d b) ≡ held
+  whole_is = fun_ext (same_homes d b)
+
+  pub desk_shows : (worker : ℕ) (desk : Desk) → numbered worker desks ≡ Some desk → Shows d (whole_of d b) desk.caller.work
+  desk_shows worker desk there = (has_left d b domain desks all worker desk there).is.shows (whole_of d b) (one_goes_on d b domain desks all worker desk there)
+
+  pub each_shown : (worker : ℕ) → worker < workers → IsShown d held worker (noted_of domain desks worker)
+  each_shown worker low =
+      subst (λ (entries : Home → List Stamped). IsShown d entries worker (noted_of domain desks worker)) whole_is
+      (each_worker d b domain desks all (IsShown d (entries_of (whole_of d b))) (by_shows d b domain 0 all.itself.id all.itself.shows)
+      (λ number desk there. by_shows d b desk.caller.work number (all.ids number desk there) (desk_shows number desk there)) worker low)
+
+  -- ---- the homes
+
+  queue_home : (queue : ℕ) (o : Option (Kept Filling)) → numbered queue b.queues ≡ o → (first : Stamp) × Rises first (noted_in (list_in (option_map (λ (kept : Kept Filling). kept.queue.entries) o)))
+  queue_home queue None there = (no_stamp, omega arith)
+  queue_home queue (Some kept) there = (kept.queue.first, (all.each queue kept there).sound.rises)
+
+  home_rises : (home : Home) → (first : Stamp) × Rises first (held home)
+  home_rises BoardHome = (b.board.board.first, changes_rise b.board.board.first b.board.notes all.board.climbs (let latest = all.board.latest in let bound = all.board.bound in omega (arith, latest, bound)))
+  home_rises (QueueHome queue) = subst (λ (o : Option (List Made)). (first : Stamp) × Rises first (noted_in (list_in o))) (sym (numbered_map (λ (kept : Kept Filling). kept.queue.entries) queue b.queues)) (queue_home queue (numbered queue b.queues) refl)
+  home_rises ClockHome = (no_stamp, omega arith)
+  home_rises (CallerHome caller) =
+      let its : List Stamped = list_in (numbered caller b.own) in (
+        no_stamp,
+        subst (Rises no_stamp) (sym (noted_made (record { 0 = caller }) its)) (elim (cases_lt caller workers) [
+          | inl low ↦
+              let left = each_left d b domain desks all caller low in
+              subst (Rises no_stamp) (sym left.home) (rises-filter (stands_at d.setup d.clients (CallerHome caller)) no_stamp (noted_of domain desks caller) left.work.rises)
+          | inr high ↦ subst (Rises no_stamp) (sym (nothing_past caller b.own (let own = all.own in let count = all.count in omega (arith, high, own, count)))) (omega arith)
+        ]),
+      )
+
+  pub desks_are_crew : IsCrew d.setup d.clients workers (kept_of b) (noted_of domain desks)
+  desks_are_crew = record {
+    last = d.booted;
+    homes = λ home. record { first = (home_rises home).0; rises = (home_rises home).1; made = makers_at d b domain desks all home };
+    booted = all.booted;
+    work = λ worker low. let left = each_left d b domain desks all worker low in let shown = each_shown worker low in record { rises = left.work.rises; may = left.work.may; met = left.work.met; behind = shown.behind; saw = shown.saw };
+    told = λ worker low. (each_shown worker low).told;
+    theirs = λ worker low. (each_left d b domain desks all worker low).theirs;
+  }

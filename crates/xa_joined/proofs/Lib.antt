@@ -1,0 +1,9 @@
+pub mod Listed
+pub mod Requests
+pub mod Left
+pub mod Standing
+pub mod Going
+pub mod Crew
+pub mod Homes
+pub mod Stamps
+pub mod Clients

@@ -1,0 +1,5 @@
+//! From what the desks of a domain's workers show, one by one, to what holds of all homes once every worker has left. These
+//! are laws alone.
+#![tactic(auto)]
+
+pub mod laws;
