@@ -1,0 +1,100 @@
+-- How a client's worker makes its calls, and leaves.
+use Rattle.std.proofs.Common.{◌≡◌, ℕ, suc, ◌+◌, ◌<◌, List, length, Option, Some, None, Result, Ok, Err, OnOk, inl, inr, refl, sym, ◌∙◌, ap, subst, arith}
+use Rattle.std.specs.Prelude.{get_or, IfErr}
+use Rattle.std.specs.List.{All, find}
+use Rattle.std.proofs.lemmas.List.Elements.{All-get_or, Contains-push}
+use Rattle.std.proofs.lemmas.Option.{slice_get_read}
+use Rattle.xa_types.specs.declared.call.Ask.{Ask}
+use Rattle.xa_types.specs.declared.call.Op.{Op}
+use Rattle.xa_types.specs.declared.call.Op.TheVariants.{Call}
+use Rattle.xa_types.specs.declared.stamp.Stamp.{Stamp}
+use Rattle.xa_types.specs.Setup.{numbered}
+use Rattle.xa_events.specs.declared.event.Event.TheVariants.{Leave}
+use Rattle.xa_events.specs.Caller.{is_call_of, newest_call, op_of, accepted_in}
+use Rattle.xa_stamp.specs.declared.home.Stamped.{Stamped}
+use Rattle.xa_work.specs.declared.work.Halt.{Halt}
+use Rattle.xa_work.specs.Work.{Standing as Working, theirs, noted}
+use Rattle.xa_work.specs.Going.{FitEach}
+use Rattle.xa_work.proofs.Noting.{theirs-more}
+use Rattle.xa_caller.specs.Caller.{IsSound}
+use Rattle.xa_caller.specs.Changes.{LeavesAs}
+use Rattle.xa_caller.specs.Phases.{just_in}
+use Rattle.xa_desk.specs.declared.domain.Domain.{Domain}
+use Rattle.xa_desk.specs.declared.desk.Desk.{Desk}
+use Rattle.xa_desk.specs.declared.stopped.Stopped.{Stopped}
+use Rattle.xa_desk.specs.Whole.{entries_of}
+use Rattle.xa_desk.specs.Desks.{Leads}
+use Rattle.xa_desk.specs.Parting.{FitsStill}
+use Rattle.xa_desk.proofs.Leading.{leads_trans}
+use Rattle.xa_clients.specs.declared.working.Ended.{Ended}
+use Rattle.xa_clients.specs.Going.{IsReady, IsSame, GoesBy, IsCall}
+use Rattle.xa_clients.specs.Ending.{FitsBy, GoesThrough, HasMade, HasEnded, HasStopped, here_by}
+use Rattle.xa_clients.proofs.Going.{same_trans}
+
+-- ---- its calls
+
+is_call : (op : Op) → IsCall op → (ask : Ask) × (op ≡ Call ask)
+is_call (Call ask) is = (ask, refl)
+is_call _ is = absurd is
+
+module _ (d : Domain) (ops : List Op) where
+  pub through_one : (a b c : Desk) (k : ℕ) (op : Op) → k < length ops → op ≡ get_or ops k op → All IsCall ops → GoesThrough d ops a b → ((ask : Ask) → op ≡ Call ask → GoesBy d (k + 1) ask b c) → GoesThrough d ops a c
+  through_one a b c k op low at calls ab bc =
+      let is = is_call op (subst IsCall (sym at) (All-get_or IsCall ops k op low calls)) in
+      let goes = bc is.0 is.1 in
+      let on : k + 1 ≡ suc k = omega arith in
+      record {
+        leads = leads_trans d a b c ab.leads goes.leads;
+        fits = λ fits. goes.fits ops (ap (λ (n : ℕ). numbered n ops) on ∙ slice_get_read ops (length ops) k op refl low at ∙ ap (λ o. Some o) is.1) (ab.fits fits);
+        same = same_trans a b c ab.same goes.same;
+      }
+
+-- ---- it leaves
+
+-- that it leaves is of no call
+called_before : (w : Working) (stamp : Stamp) → newest_call w.id.0 (theirs (noted (record { stamp = stamp; event = Leave w.id }) w)) ≡ newest_call w.id.0 (theirs w)
+unfolding newest_call
+called_before w stamp = ap (find (is_call_of w.id.0)) (theirs-more w (record { stamp = stamp; event = Leave w.id }) refl)
+
+module _ (d : Domain) (desk : Desk) where
+  pub leaves_same : (ended : Desk) (halt : Option Halt) → LeavesAs halt ended.caller.work desk.caller.work → IsSame desk ended
+  leaves_same ended None (inl left) = record { id = ap (λ (w : Working). w.id) left.1.2; clients = ap (λ (w : Working). w.clients) left.1.2 }
+  leaves_same ended None (inr left) = record { id = ap (λ (w : Working). w.id) left.1; clients = ap (λ (w : Working). w.clients) left.1 }
+  leaves_same ended (Some halt) left = record { id = ap (λ (w : Working). w.id) left.2; clients = ap (λ (w : Working). w.clients) left.2 }
+
+  -- where it came to no halt it has made its calls
+  pub leaves_made : (new : Working) (halt : Option Halt) → IsReady d desk.caller.op desk → IsSound desk.caller → here_by halt ≡ None → LeavesAs halt new desk.caller.work → HasMade desk.caller.op new
+  leaves_made new None ready sound none (inl left) =
+      let w = desk.caller.work in
+      let stamp = left.1.0 in
+      let x : Stamped = record { stamp = stamp; event = Leave w.id } in
+      subst (HasMade desk.caller.op) (sym left.1.2) (record {
+        last = ap op_of (called_before w stamp) ∙ sound.reads.called;
+        over = ap accepted_in (called_before w stamp) ∙ sound.reads.just ∙ ap just_in ready.idle;
+        left = (stamp, Contains-push w.own x);
+      })
+  leaves_made new None ready sound none (inr left) = absurd (cc (sym ready.client ∙ left.0))
+  leaves_made new (Some halt) ready sound none left = absurd (cc none)
+
+  pub given_up_fits : (ended : Desk) → Leads d desk ended → ended.caller.work ≡ desk.caller.work → FitsStill d desk ended
+  given_up_fits ended leads work ops fits whole on = subst (λ (w : Working). FitEach d.setup d.clients (entries_of whole) w.id.0 ops w.own) (sym work) (fits whole (leads.before whole on))
+
+  pub ready_itself : {U : Type 0} (made : Result U Stopped) (n : ℕ) → OnOk made (IsReady d n desk) → OnOk made (IsReady d desk.caller.op desk)
+  ready_itself (Ok done) n ready = subst (λ (k : ℕ). IsReady d k desk) (sym ready.made) ready
+  ready_itself (Err stopped) n ready = tt
+
+  -- behind these calls
+  pub ended_through : {U : Type 0} (first : Desk) (ops : List Op) (n : ℕ) (made : Result U Stopped) (result : Ended) → GoesThrough d ops first desk → OnOk made (IsReady d n desk) → IfErr made (λ stopped. HasStopped stopped desk result)
+      → HasEnded d (FitsStill d) desk.caller.op desk result → HasEnded d (FitsBy d ops) n first result
+  ended_through first ops n made result goes ready stopped ended = record {
+    ended = ended.ended;
+    left = ended.left;
+    leads = leads_trans d first desk ended.ended goes.leads ended.leads;
+    fits = λ fits. ended.fits ops (goes.fits fits);
+    same = same_trans first desk ended.ended goes.same ended.same;
+    all = λ none. all made ready stopped none;
+  }
+    where
+      all : {U : Type 0} (made : Result U Stopped) → OnOk made (IsReady d n desk) → IfErr made (λ stopped. HasStopped stopped desk result) → result.stopped ≡ None → HasMade n ended.ended.caller.work
+      all (Ok done) ready stopped none = subst (λ (k : ℕ). HasMade k ended.ended.caller.work) ready.made (ended.all none)
+      all (Err why) ready stopped none = absurd (cc (sym none ∙ stopped.why))

@@ -1,0 +1,15 @@
+use Rattle.xa_clients.specs.Going.{IsWaiting, GoesBy}
+use Rattle.xa_clients.proofs.calling.await_reply.Given as goal
+
+-- the answer is still to come
+abbrev pub invariant-loop : goal.invariant-loop
+invariant-loop g l = record {
+  goes : GoesBy l.domain l.fn.desk.caller.op l.ask l.fn.desk l.desk;
+  waiting : IsWaiting l.domain l.fn.desk.caller.op l.desk;
+}
+
+abbrev pub invariant-loop-2 : goal.invariant-loop-2
+invariant-loop-2 g l = record {
+  goes : GoesBy l.domain l.fn.desk.caller.op l.ask l.fn.desk l.desk;
+  waiting : IsWaiting l.domain l.fn.desk.caller.op l.desk;
+}

@@ -1,0 +1,10 @@
+use Rattle.xa_clients.specs.Sending.{IsBy, IsOn, IsTried}
+use Rattle.xa_clients.proofs.sending.put_on_one.Given as goal
+
+-- each row before this one was tried in vain
+abbrev pub invariant-loop : goal.invariant-loop
+invariant-loop g l = record {
+  on : IsOn l.domain l.ask l.fn.desk l.desk;
+  tried : IsTried l.domain l.ask l.attempt l.full l.prepared.entry l.prepared.event l.desk;
+  by : IsBy l.desk.reader.found l.attempt l.prepared.event;
+}

@@ -1,0 +1,35 @@
+use Rattle.std.proofs.Common.{sym, ◌∙◌, ap, subst, OnOk}
+use Rattle.xa_work.specs.Work.{Standing as Working}
+use Rattle.xa_clients.specs.Going.{IsReady}
+use Rattle.xa_clients.proofs.Ending.{leaves_same, leaves_made, given_up_fits}
+use Rattle.xa_clients.proofs.working.leave.Goals as goal
+
+pub returns-in-Ok-clause-ended : goal.returns-in-Ok-clause-ended
+returns-in-Ok-clause-ended c =
+    let d = c.args.domain.now in
+    let desk = c.args.desk in
+    let left = c.leave-done.ensures.left in
+    let halt = c.leave-done.result.left.halt in
+    let ready = subst (λ made. OnOk made (IsReady d desk.caller.op desk)) c.in-Ok.is c.requires.ready in
+    record {
+      ended = left.0;
+      left = left.1;
+      leads = left.2;
+      fits = left.4;
+      same = leaves_same d desk left.0 halt left.3;
+      all = λ none. leaves_made d desk left.0.caller.work halt ready c.id-itself.ensures.sound (sym c.here_by-stopped.ensures ∙ none) left.3;
+    }
+
+pub returns-in-Err-clause-ended : goal.returns-in-Err-clause-ended
+returns-in-Err-clause-ended c =
+    let d = c.args.domain.now in
+    let desk = c.args.desk in
+    let left = c.abandon.ensures.left in
+    record {
+      ended = left.0;
+      left = left.1;
+      leads = left.2;
+      fits = given_up_fits d desk left.0 left.2 left.3;
+      same = record { id = ap (λ (w : Working). w.id) left.3; clients = ap (λ (w : Working). w.clients) left.3 };
+      all = λ none. absurd (cc none);
+    }

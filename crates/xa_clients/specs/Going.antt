@@ -1,0 +1,103 @@
+-- What a client's calls leave at its desk (this project's own).
+use Rattle.std.specs.Prelude.{◌≡◌, ℕ, ◌+◌, Bool, true, false, List, Result, Ok, Err}
+use Rattle.std.specs.List.{All}
+use Rattle.xa_types.specs.declared.call.Ask.{Ask}
+use Rattle.xa_types.specs.declared.call.Op.{Op}
+use Rattle.xa_types.specs.declared.call.Op.TheVariants.{Call}
+use Rattle.xa_events.specs.Caller.{is_client}
+use Rattle.xa_caller.specs.declared.outcomes.Step.{Step}
+use Rattle.xa_caller.specs.declared.outcomes.Step.TheVariants as steps
+use Rattle.xa_caller.specs.declared.outcomes.Stop.{Stop}
+use Rattle.xa_caller.specs.declared.outcomes.Stop.TheVariants as stops
+use Rattle.xa_caller.specs.declared.phase.Phase.TheVariants.{Idle}
+use Rattle.xa_caller.specs.Phases.{IsSent, IsPrepared}
+use Rattle.xa_desk.specs.declared.domain.Domain.{Domain}
+use Rattle.xa_desk.specs.declared.desk.Desk.{Desk}
+use Rattle.xa_desk.specs.declared.stopped.Stopped.{Stopped}
+use Rattle.xa_desk.specs.declared.stopped.Stopped.TheVariants as ends
+use Rattle.xa_desk.specs.Desks.{IsDesk, Leads}
+use Rattle.xa_desk.specs.Steps.{FitsOn}
+use Rattle.xa_clients.specs.declared.sending.Tried.{Tried}
+use Rattle.xa_clients.specs.declared.sending.Tried.TheVariants as attempts
+
+-- ---- a client's desk
+
+abbrev pub IsClient : Desk → Type 0
+IsClient desk = is_client desk.caller.work.clients desk.caller.work.id.0 ≡ true
+
+-- between its calls: op of them were made
+pub record IsReady (d : Domain) (op : ℕ) (desk : Desk) : Type 0 where
+  pub is : IsDesk d desk
+  pub client : IsClient desk
+  pub idle : desk.caller.phase ≡ Idle
+  pub made : desk.caller.op ≡ op
+
+-- behind the request of its call with that number, whose answer is still to come
+pub record IsWaiting (d : Domain) (op : ℕ) (desk : Desk) : Type 0 where
+  pub is : IsDesk d desk
+  pub client : IsClient desk
+  pub sent : IsSent desk.caller.phase
+  pub made : desk.caller.op ≡ op
+
+-- no request of it is out to be put on a queue, so that it may be given up
+abbrev pub IsOut : Desk → Type 0
+IsOut desk = IsPrepared desk.caller.phase → ⊥
+
+-- ---- how it goes on
+
+-- the desk is the same worker's
+pub record IsSame (old new : Desk) : Type 0 where
+  pub id : new.caller.work.id ≡ old.caller.work.id
+  pub clients : new.caller.work.clients ≡ old.caller.work.clients
+
+-- the worker went on by its call with that number, of which each event that it noted is one
+pub record GoesBy (d : Domain) (op : ℕ) (ask : Ask) (old new : Desk) : Type 0 where
+  pub leads : Leads d old new
+  pub fits : FitsOn d op ask old new
+  pub same : IsSame old new
+
+-- what a look for the answer leaves: it was told, or is still to come
+abbrev pub ToldAs : Domain → ℕ → Result Bool Stopped → Desk → Type 0
+ToldAs d op (Ok true) desk = IsReady d op desk
+ToldAs d op (Ok false) desk = IsWaiting d op desk
+ToldAs d op (Err stopped) desk = IsOut desk
+
+-- what an attempt to send leaves: the request is out, or the call was refused, or nothing was sent, since all queues that are up are full
+abbrev pub TriedAs : Domain → ℕ → Result Tried Stopped → Desk → Type 0
+TriedAs d op (Ok attempts.Sent) desk = IsWaiting d op desk
+TriedAs d op (Ok attempts.Refused) desk = IsReady d op desk
+TriedAs d op (Ok attempts.Full) desk = (before : ℕ) × (before + 1 ≡ op) × IsReady d before desk
+TriedAs d op (Err stopped) desk = IsOut desk
+
+-- what sending comes to: the request is out, or the call was refused
+abbrev pub SentAs : Domain → ℕ → Result Bool Stopped → Desk → Type 0
+SentAs d op (Ok true) desk = IsWaiting d op desk
+SentAs d op (Ok false) desk = IsReady d op desk
+SentAs d op (Err stopped) desk = IsOut desk
+
+-- ---- what one outcome says by another
+
+abbrev pub told_by : Step → Result Bool Stopped
+told_by (steps.Told stamp) = Ok true
+told_by steps.Wait = Ok false
+told_by (steps.Halt halt) = Err (ends.Here halt)
+told_by steps.Halted = Err ends.Elsewhere
+
+abbrev pub tried_by : Step → Result Tried Stopped
+tried_by (steps.Told stamp) = Ok attempts.Refused
+tried_by steps.Wait = Ok attempts.Full
+tried_by (steps.Halt halt) = Err (ends.Here halt)
+tried_by steps.Halted = Err ends.Elsewhere
+
+abbrev pub refused_by : Stop → Result Tried Stopped
+refused_by (stops.Refused stamp) = Ok attempts.Refused
+refused_by (stops.Halt halt) = Err (ends.Here halt)
+
+-- ---- all calls of a client
+
+abbrev pub IsCall : Op → Type 0
+IsCall (Call ask) = Unit {0}
+IsCall op = ⊥
+
+abbrev pub AllCalls : List Op → Type 0
+AllCalls ops = All IsCall ops
