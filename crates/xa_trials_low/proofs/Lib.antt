@@ -1,1 +1,5 @@
+mod Calling
+mod AtBoard
 mod Seats
+mod Working
+mod Serving

@@ -1,1 +1,4 @@
+pub mod Held
 pub mod Queues
+pub mod Callers
+pub mod Servers

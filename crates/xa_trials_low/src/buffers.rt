@@ -24,12 +24,13 @@ shape = [
   ] },
 ]";
 
-// Data that is absent, is so many letters `a`, or is of a subtype with these octets.
+// Data that is absent, is so many letters `a`, or is of a subtype with these octets or so many zeros.
 #[derive(Clone, Copy)]
 enum Payload {
     Absent,
     Letters(usize),
     Struct(&'static [u8], &'static [u8]),
+    Zeros(&'static [u8], usize),
 }
 
 // How a buffer is made: of X_OCTET or of a subtype with a size, or of data.
@@ -73,7 +74,7 @@ enum Told {
 // A buffer, what it is told as it is made, and its calls.
 type Row = (Made, Told, &'static [(Ask, Told)]);
 
-static ROWS: [Row; 15] = [
+static ROWS: [Row; 17] = [
     (
         Made::Struct(b"entry", 28),
         Told::Done,
@@ -225,6 +226,16 @@ static ROWS: [Row; 15] = [
         &[(Ask::Pack, Told::Long(0, 65_536))],
     ),
     (Made::Of(Payload::Letters(65_537)), Told::TooLong, &[]),
+    (
+        Made::Of(Payload::Zeros(b"large", 65_536)),
+        Told::Done,
+        &[(Ask::Pack, Told::Long(65_536, 0))],
+    ),
+    (
+        Made::Of(Payload::Zeros(b"large", 65_537)),
+        Told::WrongLength,
+        &[],
+    ),
 ];
 
 fn is_refused(why: BufferRefused, told: Told) -> bool {
@@ -331,15 +342,20 @@ fn are_all_told(alloc: Global, mut buffer: Buffer, asks: &[(Ask, Told)]) -> bool
     true
 }
 
-fn struct_of(alloc: Global, subtype: &[u8], octets: &[u8]) -> Option<Data> {
-    Some(Data::Struct(Name::read(subtype).ok()?, Octets::of(alloc, octets).ok()?))
+fn zeros(alloc: Global, count: usize) -> Option<Octets> {
+    Some(Octets::from_vec(vec![in alloc; 0; count].ok()?))
+}
+
+fn struct_of(subtype: &[u8], octets: Option<Octets>) -> Option<Data> {
+    Some(Data::Struct(Name::read(subtype).ok()?, octets?))
 }
 
 fn data_of(alloc: Global, payload: Payload) -> Option<Data> {
     match payload {
         Payload::Absent => Some(Data::Absent),
         Payload::Letters(count) => Some(Data::Octet(letters(alloc, count)?)),
-        Payload::Struct(subtype, octets) => struct_of(alloc, subtype, octets),
+        Payload::Struct(subtype, octets) => struct_of(subtype, Octets::of(alloc, octets).ok()),
+        Payload::Zeros(subtype, count) => struct_of(subtype, zeros(alloc, count)),
     }
 }
 
@@ -389,7 +405,7 @@ fn buffers_are_filled_and_read(rt: HostRuntime) {
     none_fails(&rt, first_not_right(rt.alloc()));
 }
 
-static SOUND: [(Payload, bool); 7] = [
+static SOUND: [(Payload, bool); 9] = [
     (Payload::Absent, true),
     (Payload::Letters(65_536), true),
     (Payload::Letters(65_537), false),
@@ -397,6 +413,8 @@ static SOUND: [(Payload, bool); 7] = [
     (Payload::Struct(b"pair", b"ab"), false),
     (Payload::Struct(b"pair", b"abcd"), false),
     (Payload::Struct(b"none", b"abc"), false),
+    (Payload::Zeros(b"large", 65_536), true),
+    (Payload::Zeros(b"large", 65_537), false),
 ];
 
 fn first_not_judged(alloc: Global) -> Option<usize> {

@@ -3,13 +3,27 @@
 #![tactic(auto)]
 
 #[cfg(test)]
+mod askers;
+#[cfg(test)]
 mod board;
 #[cfg(test)]
 mod buffers;
 #[cfg(test)]
+mod callers;
+#[cfg(test)]
 mod cells;
 #[cfg(test)]
+mod clients;
+#[cfg(test)]
 mod frames;
+#[cfg(test)]
+mod gates;
+#[cfg(test)]
+mod held;
+#[cfg(test)]
+mod held_board;
+#[cfg(test)]
+mod held_steps;
 #[cfg(test)]
 mod lines;
 #[cfg(test)]
@@ -34,6 +48,8 @@ mod routes;
 mod rows;
 #[cfg(test)]
 mod scripts;
+#[cfg(test)]
+mod servers;
 #[cfg(test)]
 mod shelves;
 #[cfg(test)]

@@ -1,38 +1,94 @@
-//! Servers that are started again: MAXGEN and GRACE at their edges.
+//! Servers that are started again: MAXGEN and GRACE at their edges, and starts that are too old to count.
+ghost use Rattle.xa_restart.specs.Rule.{IsLast};
+
 use crate::rows::none_fails;
 use std::alloc::Global;
 use xa_restart::Lives;
 
-// RESTART, MAXGEN and GRACE, the ticks of the first and the second start and one asked for. Then what is told at that tick,
-// or nothing where the second start may not be made.
-type Row = (bool, u8, u32, [u64; 3], Option<bool>);
+// RESTART, MAXGEN and GRACE; and ticks, each with whether the server may be started then. Where it may, it is.
+type Row = (bool, u8, u32, &'static [(u64, bool)]);
 
 static ROWS: [Row; 9] = [
-    (true, 2, 10, [0, 5, 9], Some(false)),
-    (true, 2, 10, [0, 5, 10], Some(true)),
-    (true, 3, 10, [0, 5, 5], Some(true)),
-    (true, 2, 0, [7, 7, 7], Some(true)),
-    (true, 1, 10, [0, 9, 20], None),
-    (true, 1, 10, [0, 10, 19], Some(false)),
-    (true, 1, 10, [0, 10, 20], Some(true)),
-    (true, 0, 10, [0, 99, 99], None),
-    (false, 2, 10, [0, 99, 99], None),
+    (true, 2, 10, &[(0, true), (5, true), (9, false)]),
+    (
+        true,
+        2,
+        10,
+        &[
+            (0, true),
+            (5, true),
+            (10, true),
+            (14, false),
+            (15, true),
+            (19, false),
+            (20, true),
+            (24, false),
+            (99, true),
+            (99, true),
+            (99, false),
+        ],
+    ),
+    (
+        true,
+        3,
+        10,
+        &[
+            (0, true),
+            (5, true),
+            (5, true),
+            (5, false),
+            (10, true),
+            (14, false),
+        ],
+    ),
+    (true, 2, 0, &[(7, true), (7, true), (7, true)]),
+    (
+        true,
+        1,
+        10,
+        &[
+            (0, true),
+            (9, false),
+            (10, true),
+            (19, false),
+            (20, true),
+            (29, false),
+        ],
+    ),
+    (true, 0, 10, &[(0, true), (99, false)]),
+    (false, 2, 10, &[(0, true), (99, false)]),
+    (true, 1, 1, &[(3, true), (3, false), (4, true)]),
+    (
+        true,
+        1,
+        u32::MAX,
+        &[(1, true), (4_294_967_295, false), (4_294_967_296, true)],
+    ),
 ];
 
+// Whether the server may be started at these ticks so.
+fn start_so(lives: &mut Lives, ticks: &[(u64, bool)]) -> bool
+    requires { IsLast 0 lives.old.starts }
+{
+    let mut last = 0;
+    for (tick, may) in ticks {
+        if *tick < last || lives.may_start(*tick) != *may {
+            return false;
+        }
+        last = *tick;
+        if *may {
+            lives.record_start(last);
+        }
+    }
+    true
+}
+
 fn is_so(alloc: Global, row: &Row) -> bool {
-    let (restart, maxgen, grace, [first, second, asked], want) = *row;
-    let Ok(mut lives) = Lives::new(alloc, restart, maxgen, grace) else {
-        return false;
-    };
-    if first > second || second > asked || !lives.may_start(first) {
-        return false;
+    let (restart, maxgen, grace, ticks) = *row;
+    match Lives::new(alloc, restart, maxgen, grace) {
+        Ok(mut lives) => start_so(&mut lives, ticks),
+        Err(_) => false,
     }
-    lives.record_start(first);
-    if !lives.may_start(second) {
-        return want.is_none();
-    }
-    lives.record_start(second);
-    want == Some(lives.may_start(asked))
 }
 
 fn first_not_so(alloc: Global) -> Option<usize> {
