@@ -1,6 +1,7 @@
 // How the pool begins and how it ends.
 ghost use Rattle.std.specs.Prelude.{◌≡◌, ◌+◌, ◌<◌, ◌≤◌, [], length, IfOk, vec_len, vec_capacity};
 ghost use Rattle.std.specs.List.{All};
+ghost use Rattle.crossbeam_queue.specs.Passes.{queue_capacity};
 ghost use Rattle.xa_gauge.specs.Gauge.{knows, single};
 ghost use Rattle.xa_gauge.specs.Known.{known as gauged, IsPassOf as IsGaugePassOf};
 ghost use Rattle.xa_pool.specs.Known.{known, limits_of, IsPassOf, limits, taken, given};
@@ -14,9 +15,10 @@ use std::sync::Wait;
 use xa_gauge::{Gauge, GaugePass, Limits};
 use xa_types::NoMemory;
 
-// A queue with so many blocks.
+// A queue with so many blocks, and room for them.
 fn stock<R: Wait>(rt: &R, alloc: Global, count: u32) -> Result<ArrayQueue<Block>, NoMemory>
     requires { 0 < count }
+    ensures room { IfOk result (λ blocks. queue_capacity blocks ≡ count) }
 {
     let blocks = ArrayQueue::new(alloc, count as usize)?;
     for _ in 0..count {
