@@ -285,7 +285,11 @@ fn read(alloc: Global, octets: &[u8]) -> Option<Said> {
     match next_of(alloc, octets) {
         Ok(None) => Some(Said::Partial),
         Err(NextRefused::BadFrame(0)) => Some(Said::Malformed),
-        Ok(Some(frame)) => written_as(alloc, &frame, octets),
+        Ok(Some(frame)) => {
+            let said = written_as(alloc, &frame, octets);
+            drop(frame);
+            said
+        }
         Err(_) => None,
     }
 }
@@ -484,7 +488,11 @@ fn is_said(frame: &Frame) -> bool {
 
 fn is_read(alloc: Global, spelling: &[u8]) -> bool {
     match next_of(alloc, spelling) {
-        Ok(Some(frame)) => is_said(&frame),
+        Ok(Some(frame)) => {
+            let right = is_said(&frame);
+            drop(frame);
+            right
+        }
         Ok(None) | Err(_) => false,
     }
 }

@@ -102,7 +102,12 @@ fn prints(alloc: Global, reply: &Reply, want: &[u8]) -> bool {
 
 fn reads(alloc: Global, line: &Line) -> bool {
     match data_of(alloc, line.2) {
-        Some(data) => prints(alloc, &reply_of(&line.0, line.1, data), line.3),
+        Some(data) => {
+            let reply = reply_of(&line.0, line.1, data);
+            let right = prints(alloc, &reply, line.3);
+            drop(reply);
+            right
+        }
         None => false,
     }
 }

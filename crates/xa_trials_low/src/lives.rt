@@ -89,7 +89,9 @@ fn serve<L: Link>(life: Life<L>, service: &Name) -> Result<EndedLife<L>, EndedLi
 {
     let life = life.greet()?.send(service, service, &Data::Absent)?;
     let Answered { life, back } = life.hear()?;
-    match back.value {
+    let value = back.value;
+    drop(back);
+    match value {
         Rval::Exit => Ok(life.exit()),
         _ => Ok(life.read_next()?.shut_down()),
     }

@@ -133,8 +133,7 @@ fn one_block_is_taken_and_given(rt: HostRuntime) {
     let held = are_held(&rt, &pool, &mut pass, &octets);
     passes.push_reserved(pass);
     let home = pool.close(passes);
-    assert!(rt; right && held);
-    assert_eq!(rt; home, 1);
+    assert!(rt; right && held && home == 1);
 }
 
 // Two workers on two threads.
@@ -166,6 +165,5 @@ fn all_blocks_come_home(rt: HostRuntime) {
     passes.push_reserved(other);
     passes.push_reserved(one);
     let home = pool.close(passes);
-    assert!(rt; right);
-    assert_eq!(rt; home, 1);
+    assert!(rt; right && home == 1);
 }

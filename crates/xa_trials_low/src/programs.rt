@@ -26,11 +26,11 @@ fn an_echo_comes_in_single_octets(rt: HostRuntime) {
     assert!(rt; echoes_octets(rt.alloc()));
 }
 
-// The first INVOKE of ECHO, without data.
-fn invoke(echo: Name) -> Frame {
+// The first INVOKE of a routine, with that data.
+fn invoke(routine: Name, payload: Data) -> Frame {
     Frame {
         tag: 1,
-        body: Body::Invoke(echo, echo, Mode::Reply, Data::Absent),
+        body: Body::Invoke(routine, routine, Mode::Reply, payload),
     }
 }
 
@@ -57,7 +57,12 @@ fn echoes_a_step(alloc: Global) -> bool {
         return false;
     };
     match started(alloc, &echo) {
-        Some(mut child) => steps_once(alloc, &mut child, &invoke(echo)),
+        Some(mut child) => {
+            let asked = invoke(echo, Data::Absent);
+            let right = steps_once(alloc, &mut child, &asked);
+            drop(asked);
+            right
+        }
         None => false,
     }
 }
@@ -238,12 +243,11 @@ fn are_said(said: &[Frame], saying: Saying) -> bool {
 // What the first INVOKE of a routine is answered.
 fn answered(alloc: Global, routine: &[u8], piece: Option<Piece>) -> Option<Vec<Frame>> {
     let routine = Name::read(routine).ok()?;
-    let asked = Frame {
-        tag: 1,
-        body: Body::Invoke(routine, routine, Mode::Reply, data_of(alloc, piece)?),
-    };
     let mut child = started(alloc, &routine)?;
-    child_step(alloc, &mut child, &asked).ok()
+    let asked = invoke(routine, data_of(alloc, piece)?);
+    let said = child_step(alloc, &mut child, &asked).ok();
+    drop(asked);
+    said
 }
 
 fn first_not_said(alloc: Global) -> Option<usize> {

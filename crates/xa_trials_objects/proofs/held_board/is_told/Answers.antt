@@ -1,0 +1,10 @@
+use Rattle.xa_trials_objects.proofs.AtBoard.{withdrew, cleared}
+use Rattle.xa_trials_objects.proofs.held_board.is_told.Goals as goal
+
+pub returns-after-is_done : goal.returns-after-is_done
+returns-after-is_done g c =
+    withdrew c.args.board.now c.args.setup.now c.args.pass c.withdraw_at-at.result.pass c.requires.own c.withdraw_at-at.ensures.lock _ _ _ _ c.args.service _ c.withdraw_at-at.result.answer c.withdraw_at-at.ensures.withdrawn
+
+pub returns-after-is_cleared : goal.returns-after-is_cleared
+returns-after-is_cleared g c =
+    cleared c.args.board.now c.args.setup.now c.args.pass c.clear_at-at.result.pass c.requires.own c.clear_at-at.ensures.lock _ _ _ c.clear_at-at.result.answer c.clear_at-at.ensures.cleared

@@ -1,0 +1,288 @@
+//! The board under its lock: what changes, looks and look-ups are told there, step by step.
+ghost use Rattle.std.specs.Prelude.{◌≡◌, ◌+◌, ◌<◌, ◌≤◌, ◌^◌, true, length, IfSome, vec_len, vec_capacity};
+ghost use Rattle.std.specs.List.{All};
+ghost use Rattle.xa_types.specs.Configured.{is_configured};
+ghost use Rattle.xa_lock.specs.Known.{IsPassOf, passes_of};
+ghost use Rattle.xa_held.specs.Board.{IsPlaced};
+ghost use Rattle.xa_trials_objects.specs.Held.{IsOwn};
+
+use crate::held_steps::next;
+use crate::memory::setup_of;
+use crate::rows::none_fails;
+use std::alloc::Global;
+use std::process::Abort;
+use std::sync::Wait;
+use xa_board::{Board, BoardRefused, Changed, Reader};
+use xa_held::{
+    AtBoard, BoardNote, Clearing, KeptBoard, advertise_at, clear_at, look_up_at, withdraw_at,
+};
+use xa_lock::{Guarded, LockPass};
+use xa_route::row_for;
+use xa_types::{CallerId, Name, QueueId, Row, Setup, Stamp};
+
+const SETUP: &[u8] = b"queue = [{ name = 'Q' }, { name = 'R' }, { name = 'S' }]
+server = [{ name = 'A', queue = 'Q' }, { name = 'B', queue = 'R' }, { name = 'C', queue = 'S' }]";
+
+const END: u64 = 1 << 63;
+
+type Lock = Guarded<KeptBoard>;
+
+type Pass = LockPass<BoardNote>;
+
+// What a worker asks of the board for a service and a queue: that its row stands there with a routine, that this is
+// withdrawn, that the first row of the queue is, or which queues have the service.
+#[derive(Clone, Copy)]
+enum Ask {
+    Put(&'static [u8]),
+    Out,
+    Clear,
+    Find,
+}
+
+// What it is told: the stamp of the change, or of a look behind which all changes are; the version and the queues; or why
+// there is no change.
+#[derive(Clone, Copy)]
+enum Told {
+    Done(u64),
+    Clear(u64),
+    Found(u64, &'static [u16]),
+    Match,
+    NoEnt,
+    Worn,
+}
+
+// What was seen before a step, the step, its queue, what is told, and the stamp of the last change or look then, which is 0
+// where there was no change.
+type Step = (u64, Ask, u16, Told, u64);
+
+// The steps at a board, and how many changes were noted.
+static BOARDS: [(&[Step], usize); 2] = [
+    (
+        &[
+            (0, Ask::Find, 0, Told::Found(0, &[]), 0),
+            (3, Ask::Clear, 3, Told::Clear(3), 0),
+            (0, Ask::Put(b"R"), 1, Told::Done(4), 4),
+            (5, Ask::Put(b"R"), 2, Told::Done(6), 6),
+            (0, Ask::Find, 0, Told::Found(2, &[1, 2]), 6),
+            (0, Ask::Put(b"S"), 1, Told::Match, 6),
+            (0, Ask::Out, 3, Told::NoEnt, 6),
+            (0, Ask::Put(b"R"), 1, Told::Done(7), 7),
+            (0, Ask::Find, 0, Told::Found(3, &[2, 1]), 7),
+            (20, Ask::Clear, 3, Told::Clear(20), 20),
+            (9, Ask::Clear, 1, Told::Done(21), 21),
+            (9, Ask::Clear, 1, Told::Clear(21), 21),
+            (0, Ask::Find, 0, Told::Found(4, &[2]), 21),
+            (0, Ask::Out, 2, Told::Done(22), 22),
+            (0, Ask::Find, 0, Told::Found(5, &[]), 22),
+        ],
+        5,
+    ),
+    (
+        &[
+            (END - 1, Ask::Put(b"R"), 1, Told::Done(END), END),
+            (0, Ask::Put(b"R"), 2, Told::Worn, END),
+            (0, Ask::Out, 1, Told::Worn, END),
+            (0, Ask::Clear, 1, Told::Worn, END),
+            (0, Ask::Clear, 2, Told::Clear(END), END),
+            (0, Ask::Find, 0, Told::Found(1, &[1]), END),
+        ],
+        1,
+    ),
+];
+
+fn is_refused(why: BoardRefused, told: Told) -> bool {
+    match why {
+        BoardRefused::Match(_) => matches!(told, Told::Match),
+        BoardRefused::NoEnt => matches!(told, Told::NoEnt),
+        BoardRefused::Worn(larger) => matches!(told, Told::Worn) && larger == Stamp::LAST,
+        BoardRefused::Full | BoardRefused::NoMemory => false,
+    }
+}
+
+fn is_done(answer: Result<Changed, BoardRefused>, told: Told) -> bool {
+    match answer {
+        Ok(done) => matches!(told, Told::Done(want) if done.noted.stamp.0 == want),
+        Err(why) => is_refused(why, told),
+    }
+}
+
+fn is_cleared(answer: Result<Clearing, BoardRefused>, told: Told) -> bool {
+    match answer {
+        Ok(Clearing::Withdrew(noted)) => {
+            matches!(told, Told::Done(want) if noted.stamp.0 == want)
+        }
+        Ok(Clearing::Clear(look)) => matches!(told, Told::Clear(want) if look.stamp.0 == want),
+        Err(why) => is_refused(why, told),
+    }
+}
+
+fn has_found(version: u64, rows: &[Row], told: Told) -> bool {
+    let Told::Found(want, queues) = told else {
+        return false;
+    };
+    for (place, row) in rows.iter().enumerate() {
+        if queues.get(place) != Some(&row.queue.0) {
+            return false;
+        }
+    }
+    version == want && rows.len() == queues.len()
+}
+
+// Advertises the service with a routine, on a queue that the setup has.
+fn put<R: Wait>(
+    rt: &R,
+    board: &Lock,
+    setup: &Setup,
+    pass: Pass,
+    seen: Stamp,
+    row: Row,
+    told: Told,
+) -> (Pass, bool, Stamp)
+    requires own { IsOwn board.now setup.now pass }
+    requires seen { seen.0 ≤ 2 ^ 63 }
+    requires placed { IsPlaced setup.now row }
+    ensures { IsOwn board.now setup.now result.0 }
+{
+    let _ = setup;
+    let maker = CallerId(1);
+    let at = advertise_at(rt, board, pass, seen, maker, maker, 1, row);
+    let AtBoard { pass, last, answer } = at;
+    (pass, is_done(answer, told), last)
+}
+
+// The row of the service on a queue of the setup, with that routine.
+fn row_on(setup: &Setup, queue: QueueId, service: Name, routine: &[u8]) -> Option<Row>
+    requires { is_configured setup.now ≡ true }
+    ensures { IfSome result (IsPlaced setup.now) }
+{
+    if queue.0 == 0 || usize::from(queue.0) > setup.queues.slice().len() {
+        return None;
+    }
+    let routine = Name::read(routine).ok()?;
+    Some(row_for(setup, queue, service, routine))
+}
+
+// Whether a step for the service is told what it should be.
+fn is_told<R: Wait>(
+    rt: &R,
+    board: &Lock,
+    setup: &Setup,
+    pass: Pass,
+    reader: &mut Reader,
+    service: Name,
+    step: Step,
+) -> (Pass, bool)
+    requires own { IsOwn board.now setup.now pass }
+    requires configured { is_configured setup.now ≡ true }
+    ensures { IsOwn board.now setup.now result.0 }
+{
+    let (seen, ask, queue, told, want) = step;
+    let seen = Stamp(seen.min(END));
+    let queue = QueueId(queue);
+    let maker = CallerId(1);
+    match ask {
+        Ask::Put(routine) => {
+            let Some(row) = row_on(setup, queue, service, routine) else {
+                return (pass, false);
+            };
+            let (pass, right, last) = put(rt, board, setup, pass, seen, row, told);
+            (pass, right && last.0 == want)
+        }
+        Ask::Out => {
+            let at = withdraw_at(rt, board, pass, seen, maker, maker, 1, &service, queue);
+            let AtBoard { pass, last, answer } = at;
+            (pass, is_done(answer, told) && last.0 == want)
+        }
+        Ask::Clear => {
+            let at = clear_at(rt, board, pass, seen, maker, queue);
+            let AtBoard { pass, last, answer } = at;
+            (pass, is_cleared(answer, told) && last.0 == want)
+        }
+        Ask::Find => {
+            let at = look_up_at(rt, board, pass, reader, &service, false);
+            let AtBoard { pass, last, answer } = at;
+            let right = has_found(answer, &reader.found().rows, told);
+            (pass, right && last.0 == want)
+        }
+    }
+}
+
+fn are_told<R: Wait>(
+    rt: &R,
+    board: &Lock,
+    setup: &Setup,
+    mut pass: Pass,
+    reader: &mut Reader,
+    service: Name,
+    steps: &[Step],
+) -> (Pass, bool)
+    requires own { IsOwn board.now setup.now pass }
+    requires configured { is_configured setup.now ≡ true }
+    ensures { IsOwn board.now setup.now result.0 }
+{
+    let mut right = true;
+    for step in steps {
+        let (next, told) = is_told(rt, board, setup, pass, reader, service, *step);
+        pass = next;
+        right &= told;
+    }
+    (pass, right)
+}
+
+// A board under its lock, its reader, the pass of maker 0 and that of maker 1.
+fn open<R: Abort>(rt: &R, alloc: Global, setup: &Setup) -> (Lock, Reader, Vec<Pass>, Pass)
+    ensures own { IsOwn result.0 setup.now result.3 }
+    ensures other { All (IsPassOf result.0) result.2.items }
+    ensures count { length result.2.items + 1 ≡ passes_of result.0 }
+    ensures room { vec_len result.2 < vec_capacity result.2 }
+{
+    let Ok(board) = Board::new(alloc, Stamp(0)) else {
+        panic!(rt; "no memory")
+    };
+    let Ok(reader) = board.reader(alloc) else {
+        panic!(rt; "no memory")
+    };
+    let kept = KeptBoard::of(board, setup);
+    let Ok((lock, mut passes)) = Guarded::new(alloc, kept, 2) else {
+        panic!(rt; "no memory")
+    };
+    let pass = next(rt, &mut passes);
+    (lock, reader, passes, pass)
+}
+
+// How many changes were noted at a board by the time that all left it.
+fn noted_at(lock: Lock, passes: Vec<Pass>) -> usize
+    requires lock { All (IsPassOf lock) passes.items }
+    requires all { length passes.items ≡ passes_of lock }
+{
+    lock.close(passes).home().entries().len()
+}
+
+// Whether the steps at a board are told what they should be, of which so many are changes.
+fn is_right<R: Abort + Wait>(rt: &R, alloc: Global, steps: &[Step], changes: usize) -> bool {
+    let Ok(service) = Name::read(b"A") else {
+        panic!(rt; "no name")
+    };
+    let Some(setup) = setup_of(alloc, SETUP) else {
+        panic!(rt; "no setup")
+    };
+    let (lock, mut reader, mut passes, pass) = open(rt, alloc, &setup);
+    let (pass, right) = are_told(rt, &lock, &setup, pass, &mut reader, service, steps);
+    passes.push_reserved(pass);
+    let noted = noted_at(lock, passes);
+    right && noted == changes
+}
+
+fn first_not_right<R: Abort + Wait>(rt: &R, alloc: Global) -> Option<usize> {
+    for (place, (steps, changes)) in BOARDS.iter().enumerate() {
+        if !is_right(rt, alloc, steps, *changes) {
+            return Some(place);
+        }
+    }
+    None
+}
+
+#[test]
+fn steps_at_the_board_are_told(rt: HostRuntime) {
+    none_fails(&rt, first_not_right(&rt, rt.alloc()));
+}
