@@ -12,5 +12,5 @@ pub struct Cells<A> {
     pub(crate) table: Table<Option<Carried<A>>, View<A>, Vec<u32, Global>, Cellular, Global>,
     ghost sized: { (table.shared.table_id.words ≡ cells_in table.shared.key.items) × (table.shared.table_id.slots ≡ cells_in table.shared.key.items) },
     ghost some: { (0 < length table.shared.key.items) × (0 < table.shared.table_id.words) },
-    ghost few: { table.shared.table_id.words ≤ 6400 },
+    ghost few: { table.shared.table_id.words ≤ 6450 },
 }

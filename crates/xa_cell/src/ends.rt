@@ -27,10 +27,10 @@ fn count(limits: &[u32]) -> usize
 }
 
 impl<A> Cells<A> {
-    /// Cells for as many callers as there are limits, which are 1 to 128 callers, and a seat for each, in their order.
+    /// Cells for as many callers as there are limits, which are 1 to 129 callers, and a seat for each, in their order.
     /// Its limit, which is 1 to 50, is how many cells the caller owns. No other call takes memory.
     pub fn new(alloc: Global, limits: &[u32]) -> Result<(Cells<A>, Vec<Seat<A>>), NoMemory>
-        requires callers { (0 < length limits.now) × (length limits.now ≤ 128) }
+        requires callers { (0 < length limits.now) × (length limits.now ≤ 129) }
         requires each { All (λ n. (0 < n) × (n ≤ 50)) limits.now }
         ensures callers { IfOk result (λ made. callers_of made.0 ≡ length limits.now) }
         ensures table { IfOk result (λ made. All (IsSeatOf made.0) made.1.items) }
