@@ -95,19 +95,19 @@ none_put : (P : Row → Type 0) (rows : List Row) → map put_of rows ≡ [] →
 none_put P [] none = All-nil P
 none_put P (row ∷ rows) none = absurd (cc none)
 
-pub sound_new : (setup : Setup) (board : Standing) (first : Stamp) (items : List (Mark × Snapshot Event)) → items ≡ [] → board.entries ≡ [] → board.first ≡ first → first.0 ≤ 2 ^ 63 → ReadsAsNoted board → IsSoundBoard (record { board = board; setup = setup; last = first; notes = Opened setup ∷ map note_of items })
-sound_new setup board first items none entries is bound reads =
+pub sound_new : (setup : Setup) (board : Standing) (items : List (Mark × Snapshot Event)) → items ≡ [] → board.entries ≡ [] → board.first.0 ≡ 0 → ReadsAsNoted board → IsSoundBoard (record { board = board; setup = setup; last = record { 0 = 0 }; notes = Opened setup ∷ map note_of items })
+sound_new setup board items none entries begins reads =
     let changed : List Stamped → List Event = λ l. reverse (map (λ (x : Stamped). x.event) l) in
-    let least : board.first.0 ≡ first.0 = ap (λ (s : Stamp). s.0) is in
     let bare : stamp_of board ≡ board.first.0 = ap (last_stamp board.first) entries in
-    subst (λ (l : List (Mark × Snapshot Event)). IsSoundBoard (record { board = board; setup = setup; last = first; notes = Opened setup ∷ map note_of l })) (sym none) (record {
+    subst (λ (l : List (Mark × Snapshot Event)). IsSoundBoard (record { board = board; setup = setup; last = record { 0 = 0 }; notes = Opened setup ∷ map note_of l })) (sym none) (record {
       opened = ([], refl);
       placed = none_put (IsPlaced setup) board.rows (reads.standing setup ∙ ap (λ (l : List Stamped). map put_of (rows_of_version setup (changed l) (published (changed l)))) entries ∙ sym ((new-noted board.first).standing setup));
       noted = sym entries;
+      begins = begins;
       climbs = tt;
-      latest = least;
-      bound = bound;
-      behind = omega (arith, bare, least);
+      latest = begins;
+      bound = omega arith;
+      behind = omega (arith, bare, begins);
     })
 
 made_in-append : (notes more : List BoardNote) → made_in (notes ++ more) ≡ made_in notes ++ made_in more
@@ -153,6 +153,7 @@ module _ (seen : Stamp) (old new : Held) (sound : IsSoundBoard old) (same : new.
         placed = subst (λ (s : Setup). All (IsPlaced s) new.board.rows) (sym same) (subst (All (IsPlaced old.setup)) (sym (ap (λ (s : Standing). s.rows) makes.board)) placed);
         noted = ap (λ l. noted_in (made_in l)) notes ∙ ap noted_in (made_in-append old.notes (change maker noted)) ∙ map-append bare (made_in old.notes) (m ∷ [])
             ∙ ap (λ l. l ++ m.noted ∷ []) sound.noted ∙ ap (λ (e : Event). old.board.entries ++ record { stamp = noted.stamp; event = e } ∷ []) makes.event_is ∙ sym entries;
+        begins = ap (λ (f : Stamp). f.0) first ∙ sound.begins;
         climbs = subst (λ (f : Stamp). Climbs f.0 new.notes) (sym first) (subst (Climbs old.board.first.0) (sym notes)
             (Climbs-append old.board.first.0 old.notes (By m ∷ []) sound.climbs (omega (arith, sound.latest, above'), tt)));
         latest = ap (λ (f : Stamp). top f.0 new.notes) first ∙ ap (top old.board.first.0) notes ∙ top-append old.board.first.0 old.notes (By m ∷ []) ∙ sym last;
@@ -173,6 +174,7 @@ module _ (seen : Stamp) (old new : Held) (sound : IsSoundBoard old) (same : new.
         opened = opened_more old new look same notes sound.opened;
         placed = subst (λ (s : Setup). All (IsPlaced s) new.board.rows) (sym same) (subst (All (IsPlaced old.setup)) (sym (ap (λ (s : Standing). s.rows) board)) sound.placed);
         noted = ap (λ l. noted_in (made_in l)) notes ∙ ap noted_in (made_in-append old.notes look ∙ append-nil (made_in old.notes)) ∙ sound.noted ∙ sym (ap (λ (s : Standing). s.entries) board);
+        begins = ap (λ (f : Stamp). f.0) first ∙ sound.begins;
         climbs = subst (λ (f : Stamp). Climbs f.0 new.notes) (sym first) (subst (Climbs old.board.first.0) (sym notes)
             (Climbs-append old.board.first.0 old.notes look sound.climbs (omega (arith, sound.latest, high), tt, omega (arith, sound.latest, at))));
         latest = ap (λ (f : Stamp). top f.0 new.notes) first ∙ ap (top old.board.first.0) notes ∙ top-append old.board.first.0 old.notes look ∙ sym last;

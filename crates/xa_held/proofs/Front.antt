@@ -31,7 +31,7 @@ gone_more gone more (s ∷ servers) all =
     let parts = and_parts (has_server s gone) (all_gone gone servers) all in
     both_true (list_any-append (λ (g : ServerId). s.0 == g.0) gone more ∙ or_left (has_server s gone) (has_server s more) parts.0) (gone_more gone more servers parts.1)
 
-events_in-notes : (A : Type 0) (entries : List Made) → events_in (map (note {A = A}) entries) ≡ map (λ (noted : Stamped). noted.event) (noted_in entries)
+pub events_in-notes : (A : Type 0) (entries : List Made) → events_in (map (note {A = A}) entries) ≡ map (λ (noted : Stamped). noted.event) (noted_in entries)
 events_in-notes A [] = refl
 events_in-notes A (m ∷ entries) = ap (λ (l : List Event). m.noted.event ∷ l) (events_in-notes A entries)
 

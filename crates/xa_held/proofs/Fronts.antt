@@ -1,11 +1,11 @@
 -- What passes saw of the board stands first among its changes.
 use Rattle.std.proofs.Common.{◌≡◌, ℕ, ◌+◌, ◌==◌, ◌&&◌, ◌<◌, ◌≤◌, Bool, true, false, cond, max, List, [], ◌∷◌, ◌++◌, map, length, inl, inr, Some, None, Ok, refl, sym, ap, ◌∙◌, subst, arith, append_assoc, length-append}
-use Rattle.std.specs.List.{All, filter, find}
+use Rattle.std.specs.List.{All, filter, find, Contains}
 use Rattle.std.specs.Str.{bytes_eq}
 use Rattle.std.proofs.lemmas.Bool.{cases_Bool}
 use Rattle.std.proofs.lemmas.Grind.{flat_map-append}
 use Rattle.std.proofs.lemmas.List.{map-append}
-use Rattle.std.proofs.lemmas.List.Elements.{All-nil, All-cons, All-weaker, All-map, filter_map-append}
+use Rattle.std.proofs.lemmas.List.Elements.{All-nil, All-cons, All-weaker, All-map, filter_map-append, All-contains, Contains-push, Contains-append_left, Contains-append_right}
 use Rattle.xa_types.specs.declared.ids.CallerId.{CallerId}
 use Rattle.xa_types.specs.declared.ids.QueueId.{QueueId}
 use Rattle.xa_types.specs.declared.row.Row.{Row}
@@ -70,6 +70,30 @@ below_top least (By m ∷ notes) climbs =
     let rest = below_top m.noted.stamp.0 notes climbs.1 in
     (omega (arith, climbs.0, rest.0), All-cons (λ (x : Stamped). x.stamp.0 ≤ top m.noted.stamp.0 notes) m.noted (changes_at notes) rest.0 rest.1)
 below_top least (Looked l ∷ notes) climbs = let rest = below_top l.stamp.0 notes climbs.1 in (omega (arith, climbs.0, rest.0), rest.1)
+
+-- no change that was seen has a greater stamp than the last change or look
+pub reached_last : (seen : List BoardNote) (held : Held) → seen ≡ held.notes → IsSoundBoard held → (stamp : Stamp) → held.last ≡ stamp → All (λ (x : Stamped). x.stamp.0 ≤ stamp.0) (changes_at seen)
+reached_last seen held saw sound stamp last =
+    let same = ap (λ (s : Stamp). s.0) last in
+    let at : ℕ = top held.board.first.0 held.notes in
+    let latest = sound.latest in
+    All-weaker (λ (x : Stamped). x.stamp.0 ≤ at) (λ (x : Stamped). x.stamp.0 ≤ stamp.0) (λ x le. omega (arith, le, latest, same)) (changes_at seen)
+    (subst (λ (l : List BoardNote). All (λ (x : Stamped). x.stamp.0 ≤ at) (changes_at l)) (sym saw) (below_top held.board.first.0 held.notes sound.climbs).1)
+
+-- a change that stands among the notes stands among the changes
+each_change : (notes : List BoardNote) → All (λ (n : BoardNote). (m : Made) → n ≡ By m → Contains (changes_at notes) m.noted) notes
+each_change [] = All-nil (λ (n : BoardNote). (m : Made) → n ≡ By m → Contains (changes_at []) m.noted)
+each_change (Opened setup ∷ rest) = All-cons (λ (n : BoardNote). (m : Made) → n ≡ By m → Contains (changes_at rest) m.noted) (Opened setup) rest (λ m is. absurd (cc is)) (each_change rest)
+each_change (Looked look ∷ rest) = All-cons (λ (n : BoardNote). (m : Made) → n ≡ By m → Contains (changes_at rest) m.noted) (Looked look) rest (λ m is. absurd (cc is)) (each_change rest)
+each_change (By made ∷ rest) =
+    let one : List Stamped = made.noted ∷ [] in
+    All-cons (λ (n : BoardNote). (m : Made) → n ≡ By m → Contains (made.noted ∷ changes_at rest) m.noted) (By made) rest
+    (λ m is. let same : made ≡ m = cc is in subst (λ (x : Made). Contains (made.noted ∷ changes_at rest) x.noted) same (Contains-append_left one (changes_at rest) made.noted (Contains-push [] made.noted)))
+    (All-weaker (λ (n : BoardNote). (m : Made) → n ≡ By m → Contains (changes_at rest) m.noted) (λ (n : BoardNote). (m : Made) → n ≡ By m → Contains (made.noted ∷ changes_at rest) m.noted)
+    (λ n there m is. Contains-append_right one (changes_at rest) m.noted (there m is)) rest (each_change rest))
+
+pub change_stands : (seen : List BoardNote) (m : Made) → Contains seen (By m) → Contains (changes_at seen) m.noted
+change_stands seen m here = All-contains (λ (n : BoardNote). (m : Made) → n ≡ By m → Contains (changes_at seen) m.noted) seen (By m) (each_change seen) here m refl
 
 -- more changes make no lower version
 pub published-front : (now seen : List Stamped) → StartsWith now seen → published (past_in seen) ≤ published (past_in now)

@@ -8,3 +8,7 @@ pub mod Lefts
 pub mod Fronts
 pub mod Standing
 pub mod Owning
+pub mod Changed
+pub mod Counting
+pub mod Seen
+pub mod Refusals

@@ -1,12 +1,13 @@
 -- What a look-up found stands by the machine's events.
-use Rattle.std.proofs.Common.{◌≡◌, ℕ, ◌==◌, ◌&&◌, ◌<◌, ◌≤◌, not, Bool, true, false, cond, List, [], ◌∷◌, ◌++◌, map, inl, inr, Option, Some, None, refl, sym, ap, ◌∙◌, subst, arith, eq-eqb, eqb-true, ⊎_elim}
+use Rattle.std.proofs.Common.{◌≡◌, ℕ, ◌==◌, ◌&&◌, ◌<◌, ◌≤◌, not, Bool, true, false, cond, List, [], ◌∷◌, ◌++◌, map, inl, inr, Option, Some, None, refl, sym, ap, ◌∙◌, subst, arith, eq-eqb, eqb-true, ⊎_elim, length}
+use Rattle.xa_types.specs.Kind.{is_accepted, kind_of}
 use Rattle.std.specs.Prelude.{IsSomeAnd}
-use Rattle.std.specs.List.{All, filter, find}
+use Rattle.std.specs.List.{All, filter, find, Contains}
 use Rattle.std.specs.Str.{bytes_eq}
 use Rattle.std.specs.Cmp.Derive.{both_true}
 use Rattle.std.proofs.lemmas.Bool.{cases_Bool, and_parts}
 use Rattle.std.proofs.lemmas.Slice.Eq.{bytes_eq-Decides}
-use Rattle.std.proofs.lemmas.List.Elements.{All-nil, All-cons, All-head, All-tail, All-weaker, All-filter, All-push, filter_passes}
+use Rattle.std.proofs.lemmas.List.Elements.{All-nil, All-cons, All-head, All-tail, All-weaker, All-filter, All-push, filter_passes, All-contains, All-contains_itself}
 use Rattle.std.proofs.lemmas.List.{nil_from_length}
 use Rattle.xa_types.specs.declared.data.Data.{Data}
 use Rattle.xa_types.specs.declared.row.Row.{Row}
@@ -33,7 +34,7 @@ use Rattle.xa_board.proofs.Listed.{rows-configured, rows_seen-listed}
 use Rattle.xa_held.specs.declared.kept_board.BoardNote.{BoardNote}
 use Rattle.xa_held.specs.declared.kept_board.BoardNote.TheVariants.{Opened, By, Looked}
 use Rattle.xa_held.specs.Board.{Held, IsPlaced, Climbs}
-use Rattle.xa_held.specs.BoardVisits.{SeesBoard, BoardVisits}
+use Rattle.xa_held.specs.BoardVisits.{SeesBoard, BoardVisits, ReachesBoard}
 use Rattle.xa_held.specs.Joins.{changes_at}
 use Rattle.xa_held.proofs.Fronts.{changes_front, version_grows}
 
@@ -165,6 +166,21 @@ below_last (By m ∷ notes) least first low climbs =
     (omega (arith, climbs.0, rest.0, low), All-cons (λ (x : Stamped). x.stamp.0 ≤ last_stamp m.noted.stamp (changes_at notes)) m.noted (changes_at notes) rest.0 rest.1)
 below_last (Looked l ∷ notes) least first low climbs = below_last notes l.stamp.0 first (omega (arith, climbs.0, low)) climbs.1
 
+last_low : (first : Stamp) (entries : List Stamped) (n : ℕ) → All (λ (x : Stamped). x.stamp.0 ≤ n) entries → 0 < length entries → last_stamp first entries ≤ n
+last_low first [] n all some = absurd (omega (arith, some))
+last_low first (x ∷ []) n all some = All-head (λ (x : Stamped). x.stamp.0 ≤ n) x [] all
+last_low first (x ∷ y ∷ rest) n all some = last_low x.stamp (y ∷ rest) n (All-tail (λ (x : Stamped). x.stamp.0 ≤ n) x (y ∷ rest) all) (omega arith)
+
+its_service : (configured : Option ServiceSetup) (service : List ℕ) (queue : ℕ) (routine : List ℕ) → (row_with configured service queue routine).service ≡ service
+its_service None service queue routine = refl
+its_service (Some c) service queue routine = refl
+
+as_wanted : (b w : Bool) → same_truth b w ≡ true → b ≡ w
+as_wanted true true is = refl
+as_wanted true false is = cc (sym is)
+as_wanted false true is = cc is
+as_wanted false false is = refl
+
 module _ (p p' : Page BoardNote) (now : List BoardNote) (name : List ℕ) (wanted : Bool) (found : FoundRows) (stamp : Stamp) where
   abbrev Looks : Type 0
   Looks = BoardVisits p p' [] (λ old new. (new ≡ old) × (found.version ≡ version_of old.board) × Finds old.board name wanted found)
@@ -248,3 +264,39 @@ module _ (p p' : Page BoardNote) (now : List BoardNote) (name : List ℕ) (wante
         version = omega (arith, visits.how.1);
         row = subst (λ (v : ℕ). IsSomeAnd (row_of row.service row.queue.0 (rows_of_version setup (past_of board) v)) P) (sym visits.how.1) (subst (λ (o : Option Row). IsSomeAnd o P) (sym stands) admits);
       })) found.rows those
+
+  -- each row that takes the kind of the data stands there, for a call that is or isn't of a conversation
+  pub found_admits : (setup : Setup) (payload : Data) → Looks → SeesBoard setup p → StartsWith now p'.seen → (0 < found.version → found.stamp.0 < stamp.0)
+      → All (λ row. is_accepted setup row.accepts (kind_of payload) ≡ true → SawFront (changes_at now) stamp (RowStands setup found.version name row.queue.0 (RowAdmits setup wanted row.routine payload))) found.rows
+  found_admits setup payload visits sees begins less =
+      let test : Row → Bool = λ row. bytes_eq row.service name && same_truth row.conversational wanted in
+      let passed : All (λ (row : Row). test row ≡ true) found.rows = subst (All (λ (row : Row). test row ≡ true)) (sym visits.how.2.rows) (filter_passes test visits.old.board.rows) in
+      let rows = found_configured setup visits sees in
+      let placed = found_placed setup visits sees in
+      All-weaker (Contains found.rows) (λ (row : Row). is_accepted setup row.accepts (kind_of payload) ≡ true → SawFront (changes_at now) stamp (RowStands setup found.version name row.queue.0 (RowAdmits setup wanted row.routine payload)))
+      (λ row here accepts.
+      let Admits : Row → Type 0 = RowAdmits setup wanted row.routine payload in
+      let its : row ≡ row_for setup name row.queue.0 row.routine = All-contains (λ (r : Row). r ≡ row_for setup name r.queue.0 r.routine) found.rows row rows here in
+      let as_given = (All-contains (IsPlaced setup) found.rows row placed here).configured in
+      let kind = as_wanted row.conversational wanted (and_parts (bytes_eq row.service name) (same_truth row.conversational wanted) (All-contains (λ (r : Row). test r ≡ true) found.rows row passed here)).1 in
+      let admits : Admits row = record { its_routine = refl; its_kind = kind; kind = accepts } in
+      subst (λ (service : List ℕ). SawFront (changes_at now) stamp (RowStands setup found.version service row.queue.0 Admits)) (ap (λ (r : Row). r.service) its ∙ its_service (service_named setup name) name row.queue.0 row.routine)
+      (All-contains (λ (r : Row). Admits (row_for setup r.service r.queue.0 r.routine) → SawFront (changes_at now) stamp (RowStands setup found.version r.service r.queue.0 Admits)) found.rows row
+      (found_stands setup wanted row.routine payload visits begins less) here (subst Admits as_given admits))) found.rows (All-contains_itself found.rows)
+
+module _ {p p' : Page BoardNote} {name : List ℕ} {wanted : Bool} {found : FoundRows} (looks : BoardVisits p p' [] (λ old new. (new ≡ old) × (found.version ≡ version_of old.board) × Finds old.board name wanted found)) where
+  changes_are : changes_at p'.seen ≡ looks.new.board.entries
+  changes_are = ap changes_at looks.saw ∙ looks.sound.noted
+
+  -- the version that was found has been seen
+  pub found_seen : found.version ≡ published (past_in (changes_at p'.seen))
+  found_seen = looks.how.1 ∙ ap (λ (h : Held). version_of h.board) (sym looks.how.0) ∙ ap (λ (l : List Stamped). published (past_in l)) (sym changes_are)
+
+  -- and where it has a change its stamp is below any that is behind all that was seen
+  pub found_later : (last stamp : Stamp) → ReachesBoard p' last → last.0 < stamp.0 → 0 < found.version → found.stamp.0 < stamp.0
+  found_later last stamp reaches less more =
+      let count : found.version ≡ length (changes_at p'.seen) = found_seen ∙ ap (λ (l : List Stamped). published (past_in l)) changes_are ∙ looks.reads.changes ∙ ap length (sym changes_are) in
+      let first : Stamp = looks.new.board.first in
+      let is_last = looks.how.2.stamp ∙ ap (λ (h : Held). stamp_of h.board) (sym looks.how.0) ∙ ap (last_stamp first) (sym changes_are) in
+      let low = last_low first (changes_at p'.seen) last.0 reaches.each (omega (arith, count, more)) in
+      omega (arith, less, is_last, low)

@@ -58,6 +58,7 @@ pub record IsSoundBoard (held : Held) : Type 0 where
   pub opened : StartsWith held.notes (Opened held.setup ∷ [])
   pub placed : All (IsPlaced held.setup) held.board.rows
   pub noted : noted_in (made_in held.notes) ≡ held.board.entries
+  pub begins : held.board.first.0 ≡ 0
   pub climbs : Climbs held.board.first.0 held.notes
   pub latest : top held.board.first.0 held.notes ≡ held.last.0
   pub bound : held.last.0 ≤ 2 ^ 63

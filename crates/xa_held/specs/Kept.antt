@@ -8,6 +8,7 @@ use Rattle.xa_types.specs.declared.call.Mode.TheVariants.{Reply}
 use Rattle.xa_types.specs.declared.ids.RequestId.{RequestId}
 use Rattle.xa_events.specs.declared.event.Event.{Event}
 use Rattle.xa_events.specs.declared.event.Event.TheVariants.{Accept}
+use Rattle.xa_frame.specs.Spelling.{IsData}
 use Rattle.xa_lock.specs.declared.makers.Made.{Made}
 use Rattle.xa_queue.specs.declared.entry.Entry.{Entry}
 use Rattle.xa_queue.specs.Queue.{Standing}
@@ -29,12 +30,13 @@ Brings request asked (Accept a) = (a.request ≡ request) × (a.service ≡ aske
 Brings request asked _ = ⊥
 
 module _ {A : Type 0} where
-  -- the entry's ticket is of these cells, and names an opening for the entry's request
+  -- the entry's ticket is of these cells, and names an opening for the entry's request; and what its server is handed has a spelling
   pub record IsRight (cells : Cells A) (entry : Entry (Cargo A)) : Type 0 where
     pub table : IsTicketOf cells entry.cargo.ticket
     pub opening : Opening
     pub names : named entry.cargo.ticket ≡ opening ∷ []
     pub request : opening.request ≡ entry.request
+    pub spelled : IsData entry.cargo.invocation.payload
 
   -- one of these entries of the queue brought that entry, with what its server is asked for
   pub record IsBrought (entries : List Made) (entry : Entry (Cargo A)) : Type 0 where

@@ -84,18 +84,17 @@ fn down_of(queue: QueueId) -> Snapshot<Event> {
 }
 
 impl KeptBoard {
-    /// A board on which nothing was changed yet, whose rows are by that setup and whose changes have stamps behind this one.
-    pub fn of(board: Board, setup: &Setup, first: Stamp) -> KeptBoard
+    /// A board on which nothing was changed yet, whose rows are by that setup and whose changes have stamps behind 0.
+    pub fn of(board: Board, setup: &Setup) -> KeptBoard
         requires entries { board.entries ≡ [] }
-        requires first { board.first ≡ first }
-        requires bound { first.0 ≤ 2 ^ 63 }
-        ensures { result ≡ record { board = board; setup = setup.now; last = first; notes = Opened setup.now ∷ [] } }
+        requires first { board.first.0 ≡ 0 }
+        ensures { result ≡ record { board = board; setup = setup.now; last = record { 0 = 0 }; notes = Opened setup.now ∷ [] } }
     {
         let _version = board.version();
         KeptBoard {
             board,
             setup: Snapshot::of(setup),
-            last: first,
+            last: Stamp(0),
             notes: Log::new(),
         }
     }
