@@ -1,5 +1,5 @@
 -- The ticket of what is put on a queue names its request.
-use Rattle.std.proofs.Common.{◌≡◌, ◌+◌, sym, ap}
+use Rattle.std.proofs.Common.{◌≡◌, ◌+◌, sym, ap, subst}
 use Rattle.xa_types.specs.declared.ids.RequestId.{RequestId}
 use Rattle.xa_types.specs.declared.row.Row.{Row}
 use Rattle.xa_types.specs.declared.data.Data.{Data}
@@ -10,6 +10,7 @@ use Rattle.xa_cell.specs.Views.{opening, at}
 use Rattle.xa_cell.specs.Known.{known}
 use Rattle.xa_cell.specs.Calls.{Began}
 use Rattle.xa_queue.specs.declared.entry.Entry.{Entry}
+use Rattle.xa_frame.specs.Spelling.{IsData}
 use Rattle.xa_held.specs.Kept.{IsRight}
 use Rattle.xa_caller.specs.declared.cargo.Filling.{Filling}
 use Rattle.xa_caller.specs.Drafts.{Cargo, entry_by}
@@ -17,10 +18,10 @@ use Rattle.xa_caller.specs.Unsent.{aimed_at}
 
 -- a ticket that began with the request of the entry
 pub right_begun : (cells : Cells Filling) (request : RequestId) (row : Row) (payload : Data) (s s' : Seat Filling) (place : Place) (entry : Entry Cargo) → entry ≡ entry_by request row payload entry.cargo.ticket
-    → Began cells request s s' place entry.cargo.ticket → IsRight cells entry
-right_begun cells request row payload s s' place entry is began =
-    record { table = began.table; opening = opening ((at place.cell (known s)).count + 1) request; names = began.names; request = sym (ap (λ (e : Entry Cargo). e.request) is) }
+    → Began cells request s s' place entry.cargo.ticket → IsData payload → IsRight cells entry
+right_begun cells request row payload s s' place entry is began is_data =
+    record { table = began.table; opening = opening ((at place.cell (known s)).count + 1) request; names = began.names; request = sym (ap (λ (e : Entry Cargo). e.request) is); spelled = subst (λ (e : Entry Cargo). IsData e.cargo.invocation.payload) (sym is) is_data }
 
 -- another row leaves it so
 pub right_aimed : (cells : Cells Filling) (entry : Entry Cargo) (row : Row) → IsRight cells entry → IsRight cells (aimed_at entry row)
-right_aimed cells entry row right = record { table = right.table; opening = right.opening; names = right.names; request = right.request }
+right_aimed cells entry row right = record { table = right.table; opening = right.opening; names = right.names; request = right.request; spelled = right.spelled }

@@ -19,7 +19,7 @@ ghost use Rattle.xa_caller.specs.Changes.{stop};
 ghost use Rattle.xa_caller.specs.Phases.{IsPrepared, IsPreparedAt, IsSent, least_by};
 ghost use Rattle.xa_caller.specs.declared.phase.Phase.TheVariants as phases;
 ghost use Rattle.xa_work.specs.Work.{HaltsAt, seeing, theirs};
-ghost use Rattle.xa_stamp.specs.Home.{last_stamp};
+ghost use Rattle.xa_stamp.specs.Home.{last_stamp, Rises};
 ghost use Rattle.xa_crew.specs.Crew.{no_stamp};
 ghost use Rattle.xa_cell.specs.Places.{OpenAre};
 ghost use Rattle.xa_caller.specs.Changes.{FillsNoMore};
@@ -304,6 +304,7 @@ impl Caller {
     pub fn latest(&self) -> Stamp
         ensures value { result.0 ≡ last_stamp no_stamp self.now.work.own }
         ensures bound { result.0 ≤ 2 ^ 63 }
+        ensures rises { Rises no_stamp self.now.work.own }
     {
         let _bound = self.work.stamp();
         self.work.latest()

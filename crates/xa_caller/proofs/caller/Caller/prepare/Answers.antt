@@ -29,6 +29,8 @@ use Rattle.xa_caller.specs.Drafts.{accepted_by, entry_by}
 use Rattle.xa_caller.specs.declared.phase.Draft.{Draft}
 use Rattle.xa_caller.specs.Changes.{Prepares}
 use Rattle.xa_caller.proofs.Reading.{stops_from, reads_prepared}
+use Rattle.xa_frame.specs.Spelling.{IsData}
+use Rattle.xa_caller.proofs.Sound.{sound_is_data}
 use Rattle.xa_caller.proofs.Tickets.{right_begun}
 use Rattle.xa_caller.proofs.caller.Caller.prepare.Goals as goal
 
@@ -140,3 +142,4 @@ returns-in-Ok-draft_by-clause-ok c =
 
 pub returns-in-Ok-draft_by-clause-right : goal.returns-in-Ok-draft_by-clause-right
 returns-in-Ok-draft_by-clause-right c = right_begun c.args.cells.now c.next_request-request.result c.in-Some.row c.in-Ok.copies.kept c.self.inside.seat c.draft_by.new.seat c.in-Ok-draft_by.drafted.draft.asked.place c.in-Ok-draft_by.drafted.entry c.in-Ok-draft_by.ensures.entry c.in-Ok-draft_by.ensures.began
+    (subst IsData (sym c.in-Ok.ensures.1) (sound_is_data c.args.setup.now c.args.ask.now.payload c.requires.setup.1 (sound_ask c.args.setup.now c.args.ask.now c.requires.valid)))
