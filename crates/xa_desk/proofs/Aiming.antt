@@ -1,7 +1,9 @@
 -- A request that is aimed by another row.
-use Rattle.std.proofs.Common.{◌≡◌, ℕ, ◌+◌, true, List, [], ◌∷◌, Some, refl, sym, ◌∙◌, ap, subst, append-nil, arith}
+use Rattle.std.proofs.Common.{◌≡◌, ℕ, ◌+◌, true, List, [], Some, refl, sym, ◌∙◌, ap, subst, arith}
+use Rattle.xa_desk.specs.Steps.{FitsOn}
+use Rattle.xa_cell.specs.Known.{known}
 use Rattle.std.specs.Prelude.{slice_get}
-use Rattle.std.specs.List.{All, Contains}
+use Rattle.std.specs.List.{Contains}
 use Rattle.std.proofs.lemmas.List.Elements.{All-contains, All-contains_itself}
 use Rattle.xa_types.specs.declared.call.Ask.{Ask}
 use Rattle.xa_types.specs.declared.data.Data.{Data}
@@ -30,16 +32,14 @@ use Rattle.xa_caller.specs.Unsent.{AimsAs, AimsAt, entry_in}
 use Rattle.xa_caller.proofs.Next.{same_kinds, row-service}
 use Rattle.xa_caller.proofs.Unsent.{at-all}
 use Rattle.xa_desk.specs.declared.domain.Domain.{Domain}
-use Rattle.xa_desk.proofs.Leading.{none_made}
+use Rattle.xa_desk.proofs.Leading.{grew_none, IsQuiet, calm_leads}
 use Rattle.xa_desk.specs.declared.desk.Desk.{Desk}
-use Rattle.xa_desk.specs.Whole.{Whole, IsKnown}
-use Rattle.xa_desk.specs.Desks.{GoesOn, IsDesk, Leads}
+use Rattle.xa_desk.specs.Desks.{IsDesk, Leads}
 use Rattle.xa_desk.specs.Found.{HasFound, IsAimed, StillAimed}
-use Rattle.xa_desk.specs.Steps.{FitsOn}
 use Rattle.xa_desk.proofs.Fitting.{no_more_fits}
-use Rattle.xa_desk.proofs.Quiet.{IsQuiet, quiet_before, quiet_leads}
+use Rattle.xa_desk.proofs.Seating.{takes_same}
 use Rattle.xa_desk.proofs.Sending.{same_draft}
-use Rattle.xa_desk.proofs.Staying.{aimed_stays}
+use Rattle.xa_desk.proofs.Staying.{aimed_stays, found_stays}
 
 aims_at : (d : Domain) (found : FoundRows) (ask : Ask) (entry aimed : Entry Cargo) (event event' : Event) (row : Row) (attempt : ℕ) (old new : Desk) → slice_get found.rows attempt ≡ Some row → AimsAt row entry aimed event' new.caller old.caller → HasFound d ask.service found old
     → IsAimed d found ask.payload entry event old → IsRight d.cells aimed → IsAimed d found ask.payload aimed event' new
@@ -83,32 +83,22 @@ module _ (d : Domain) (desk : Desk) (new : Caller) (found : FoundRows) (entry : 
   phase_alone : new ≡ record desk.caller { phase = new.phase }
   phase_alone = same_but_phase entry found attempt result desk.caller new so
 
-  pub aim_least : new.least ≡ desk.caller.least
-  aim_least = ap (λ (c : Caller). c.least) phase_alone
+  pub aim_goes : IsDesk d desk → Leads d desk (record desk { caller = new }) × ((service : List ℕ) → HasFound d service found desk → HasFound d service found (record desk { caller = new })) × ((op : ℕ) (ask : Ask) → FitsOn d op ask desk (record desk { caller = new }))
+  aim_goes is =
+      let quiet : IsQuiet d desk new = subst (IsQuiet d desk) (sym phase_alone) (record { grew = grew_none desk.caller.work desk.caller.work desk.caller.work.room desk.caller.work.stamp refl (omega arith); seat = is.seat; takes = takes_same (known desk.caller.seat); least = refl }) in
+      let leads = calm_leads d desk new quiet is (ap (λ (c : Caller). c.work.stamp) phase_alone) in
+      let least = ap (λ (c : Caller). c.least) phase_alone in (
+        leads,
+        λ service has. let recent = has.recent in found_stays d desk (record desk { caller = new }) leads service found refl (omega (arith, recent, least)) has,
+        λ op ask. no_more_fits d desk (record desk { caller = new }) leads quiet.grew op ask,
+      )
 
-  quiet : IsDesk d desk → IsQuiet d desk new
-  quiet is = subst (IsQuiet d desk) (sym phase_alone) (record {
-    grew = record { setup = refl; clients = refl; id = refl; own = sym (append-nil desk.caller.work.own); stamp = omega arith; made = none_made };
-    seat = is.seat;
-    takes = record { taken = λ k f here. here; filled = λ k. refl };
-    least = refl;
-  })
-
-  pub aim_leads : IsDesk d desk → Leads d desk (record desk { caller = new })
-  aim_leads is = quiet_leads d desk new (quiet is) is (λ whole on. subst (IsKnown whole) (sym (ap (λ (c : Caller). c.work.stamp) phase_alone)) (is.known_stamp whole (quiet_before d desk new (quiet is) whole on)))
-
-  pub aim_aims : (ask : Ask) (event : Event) → IsRight d.cells (entry_in result) → HasFound d ask.service found desk → IsAimed d found ask.payload entry event desk → StillAimed d found ask.payload event result (record desk { caller = new })
-  aim_aims = by_result result so
-    where
-      by_result : (r : Aimed) → AimsAs entry found.rows attempt r new desk.caller → (ask : Ask) (event : Event) → IsRight d.cells (entry_in r) → HasFound d ask.service found desk → IsAimed d found ask.payload entry event desk → StillAimed d found ask.payload event r (record desk { caller = new })
-      by_result (aims.At aimed event') is ask event right has before = aims_at d found ask entry aimed event event' is.0 attempt desk (record desk { caller = new }) is.1 is.2 has before right
-      by_result (aims.Past back) is ask event right has before =
-          aimed_stays d found ask.payload back event desk (record desk { caller = new }) (ap (λ (c : Caller). c.phase) is.2) (ap (λ (c : Caller). c.op) is.2) (subst (λ (e : Entry Cargo). IsAimed d found ask.payload e event desk) (sym is.1) before)
-      by_result (aims.NoMemory back) is ask event right has before =
-          aimed_stays d found ask.payload back event desk (record desk { caller = new }) (ap (λ (c : Caller). c.phase) is.1) (ap (λ (c : Caller). c.op) is.1) (subst (λ (e : Entry Cargo). IsAimed d found ask.payload e event desk) (sym is.0) before)
-
-  pub aim_fits : IsDesk d desk → (op : ℕ) (ask : Ask) → FitsOn d op ask desk (record desk { caller = new })
-  aim_fits is op ask = no_more_fits d desk (record desk { caller = new }) (aim_leads is) (quiet is).grew op ask
+pub aim_aims : (d : Domain) (desk : Desk) (new : Caller) (found : FoundRows) (entry : Entry Cargo) (attempt : ℕ) (r : Aimed) → AimsAs entry found.rows attempt r new desk.caller → (ask : Ask) (event : Event) → IsRight d.cells (entry_in r) → HasFound d ask.service found desk → IsAimed d found ask.payload entry event desk → StillAimed d found ask.payload event r (record desk { caller = new })
+aim_aims d desk new found entry attempt (aims.At aimed event') is ask event right has before = aims_at d found ask entry aimed event event' is.0 attempt desk (record desk { caller = new }) is.1 is.2 has before right
+aim_aims d desk new found entry attempt (aims.Past back) is ask event right has before =
+    aimed_stays d found ask.payload back event desk (record desk { caller = new }) (ap (λ (c : Caller). c.phase) is.2) (ap (λ (c : Caller). c.op) is.2) (subst (λ (e : Entry Cargo). IsAimed d found ask.payload e event desk) (sym is.1) before)
+aim_aims d desk new found entry attempt (aims.NoMemory back) is ask event right has before =
+    aimed_stays d found ask.payload back event desk (record desk { caller = new }) (ap (λ (c : Caller). c.phase) is.1) (ap (λ (c : Caller). c.op) is.1) (subst (λ (e : Entry Cargo). IsAimed d found ask.payload e event desk) (sym is.0) before)
 
 -- what a caller asks of an aim
 pub aim_requires : (d : Domain) (desk : Desk) (found : FoundRows) (entry : Entry Cargo) → IsDesk d desk → (ask : Ask) (event : Event) → HasFound d ask.service found desk → IsAimed d found ask.payload entry event desk

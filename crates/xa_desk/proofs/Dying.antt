@@ -1,30 +1,25 @@
 -- The end of a life, and of the request that its server has in hand.
-use Rattle.std.proofs.Common.{◌≡◌, ◌⊎◌, ◌≤◌, ◌<◌, ℕ, ◌+◌, Bool, true, false, List, [], ◌∷◌, ◌++◌, Result, Ok, Err, Option, Some, None, inl, inr, refl, sym, ◌∙◌, ap, subst, arith}
+use Rattle.std.proofs.Common.{◌≡◌, ◌⊎◌, ℕ, Bool, true, false, [], Result, Ok, Err, None, inl, inr, refl, sym, ◌∙◌, ap, subst}
+use Rattle.xa_desk.proofs.Taking.{taken_on}
 use Rattle.std.specs.Prelude.{IfOk, IfErr, IfSome, cond}
 use Rattle.std.specs.List.{All}
-use Rattle.xa_types.specs.declared.stamp.Stamp.{Stamp}
 use Rattle.xa_types.specs.declared.stamp.Worn.{Worn}
 use Rattle.xa_types.specs.Setup.{queue_of}
 use Rattle.xa_events.specs.declared.event.Doing.{Doing}
-use Rattle.xa_events.specs.declared.event.Doing.TheVariants.{Off, Idle as IdleDoing, Busy, Dying}
-use Rattle.xa_events.specs.declared.event.Outcome.{Outcome}
+use Rattle.xa_events.specs.declared.event.Doing.TheVariants.{Busy}
 use Rattle.xa_events.specs.declared.event.Outcome.TheVariants as outcomes
 use Rattle.xa_events.specs.declared.event.StopCause.{StopCause}
 use Rattle.xa_events.specs.declared.event.StopCause.TheVariants.{Shutdown}
 use Rattle.xa_events.specs.Answers.{reply_of}
-use Rattle.xa_events.specs.Caller.{version_of}
-use Rattle.xa_events.specs.Cases.{is_failure, is_starved}
+use Rattle.xa_events.specs.Cases.{is_starved}
 use Rattle.xa_events.specs.Request.Settlement.{EndedBy}
 use Rattle.xa_events.specs.State.{caller_of}
 use Rattle.xa_held.specs.Notes.{IsOther}
-use Rattle.xa_queue.specs.declared.entry.Entry.{Entry}
 use Rattle.xa_cell.specs.Known.{IsTicketOf}
 use Rattle.xa_work.specs.Work.{Standing as Working}
-use Rattle.xa_caller.specs.Drafts.{Cargo}
-use Rattle.xa_caller.specs.declared.phase.Phase.TheVariants.{Idle}
 use Rattle.xa_server.specs.declared.closing.Closing.{Closing}
 use Rattle.xa_server.specs.declared.slot.ServerSlot.{ServerSlot}
-use Rattle.xa_server.specs.Changes.{Ends, Stops, Dies, DiesBusy, DiesIdle, DiesFrom, DiesWorn}
+use Rattle.xa_server.specs.Changes.{Dies, DiesFrom, DiesWorn}
 use Rattle.xa_server.specs.Doings.{is_death, outcome_of}
 use Rattle.xa_server.specs.Slot.{Stands}
 use Rattle.xa_server.proofs.Telling.{death_backed}
@@ -32,7 +27,7 @@ use Rattle.xa_desk.specs.declared.domain.Domain.{Domain}
 use Rattle.xa_desk.specs.declared.desk.Desk.{Desk}
 use Rattle.xa_desk.specs.Desks.{IsDesk, Leads, queue_page}
 use Rattle.xa_desk.specs.Serving.{IsTaken, IsServing, IsToTell}
-use Rattle.xa_desk.proofs.Leading.{leads_trans}
+use Rattle.xa_desk.proofs.Leading.{leads_trans, starts_same}
 use Rattle.xa_desk.proofs.Stopping.{stop_leads, same_leads}
 use Rattle.xa_desk.proofs.Ending.{IsPlain, reworked, end_leads, names_its, closes_ticket, not_empty}
 
@@ -62,29 +57,20 @@ serving_on d queue desk slot slot' new serving stands server gone hand = record 
   where
     by : (slot'.hand ≡ None) ⊎ (slot'.hand ≡ slot.hand) → IfSome slot'.hand (IsTaken d queue (reworked desk new))
     by (inl none) = subst (λ h. IfSome h (IsTaken d queue (reworked desk new))) (sym none) tt
-    by (inr same) = subst (λ h. IfSome h (IsTaken d queue (reworked desk new))) (sym same) (taken slot.hand serving.hand)
-      where
-        taken : (h : Option (Entry Cargo)) → IfSome h (IsTaken d queue desk) → IfSome h (IsTaken d queue (reworked desk new))
-        taken None is = tt
-        taken (Some entry) is = record { right = is.right; brought = is.brought; stands = is.stands; brings = is.brings }
+    by (inr same) = subst (λ h. IfSome h (IsTaken d queue (reworked desk new))) (sym same) (taken_on d queue desk (reworked desk new) (starts_same (queue_page desk queue).seen) slot.hand serving.hand)
 
 module _ (d : Domain) (queue : ℕ) (desk : Desk) (slot : ServerSlot) (cause : StopCause) (is : IsDesk d desk) (serving : IsServing d queue slot desk) (death : is_death cause ≡ true) where
-  busy_leads : (closing : Closing) (slot' : ServerSlot) (new : Working) → DiesBusy cause closing slot' slot new desk.caller.work → Leads d desk (reworked desk new)
-  busy_leads closing slot' new dies =
+  dies_leads : (doing : Doing) (closing : Closing) (slot' : ServerSlot) (new : Working) → DiesFrom doing cause closing slot' slot new desk.caller.work → Leads d desk (reworked desk new)
+  dies_leads (Busy generation request) closing slot' new dies =
+      let made = dies.ends.noted.made in
       let number = serving.stands.tables.worker.number in
       let ended = end_leads d queue desk slot dies.ended (outcome_of cause) dies.stamp desk.caller.work.room dies.between is serving (plain_death cause) dies.ends in
       let server = ap (λ (s : ServerSlot). s.server) dies.ends.left in
       leads_trans d desk (reworked desk dies.between) (reworked desk new) ended
       (stop_leads d queue (reworked desk dies.between) (record dies.ended { hand = None }) slot' cause dies.stop new ended.desk
-      (ap (λ s. caller_of dies.between.clients s.0) server ∙ ap (λ (w : Working). caller_of w.clients slot.server.0) dies.ends.noted.made ∙ number ∙ ap (λ (w : Working). w.id.0) (sym dies.ends.noted.made))
+      (ap (λ s. caller_of dies.between.clients s.0) server ∙ ap (λ (w : Working). caller_of w.clients slot.server.0) made ∙ number ∙ ap (λ (w : Working). w.id.0) (sym made))
       (ap (λ s. queue_of d.setup s.0) server ∙ serving.its) (λ shutdown. absurd (not_shutdown cause death shutdown)) dies.stops)
-
-  idle_leads : (closing : Closing) (slot' : ServerSlot) (new : Working) → DiesIdle cause closing slot' slot new desk.caller.work → Leads d desk (reworked desk new)
-  idle_leads closing slot' new dies = stop_leads d queue desk slot slot' cause dies.stop new is serving.stands.tables.worker.number serving.its (λ shutdown. absurd (not_shutdown cause death shutdown)) dies.stops
-
-  dies_leads : (doing : Doing) (closing : Closing) (slot' : ServerSlot) (new : Working) → DiesFrom doing cause closing slot' slot new desk.caller.work → Leads d desk (reworked desk new)
-  dies_leads (Busy generation request) closing slot' new dies = busy_leads closing slot' new dies
-  dies_leads _ closing slot' new dies = idle_leads closing slot' new dies
+  dies_leads _ closing slot' new dies = stop_leads d queue desk slot slot' cause dies.stop new is serving.stands.tables.worker.number serving.its (λ shutdown. absurd (not_shutdown cause death shutdown)) dies.stops
 
   pub died_leads : (slot' : ServerSlot) (new : Working) (r : Result Closing Worn) → IfOk r (λ closing. Dies cause closing slot' slot new desk.caller.work) → IfErr r (λ worn. DiesWorn cause worn slot' slot new desk.caller.work) → Leads d desk (reworked desk new)
   died_leads slot' new (Ok closing) dies worn = dies_leads slot.doing closing slot' new dies

@@ -1,17 +1,12 @@
 -- The end of a request that a server has in hand, and what its caller is told.
-use Rattle.std.proofs.Common.{◌≡◌, ◌≤◌, ◌<◌, ℕ, ◌+◌, ℤ, max, Bool, true, false, List, [], ◌∷◌, ◌++◌, Result, Ok, Err, Option, Some, None, if◌then◌else◌, refl, sym, ◌∙◌, ap, subst, append-nil, arith}
-use Rattle.std.specs.Prelude.{OnErr, IfOk, IfErr, IfSome, IsSome}
+use Rattle.std.proofs.Common.{◌-◌, ◌≡◌, ℕ, ℤ, max, Bool, true, false, List, [], ◌∷◌, ◌++◌, Result, Ok, Err, Option, Some, None, if◌then◌else◌, refl, sym, ◌∙◌, ap, subst, arith}
+use Rattle.std.specs.Prelude.{IfOk, IfErr, IfSome}
 use Rattle.xa_types.specs.declared.call.Rval.{Rval}
 use Rattle.xa_types.specs.declared.call.Rval.TheVariants.{Success, Fail, Exit}
 use Rattle.xa_types.specs.declared.data.Data.{Data}
-use Rattle.xa_types.specs.declared.ids.RequestId.{RequestId}
 use Rattle.xa_types.specs.declared.reply.Answer.{Answer}
-use Rattle.xa_types.specs.declared.setup.Setup.{Setup}
 use Rattle.xa_types.specs.declared.stamp.Stamp.{Stamp}
-use Rattle.xa_types.specs.Kind.{is_sound}
-use Rattle.xa_events.specs.declared.event.Event.{Event}
 use Rattle.xa_events.specs.declared.event.Event.TheVariants.{End}
-use Rattle.xa_events.specs.declared.event.Ended.{Ended}
 use Rattle.xa_events.specs.declared.event.Outcome.{Outcome}
 use Rattle.xa_events.specs.declared.event.Outcome.TheVariants.{BadReturn}
 use Rattle.xa_events.specs.Answers.{reply_of}
@@ -22,12 +17,9 @@ use Rattle.xa_events.specs.Homes.Home.{CallerHome}
 use Rattle.xa_events.specs.Request.Settlement.{EndedBy}
 use Rattle.xa_events.specs.State.{caller_of}
 use Rattle.xa_stamp.specs.declared.home.Stamped.{Stamped}
-use Rattle.xa_stamp.specs.Home.{last_stamp}
-use Rattle.xa_crew.specs.Crew.{no_stamp}
 use Rattle.xa_queue.specs.declared.entry.Entry.{Entry}
-use Rattle.xa_cell.specs.declared.tokens.Ticket.{Ticket}
 use Rattle.xa_cell.specs.declared.view.Opening.{Opening}
-use Rattle.xa_cell.specs.Known.{named, IsTicketOf}
+use Rattle.xa_cell.specs.Known.{IsTicketOf, known}
 use Rattle.xa_work.specs.declared.work.Halt.{Halt}
 use Rattle.xa_work.specs.declared.work.Halt.TheVariants.{NoMemory, Worn}
 use Rattle.xa_work.specs.Work.{Standing as Working, theirs}
@@ -36,15 +28,16 @@ use Rattle.xa_server.specs.declared.closing.Closing.{Closing}
 use Rattle.xa_server.specs.declared.slot.ServerSlot.{ServerSlot}
 use Rattle.xa_server.specs.Changes.{Ends, Closes, Finishes}
 use Rattle.xa_server.specs.Doings.{life_in}
-use Rattle.xa_server.specs.Noting.{Notes, HaltsWith, with_room}
-use Rattle.xa_server.specs.Told.{NamesIts, IsBacked}
+use Rattle.xa_server.specs.Noting.{HaltsWith, with_room}
+use Rattle.xa_server.specs.Told.{NamesIts}
 use Rattle.xa_server.proofs.Telling.{finish_backed}
 use Rattle.xa_desk.specs.Made.{IsEnded}
 use Rattle.xa_desk.specs.declared.domain.Domain.{Domain}
 use Rattle.xa_desk.specs.declared.desk.Desk.{Desk}
 use Rattle.xa_desk.specs.Desks.{IsDesk, Leads}
 use Rattle.xa_desk.specs.Serving.{IsTaken, IsServing, IsToTell}
-use Rattle.xa_desk.proofs.Leading.{none_made, Grew, still_leads}
+use Rattle.xa_desk.proofs.Leading.{grew_none, calm_leads}
+use Rattle.xa_desk.proofs.Seating.{takes_same}
 use Rattle.xa_desk.proofs.Stopping.{event_leads, same_leads}
 
 abbrev pub reworked : Desk → Working → Desk
@@ -88,7 +81,7 @@ end_leads d queue desk slot slot' outcome stamp room new is serving plain ends =
     let number = serving.stands.tables.worker.number in
     let booted = is.booted in
     let next = ends.noted.next in
-    event_leads d desk stamp (End (record { request = ends.entry.request; server = slot.server; generation = life_in slot.doing; outcome = outcome })) room new ends.noted is
+    event_leads d desk stamp (End (record { request = ends.entry.request; server = slot.server; generation = life_in slot.doing; outcome = outcome })) (room - 1) new next ends.noted.made is
     (ap CallerHome (ap (λ n. caller_of n slot.server.0) (sym is.clients) ∙ number)) plain.1 (omega (arith, booted, next)) (λ whole on version some. cc (plain.0, some)) (λ whole on. tt)
 
 -- ---- a return
@@ -97,7 +90,7 @@ pub halted_leads : (d : Domain) (desk : Desk) (n : ℕ) (new : Working) (halt : 
 halted_leads d desk n new NoMemory is same = subst (λ (w : Working). Leads d desk (reworked desk w)) (sym same) (same_leads d desk is)
 halted_leads d desk n new (Worn last) is worn =
     subst (λ (w : Working). Leads d desk (reworked desk w)) (sym worn.0)
-    (still_leads d desk (with_room n desk.caller.work) is (record { setup = refl; clients = refl; id = refl; own = sym (append-nil desk.caller.work.own); stamp = omega arith; made = none_made }) is.known_stamp)
+    (calm_leads d desk (record desk.caller { work = with_room n desk.caller.work }) (record { grew = grew_none desk.caller.work (with_room n desk.caller.work) (max desk.caller.work.room n) desk.caller.work.stamp refl (omega arith); seat = is.seat; takes = takes_same (known desk.caller.seat); least = refl }) is refl)
 
 module _ (d : Domain) (queue : ℕ) (desk : Desk) (slot slot' : ServerSlot) (value : Rval) (code : ℤ) (payload : Data) (new : Working) (is : IsDesk d desk) (serving : IsServing d queue slot desk) where
   abbrev outcome : Outcome

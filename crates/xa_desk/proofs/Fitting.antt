@@ -1,5 +1,6 @@
 -- What a worker noted fits its calls, also with one event of a tpcall more.
-use Rattle.std.proofs.Common.{◌≡◌, ◌≤◌, ℕ, ◌+◌, true, false, List, [], ◌∷◌, ◌++◌, Option, Some, None, refl, sym, ◌∙◌, ap, subst, append-nil, arith}
+use Rattle.std.proofs.Common.{◌≡◌, ℕ, ◌+◌, true, false, List, [], ◌∷◌, ◌++◌, Option, Some, None, refl, sym, ◌∙◌, ap, subst, append-nil}
+use Rattle.xa_desk.proofs.Stopping.{same_leads}
 use Rattle.std.specs.Prelude.{IsSomeAnd}
 use Rattle.xa_types.specs.declared.call.Ask.{Ask}
 use Rattle.xa_types.specs.declared.call.Op.{Op}
@@ -18,14 +19,14 @@ use Rattle.xa_crew.specs.Calls.{FitsOwn, FitsTurn}
 use Rattle.xa_crew.specs.Seen.{past_in}
 use Rattle.xa_work.specs.Going.{FitEach}
 use Rattle.xa_work.proofs.Noting.{each-more}
-use Rattle.xa_caller.specs.Caller.{IsSound, Reads}
+use Rattle.xa_caller.specs.Caller.{IsSound, Reads, Standing as Caller}
 use Rattle.xa_caller.specs.Phases.{just_in}
 use Rattle.xa_desk.specs.declared.domain.Domain.{Domain}
 use Rattle.xa_desk.specs.declared.desk.Desk.{Desk}
 use Rattle.xa_desk.specs.Whole.{Whole, entries_of}
 use Rattle.xa_desk.specs.Desks.{GoesOn, IsDesk, Leads}
 use Rattle.xa_desk.specs.Steps.{FitsOn}
-use Rattle.xa_desk.proofs.Leading.{Grew}
+use Rattle.xa_desk.proofs.Leading.{Grew, IsQuiet, calm_leads}
 
 over : (ops : List Op) (newest : Option Event) → accepted_in newest ≡ None → awaits_answer ops newest ≡ false
 over ops None is = refl
@@ -71,3 +72,15 @@ module _ (d : Domain) where
         fits = subst (λ (o : Option Op). IsSomeAnd o (λ (one : Op). FitsOwn d.setup d.clients (entries_of whole) x.stamp one x.event (its_events old))) (sym (ap (λ (n : ℕ). numbered n ops) op_is ∙ is)) (fits_one whole on);
         turn = λ next. turn ops (sym op_is ∙ next);
       })))
+
+  -- it goes on, and what it noted fits that call
+  abbrev pub GoesFor : ℕ → Ask → Desk → Desk → Type 0
+  GoesFor op ask old new = Leads d old new × FitsOn d op ask old new
+
+  pub kept_goes : (desk : Desk) (op : ℕ) (ask : Ask) (new : Caller) → IsDesk d desk → new ≡ desk.caller → GoesFor op ask desk (record desk { caller = new })
+  kept_goes desk op ask new is kept = subst (λ (c : Caller). GoesFor op ask desk (record desk { caller = c })) (sym kept) (same_leads d desk is, λ ops its fits. fits)
+
+  pub quiet_goes : (desk : Desk) (new : Caller) → IsQuiet d desk new → IsDesk d desk → new.work.stamp ≡ desk.caller.work.stamp → (op : ℕ) (ask : Ask) → GoesFor op ask desk (record desk { caller = new })
+  quiet_goes desk new quiet is same op ask =
+      let leads = calm_leads d desk new quiet is same in
+      (leads, no_more_fits desk (record desk { caller = new }) leads quiet.grew op ask)

@@ -1,4 +1,4 @@
--- What a desk knows and shows goes on, as its worker notes an event at its own home.
+-- What a desk knows and shows goes on, as its worker notes an event, or nothing.
 use Rattle.std.proofs.Common.{◌≡◌, ◌≤◌, ◌<◌, ℕ, ◌+◌, Bool, true, false, cond, length, List, [], ◌∷◌, ◌++◌, map, reverse, Option, Some, None, inl, inr, refl, sym, ◌∙◌, ap, subst, append-nil, arith}
 use Rattle.std.specs.Prelude.{slice_index_or}
 use Rattle.std.proofs.lemmas.List.{append_assoc}
@@ -17,28 +17,27 @@ use Rattle.xa_lock.specs.declared.pass.LockPass.{LockPass}
 use Rattle.xa_crew.specs.Seen.{past_in, IsBehind, SawFronts, WasTold}
 use Rattle.xa_crew.specs.Crew.{MetAmong, stands_at, TellsEach}
 use Rattle.xa_crew.proofs.Growing.{page_stays}
-use Rattle.xa_cell.specs.declared.tokens.Seat.{Seat}
-use Rattle.xa_cell.specs.declared.view.Fill.{Fill}
+use Rattle.xa_cell.specs.declared.view.View.{View}
 use Rattle.xa_cell.specs.Known.{known, IsSeatOf}
-use Rattle.xa_cell.specs.Views.{at}
 use Rattle.xa_held.specs.declared.kept_board.BoardNote.{BoardNote}
 use Rattle.xa_held.specs.declared.kept_board.BoardNote.TheVariants.{Opened, By, Looked}
 use Rattle.xa_held.specs.declared.kept_queue.QueueNote.{QueueNote}
 use Rattle.xa_held.specs.Joins.{changes_at, events_at}
+use Rattle.xa_held.specs.Kept.{notes_of}
 use Rattle.xa_lock.specs.Known.{known as page_of}
+use Rattle.xa_lock.specs.Pages.{StartsWith}
 use Rattle.xa_work.specs.Work.{Standing as Working}
 use Rattle.xa_work.proofs.Noting.{each-more}
 use Rattle.xa_caller.specs.declared.cargo.Filling.{Filling}
 use Rattle.xa_caller.specs.Caller.{Standing as Caller}
-use Rattle.xa_told.specs.Told.{StandAt}
-use Rattle.xa_server.specs.Told.{HasStamp, EndedFor, FilledByEnds}
+use Rattle.xa_server.specs.Told.{HasStamp, FilledByEnds}
 use Rattle.xa_server.proofs.Telling.{fillings_stay}
 use Rattle.xa_desk.specs.declared.domain.Domain.{Domain}
 use Rattle.xa_desk.specs.declared.desk.Desk.{Desk}
 use Rattle.xa_desk.specs.Whole.{Whole, entries_of, IsKnown}
 use Rattle.xa_desk.specs.Made.{IsMade}
-use Rattle.xa_desk.specs.Desks.{IsAmong, IsGrounded, IsBoardPass, IsQueuePass, IsThere, GoesOn, Shows, IsDesk, Leads, board_page}
-use Rattle.xa_desk.proofs.Seating.{taken_before}
+use Rattle.xa_desk.specs.Desks.{IsAmong, IsGrounded, IsBoardPass, IsQueuePass, IsThere, GoesOn, Shows, IsDesk, Leads, board_page, queue_page}
+use Rattle.xa_desk.proofs.Seating.{TakesAll, TakesOn, taken_before, filled_on}
 
 -- the events are such as workers make
 abbrev pub AllMade : List Stamped → Type 0
@@ -61,6 +60,17 @@ pub record Grew (w w' : Working) (more : List Stamped) : Type 0 where
   pub own : w'.own ≡ w.own ++ more
   pub stamp : w.stamp.0 ≤ w'.stamp.0
   pub made : AllMade more
+
+-- the work with an event more, or with none and a later stamp, and it may be with other room
+pub grew_one : (w w' : Working) (room : ℕ) (x : Stamped) → w' ≡ record w { stamp = x.stamp; own = w.own ++ x ∷ []; room = room } → w.stamp.0 < x.stamp.0 → IsMade x.event → Grew w w' (x ∷ [])
+grew_one w w' room x is rises kind = subst (λ (v : Working). Grew w v (x ∷ [])) (sym is) (record { setup = refl; clients = refl; id = refl; own = refl; stamp = omega (arith, rises); made = one_made x kind })
+
+pub grew_none : (w w' : Working) (room : ℕ) (stamp : Stamp) → w' ≡ record w { stamp = stamp; room = room } → w.stamp.0 ≤ stamp.0 → Grew w w' []
+grew_none w w' room stamp is later = subst (λ (v : Working). Grew w v []) (sym is) (record { setup = refl; clients = refl; id = refl; own = sym (append-nil w.own); stamp = later; made = none_made })
+
+-- what is filled has its end still
+pub filled_more : (w w' : Working) (more : List Stamped) (v v' : View Filling) → Grew w w' more → TakesOn v v' → FilledByEnds w.own v → FilledByEnds w'.own v'
+filled_more w w' more v v' grew takes filled = filled_on w'.own v v' takes (subst (λ (l : List Stamped). FilledByEnds l v) (sym {A = List Stamped} grew.own) (fillings_stay w.own more v filled))
 
 -- and they stand where the domain has homes
 pub among_more : (d : Domain) (w w' : Working) (more : List Stamped) → Grew w w' more → AllAmong d more → AllAmong d w.own → AllAmong d w'.own
@@ -167,58 +177,11 @@ module _ (d : Domain) where
         next = subst (All (IsNextOf whole)) (sym {A = List Stamped} own) shows.next;
       }
 
-  -- ---- an event at the caller's own home
+  pub off_home : (home other : Home) (more : List Stamped) → All (λ (x : Stamped). home_of d.setup d.clients x.event ≡ home) more → same_home home other ≡ false → All (λ (x : Stamped). stands_at d.setup d.clients other x ≡ false) more
+  off_home home other more at apart = All-weaker (λ (x : Stamped). home_of d.setup d.clients x.event ≡ home) (λ (x : Stamped). stands_at d.setup d.clients other x ≡ false) (λ x is. ap (λ h. same_home h other) is ∙ apart) more at
 
-  -- the caller noted the event at its own home; its seat took what it had, and filled what has its end
-  pub record NotesOwn (desk : Desk) (new : Caller) (x : Stamped) : Type 0 where
-    pub grew : Grew desk.caller.work new.work (x ∷ [])
-    pub last : new.work.stamp ≡ x.stamp
-    pub home : home_of d.setup d.clients x.event ≡ CallerHome desk.caller.work.id.0
-    pub seat : IsSeatOf d.cells new.seat
-    pub taken : (k : ℕ) (f : Fill Filling) → Contains (at k (known desk.caller.seat)).taken f → Contains (at k (known new.seat)).taken f
-    pub filled : (k : ℕ) → (at k (known new.seat)).filled ≡ (at k (known desk.caller.seat)).filled
-    pub least : new.least ≤ published (past_in (changes_at (board_page desk).seen))
-
-  module _ (desk : Desk) (new : Caller) (x : Stamped) (notes : NotesOwn desk new x) where
-    abbrev after : Desk
-    after = record desk { caller = new }
-
-    pub own_before : (whole : Whole) → GoesOn d whole after → GoesOn d whole desk
-    own_before whole on = record {
-      sound = on.sound;
-      board = on.board;
-      queues = on.queues;
-      may = on.may;
-      once = on.once;
-      stand = λ y here. on.stand y (subst (λ (l : List Stamped). Contains l y) (sym {A = List Stamped} notes.grew.own) (Contains-append_left desk.caller.work.own (x ∷ []) y here));
-      ended = taken_before d whole desk.caller.seat new.seat notes.taken on.ended;
-    }
-
-    -- it stands at no home but that
-    elsewhere : (home : Home) → same_home (CallerHome desk.caller.work.id.0) home ≡ false → All (λ (y : Stamped). stands_at d.setup d.clients home y ≡ false) (x ∷ [])
-    elsewhere home other = All-cons (λ (y : Stamped). stands_at d.setup d.clients home y ≡ false) x [] (ap (λ h. same_home h home) notes.home ∙ other) (All-nil (λ (y : Stamped). stands_at d.setup d.clients home y ≡ false))
-
-    pub own_leads : IsDesk d desk → ((whole : Whole) → GoesOn d whole after → IsShown d whole desk.caller.work x) → Leads d desk after
-    own_leads is shown = record {
-      desk = record {
-        setup = notes.grew.setup ∙ is.setup;
-        clients = notes.grew.clients ∙ is.clients;
-        booted = let later = notes.grew.stamp in let booted = is.booted in omega (arith, later, booted);
-        seat = notes.seat;
-        board = there (IsBoardPass d desk.caller.work) (IsBoardPass d new.work) desk.board (board_pass_stays desk.caller.work new.work (x ∷ []) notes.grew (elsewhere BoardHome refl)) is.board;
-        least = notes.least;
-        count = is.count;
-        queues = λ k low. there (IsQueuePass d desk.caller.work k) (IsQueuePass d new.work k) (slice_index_or desk.queues.items k None) (queue_pass_stays desk.caller.work new.work (x ∷ []) notes.grew k (elsewhere (QueueHome (k + 1)) refl)) (is.queues k low);
-        made = made_more desk.caller.work new.work (x ∷ []) notes.grew is.made;
-        among = among_more d desk.caller.work new.work (x ∷ []) notes.grew (among_at d (CallerHome desk.caller.work.id.0) (x ∷ []) tt (All-cons (λ (y : Stamped). home_of d.setup d.clients y.event ≡ CallerHome desk.caller.work.id.0) x [] notes.home (All-nil (λ (y : Stamped). home_of d.setup d.clients y.event ≡ CallerHome desk.caller.work.id.0)))) is.among;
-        filled = λ k. subst (All (EndedFor new.work.own)) (sym {A = List (Fill Filling)} (notes.filled k)) (subst (λ (l : List Stamped). FilledByEnds l (known desk.caller.seat)) (sym {A = List Stamped} notes.grew.own) (fillings_stay desk.caller.work.own (x ∷ []) (known desk.caller.seat) is.filled) k);
-        known_stamp = λ whole on. inr (inl (home_of d.setup d.clients x.event, (x, on.stand x (subst (λ (l : List Stamped). Contains l x) (sym {A = List Stamped} notes.grew.own) (Contains-push desk.caller.work.own x)), sym notes.last)));
-        shows = λ whole on. shows_one_more whole desk.caller.work new.work x notes.grew (λ there_. absurd (cc (ap (λ h. same_home h BoardHome) notes.home, there_))) (is.shows whole (own_before whole on)) (shown whole on);
-      };
-      own = (x ∷ [], notes.grew.own);
-      before = own_before;
-      stamp = notes.grew.stamp;
-    }
+  pub on_home : (home : Home) (more : List Stamped) → All (λ (x : Stamped). home_of d.setup d.clients x.event ≡ home) more → same_home home home ≡ true → All (λ (x : Stamped). stands_at d.setup d.clients home x ≡ true) more
+  on_home home more at same = All-weaker (λ (x : Stamped). home_of d.setup d.clients x.event ≡ home) (λ (x : Stamped). stands_at d.setup d.clients home x ≡ true) (λ x is. ap (λ h. same_home h home) is ∙ same) more at
 
   -- ---- what leads on, leads on further
 
@@ -226,42 +189,129 @@ module _ (d : Domain) where
   leads_trans a b c ab bc = record {
     desk = bc.desk;
     own = (ab.own.0 ++ bc.own.0, bc.own.1 ∙ ap (λ (l : List Stamped). l ++ bc.own.0) ab.own.1 ∙ append_assoc a.caller.work.own ab.own.0 bc.own.0);
+    pages = λ queue.
+        let first = ab.pages queue in
+        let second = bc.pages queue in
+        (first.0 ++ second.0, second.1 ∙ ap (λ (l : List (QueueNote Filling)). l ++ second.0) first.1 ∙ append_assoc (queue_page a queue).seen first.0 second.0);
     before = λ whole on. ab.before whole (bc.before whole on);
     stamp = let first = ab.stamp in let second = bc.stamp in omega (arith, first, second);
   }
 
-  -- ---- a caller that noted nothing, and may have seen a stamp or made room
+pub starts_same : {X : Type 0} (xs : List X) → StartsWith xs xs
+starts_same xs = ([], sym (append-nil xs))
 
-  pub still_leads : (desk : Desk) (w : Working) → IsDesk d desk → Grew desk.caller.work w [] → ((whole : Whole) → GoesOn d whole desk → IsKnown whole w.stamp) → Leads d desk (record desk { caller = record desk.caller { work = w } })
-  still_leads desk w is grew is_known =
-      let own : w.own ≡ desk.caller.work.own = grew.own ∙ append-nil desk.caller.work.own in
-      let new : Desk = record desk { caller = record desk.caller { work = w } } in
-      let back : (whole : Whole) → GoesOn d whole new → GoesOn d whole desk = λ whole on. record {
-        sound = on.sound;
-        board = on.board;
-        queues = on.queues;
-        may = on.may;
-        once = on.once;
-        stand = subst (λ (l : List Stamped). StandAt d.setup d.clients (entries_of whole) l) own on.stand;
-        ended = on.ended;
-      } in
+pub starts_trans : {X : Type 0} (whole middle front : List X) → StartsWith whole middle → StartsWith middle front → StartsWith whole front
+starts_trans whole middle front more less = (less.0 ++ more.0, more.1 ∙ ap (λ l. l ++ more.0) less.1 ∙ append_assoc front less.0 more.0)
+
+-- ---- a desk that goes on
+
+-- its worker noted these events, its passes know no less, and its seat took what it had
+pub record Moves (d : Domain) (old new : Desk) (more : List Stamped) : Type 0 where
+  pub grew : Grew old.caller.work new.caller.work more
+  pub among : AllAmong d more
+  pub seat : IsSeatOf d.cells new.caller.seat
+  pub taken : TakesAll (known old.caller.seat) (known new.caller.seat)
+  pub filled : FilledByEnds new.caller.work.own (known new.caller.seat)
+  pub least : new.caller.least ≤ published (past_in (changes_at (board_page new).seen))
+  pub board : IsThere (IsBoardPass d new.caller.work) new.board
+  pub board_seen : StartsWith (board_page new).seen (board_page old).seen
+  pub count : length new.queues.items ≡ length old.queues.items
+  pub queues : (k : ℕ) → k < length d.queues.items → IsThere (IsQueuePass d new.caller.work k) (slice_index_or new.queues.items k None)
+  pub queues_seen : (queue : ℕ) → StartsWith (queue_page new queue).seen (queue_page old queue).seen
+
+module _ {d : Domain} {old new : Desk} where
+  module _ {more : List Stamped} (is : IsDesk d old) (moves : Moves d old new more) where
+    pub moves_before : (whole : Whole) → GoesOn d whole new → GoesOn d whole old
+    moves_before whole on = record {
+      sound = on.sound;
+      board = starts_trans whole.board.notes (board_page new).seen (board_page old).seen on.board moves.board_seen;
+      queues = λ queue. starts_trans (notes_of (whole.queues queue)) (queue_page new queue).seen (queue_page old queue).seen (on.queues queue) (moves.queues_seen queue);
+      may = on.may;
+      once = on.once;
+      stand = λ x here. on.stand x (subst (λ (l : List Stamped). Contains l x) (sym {A = List Stamped} moves.grew.own) (Contains-append_left old.caller.work.own more x here));
+      ended = taken_before whole old.caller.seat new.caller.seat moves.taken on.ended;
+    }
+
+    moves_lead : ((whole : Whole) → GoesOn d whole new → GoesOn d whole old → IsKnown whole new.caller.work.stamp) → ((whole : Whole) → GoesOn d whole new → GoesOn d whole old → Shows d whole new.caller.work) → Leads d old new
+    moves_lead is_known shows = let grew = moves.grew in record {
+      desk = record {
+        setup = grew.setup ∙ is.setup;
+        clients = grew.clients ∙ is.clients;
+        booted = let later = grew.stamp in let booted = is.booted in omega (arith, later, booted);
+        seat = moves.seat;
+        board = moves.board;
+        least = moves.least;
+        count = moves.count ∙ is.count;
+        queues = moves.queues;
+        made = made_more old.caller.work new.caller.work more grew is.made;
+        among = among_more d old.caller.work new.caller.work more grew moves.among is.among;
+        filled = moves.filled;
+        known_stamp = λ whole on. is_known whole on (moves_before whole on);
+        shows = λ whole on. shows whole on (moves_before whole on);
+      };
+      own = (more, grew.own);
+      pages = moves.queues_seen;
+      before = moves_before;
+      stamp = grew.stamp;
+    }
+
+  -- nothing was noted
+  pub none_leads : IsDesk d old → Moves d old new [] → ((whole : Whole) → GoesOn d whole new → GoesOn d whole old → IsKnown whole new.caller.work.stamp) → Leads d old new
+  none_leads is moves is_known = moves_lead is moves is_known (λ whole on back. shows_still d whole old.caller.work new.caller.work moves.grew (is.shows whole back))
+
+  -- an event was
+  pub one_leads : (x : Stamped) → IsDesk d old → Moves d old new (x ∷ []) → new.caller.work.stamp ≡ x.stamp → ((whole : Whole) → GoesOn d whole new → stands_at d.setup d.clients BoardHome x ≡ true → MetAmong d.setup (entries_of whole BoardHome) x)
+      → ((whole : Whole) → GoesOn d whole new → GoesOn d whole old → IsShown d whole old.caller.work x) → Leads d old new
+  one_leads x is moves now met shown =
+      moves_lead is moves
+      (λ whole on back. inr (inl (home_of d.setup d.clients x.event, (x, on.stand x (subst (λ (l : List Stamped). Contains l x) (sym {A = List Stamped} moves.grew.own) (Contains-push old.caller.work.own x)), sym now))))
+      (λ whole on back. shows_one_more d whole old.caller.work new.caller.work x moves.grew (met whole on) (is.shows whole back) (shown whole on back))
+
+-- ---- a desk whose caller alone goes on
+
+module _ {d : Domain} {desk : Desk} {new : Caller} where
+  pub own_moves : {more : List Stamped} → IsDesk d desk → Grew desk.caller.work new.work more → All (λ (x : Stamped). home_of d.setup d.clients x.event ≡ CallerHome desk.caller.work.id.0) more → IsSeatOf d.cells new.seat → TakesAll (known desk.caller.seat) (known new.seat)
+      → FilledByEnds new.work.own (known new.seat) → new.least ≤ published (past_in (changes_at (board_page desk).seen)) → Moves d desk (record desk { caller = new }) more
+  own_moves {more} is grew home seat taken filled least =
+      let w : Working = desk.caller.work in
+      let own : Home = CallerHome w.id.0 in
       record {
-        desk = record {
-          setup = grew.setup ∙ is.setup;
-          clients = grew.clients ∙ is.clients;
-          booted = let later = grew.stamp in let booted = is.booted in omega (arith, later, booted);
-          seat = is.seat;
-          board = there (IsBoardPass d desk.caller.work) (IsBoardPass d w) desk.board (board_pass_stays desk.caller.work w [] grew (All-nil (λ (y : Stamped). stands_at d.setup d.clients BoardHome y ≡ false))) is.board;
-          least = is.least;
-          count = is.count;
-          queues = λ k low. there (IsQueuePass d desk.caller.work k) (IsQueuePass d w k) (slice_index_or desk.queues.items k None) (queue_pass_stays desk.caller.work w [] grew k (All-nil (λ (y : Stamped). stands_at d.setup d.clients (QueueHome (k + 1)) y ≡ false))) (is.queues k low);
-          made = made_more desk.caller.work w [] grew is.made;
-          among = subst (AllAmong d) (sym {A = List Stamped} own) is.among;
-          filled = subst (λ (l : List Stamped). FilledByEnds l (known desk.caller.seat)) (sym {A = List Stamped} own) is.filled;
-          known_stamp = λ whole on. is_known whole (back whole on);
-          shows = λ whole on. shows_still whole desk.caller.work w grew (is.shows whole (back whole on));
-        };
-        own = ([], grew.own);
-        before = back;
-        stamp = grew.stamp;
+        grew = grew;
+        among = among_at d own more tt home;
+        seat = seat;
+        taken = taken;
+        filled = filled;
+        least = least;
+        board = there d (IsBoardPass d w) (IsBoardPass d new.work) desk.board (board_pass_stays d w new.work more grew (off_home d own BoardHome more home refl)) is.board;
+        board_seen = starts_same (board_page desk).seen;
+        count = refl;
+        queues = λ k low. there d (IsQueuePass d w k) (IsQueuePass d new.work k) (slice_index_or desk.queues.items k None) (queue_pass_stays d w new.work more grew k (off_home d own (QueueHome (k + 1)) more home refl)) (is.queues k low);
+        queues_seen = λ queue. starts_same (queue_page desk queue).seen;
       }
+
+-- the caller noted nothing, and reads no older version
+pub record IsQuiet (d : Domain) (desk : Desk) (new : Caller) : Type 0 where
+  pub grew : Grew desk.caller.work new.work []
+  pub seat : IsSeatOf d.cells new.seat
+  pub takes : TakesOn (known desk.caller.seat) (known new.seat)
+  pub least : new.least ≡ desk.caller.least
+
+module _ (d : Domain) (desk : Desk) (new : Caller) where
+  -- the caller noted an event at its own home
+  pub own_leads : (x : Stamped) → Grew desk.caller.work new.work (x ∷ []) → new.work.stamp ≡ x.stamp → home_of d.setup d.clients x.event ≡ CallerHome desk.caller.work.id.0 → IsSeatOf d.cells new.seat → TakesOn (known desk.caller.seat) (known new.seat)
+      → new.least ≤ published (past_in (changes_at (board_page desk).seen)) → IsDesk d desk → ((whole : Whole) → GoesOn d whole (record desk { caller = new }) → GoesOn d whole desk → IsShown d whole desk.caller.work x) → Leads d desk (record desk { caller = new })
+  own_leads x grew now home seat takes least is shown =
+      one_leads x is
+      (own_moves is grew (All-cons (λ (y : Stamped). home_of d.setup d.clients y.event ≡ CallerHome desk.caller.work.id.0) x [] home (All-nil (λ (y : Stamped). home_of d.setup d.clients y.event ≡ CallerHome desk.caller.work.id.0))) seat takes.taken
+      (filled_more desk.caller.work new.work (x ∷ []) (known desk.caller.seat) (known new.seat) grew takes is.filled) least)
+      now (λ whole on there_. absurd (cc (ap (λ h. same_home h BoardHome) home, there_))) shown
+
+  pub quiet_leads : IsQuiet d desk new → IsDesk d desk → ((whole : Whole) → GoesOn d whole (record desk { caller = new }) → GoesOn d whole desk → IsKnown whole new.work.stamp) → Leads d desk (record desk { caller = new })
+  quiet_leads quiet is is_known =
+      none_leads is
+      (own_moves is quiet.grew (All-nil (λ (y : Stamped). home_of d.setup d.clients y.event ≡ CallerHome desk.caller.work.id.0)) quiet.seat quiet.takes.taken
+      (filled_more desk.caller.work new.work [] (known desk.caller.seat) (known new.seat) quiet.grew quiet.takes is.filled) (subst (λ (n : ℕ). n ≤ published (past_in (changes_at (board_page desk).seen))) (sym quiet.least) is.least)) is_known
+
+  -- with the stamp that it had
+  pub calm_leads : IsQuiet d desk new → IsDesk d desk → new.work.stamp ≡ desk.caller.work.stamp → Leads d desk (record desk { caller = new })
+  calm_leads quiet is same = quiet_leads quiet is (λ whole on back. subst (IsKnown whole) (sym same) (is.known_stamp whole back))

@@ -10,8 +10,6 @@ pub mod Ending
 pub mod Falling
 pub mod Dying
 pub mod Starting
-pub mod Quiet
-pub mod Changed
 pub mod Cleared
 pub mod Parting
 pub mod Fitting

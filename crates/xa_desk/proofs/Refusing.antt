@@ -1,10 +1,8 @@
 -- What a desk knows and shows goes on, as a call of its caller is refused.
-use Rattle.std.proofs.Common.{◌≡◌, ◌≤◌, ◌<◌, ℕ, ◌+◌, List, [], ◌∷◌, ◌++◌, Option, Some, None, refl, sym, ◌∙◌, ap, subst, arith}
+use Rattle.std.proofs.Common.{◌≡◌, ◌≤◌, ℕ, [], ◌∷◌, ◌++◌, Option, Some, None, refl, sym, ◌∙◌, ap, subst, arith, ◌+◌}
 use Rattle.std.specs.Prelude.{IfSome}
-use Rattle.std.specs.List.{All, Contains}
 use Rattle.xa_types.specs.declared.call.Ask.{Ask}
 use Rattle.xa_types.specs.declared.fault.Fault.{Fault}
-use Rattle.xa_types.specs.declared.ids.CallerId.{CallerId}
 use Rattle.xa_types.specs.declared.stamp.Stamp.{Stamp}
 use Rattle.xa_events.specs.declared.event.Evidence.{Evidence}
 use Rattle.xa_events.specs.Board.{published}
@@ -15,7 +13,6 @@ use Rattle.xa_stamp.specs.declared.home.Stamped.{Stamped}
 use Rattle.xa_crew.specs.Calls.{AskRefusedOwn}
 use Rattle.xa_crew.specs.Seen.{past_in, SawEvidence, ToldEvidence}
 use Rattle.xa_cell.specs.Known.{known, IsSeatOf}
-use Rattle.xa_cell.specs.Views.{at}
 use Rattle.xa_held.specs.Joins.{changes_at}
 use Rattle.xa_work.specs.Work.{Standing as Working}
 use Rattle.xa_caller.specs.Caller.{Standing as Caller}
@@ -28,8 +25,8 @@ use Rattle.xa_desk.specs.Whole.{Whole, entries_of}
 use Rattle.xa_desk.specs.Desks.{GoesOn, IsDesk, Leads, board_page}
 use Rattle.xa_desk.specs.Steps.{FitsOn}
 use Rattle.xa_desk.proofs.Fitting.{its_events, IsRead, call_over, one_more_fits}
-use Rattle.xa_desk.proofs.Leading.{one_made, Grew, NotesOwn, own_before, own_leads}
-use Rattle.xa_desk.proofs.Quiet.{TakesOn}
+use Rattle.xa_desk.proofs.Leading.{Grew, grew_one, own_leads}
+use Rattle.xa_desk.proofs.Seating.{TakesOn, takes_same}
 
 least_low : (version : Option ℕ) (least seen : ℕ) → least ≤ seen → IfSome version (λ v. v ≤ seen) → least_by version least ≤ seen
 least_low None least seen low some = low
@@ -43,55 +40,36 @@ pub record IsSame (d : Domain) (desk : Desk) (left : Caller) : Type 0 where
   pub least : left.least ≡ desk.caller.least
 
 pub same_as : (d : Domain) (desk : Desk) → IsDesk d desk → IsSame d desk desk.caller
-same_as d desk is = record { work = refl; seat = is.seat; takes = record { taken = λ k f here. here; filled = λ k. refl }; least = refl }
+same_as d desk is = record { work = refl; seat = is.seat; takes = takes_same (known desk.caller.seat); least = refl }
 
 module _ (d : Domain) (desk : Desk) (left new : Caller) (op : ℕ) (fault : Fault) (evidence : Evidence) (stamp : Stamp) (is : IsDesk d desk) (same : IsSame d desk left) (refuses : Refuses op fault evidence stamp new left)
     (shown : IfSome (version_in evidence) (λ v. v ≤ published (past_in (changes_at (board_page desk).seen)))) (kind : IsRefusal fault evidence) where
   abbrev One : Stamped
   One = record { stamp = stamp; event = refused op fault evidence left }
 
-  notes : NotesOwn d desk new One
-  notes =
-      let made = refuses.made in
-      let next = refuses.next in
-      let stood = ap (λ (w : Working). w.stamp.0) same.work in
-      let now = ap (λ (c : Caller). c.work.stamp.0) made in
-      let low = is.least in
-      record {
-        grew = record {
-          setup = ap (λ (c : Caller). c.work.setup) made ∙ ap (λ (w : Working). w.setup) same.work;
-          clients = ap (λ (c : Caller). c.work.clients) made ∙ ap (λ (w : Working). w.clients) same.work;
-          id = ap (λ (c : Caller). c.work.id) made ∙ ap (λ (w : Working). w.id) same.work;
-          own = ap (λ (c : Caller). c.work.own) made ∙ ap (λ (w : Working). w.own ++ One ∷ []) same.work;
-          stamp = omega (arith, next, stood, now);
-          made = one_made One kind;
-        };
-        last = ap (λ (c : Caller). c.work.stamp) made;
-        home = ap (λ (w : Working). CallerHome w.id.0) same.work;
-        seat = subst (λ (c : Caller). IsSeatOf d.cells c.seat) (sym made) same.seat;
-        taken = λ k f here. subst (λ (c : Caller). Contains (at k (known c.seat)).taken f) (sym made) (same.takes.taken k f here);
-        filled = λ k. ap (λ (c : Caller). (at k (known c.seat)).filled) made ∙ same.takes.filled k;
-        least = subst (λ (c : Caller). c.least ≤ published (past_in (changes_at (board_page desk).seen))) (sym made)
-            (least_low (version_in evidence) left.least (published (past_in (changes_at (board_page desk).seen))) (let stays = same.least in omega (arith, low, stays)) shown);
-      }
+  stood : left.work.stamp.0 ≡ desk.caller.work.stamp.0
+  stood = ap (λ (w : Working). w.stamp.0) same.work
+
+  next : stamp.0 ≡ desk.caller.work.stamp.0 + 1
+  next = let above = refuses.next in omega (arith, above, stood)
+
+  grew : Grew desk.caller.work new.work (One ∷ [])
+  grew = grew_one desk.caller.work new.work left.work.room One (ap (λ (c : Caller). c.work) refuses.made ∙ ap (λ (w : Working). record w { stamp = stamp; own = w.own ++ One ∷ []; room = left.work.room }) same.work) (omega (arith, next)) kind
 
   module _ (saw : (whole : Whole) → GoesOn d whole desk → SawEvidence d.setup d.clients (entries_of whole) stamp left.work.id evidence (past_in desk.caller.work.own))
       (told : (whole : Whole) → GoesOn d whole desk → ToldEvidence d.setup d.clients (entries_of whole) stamp left.work.id evidence (its_events d desk)) where
-    pub refuse_leads : Leads d desk (record desk { caller = new })
-    refuse_leads = own_leads d desk new One notes is (λ whole on.
-        let back : GoesOn d whole desk = own_before d desk new One notes whole on in
-        let next = refuses.next in
-        let stood = ap (λ (w : Working). w.stamp.0) same.work in
+    refuse_leads : Leads d desk (record desk { caller = new })
+    refuse_leads =
+        let made = refuses.made in
         let booted = is.booted in
-        record {
-          behind = omega (arith, next, stood, booted);
-          saw = saw whole back;
-          told = told whole back;
-          before = desk.caller.work.stamp;
-          next = omega (arith, next, stood);
-          known_before = is.known_stamp whole back;
-        })
+        let low = is.least in
+        let stays = same.least in
+        let shows_least : least_by (version_in evidence) left.least ≤ published (past_in (changes_at (board_page desk).seen)) = least_low (version_in evidence) left.least (published (past_in (changes_at (board_page desk).seen))) (omega (arith, low, stays)) shown in
+        own_leads d desk new One grew (ap (λ (c : Caller). c.work.stamp) made) (ap (λ (w : Working). CallerHome w.id.0) same.work) (subst (λ (c : Caller). IsSeatOf d.cells c.seat) (sym made) same.seat) (subst (λ (c : Caller). TakesOn (known desk.caller.seat) (known c.seat)) (sym made) same.takes)
+        (subst (λ (c : Caller). c.least ≤ published (past_in (changes_at (board_page desk).seen))) (sym made) shows_least) is
+        (λ whole on back. record { behind = omega (arith, next, booted); saw = saw whole back; told = told whole back; before = desk.caller.work.stamp; next = next; known_before = is.known_stamp whole back })
 
-    pub refuse_fits : IsRead d desk → just_in desk.caller.phase ≡ None → (ask : Ask) → ((whole : Whole) → GoesOn d whole desk → AskRefusedOwn d.setup d.clients (entries_of whole) stamp left.work.id.0 (as_call d.setup ask) ask fault evidence (its_events d desk))
-        → FitsOn d op ask desk (record desk { caller = new })
-    refuse_fits reads none ask fits = one_more_fits d desk (record desk { caller = new }) One refuse_leads notes.grew op ask refl (λ ops turn. call_over d desk reads none ops) (λ whole on. fits whole (refuse_leads.before whole on))
+    -- and that fits a call that may be refused so
+    pub refuse_goes : IsRead d desk → just_in desk.caller.phase ≡ None → Leads d desk (record desk { caller = new })
+        × ((ask : Ask) → ((whole : Whole) → GoesOn d whole desk → AskRefusedOwn d.setup d.clients (entries_of whole) stamp left.work.id.0 (as_call d.setup ask) ask fault evidence (its_events d desk)) → FitsOn d op ask desk (record desk { caller = new }))
+    refuse_goes reads none = (refuse_leads, λ ask fits. one_more_fits d desk (record desk { caller = new }) One refuse_leads grew op ask refl (λ ops turn. call_over d desk reads none ops) (λ whole on. fits whole (refuse_leads.before whole on)))

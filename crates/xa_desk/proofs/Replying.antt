@@ -1,7 +1,7 @@
 -- What a look at the answer of a request leaves.
-use Rattle.std.proofs.Common.{◌≡◌, ◌≤◌, ◌<◌, ℕ, ◌+◌, ◌-◌, max, List, [], ◌∷◌, ◌++◌, Option, Some, None, inl, inr, refl, sym, ◌∙◌, ap, subst, append-nil, arith}
+use Rattle.std.proofs.Common.{◌≡◌, ◌≤◌, ℕ, max, List, Option, Some, None, inl, inr, refl, sym, ◌∙◌, ap, subst, arith, ◌-◌, ◌∷◌, []}
 use Rattle.std.specs.Prelude.{IfSome, IsSomeAnd}
-use Rattle.std.specs.List.{All, Contains}
+use Rattle.std.specs.List.{Contains}
 use Rattle.std.proofs.lemmas.List.Elements.{All-contains, Contains-push}
 use Rattle.xa_types.specs.declared.call.Ask.{Ask}
 use Rattle.xa_types.specs.declared.data.Kind.{Kind}
@@ -10,7 +10,6 @@ use Rattle.xa_types.specs.declared.reply.Answer.{Answer as Reply}
 use Rattle.xa_types.specs.declared.stamp.Stamp.{Stamp}
 use Rattle.xa_events.specs.declared.event.Event.{Event}
 use Rattle.xa_events.specs.declared.event.Event.TheVariants.{Answer}
-use Rattle.xa_events.specs.declared.event.Replied.{Replied}
 use Rattle.xa_events.specs.Answers.{reply_of, answer_to, IsAnswerTo}
 use Rattle.xa_events.specs.Homes.{Home}
 use Rattle.xa_events.specs.Request.{Settlement, settlement_in}
@@ -24,12 +23,12 @@ use Rattle.xa_cell.specs.Growing.{Keeps, TakesMore}
 use Rattle.xa_cell.specs.Known.{known, IsSeatOf}
 use Rattle.xa_cell.specs.Views.{at, fill}
 use Rattle.xa_cell.proofs.Growing.{looked_keeps, more_behind}
-use Rattle.xa_work.specs.Work.{seeing}
+use Rattle.xa_work.specs.Work.{seeing, Standing as Working}
 use Rattle.xa_caller.specs.declared.cargo.Filling.{Filling}
 use Rattle.xa_caller.specs.declared.outcomes.Step.{Step}
 use Rattle.xa_caller.specs.declared.outcomes.Step.TheVariants as steps
 use Rattle.xa_caller.specs.Caller.{Standing as Caller}
-use Rattle.xa_caller.specs.Changes.{Answers, Loses, Abandons, StepsAs}
+use Rattle.xa_caller.specs.Changes.{Answers, StepsAs}
 use Rattle.xa_caller.specs.Phases.{just_in}
 use Rattle.xa_told.specs.Told.{EndsAt, HasEnd}
 use Rattle.xa_told.proofs.Calls.{asked_looked, took_is_more}
@@ -41,8 +40,8 @@ use Rattle.xa_desk.specs.Whole.{Whole, entries_of, IsKnown}
 use Rattle.xa_desk.specs.Desks.{GoesOn, IsDesk, Leads}
 use Rattle.xa_desk.specs.Steps.{FitsOn}
 use Rattle.xa_desk.proofs.Fitting.{IsRead, no_more_fits, one_more_fits}
-use Rattle.xa_desk.proofs.Leading.{one_made, none_made, Grew, NotesOwn, own_before, own_leads}
-use Rattle.xa_desk.proofs.Quiet.{TakesOn, IsQuiet, keeps_on, quiet_before, quiet_leads}
+use Rattle.xa_desk.proofs.Leading.{grew_one, grew_none, Grew, own_leads, quiet_leads}
+use Rattle.xa_desk.proofs.Seating.{TakesOn, keeps_on}
 use Rattle.xa_desk.proofs.Visiting.{larger_known}
 
 takes_on : (k : ℕ) (a : Filling) (v w : View Filling) → TakesMore k a v w → TakesOn v w
@@ -79,54 +78,29 @@ module _ (d : Domain) (desk : Desk) (new : Caller) (is : IsDesk d desk) (its : I
 
   -- and told
   module _ (expect : Option Kind) (stamp : Stamp) (answers : Answers expect stamp new desk.caller) where
-    abbrev replied : Replied
-    replied = record { by = desk.caller.work.id; op = desk.caller.op; request = answers.sent.request; answer = answer_to expect answers.reply }
-
     abbrev One : Stamped
-    One = record { stamp = stamp; event = Answer replied }
+    One = record { stamp = stamp; event = Answer (record { by = desk.caller.work.id; op = desk.caller.op; request = answers.sent.request; answer = answer_to expect answers.reply }) }
 
-    abbrev cell : ℕ
-    cell = answers.sent.place.cell
-
-    notes : NotesOwn d desk new One
-    notes =
-        let made = answers.noted.made in
-        let next = answers.noted.next in
-        let now = ap (λ (c : Caller). c.work.stamp.0) made in
-        let on = takes cell answers.filling answers.took in
-        let low = is.least in
-        let least = ap (λ (c : Caller). c.least) made in
-        record {
-          grew = record {
-            setup = ap (λ (c : Caller). c.work.setup) made;
-            clients = ap (λ (c : Caller). c.work.clients) made;
-            id = ap (λ (c : Caller). c.work.id) made;
-            own = ap (λ (c : Caller). c.work.own) made;
-            stamp = omega (arith, next, now);
-            made = one_made One tt;
-          };
-          last = ap (λ (c : Caller). c.work.stamp) made;
-          home = refl;
-          seat = its;
-          taken = on.taken;
-          filled = on.filled;
-          least = omega (arith, low, least);
-        }
+    grew : Grew desk.caller.work new.work (One ∷ [])
+    grew = let next = answers.noted.next in grew_one desk.caller.work new.work (desk.caller.work.room - 1) One (ap (λ (c : Caller). c.work) answers.noted.made) (omega (arith, next)) tt
 
     told_so : (P : Event → Type 0) → ((end : Stamped) → IsSomeAnd (settlement_in answers.sent.request end.event) (λ settlement. answers.reply ≡ reply_of settlement) → P end.event) → (whole : Whole) → GoesOn d whole Next → (home : Home) × SawEntry (entries_of whole home) stamp P
     told_so P holds whole on =
-        let first = more cell answers.filling answers.took in
+        let first = more answers.sent.place.cell answers.filling answers.took in
         let same : first.opening.request ≡ answers.sent.request = cc (sym first.asked ∙ answers.asked) in
-        let end = ended cell answers.filling answers.took answers.reply answers.says whole on in
+        let end = ended answers.sent.place.cell answers.filling answers.took answers.reply answers.says whole on in
         let by = end.settles.by in
         let next = answers.noted.next in
         (end.home, record { entry = end.entry; stands = end.stands; before = omega (arith, by, next); shows = holds end.entry (subst (λ (r : RequestId). IsSomeAnd (settlement_in r end.entry.event) (λ settlement. answers.reply ≡ reply_of settlement)) same end.settles.tells) })
 
     pub told_leads : Leads d desk Next
-    told_leads = own_leads d desk new One notes is (λ whole on.
-        let back : GoesOn d whole desk = own_before d desk new One notes whole on in
+    told_leads =
+        let made = answers.noted.made in
         let next = answers.noted.next in
         let booted = is.booted in
+        let low = is.least in
+        let least = ap (λ (c : Caller). c.least) made in
+        own_leads d desk new One grew (ap (λ (c : Caller). c.work.stamp) made) refl its (takes answers.sent.place.cell answers.filling answers.took) (omega (arith, low, least)) is (λ whole on back.
         record {
           behind = omega (arith, next, booted);
           saw = tt;
@@ -138,45 +112,33 @@ module _ (d : Domain) (desk : Desk) (new : Caller) (is : IsDesk d desk) (its : I
 
     pub told_fits : IsRead d desk → (ask : Ask) → expect ≡ ask.expect → FitsOn d desk.caller.op ask desk Next
     told_fits reads ask same =
-        one_more_fits d desk Next One told_leads notes.grew desk.caller.op ask refl (λ ops turn. let called = reads.called in absurd (omega (arith, turn, called))) (λ whole on.
+        one_more_fits d desk Next One told_leads grew desk.caller.op ask refl (λ ops turn. let called = reads.called in absurd (omega (arith, turn, called))) (λ whole on.
         let told = told_so (λ e. IsSomeAnd (settlement_in answers.sent.request e) (λ settlement. answer_to expect answers.reply ≡ answer_to ask.expect (reply_of settlement)))
         (λ end tells. told_by ask.expect (answer_to expect answers.reply) answers.reply (settlement_in answers.sent.request end.event) (ap (λ e. answer_to e answers.reply) same) tells) whole on in
         record { same = sym reads.called; request = reads.just ∙ ap just_in answers.was; home = told.0; told = told.1 })
 
+  abbrev Goes : Option Kind → Type 0
+  Goes expect = Leads d desk Next × (IsRead d desk → (ask : Ask) → expect ≡ ask.expect → FitsOn d desk.caller.op ask desk Next)
+
   -- or nothing was noted
-  module _ (takes : TakesOn (known desk.caller.seat) (known new.seat)) (seen : Stamp) (grew : Grew desk.caller.work new.work []) (least : new.least ≡ desk.caller.least) (now : new.work.stamp ≡ seen) (is_known : (whole : Whole) → GoesOn d whole Next → GoesOn d whole desk → IsKnown whole seen) where
-    quiet : IsQuiet d desk new
-    quiet = record { grew = grew; seat = its; takes = takes; least = least }
+  silent : (expect : Option Kind) (seen : Stamp) (room : ℕ) → new.work ≡ record desk.caller.work { stamp = seen; room = room } → new.least ≡ desk.caller.least → TakesOn (known desk.caller.seat) (known new.seat) → desk.caller.work.stamp.0 ≤ seen.0
+      → ((whole : Whole) → GoesOn d whole Next → GoesOn d whole desk → IsKnown whole seen) → Goes expect
+  silent expect seen room work least takes later is_known =
+      let grew = grew_none desk.caller.work new.work room seen work later in
+      let leads = quiet_leads d desk new (record { grew = grew; seat = its; takes = takes; least = least }) is (λ whole on back. subst (IsKnown whole) (sym (ap (λ (w : Working). w.stamp) work)) (is_known whole on back)) in
+      (leads, λ reads ask same. no_more_fits d desk Next leads grew desk.caller.op ask)
 
-    silent_leads : Leads d desk Next
-    silent_leads = quiet_leads d desk new quiet is (λ whole on. subst (IsKnown whole) (sym now) (is_known whole on (quiet_before d desk new quiet whole on)))
-
-    silent_fits : (op : ℕ) (ask : Ask) → FitsOn d op ask desk Next
-    silent_fits op ask = no_more_fits d desk Next silent_leads grew op ask
-
-  -- what changed but the seat and the phase, by a caller that is else as it was with a seat and a phase more
-  pub step_leads : (expect : Option Kind) (step : Step) → StepsAs expect step new desk.caller → Leads d desk Next × (IsRead d desk → (ask : Ask) → expect ≡ ask.expect → FitsOn d desk.caller.op ask desk Next)
-  step_leads expect (steps.Told stamp) answers = (told_leads expect stamp answers, told_fits expect stamp answers)
-  step_leads expect steps.Wait waits =
+  pub step_goes : (expect : Option Kind) (step : Step) → StepsAs expect step new desk.caller → Goes expect
+  step_goes expect (steps.Told stamp) answers = (told_leads expect stamp answers, told_fits expect stamp answers)
+  step_goes expect steps.Wait waits =
       let made = waits.3 in
       let kept = keeps_on (known desk.caller.seat) (known new.seat) (subst (Keeps (known desk.caller.seat)) (sym waits.2) (looked_keeps waits.0.place.cell 1 (known desk.caller.seat))) in
-      let grew : Grew desk.caller.work new.work [] = subst (λ (c : Caller). Grew desk.caller.work c.work []) (sym made) (record { setup = refl; clients = refl; id = refl; own = sym (append-nil desk.caller.work.own); stamp = omega arith; made = none_made }) in
-      let least = ap (λ (c : Caller). c.least) made in
-      let now = ap (λ (c : Caller). c.work.stamp) made in
-      (silent_leads kept desk.caller.work.stamp grew least now (λ whole on back. is.known_stamp whole back), λ reads ask same. silent_fits kept desk.caller.work.stamp grew least now (λ whole on back. is.known_stamp whole back) desk.caller.op ask)
-  step_leads expect (steps.Halt halt) loses =
+      silent expect desk.caller.work.stamp desk.caller.work.room (ap (λ (c : Caller). c.work) made) (ap (λ (c : Caller). c.least) made) kept (omega arith) (λ whole on back. is.known_stamp whole back)
+  step_goes expect (steps.Halt halt) loses =
       let made = loses.made in
-      let seen : Stamp = (seeing loses.filling.stamp desk.caller.work).stamp in
-      let kept = takes loses.sent.place.cell loses.filling loses.took in
-      let grew : Grew desk.caller.work new.work [] = subst (λ (c : Caller). Grew desk.caller.work c.work []) (sym made) (record { setup = refl; clients = refl; id = refl; own = sym (append-nil desk.caller.work.own); stamp = omega arith; made = none_made }) in
-      let least = ap (λ (c : Caller). c.least) made in
-      let now = ap (λ (c : Caller). c.work.stamp) made in
-      let is_known : (whole : Whole) → GoesOn d whole Next → GoesOn d whole desk → IsKnown whole seen = λ whole on back. larger_known whole desk.caller.work.stamp loses.filling.stamp (is.known_stamp whole back) (stamp_known loses.sent.place.cell loses.filling loses.took loses.reply loses.says whole on) in
-      (silent_leads kept seen grew least now is_known, λ reads ask same. silent_fits kept seen grew least now is_known desk.caller.op ask)
-  step_leads expect steps.Halted abandons =
+      let stamp = loses.filling.stamp in
+      silent expect (seeing stamp desk.caller.work).stamp desk.caller.work.room (ap (λ (c : Caller). c.work) made) (ap (λ (c : Caller). c.least) made) (takes loses.sent.place.cell loses.filling loses.took) (omega arith)
+      (λ whole on back. larger_known whole desk.caller.work.stamp stamp (is.known_stamp whole back) (stamp_known loses.sent.place.cell loses.filling loses.took loses.reply loses.says whole on))
+  step_goes expect steps.Halted abandons =
       let made = abandons.made in
-      let kept = takes abandons.sent.place.cell abandons.filling abandons.took in
-      let grew : Grew desk.caller.work new.work [] = subst (λ (c : Caller). Grew desk.caller.work c.work []) (sym made) (record { setup = refl; clients = refl; id = refl; own = sym (append-nil desk.caller.work.own); stamp = omega arith; made = none_made }) in
-      let least = ap (λ (c : Caller). c.least) made in
-      let now = ap (λ (c : Caller). c.work.stamp) made in
-      (silent_leads kept desk.caller.work.stamp grew least now (λ whole on back. is.known_stamp whole back), λ reads ask same. silent_fits kept desk.caller.work.stamp grew least now (λ whole on back. is.known_stamp whole back) desk.caller.op ask)
+      silent expect desk.caller.work.stamp desk.caller.work.room (ap (λ (c : Caller). c.work) made) (ap (λ (c : Caller). c.least) made) (takes abandons.sent.place.cell abandons.filling abandons.took) (omega arith) (λ whole on back. is.known_stamp whole back)

@@ -1,10 +1,11 @@
 -- What a put of a request leaves.
-use Rattle.std.proofs.Common.{◌≡◌, ◌⊎◌, ◌≤◌, ◌<◌, ℕ, ◌+◌, ◌-◌, ◌^◌, ◌==◌, ◌&&◌, Bool, true, false, List, [], ◌∷◌, ◌++◌, length, Option, Some, None, inl, inr, refl, sym, ◌∙◌, ap, subst, append-nil, arith, eqb-true, leb-true}
-use Rattle.std.specs.Prelude.{slice_index_or, slice_set, nat_le, nat_lt, IsSome}
+use Rattle.std.proofs.Common.{◌≡◌, ◌⊎◌, ◌≤◌, ◌<◌, ℕ, ◌+◌, Bool, true, false, List, [], ◌∷◌, ◌++◌, length, Some, Ok, inl, inr, refl, sym, ◌∙◌, ap, subst, arith, eqb-true, leb-true, ◌^◌}
+use Rattle.xa_held.proofs.Refusals.{WhyOf, why_refused}
+use Rattle.xa_held.proofs.Seen.{knows_still}
+use Rattle.std.specs.Prelude.{nat_le, nat_lt}
 use Rattle.std.proofs.lemmas.Bool.{and_parts, ltb-true}
-use Rattle.std.specs.List.{All}
 use Rattle.std.proofs.lemmas.List.{length-map}
-use Rattle.std.proofs.lemmas.List.Elements.{All-nil, All-cons, All-contains}
+use Rattle.std.proofs.lemmas.List.Elements.{All-contains}
 use Rattle.xa_types.specs.declared.call.Ask.{Ask}
 use Rattle.xa_types.specs.declared.call.Op.TheVariants.{Call}
 use Rattle.xa_types.specs.declared.ids.CallerId.{CallerId}
@@ -24,23 +25,18 @@ use Rattle.xa_events.specs.Homes.Home.{BoardHome, QueueHome}
 use Rattle.xa_events.specs.Queue.{is_down, is_closed, waiting}
 use Rattle.xa_events.specs.Words.{count}
 use Rattle.xa_stamp.specs.declared.home.Stamped.{Stamped}
-use Rattle.xa_lock.specs.declared.guarded.Guarded.{Guarded}
-use Rattle.xa_lock.specs.declared.pass.LockPass.{LockPass}
-use Rattle.xa_lock.specs.Known.{known as page_of, IsPassOf}
-use Rattle.xa_lock.specs.Pages.{Knows, entries_by}
+use Rattle.xa_lock.specs.Known.{known as page_of}
 use Rattle.xa_crew.specs.Calls.{FitsOwn}
 use Rattle.xa_crew.specs.Seen.{past_in, IsBehind, SawFront, SawFronts, WasTold}
 use Rattle.xa_queue.specs.declared.entry.Entry.{Entry}
 use Rattle.xa_queue.specs.declared.queue.Refusal.{Refusal}
 use Rattle.xa_queue.specs.declared.queue.Refusal.TheVariants as refusals
-use Rattle.xa_queue.specs.Changes.{IsEntry, put_refused, larger, next_stamp}
-use Rattle.xa_held.specs.declared.kept_queue.KeptQueue.{KeptQueue}
-use Rattle.xa_held.specs.declared.kept_queue.QueueNote.{QueueNote}
+use Rattle.xa_queue.specs.Changes.{IsEntry, put_refused, next_stamp, larger}
 use Rattle.xa_held.specs.Joins.{events_at}
 use Rattle.xa_held.specs.declared.kept_queue.Setting.{Setting}
-use Rattle.xa_held.specs.Kept.{Kept, IsRight, Brings, notes_of}
-use Rattle.xa_held.specs.Notes.{one, maker_of}
-use Rattle.xa_held.specs.Visits.{Sees, Visits, Reaches}
+use Rattle.xa_held.specs.Kept.{Kept, IsRight, Brings}
+use Rattle.xa_held.specs.Steps.{PutAs}
+use Rattle.xa_held.specs.Visits.{Sees, Visits}
 use Rattle.xa_held.proofs.Front.{knows_events}
 use Rattle.xa_work.specs.Work.{seeing}
 use Rattle.xa_caller.specs.declared.cargo.Filling.{Filling}
@@ -56,48 +52,36 @@ use Rattle.xa_desk.specs.Made.{IsMade}
 use Rattle.xa_desk.specs.declared.domain.Domain.{Domain}
 use Rattle.xa_desk.specs.declared.desk.Desk.{Desk}
 use Rattle.xa_desk.specs.Whole.{Whole, entries_of}
-use Rattle.xa_desk.specs.Desks.{IsDomain, IsQueuePass, IsThere, GoesOn, IsDesk, Leads}
+use Rattle.xa_desk.specs.Desks.{IsDomain, GoesOn, IsDesk, Leads}
 use Rattle.xa_desk.specs.Found.{SawOnBoard, HasFound, IsAimed, SawItsOwnAt, ShowsWhy, IsAccept, queue_in}
 use Rattle.xa_desk.specs.Steps.{FitsOn}
 use Rattle.xa_desk.proofs.Configured.{has_capacity, row_priority}
 use Rattle.xa_desk.proofs.Fitting.{its_events, IsRead, call_over, one_more_fits}
-use Rattle.xa_desk.proofs.Leading.{one_made, none_made, Grew}
-use Rattle.xa_desk.proofs.Showing.{Why, why_is, saw_there, capacity_is, down_seen, closed_seen, waits, own_seen}
-use Rattle.xa_desk.proofs.Visiting.{now_there, looked_leads, noted_leads}
-
--- the draft of a phase
-draft_of : Draft → Phase → Draft
-draft_of other (Prepared draft) = draft
-draft_of other _ = other
+use Rattle.xa_desk.proofs.Leading.{Grew, grew_one}
+use Rattle.xa_desk.proofs.Showing.{saw_there, setting, down_seen, closed_seen, waits, own_seen}
+use Rattle.xa_desk.proofs.Visiting.{QueuePass, HasPass, Step, its_pass, now_has, later, looked_leads, noted_leads, looked_last}
 
 pub same_draft : (a b : Draft) (phase : Phase) → phase ≡ Prepared a → phase ≡ Prepared b → a ≡ b
-unfolding draft_of
-same_draft a b phase is_a is_b = ap (draft_of a) (sym is_a ∙ is_b)
+same_draft a b phase is_a is_b = cc (sym is_a ∙ is_b)
 
 -- who may make a call has a number
 pub may_have : (desk : Desk) → MayCall desk.caller → 0 < desk.caller.work.id.0
 may_have desk (inl client) = leb-true 1 desk.caller.work.id.0 (and_parts (nat_le 1 desk.caller.work.id.0) (nat_le desk.caller.work.id.0 desk.caller.work.clients) client).0
 may_have desk (inr serves) = let above : desk.caller.work.clients < desk.caller.work.id.0 = ltb-true desk.caller.work.clients desk.caller.work.id.0 (and_parts (nat_lt desk.caller.work.clients desk.caller.work.id.0) _ serves).0 in omega (arith, above)
 
-pub pass_there : (d : Domain) (desk : Desk) (k : ℕ) → IsDesk d desk → k < length d.queues.items → IsSome (slice_index_or desk.queues.items k None)
-pass_there d desk k is low = some (slice_index_or desk.queues.items k None) (is.queues k low)
-  where
-    some : (pass : Option (LockPass (QueueNote Filling))) → IsThere (IsQueuePass d desk.caller.work k) pass → IsSome pass
-    some None there = absurd there
-    some (Some pass) there = refl
-
-module _ (d : Domain) (found : FoundRows) (ask : Ask) (old : Desk) (entry : Entry Cargo) (event : Event) (has : HasFound d ask.service found old) (aimed : IsAimed d found ask.payload entry event old) where
-  pub place_in : (0 < aimed.row.queue.0) × (aimed.row.queue.0 < length d.queues.items + 1)
-  place_in = All-contains (λ (row : Row). (0 < row.queue.0) × (row.queue.0 < length d.queues.items + 1)) found.rows aimed.row has.places aimed.among
-
+module _ {d : Domain} {found : FoundRows} (ask : Ask) {old : Desk} {entry : Entry Cargo} {event : Event} (has : HasFound d ask.service found old) (aimed : IsAimed d found ask.payload entry event old) where
   its : aimed.row ≡ row_for d.setup ask.service aimed.row.queue.0 aimed.row.routine
   its = All-contains (λ (row : Row). row ≡ row_for d.setup ask.service row.queue.0 row.routine) found.rows aimed.row has.rows aimed.among
 
-  pub queue_is : queue_in event ≡ aimed.row.queue.0
+  queue_is : queue_in event ≡ aimed.row.queue.0
   queue_is = ap queue_in aimed.event_is
 
+  -- the queue is one of the domain
+  pub place_in : (0 < queue_in event) × (queue_in event < length d.queues.items + 1)
+  place_in = subst (λ n. (0 < n) × (n < length d.queues.items + 1)) (sym queue_is) (All-contains (λ (row : Row). (0 < row.queue.0) × (row.queue.0 < length d.queues.items + 1)) found.rows aimed.row has.places aimed.among)
+
   pub is_accept : IsAccept event
-  is_accept = subst IsAccept (sym aimed.event_is) place_in.0
+  is_accept = subst IsAccept (sym aimed.event_is) (subst (λ n. 0 < n) queue_is place_in.0)
 
   pub brings : Brings entry.request entry.cargo.invocation event
   brings = subst (λ (e : Entry Cargo). Brings e.request e.cargo.invocation event) (sym aimed.entry_is)
@@ -106,125 +90,93 @@ module _ (d : Domain) (found : FoundRows) (ask : Ask) (old : Desk) (entry : Entr
   pub in_range : IsDomain d → (1 ≤ entry.priority) × (entry.priority ≤ 100)
   in_range domain = subst (λ (e : Entry Cargo). (1 ≤ e.priority) × (e.priority ≤ 100)) (sym aimed.entry_is) (row_priority d.setup domain.configured ask.service aimed.row its)
 
-  -- its place, counted from 0
-  pub place_at : (queue : ℕ) → queue ≡ queue_in event → (queue - 1) + 1 ≡ aimed.row.queue.0
-  place_at queue is = let some = place_in.0 in let same = queue_is in omega (arith, is, some, same)
+  -- the pass saw what the queue is, at which the entry may be put
+  pub put_setting : {k : ℕ} {p : QueuePass} → IsDesk d old → HasPass d (queue_in event) k old p → (s : Setting Filling) × Sees s (page_of p) × IsEntry s.id entry event × IsRight s.cells entry
+  put_setting is there =
+      let pass = its_pass there is in
+      let wrap : ℕ → QueueId = λ n. record { 0 = n } in
+      let id : aimed.row.queue ≡ pass.its.id = ap wrap (sym queue_is ∙ there.at ∙ sym pass.is.id) in
+      (pass.its, pass.sees, subst (λ (e : Entry Cargo). IsEntry pass.its.id e event) (sym aimed.entry_is) (subst (IsEntry pass.its.id (entry_by aimed.draft.asked.request aimed.row ask.payload entry.cargo.ticket)) (sym aimed.event_is) (refl, id, refl)), subst (λ cells. IsRight cells entry) (sym pass.is.cells) aimed.right)
 
-  module _ (k : ℕ) (here : k + 1 ≡ aimed.row.queue.0) where
-    pub is_entry : (id : QueueId) → id.0 ≡ k + 1 → IsEntry id entry event
-    is_entry id is =
-        let wrap : ℕ → QueueId = λ n. record { 0 = n } in
-        subst (λ (e : Entry Cargo). IsEntry id e event) (sym aimed.entry_is) (subst (IsEntry id (entry_by aimed.draft.asked.request aimed.row ask.payload entry.cargo.ticket)) (sym aimed.event_is) (refl, ap wrap (sym here ∙ sym is), refl))
+  module _ {k : ℕ} {new : Desk} {p p' : QueuePass} {last : Stamp} (step : Step d (queue_in event) k old new p p' last) (seen : Stamp) (saw : seen ≡ old.caller.work.stamp) (maker : CallerId) where
+    -- the queue took it
+    module _ (stamp : Stamp) (put : PutAs (Visits (page_of p) (page_of p')) seen maker event entry (Ok stamp)) (sends : Sends stamp new.caller old.caller) where
+      abbrev Its : Stamped
+      Its = record { stamp = stamp; event = event }
 
-    pub place_low : k < length d.queues.items
-    place_low = let least = place_in.1 in omega (arith, least, here)
+      next : stamp ≡ next_stamp old.caller.work.stamp put.old.queue
+      next = put.how.1.next ∙ ap (λ (s : Stamp). next_stamp s put.old.queue) saw
 
-    -- the pass saw what the queue is, at which the entry may be put
-    pub put_setting : IsDesk d old → (p : LockPass (QueueNote Filling)) → slice_index_or old.queues.items k None ≡ Some p → (s : Setting Filling) × Sees s (page_of p) × IsEntry s.id entry event × IsRight s.cells entry
-    put_setting is p was =
-        let pass : IsQueuePass d old.caller.work k p = subst (IsThere (IsQueuePass d old.caller.work k)) was (is.queues k place_low) in
-        (pass.its, pass.sees, is_entry pass.its.id pass.is.id, subst (λ cells. IsRight cells entry) (sym pass.is.cells) aimed.right)
+      same : sends.draft ≡ aimed.draft
+      same = same_draft sends.draft aimed.draft old.caller.phase sends.was aimed.prepared
 
-    module _ (new : Desk) (p p' : LockPass (QueueNote Filling)) (is : IsDesk d old) (low : k < length d.queues.items) (was : slice_index_or old.queues.items k None ≡ Some p) (passes : new.queues.items ≡ slice_set (slice_set old.queues.items k None) k (Some p')) (board : new.board ≡ old.board)
-        (lock : (default : Guarded (KeptQueue Filling) (QueueNote Filling)) → IsPassOf (slice_index_or d.queues.items k default) p') (last : Stamp) (reaches : Reaches (page_of p') last) where
-      -- the queue took it
-      module _ (maker : CallerId) (stamp : Stamp) {How : Kept Filling → Kept Filling → Type 0} (visits : Visits (page_of p) (page_of p') (one maker stamp event) How) (next : stamp ≡ next_stamp old.caller.work.stamp visits.old.queue) (sends : Sends stamp new.caller old.caller) where
-        abbrev Its : Stamped
-        Its = record { stamp = stamp; event = event }
+      grew : Grew old.caller.work new.caller.work (Its ∷ [])
+      grew =
+          let said : sends.draft.event.value ≡ event = ap (λ (draft : Draft). draft.event.value) same ∙ aimed.drafted in
+          grew_one old.caller.work new.caller.work old.caller.work.room Its
+          (ap (λ (c : Caller). c.work) sends.made ∙ ap (λ (e : Event). record old.caller.work { stamp = stamp; own = old.caller.work.own ++ record { stamp = stamp; event = e } ∷ [] }) said) (later step maker stamp event put next) (subst IsMade (sym aimed.event_is) refl)
 
-        made : new.caller.work.own ≡ old.caller.work.own ++ Its ∷ []
-        made = ap (λ (c : Caller). c.work.own) sends.made
-            ∙ ap (λ (e : Event). old.caller.work.own ++ record { stamp = stamp; event = e } ∷ []) (ap (λ (draft : Draft). draft.event.value) (same_draft sends.draft aimed.draft old.caller.phase sends.was aimed.prepared) ∙ aimed.drafted)
+      pub sent_leads : Leads d old new
+      sent_leads =
+          let least = ap (λ (c : Caller). c.least) sends.made ∙ ap (λ (draft : Draft). draft.version) same ∙ aimed.version in
+          let seen = has.seen in
+          let booted = step.is.booted in
+          let more = later step maker stamp event put next in
+          noted_leads step maker stamp event put next grew (ap (home_of d.setup d.clients) aimed.event_is ∙ ap QueueHome (sym queue_is)) (ap (λ (c : Caller). c.seat) sends.made) (ap (λ (c : Caller). c.work.stamp) sends.made) (omega (arith, least, seen))
+          (subst (IsBehind d.booted stamp) (sym aimed.event_is) (omega (arith, booted, more)))
+          (λ whole on. subst (λ (e : Event). SawFronts d.setup d.clients (entries_of whole) stamp e (past_in old.caller.work.own)) (sym aimed.event_is)
+          (subst (λ (name : List ℕ). SawFront (entries_of whole BoardHome) stamp (RowStands d.setup found.version name aimed.row.queue.0 (RowAdmits d.setup false aimed.row.routine ask.payload))) (sym (row-service d.setup ask.service aimed.row its))
+          (All-contains (λ (row : Row). is_accepted d.setup row.accepts (kind_of ask.payload) ≡ true → SawOnBoard d old (RowStands d.setup found.version ask.service row.queue.0 (RowAdmits d.setup false row.routine ask.payload))) found.rows aimed.row (has.stand ask.payload) aimed.among aimed.accepts whole on stamp more)))
+          (λ whole on. subst (WasTold d.setup d.clients (entries_of whole) stamp (its_events d old)) (sym aimed.event_is) tt)
 
-        later : old.caller.work.stamp.0 < stamp.0
-        later = let higher = ap (λ (s : Stamp). s.0) next in omega (arith, higher)
+      pub sent_fits : IsRead d old → is_invalid_call d.setup ask ≡ false → FitsOn d (old.caller.op + 1) ask old new
+      sent_fits reads valid =
+          one_more_fits d old new Its sent_leads grew (old.caller.op + 1) ask (ap op_in aimed.event_is ∙ aimed.turn) (λ ops turn. call_over d old reads (ap just_in aimed.prepared) ops)
+          (λ whole on. subst (λ (e : Event). FitsOwn d.setup d.clients (entries_of whole) stamp (Call ask) e (its_events d old)) (sym aimed.event_is) (record { valid = valid; service = row-service d.setup ask.service aimed.row its; payload = refl; mode = refl }))
 
-        grew : Grew old.caller.work new.caller.work (Its ∷ [])
-        grew = let now = ap (λ (c : Caller). c.work.stamp.0) sends.made in let more = later in record {
-          setup = ap (λ (c : Caller). c.work.setup) sends.made;
-          clients = ap (λ (c : Caller). c.work.clients) sends.made;
-          id = ap (λ (c : Caller). c.work.id) sends.made;
-          own = made;
-          stamp = omega (arith, now, more);
-          made = one_made Its (subst IsMade (sym aimed.event_is) refl);
-        }
+-- a put that a queue refused
+module _ {d : Domain} {queue k : ℕ} {old new : Desk} {p p' : QueuePass} {last : Stamp} (step : Step d queue k old new p p' last) (seen : Stamp) (why : Refusal) (visits : Visits (page_of p) (page_of p') [] (λ o n. (n ≡ o) × ((put_refused seen o.queue ≡ Some why) ⊎ (why ≡ refusals.NoMemory)))) (caller : new.caller ≡ record old.caller { work = seeing last old.caller.work })
+    (domain : IsDomain d) (some : 0 < old.caller.work.id.0) (saw : seen ≡ old.caller.work.stamp) where
+  is : IsDesk d new
+  is = (looked_leads step visits caller).desk
 
-        pub sent_leads : Leads d old new
-        sent_leads =
-            let least = ap (λ (c : Caller). c.least) sends.made ∙ ap (λ (draft : Draft). draft.version) (same_draft sends.draft aimed.draft old.caller.phase sends.was aimed.prepared) ∙ aimed.version in
-            let seen = has.seen in
-            let booted = is.booted in
-            let more = later in
-            noted_leads d old new k p p' is low was passes board maker stamp event visits last reaches lock next
-            (record { grew = grew; home = All-cons (λ (x : Stamped). home_of d.setup d.clients x.event ≡ QueueHome (k + 1)) Its [] (ap (home_of d.setup d.clients) aimed.event_is ∙ ap QueueHome (sym here)) (All-nil (λ (x : Stamped). home_of d.setup d.clients x.event ≡ QueueHome (k + 1))); seat = ap (λ (c : Caller). c.seat) sends.made })
-            (ap (λ (c : Caller). c.work.stamp) sends.made) (omega (arith, least, seen))
-            (subst (IsBehind d.booted stamp) (sym aimed.event_is) (omega (arith, booted, more)))
-            (λ whole on. subst (λ (e : Event). SawFronts d.setup d.clients (entries_of whole) stamp e (past_in old.caller.work.own)) (sym aimed.event_is)
-            (subst (λ (name : List ℕ). SawFront (entries_of whole BoardHome) stamp (RowStands d.setup found.version name aimed.row.queue.0 (RowAdmits d.setup false aimed.row.routine ask.payload))) (sym (row-service d.setup ask.service aimed.row its))
-            (All-contains (λ (row : Row). is_accepted d.setup row.accepts (kind_of ask.payload) ≡ true → SawOnBoard d old (RowStands d.setup found.version ask.service row.queue.0 (RowAdmits d.setup false row.routine ask.payload))) found.rows aimed.row (has.stand ask.payload) aimed.among aimed.accepts whole on stamp later)))
-            (λ whole on. subst (WasTold d.setup d.clients (entries_of whole) stamp (its_events d old)) (sym aimed.event_is) tt)
+  now : HasPass d queue k new p'
+  now = now_has step
 
-        pub sent_fits : IsRead d old → is_invalid_call d.setup ask ≡ false → FitsOn d (old.caller.op + 1) ask old new
-        sent_fits reads valid =
-            one_more_fits d old new Its sent_leads grew (old.caller.op + 1) ask (ap op_in aimed.event_is ∙ aimed.turn) (λ ops turn. call_over d old reads (ap just_in aimed.prepared) ops)
-            (λ whole on. subst (λ (e : Event). FitsOwn d.setup d.clients (entries_of whole) stamp (Call ask) e (its_events d old)) (sym aimed.event_is) (record { valid = valid; service = row-service d.setup ask.service aimed.row its; payload = refl; mode = refl }))
+  own_at : (P : List Event → Type 0) → ((whole : Whole) → GoesOn d whole new → P (past_in (events_at (page_of p').seen))) → SawItsOwnAt d queue new P
+  own_at P holds =
+      let is_own : Event → Bool = is_own_at d.setup d.clients new.caller.work.id.0 queue in
+      let same = ap (λ (c : Caller). c.work.id.0) caller in
+      saw_there is now (λ past. P past × (count is_own past ≡ count is_own (past_in new.caller.work.own)))
+      (λ whole on. (holds whole on, own_seen is now visits (omega (arith, some, same)) (knows_events (page_of p') visits.new (knows_still visits visits.how.0)) whole on))
 
-      -- it didn't
-      module _ (seen : Stamp) (why : Refusal) (visits : Visits (page_of p) (page_of p') [] (λ o n. (n ≡ o) × ((put_refused seen o.queue ≡ Some why) ⊎ (why ≡ refusals.NoMemory)))) (caller : new.caller ≡ record old.caller { work = seeing last old.caller.work }) where
-        pub back_grew : Grew old.caller.work new.caller.work []
-        back_grew = let higher = ap (λ (c : Caller). c.work.stamp.0) caller in record {
-          setup = ap (λ (c : Caller). c.work.setup) caller;
-          clients = ap (λ (c : Caller). c.work.clients) caller;
-          id = ap (λ (c : Caller). c.work.id) caller;
-          own = ap (λ (c : Caller). c.work.own) caller ∙ sym (append-nil old.caller.work.own);
-          stamp = omega (arith, higher);
-          made = none_made;
-        }
+  why_of : (w : Refusal) → (put_refused seen visits.old.queue ≡ Some w) → WhyOf seen visits.new.queue w
+  why_of w is = why_refused seen visits.new.queue w (ap (λ (kept : Kept Filling). put_refused seen kept.queue) visits.how.0 ∙ is)
 
-        pub back_leads : Leads d old new
-        back_leads = looked_leads d old new k p p' is low was passes board last visits reaches lock caller
+  by_why : (w : Refusal) → ((put_refused seen visits.old.queue ≡ Some w) ⊎ (w ≡ refusals.NoMemory)) → ShowsWhy d queue w new
+  by_why refusals.Down (inl it) = own_at (λ past. is_down queue past ≡ true) (λ whole on. down_seen is now visits (why_of refusals.Down it))
+  by_why refusals.Closed (inl it) = own_at (λ past. is_closed queue past ≡ true) (λ whole on. closed_seen is now visits (why_of refusals.Closed it))
+  by_why (refusals.Full n) (inl it) =
+      let q = visits.new.queue in
+      let full = why_of (refusals.Full n) it in
+      let many : n ≡ capacity_of d.setup queue = full.1 ∙ eqb-true (length q.waiting) q.capacity full.0 ∙ (setting is now visits).capacity in
+      let queues = domain.queues in
+      let low = now.low in
+      let room = subst (λ j. 0 < capacity_of d.setup j) (sym now.at) (has_capacity d.setup domain.configured k (omega (arith, low, queues))) in (
+        omega (arith, many, room),
+        many,
+        own_at (λ past. length (waiting d.setup queue past) ≡ n) (λ whole on. ap length (sym (waits is now visits whole on)) ∙ length-map q.waiting (λ (entry : Entry Cargo). entry.request) ∙ sym full.1),
+      )
+  by_why (refusals.Worn stamp) (inl it) =
+      let worn = why_of (refusals.Worn stamp) it in
+      let end = looked_last step visits caller seen (record { 0 = stamp }) saw (record {
+        larger = ap (λ (kept : Kept Filling). larger seen kept.queue) (sym visits.how.0) ∙ eqb-true (larger seen visits.new.queue) (2 ^ 63) worn.1;
+        told = ap (λ (s : Stamp). s.0) worn.0;
+        same = refl;
+      }) in
+      (end.last, end.at)
+  by_why refusals.NoMemory (inl it) = tt
+  by_why w (inr it) = subst (λ x. ShowsWhy d queue x new) (sym it) tt
 
-        now : slice_index_or new.queues.items k None ≡ Some p'
-        now = now_there d old new k p p' is low was passes board
-
-        knows : Knows maker_of (page_of p') (notes_of visits.new)
-        knows =
-            let same : notes_of visits.new ≡ notes_of visits.old = ap (λ (q : Kept Filling). notes_of q) visits.how.0 in
-            (ap (λ l. entries_by maker_of (page_of p').maker l) same ∙ ap (λ n. entries_by maker_of n (notes_of visits.old)) visits.maker ∙ visits.knew.0 ∙ sym (visits.own ∙ append-nil (page_of p).own), ([], sym visits.saw ∙ sym (append-nil (page_of p').seen)))
-
-        module _ (domain : IsDomain d) (some : 0 < old.caller.work.id.0) where
-          own_at : (P : List Event → Type 0) → ((whole : Whole) → GoesOn d whole new → P (past_in (events_at (page_of p').seen))) → SawItsOwnAt d (k + 1) new P
-          own_at P holds =
-              let id : ℕ = new.caller.work.id.0 in
-              let is_own : Event → Bool = is_own_at d.setup d.clients id (k + 1) in
-              let same = ap (λ (c : Caller). c.work.id.0) caller in
-              saw_there d new k p' back_leads.desk low now (λ past. P past × (count is_own past ≡ count is_own (past_in new.caller.work.own)))
-              (λ whole on. (holds whole on, own_seen d new k p' back_leads.desk low now visits.new visits.saw (omega (arith, some, same)) (knows_events (page_of p') visits.new knows) whole on))
-
-          why_of : (w : Refusal) → (put_refused seen visits.old.queue ≡ Some w) → Why visits.new.queue.down visits.new.queue.closed (length visits.new.queue.waiting == visits.new.queue.capacity) (length visits.new.queue.waiting) (record { 0 = 2 ^ 63 }) w
-          why_of w is =
-              let q = visits.new.queue in
-              why_is q.down q.closed (length q.waiting == q.capacity) (larger seen q == 2 ^ 63) (length q.waiting) (record { 0 = 2 ^ 63 }) w (ap (λ (kept : Kept Filling). put_refused seen kept.queue) visits.how.0 ∙ is)
-
-          by_why : (w : Refusal) → ((put_refused seen visits.old.queue ≡ Some w) ⊎ (w ≡ refusals.NoMemory)) → ShowsWhy d (k + 1) w new
-          by_why refusals.Down (inl is) = own_at (λ past. is_down (k + 1) past ≡ true) (λ whole on. down_seen d new k p' back_leads.desk low now visits.new visits.saw visits.sound (why_of refusals.Down is))
-          by_why refusals.Closed (inl is) = own_at (λ past. is_closed (k + 1) past ≡ true) (λ whole on. closed_seen d new k p' back_leads.desk low now visits.new visits.saw visits.sound (why_of refusals.Closed is))
-          by_why (refusals.Full n) (inl is) =
-              let q = visits.new.queue in
-              let full = why_of (refusals.Full n) is in
-              let many : n ≡ capacity_of d.setup (k + 1) = full.1 ∙ eqb-true (length q.waiting) q.capacity full.0 ∙ capacity_is d new k p' back_leads.desk low now visits.new visits.saw in
-              let queues = domain.queues in
-              let room = has_capacity d.setup domain.configured k (omega (arith, low, queues)) in (
-                omega (arith, many, room),
-                many,
-                own_at (λ past. length (waiting d.setup (k + 1) past) ≡ n) (λ whole on. ap length (sym (waits d new k p' back_leads.desk low now visits.new visits.saw visits.reads whole on)) ∙ length-map q.waiting (λ (entry : Entry Cargo). entry.request) ∙ sym full.1),
-              )
-          by_why (refusals.Worn stamp) (inl is) = ap (λ (s : Stamp). s.0) (why_of (refusals.Worn stamp) is)
-          by_why refusals.NoMemory is = tt
-          by_why refusals.Down (inr is) = absurd (cc is)
-          by_why refusals.Closed (inr is) = absurd (cc is)
-          by_why (refusals.Full n) (inr is) = absurd (cc is)
-          by_why (refusals.Worn stamp) (inr is) = absurd (cc is)
-
-          pub shows_why : ShowsWhy d (queue_in event) why new
-          shows_why = subst (λ n. ShowsWhy d n why new) (here ∙ sym queue_is) (by_why why visits.how.1)
+  pub shows_why : ShowsWhy d queue why new
+  shows_why = by_why why visits.how.1

@@ -1,5 +1,6 @@
 -- An event of a server that its worker noted at its own home.
-use Rattle.std.proofs.Common.{◌≡◌, ◌≤◌, ◌<◌, ℕ, ◌+◌, List, [], ◌∷◌, ◌++◌, Result, Ok, Err, inl, inr, refl, sym, ◌∙◌, ap, subst, append-nil, arith}
+use Rattle.std.proofs.Common.{◌≡◌, ℕ, [], Result, Ok, Err, sym, ◌∙◌, ap, subst, append-nil, arith, ◌-◌, ◌+◌, ◌++◌, ◌∷◌}
+use Rattle.xa_cell.specs.Known.{known}
 use Rattle.std.specs.Prelude.{OnErr, IfOk}
 use Rattle.xa_types.specs.declared.stamp.Stamp.{Stamp}
 use Rattle.xa_types.specs.Setup.{queue_of}
@@ -13,80 +14,49 @@ use Rattle.xa_events.specs.Homes.{home_of}
 use Rattle.xa_events.specs.Homes.Home.{CallerHome, QueueHome}
 use Rattle.xa_events.specs.Local.{worker_events}
 use Rattle.xa_events.specs.State.{caller_of}
-use Rattle.xa_crew.specs.Seen.{past_in, SawFront, SawFronts, WasTold, IsBehind}
 use Rattle.xa_stamp.specs.declared.home.Stamped.{Stamped}
-use Rattle.xa_cell.specs.Known.{known}
-use Rattle.xa_work.specs.Work.{Standing as Working, noted_here}
-use Rattle.xa_caller.specs.Caller.{Standing as Caller}
+use Rattle.xa_crew.specs.Seen.{past_in, SawFront, SawFronts, WasTold, IsBehind}
+use Rattle.xa_work.specs.Work.{Standing as Working}
 use Rattle.xa_server.specs.declared.slot.ServerSlot.{ServerSlot}
 use Rattle.xa_server.specs.Changes.{Stops}
 use Rattle.xa_server.specs.Doings.{life_in}
-use Rattle.xa_server.specs.Noting.{Notes}
 use Rattle.xa_desk.specs.Made.{IsMade}
 use Rattle.xa_desk.specs.declared.domain.Domain.{Domain}
 use Rattle.xa_desk.specs.declared.desk.Desk.{Desk}
 use Rattle.xa_desk.specs.Whole.{Whole, entries_of}
 use Rattle.xa_desk.specs.Found.{SawAtQueue}
 use Rattle.xa_desk.specs.Serving.{IsServing}
-use Rattle.xa_desk.specs.Desks.{GoesOn, IsDesk, Leads}
-use Rattle.xa_desk.proofs.Leading.{one_made, Grew, IsShown, NotesOwn, own_before, own_leads}
+use Rattle.xa_desk.specs.Desks.{GoesOn, IsDesk, Leads, queue_page}
+use Rattle.xa_desk.proofs.Leading.{starts_same, grew_one, own_leads}
+use Rattle.xa_desk.proofs.Seating.{takes_same}
 
 -- nothing changed
 pub same_leads : (d : Domain) (desk : Desk) → IsDesk d desk → Leads d desk desk
-same_leads d desk is = record { desk = is; own = ([], sym (append-nil desk.caller.work.own)); before = λ whole on. on; stamp = omega arith }
+same_leads d desk is = record { desk = is; own = ([], sym (append-nil desk.caller.work.own)); pages = λ queue. starts_same (queue_page desk queue).seen; before = λ whole on. on; stamp = omega arith }
 
-module _ (d : Domain) (desk : Desk) (stamp : Stamp) (e : Event) (room : ℕ) (new : Working) (notes : Notes stamp e new (record desk.caller.work { room = room })) where
-  -- the event was noted, and the caller is else as it was
-  pub noted_own : IsDesk d desk → home_of d.setup d.clients e ≡ CallerHome desk.caller.work.id.0 → IsMade e → NotesOwn d desk (record desk.caller { work = new }) (record { stamp = stamp; event = e })
-  noted_own is home kind =
-      let next = notes.next in
-      let now = ap (λ (w : Working). w.stamp.0) notes.made in
-      record {
-        grew = record {
-          setup = ap (λ (w : Working). w.setup) notes.made;
-          clients = ap (λ (w : Working). w.clients) notes.made;
-          id = ap (λ (w : Working). w.id) notes.made;
-          own = ap (λ (w : Working). w.own) notes.made;
-          stamp = omega (arith, next, now);
-          made = one_made (record { stamp = stamp; event = e }) kind;
-        };
-        last = ap (λ (w : Working). w.stamp) notes.made;
-        home = home;
-        seat = is.seat;
-        taken = λ k f here. here;
-        filled = λ k. refl;
-        least = is.least;
-      }
-
-  -- and in the end the worker shows it
-  pub event_leads : IsDesk d desk → home_of d.setup d.clients e ≡ CallerHome desk.caller.work.id.0 → IsMade e → IsBehind d.booted stamp e
-      → ((whole : Whole) → GoesOn d whole desk → SawFronts d.setup d.clients (entries_of whole) stamp e (past_in desk.caller.work.own))
-      → ((whole : Whole) → GoesOn d whole desk → WasTold d.setup d.clients (entries_of whole) stamp (worker_events d.clients desk.caller.work.id.0 (past_in desk.caller.work.own)) e)
-      → Leads d desk (record desk { caller = record desk.caller { work = new } })
-  event_leads is home kind behind saw told =
-      let own = noted_own is home kind in
-      own_leads d desk (record desk.caller { work = new }) (record { stamp = stamp; event = e }) own is (λ whole on.
-      let back = own_before d desk (record desk.caller { work = new }) (record { stamp = stamp; event = e }) own whole on in
-      record {
-        behind = behind;
-        saw = saw whole back;
-        told = told whole back;
-        before = desk.caller.work.stamp;
-        next = notes.next;
-        known_before = is.known_stamp whole back;
-      })
+-- the event was noted, the caller is else as it was, and in the end the worker shows it
+pub event_leads : (d : Domain) (desk : Desk) (stamp : Stamp) (e : Event) (room : ℕ) (new : Working) → stamp.0 ≡ desk.caller.work.stamp.0 + 1 → new ≡ record desk.caller.work { stamp = stamp; own = desk.caller.work.own ++ record { stamp = stamp; event = e } ∷ []; room = room } → IsDesk d desk
+    → home_of d.setup d.clients e ≡ CallerHome desk.caller.work.id.0 → IsMade e → IsBehind d.booted stamp e → ((whole : Whole) → GoesOn d whole desk → SawFronts d.setup d.clients (entries_of whole) stamp e (past_in desk.caller.work.own))
+    → ((whole : Whole) → GoesOn d whole desk → WasTold d.setup d.clients (entries_of whole) stamp (worker_events d.clients desk.caller.work.id.0 (past_in desk.caller.work.own)) e) → Leads d desk (record desk { caller = record desk.caller { work = new } })
+event_leads d desk stamp e room new next made is home kind behind saw told =
+    let x : Stamped = record { stamp = stamp; event = e } in
+    own_leads d desk (record desk.caller { work = new }) x (grew_one desk.caller.work new room x made (omega (arith, next)) kind) (ap (λ (w : Working). w.stamp) made) home is.seat (takes_same (known desk.caller.seat)) is.least is (λ whole on back. record {
+      behind = behind;
+      saw = saw whole back;
+      told = told whole back;
+      before = desk.caller.work.stamp;
+      next = next;
+      known_before = is.known_stamp whole back;
+    })
 
 -- ---- Stop
-
-abbrev stop_event : (slot : ServerSlot) (cause : StopCause) → Event
-stop_event slot cause = Stop (record { server = slot.server; generation = life_in slot.doing; cause = cause })
 
 pub stop_leads : (d : Domain) (queue : ℕ) (desk : Desk) (slot slot' : ServerSlot) (cause : StopCause) (stamp : Stamp) (new : Working) → IsDesk d desk → caller_of desk.caller.work.clients slot.server.0 ≡ desk.caller.work.id.0
     → queue_of d.setup slot.server.0 ≡ queue → (cause ≡ Shutdown → SawAtQueue d queue desk (IsShut d.setup queue)) → Stops cause stamp slot' slot new desk.caller.work → Leads d desk (record desk { caller = record desk.caller { work = new } })
 stop_leads d queue desk slot slot' cause stamp new is number its shut stops =
     let booted = is.booted in
     let next = stops.noted.next in
-    event_leads d desk stamp (stop_event slot cause) desk.caller.work.room new stops.noted is (ap CallerHome (ap (λ n. caller_of n slot.server.0) (sym is.clients) ∙ number)) tt (omega (arith, booted, next))
+    event_leads d desk stamp (Stop (record { server = slot.server; generation = life_in slot.doing; cause = cause })) (desk.caller.work.room - 1) new next stops.noted.made is (ap CallerHome (ap (λ n. caller_of n slot.server.0) (sym is.clients) ∙ number)) tt (omega (arith, booted, next))
     (λ whole on shutdown. subst (λ q. SawFront (entries_of whole (QueueHome q)) stamp (IsShut d.setup q)) (sym its) (shut shutdown whole on stamp (omega (arith, next)))) (λ whole on. tt)
 
 pub stopped_leads : (d : Domain) (queue : ℕ) (desk : Desk) (slot slot' : ServerSlot) (cause : StopCause) (new : Working) (r : Result Stamp Worn) → IsDesk d desk → IsServing d queue slot desk

@@ -1,7 +1,8 @@
 -- What a closing that is given leaves.
-use Rattle.std.proofs.Common.{◌≡◌, ◌≤◌, ℕ, List, [], ◌∷◌, ◌++◌, Option, Some, None, refl, sym, subst}
-use Rattle.std.specs.List.{Contains}
-use Rattle.std.proofs.lemmas.List.Elements.{Contains-push, Contains-append_right}
+use Rattle.std.proofs.Common.{◌≡◌, List, [], ◌∷◌, Option, Some, None, refl, sym, subst, arith}
+use Rattle.xa_events.specs.Homes.Home.{CallerHome}
+use Rattle.xa_events.specs.Homes.{home_of}
+use Rattle.std.proofs.lemmas.List.Elements.{Contains-push, Contains-append_right, All-nil}
 use Rattle.xa_types.specs.declared.reply.Answer.{Answer}
 use Rattle.xa_types.specs.declared.stamp.Stamp.{Stamp}
 use Rattle.xa_stamp.specs.declared.home.Stamped.{Stamped}
@@ -22,7 +23,10 @@ use Rattle.xa_desk.specs.declared.domain.Domain.{Domain}
 use Rattle.xa_desk.specs.declared.desk.Desk.{Desk}
 use Rattle.xa_desk.specs.Desks.{IsDesk, Leads}
 use Rattle.xa_desk.specs.Serving.{IsToTell}
-use Rattle.xa_desk.proofs.Seating.{reseated, seat_leads}
+use Rattle.xa_desk.proofs.Leading.{grew_none, own_moves, none_leads}
+
+abbrev pub reseated : Desk → Seat Filling → Desk
+reseated desk seat = record desk { caller = record desk.caller { seat = seat } }
 
 given_grows : (ticket : Option (Ticket Filling)) (answer : Option Answer) (stamp : Stamp) (v w : View Filling) (became : Given) → GivenTo ticket answer stamp v w became → Grows v w
 given_grows None answer stamp v w became is = subst (Grows v) (sym is.1) (record { taken = λ k f here. here; filled = λ k f here. here })
@@ -43,5 +47,6 @@ give_leads d desk closing became seat is told its given =
     let own : List Stamped = desk.caller.work.own in
     let stamp : Stamp = record { 0 = last_stamp no_stamp own } in
     let grows = given_grows closing.ticket closing.answer stamp (known desk.caller.seat) (known seat) became given in
-    seat_leads d desk seat grows.taken is its
-    (given_ended own closing stamp (known desk.caller.seat) (known seat) became given told.reached (λ answered. latest_has own (told.noted answered)) told.backed is.filled)
+    none_leads is
+    (own_moves is (grew_none desk.caller.work desk.caller.work desk.caller.work.room desk.caller.work.stamp refl (omega arith)) (All-nil (λ (y : Stamped). home_of d.setup d.clients y.event ≡ CallerHome desk.caller.work.id.0)) its grows.taken
+    (given_ended own closing stamp (known desk.caller.seat) (known seat) became given told.reached (λ answered. latest_has own (told.noted answered)) told.backed is.filled) is.least) (λ whole on back. is.known_stamp whole back)

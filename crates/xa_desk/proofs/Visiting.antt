@@ -1,12 +1,12 @@
 -- What a desk knows and shows goes on, as its worker visits a queue.
-use Rattle.std.proofs.Common.{◌≡◌, ◌≢◌, ◌≤◌, ◌<◌, ℕ, zero, suc, ◌+◌, ◌==◌, max, true, false, List, [], ◌∷◌, ◌++◌, map, length, Option, Some, None, inl, inr, refl, sym, ◌∙◌, ap, subst, append-nil, arith, ⊎_elim}
+use Rattle.std.proofs.Common.{◌≡◌, ◌≢◌, ◌≤◌, ◌<◌, ℕ, zero, suc, ◌+◌, ◌-◌, max, List, [], ◌∷◌, ◌++◌, length, Option, Some, None, inl, inr, refl, sym, ◌∙◌, ap, subst, append-nil, ◌^◌, arith, ⊎_elim}
+use Rattle.xa_held.proofs.Seen.{events_kept, sees_more, events_more}
 use Rattle.std.specs.Prelude.{slice_index_or, slice_set}
-use Rattle.std.specs.List.{All, Contains, filter, flat_map}
+use Rattle.std.specs.List.{All, Contains, filter}
 use Rattle.std.proofs.lemmas.Bool.{ne_eqb}
 use Rattle.std.proofs.Common.{eq-eqb}
-use Rattle.std.proofs.lemmas.Grind.{flat_map-append}
-use Rattle.std.proofs.lemmas.List.{append_assoc, map-append, set-set, length-set, get_or-set_same, get_or-set_other, get_or_default}
-use Rattle.std.proofs.lemmas.List.Elements.{All-nil, All-cons, All-head, All-weaker, Contains-push, Contains-append_left}
+use Rattle.std.proofs.lemmas.List.{set-set, length-set, get_or-set_same, get_or-set_other, get_or_default}
+use Rattle.std.proofs.lemmas.List.Elements.{All-nil, All-cons, All-weaker, Contains-append_left}
 use Rattle.xa_types.specs.declared.stamp.Stamp.{Stamp}
 use Rattle.xa_types.specs.declared.ids.CallerId.{CallerId}
 use Rattle.xa_events.specs.declared.event.Event.{Event}
@@ -29,34 +29,32 @@ use Rattle.xa_cell.specs.declared.tokens.Seat.{Seat}
 use Rattle.xa_cell.specs.Known.{known, IsSeatOf}
 use Rattle.xa_cell.specs.Views.{at}
 use Rattle.xa_cell.proofs.Lists.{decided, below}
-use Rattle.xa_queue.specs.Changes.{next_stamp}
+use Rattle.xa_queue.specs.Changes.{next_stamp, IsWorn}
+use Rattle.xa_types.specs.declared.stamp.Worn.{Worn}
+use Rattle.xa_desk.specs.Serving.{IsAtEnd}
 use Rattle.xa_held.specs.declared.kept_queue.KeptQueue.{KeptQueue}
 use Rattle.xa_held.specs.declared.kept_queue.QueueNote.{QueueNote}
-use Rattle.xa_held.specs.declared.kept_queue.Setting.{Setting}
 use Rattle.xa_held.specs.Joins.{changes_at, events_at}
-use Rattle.xa_held.specs.Kept.{Kept, notes_of}
-use Rattle.xa_held.specs.Notes.{made_of, one}
+use Rattle.xa_held.specs.Kept.{Kept, setting_of, notes_of}
+use Rattle.xa_held.specs.Notes.{one}
 use Rattle.xa_held.specs.Visits.{Visits, Reaches}
-use Rattle.xa_held.proofs.Front.{note, made_in-notes}
 use Rattle.xa_held.proofs.Lefts.{events_front}
 use Rattle.xa_held.proofs.Owning.{queue_own}
 use Rattle.xa_work.specs.Work.{Standing as Working, seeing}
 use Rattle.xa_caller.specs.declared.cargo.Filling.{Filling}
 use Rattle.xa_caller.specs.Caller.{Standing as Caller}
-use Rattle.xa_server.specs.Told.{HasStamp, FilledByEnds}
-use Rattle.xa_server.proofs.Telling.{fillings_stay}
-use Rattle.xa_told.specs.Told.{HasEnd}
+use Rattle.xa_caller.specs.Serving.{noted_off}
+use Rattle.xa_server.specs.Told.{HasStamp}
 use Rattle.xa_desk.specs.declared.domain.Domain.{Domain}
 use Rattle.xa_desk.specs.declared.desk.Desk.{Desk}
 use Rattle.xa_desk.specs.Whole.{Whole, entries_of, IsKnown}
-use Rattle.xa_desk.specs.Desks.{IsBoardPass, IsQueuePass, IsThere, GoesOn, Shows, IsDesk, Leads, page_in, board_page, queue_page}
-use Rattle.xa_desk.proofs.Leading.{Grew, none_made, made_more, among_more, among_at, IsShown, board_pass_stays, queue_pass_stays, there, shows_one_more, shows_still}
+use Rattle.xa_desk.specs.Made.{IsMade}
+use Rattle.xa_desk.specs.Desks.{IsBoardPass, IsQueuePass, IsSettingOf, IsThere, GoesOn, IsDesk, Leads, page_in, page_at, board_page, queue_page}
+use Rattle.xa_desk.proofs.Leading.{Grew, grew_one, grew_none, Moves, none_leads, one_leads, starts_same, starts_trans, there, filled_more, among_at, on_home, off_home, board_pass_stays, queue_pass_stays}
+use Rattle.xa_desk.proofs.Seating.{TakesOn, takes_same}
 use Rattle.xa_desk.proofs.Telling.{latest_has}
 
 -- ---- what is known
-
-pub starts_trans : {X : Type 0} (whole middle front : List X) → StartsWith whole middle → StartsWith middle front → StartsWith whole front
-starts_trans whole middle front more less = (less.0 ++ more.0, more.1 ∙ ap (λ l. l ++ more.0) less.1 ∙ append_assoc front less.0 more.0)
 
 pub stamp_is : (a : Stamp) (n : ℕ) → a.0 ≡ n → a ≡ record { 0 = n }
 stamp_is a n is = let wrap : ℕ → Stamp = λ m. record { 0 = m } in ap wrap is
@@ -79,178 +77,199 @@ pub behind_known : (whole : Whole) (home : Home) (seen first : Stamp) (front : L
 behind_known whole home seen first [] begins low is = subst (IsKnown whole) (stamp_is seen (max seen.0 first.0) (omega (arith, low))) is
 behind_known whole home seen first (x ∷ rest) begins low is = larger_known whole seen (record { 0 = last_stamp x.stamp rest }) is (last_known whole home (x ∷ rest) (record { 0 = last_stamp x.stamp rest }) begins refl)
 
-events_append : (front more : List (QueueNote Filling)) → events_at (front ++ more) ≡ events_at front ++ events_at more
-events_append front more = ap noted_in (flat_map-append (made_of {A = Filling}) front more) ∙ map-append (λ (z : Made). z.noted) (flat_map (made_of {A = Filling}) front) (flat_map (made_of {A = Filling}) more)
+-- the larger of a stamp that was seen and of the last one is at the end where that of the home's is
+at_end : (seen first : Stamp) (last : ℕ) (front : List Stamped) → first.0 ≤ seen.0 → last ≡ last_stamp no_stamp front → larger_of seen first front ≡ 2 ^ 63 → max seen.0 last ≡ 2 ^ 63
+at_end seen first last [] low is end = omega (arith, low, is, end)
+at_end seen first last (x ∷ rest) low is end = omega (arith, is, end)
 
-pub events_kept : (kept : Kept Filling) → events_at (notes_of kept) ≡ noted_in kept.queue.entries
-events_kept kept = ap noted_in (made_in-notes Filling kept.queue.entries)
+abbrev pub QueuePass : Type 0
+QueuePass = LockPass (QueueNote Filling)
 
--- the lock at a place, whatever stands for one that isn't there
-pub lock_at : (queues : List (Guarded (KeptQueue Filling) (QueueNote Filling))) (k : ℕ) (lock : Guarded (KeptQueue Filling) (QueueNote Filling)) (pass : LockPass (QueueNote Filling)) → lock ≡ slice_index_or queues k lock → k < length queues → IsPassOf lock pass
-    → (default : Guarded (KeptQueue Filling) (QueueNote Filling)) → IsPassOf (slice_index_or queues k default) pass
-lock_at queues k lock pass is low of default = subst (λ (z : Guarded (KeptQueue Filling) (QueueNote Filling)). IsPassOf z pass) (is ∙ get_or_default queues k lock default low) of
+abbrev pub QueueLock : Type 0
+QueueLock = Guarded (KeptQueue Filling) (QueueNote Filling)
 
-module _ (d : Domain) where
-  -- what a pass of the k-th queue saw stands first there in the end
-  pub front_at : (whole : Whole) (desk : Desk) (k : ℕ) (pass : LockPass (QueueNote Filling)) → slice_index_or desk.queues.items k None ≡ Some pass → GoesOn d whole desk → StartsWith (notes_of (whole.queues (k + 1))) (page_of pass).seen
-  front_at whole desk k pass is on =
-      let next : suc k ≡ k + 1 = omega arith in
-      subst (λ (n : ℕ). StartsWith (notes_of (whole.queues n)) (page_of pass).seen) next (subst (λ (o : Option (LockPass (QueueNote Filling))). StartsWith (notes_of (whole.queues (suc k))) (page_in o).seen) is (on.queues (suc k)))
+-- the desk has that pass of the queue with that number, which is the k-th
+pub record HasPass (d : Domain) (queue k : ℕ) (desk : Desk) (pass : QueuePass) : Type 0 where
+  pub at : queue ≡ k + 1
+  pub low : k < length d.queues.items
+  pub there : slice_index_or desk.queues.items k None ≡ Some pass
 
-  pub seen_front : (whole : Whole) (desk : Desk) (k : ℕ) (pass : LockPass (QueueNote Filling)) → slice_index_or desk.queues.items k None ≡ Some pass → GoesOn d whole desk → StartsWith (entries_of whole (QueueHome (k + 1))) (events_at (page_of pass).seen)
-  seen_front whole desk k pass is on =
-      subst (λ (l : List Stamped). StartsWith l (events_at (page_of pass).seen)) (events_kept (whole.queues (k + 1))) (events_front Filling (notes_of (whole.queues (k + 1))) (page_of pass).seen (front_at whole desk k pass is on))
+pub has_at : (d : Domain) (queue place : ℕ) (desk : Desk) (pass : QueuePass) → place ≡ queue → 0 < queue → queue < length d.queues.items + 1 → slice_index_or desk.queues.items (place - 1) None ≡ Some pass → HasPass d queue (place - 1) desk pass
+has_at d queue place desk pass same some least there = record { at = omega (arith, same, some); low = omega (arith, same, some, least); there = there }
 
-  -- ---- a visit of the k-th queue
+module _ {d : Domain} {queue k : ℕ} {desk : Desk} {pass : QueuePass} (has : HasPass d queue k desk pass) where
+  -- the page of the queue is that of the pass
+  pub page_is : queue_page desk queue ≡ page_of pass
+  page_is = let at = has.at in let next : queue ≡ suc k = omega (arith, at) in ap (page_at desk.queues.items) next ∙ ap page_in has.there
 
-  -- the caller went on by these events of that home, and its seat is as it was
-  pub record Turned (old new : Desk) (there_ : Home) (more : List Stamped) : Type 0 where
-    pub grew : Grew old.caller.work new.caller.work more
-    pub home : All (λ (x : Stamped). home_of d.setup d.clients x.event ≡ there_) more
-    pub seat : new.caller.seat ≡ old.caller.seat
+  -- what the pass saw stands first there in the end
+  pub front_at : (whole : Whole) → GoesOn d whole desk → StartsWith (notes_of (whole.queues queue)) (page_of pass).seen
+  front_at whole on = subst (λ page. StartsWith (notes_of (whole.queues queue)) page.seen) page_is (on.queues queue)
 
-  pub off_home : (home other : Home) (more : List Stamped) → All (λ (x : Stamped). home_of d.setup d.clients x.event ≡ home) more → same_home home other ≡ false → All (λ (x : Stamped). stands_at d.setup d.clients other x ≡ false) more
-  off_home home other more at apart = All-weaker (λ (x : Stamped). home_of d.setup d.clients x.event ≡ home) (λ (x : Stamped). stands_at d.setup d.clients other x ≡ false) (λ x is. ap (λ h. same_home h other) is ∙ apart) more at
+  pub seen_front : (whole : Whole) → GoesOn d whole desk → StartsWith (entries_of whole (QueueHome queue)) (events_at (page_of pass).seen)
+  seen_front whole on = subst (λ (l : List Stamped). StartsWith l (events_at (page_of pass).seen)) (events_kept (whole.queues queue)) (events_front Filling (notes_of (whole.queues queue)) (page_of pass).seen (front_at whole on))
 
-  pub on_home : (home : Home) (more : List Stamped) → All (λ (x : Stamped). home_of d.setup d.clients x.event ≡ home) more → same_home home home ≡ true → All (λ (x : Stamped). stands_at d.setup d.clients home x ≡ true) more
-  on_home home more at same = All-weaker (λ (x : Stamped). home_of d.setup d.clients x.event ≡ home) (λ (x : Stamped). stands_at d.setup d.clients home x ≡ true) (λ x is. ap (λ h. same_home h home) is ∙ same) more at
+  pub its_pass : IsDesk d desk → IsQueuePass d desk.caller.work k pass
+  its_pass is = subst (IsThere (IsQueuePass d desk.caller.work k)) has.there (is.queues k has.low)
 
-  module _ (old new : Desk) (k : ℕ) (p p' : LockPass (QueueNote Filling)) (is : IsDesk d old) (low : k < length d.queues.items) (was : slice_index_or old.queues.items k None ≡ Some p)
-      (passes : new.queues.items ≡ slice_set (slice_set old.queues.items k None) k (Some p')) (board : new.board ≡ old.board) where
-    items : new.queues.items ≡ slice_set old.queues.items k (Some p')
-    items = passes ∙ set-set old.queues.items k None (Some p')
+-- a step at that queue: the desk behind it, with the pass that was put back, and the last stamp that was seen there
+pub record Step (d : Domain) (queue k : ℕ) (old new : Desk) (p p' : QueuePass) (last : Stamp) : Type 0 where
+  pub is : IsDesk d old
+  pub has : HasPass d queue k old p
+  pub passes : new.queues.items ≡ slice_set (slice_set old.queues.items k None) k (Some p')
+  pub board : new.board ≡ old.board
+  pub lock : (default : QueueLock) → IsPassOf (slice_index_or d.queues.items k default) p'
+  pub reaches : Reaches (page_of p') last
 
-    pub now_there : slice_index_or new.queues.items k None ≡ Some p'
-    now_there = let count = is.count in ap (λ l. slice_index_or l k None) items ∙ get_or-set_same old.queues.items k (Some p') None (omega (arith, low, count))
+-- by what takes the pass, enters the lock that stands there, and puts the pass back
+pub stepped : {d : Domain} {queue place : ℕ} {old : Desk} {p : QueuePass} (new : Desk) (p' : QueuePass) (last : Stamp) → IsDesk d old → place ≡ queue → 0 < queue → queue < length d.queues.items + 1 → slice_index_or old.queues.items (place - 1) None ≡ Some p → (taken : List (Option QueuePass)) → taken ≡ slice_set old.queues.items (place - 1) None → new.queues.items ≡ slice_set taken (place - 1) (Some p') → new.board ≡ old.board
+    → (lock : QueueLock) → lock ≡ slice_index_or d.queues.items (place - 1) lock → IsPassOf lock p' → Reaches (page_of p') last → Step d queue (place - 1) old new p p' last
+stepped {d} {queue} {place} {old} {p} new p' last is same some least there taken took put board lock at of reaches = let has = has_at d queue place old p same some least there in record {
+  is = is;
+  has = has;
+  passes = put ∙ ap (λ (l : List (Option QueuePass)). slice_set l (place - 1) (Some p')) took;
+  board = board;
+  lock = λ default. subst (λ (z : QueueLock). IsPassOf z p') (at ∙ get_or_default d.queues.items (place - 1) lock default has.low) of;
+  reaches = reaches;
+}
 
-    other_there : (j : ℕ) → j ≢ k → slice_index_or new.queues.items j None ≡ slice_index_or old.queues.items j None
-    other_there j apart = ap (λ l. slice_index_or l j None) items ∙ get_or-set_other old.queues.items k j (Some p') None apart
+-- ---- a visit of a queue
 
-    pub pass_before : IsQueuePass d old.caller.work k p
-    pass_before = subst (IsThere (IsQueuePass d old.caller.work k)) was (is.queues k low)
+module _ {d : Domain} {queue k : ℕ} {old new : Desk} {p p' : QueuePass} {last : Stamp} (step : Step d queue k old new p p' last) where
+  items : new.queues.items ≡ slice_set old.queues.items k (Some p')
+  items = step.passes ∙ set-set old.queues.items k None (Some p')
 
-    module _ (more : List Made) {How : Kept Filling → Kept Filling → Type 0} (visits : Visits (page_of p) (page_of p') more How) where
-      pub sees_more : StartsWith (page_of p').seen (page_of p).seen
-      sees_more = (visits.knew.1.0 ++ map (note {A = Filling}) more, visits.saw ∙ visits.grew ∙ ap (λ l. l ++ map (note {A = Filling}) more) visits.knew.1.1 ∙ append_assoc (page_of p).seen visits.knew.1.0 (map (note {A = Filling}) more))
+  pub now_has : HasPass d queue k new p'
+  now_has = record {
+    at = step.has.at;
+    low = step.has.low;
+    there = let count = step.is.count in let low = step.has.low in ap (λ l. slice_index_or l k None) items ∙ get_or-set_same old.queues.items k (Some p') None (omega (arith, low, count));
+  }
 
-      pub events_more : events_at (page_of p').seen ≡ noted_in visits.old.queue.entries ++ noted_in more
-      events_more =
-          ap events_at (visits.saw ∙ visits.grew) ∙ events_append (notes_of visits.old) (map (note {A = Filling}) more)
-          ∙ ap (λ l. l ++ events_at (map (note {A = Filling}) more)) (events_kept visits.old) ∙ ap (λ l. noted_in visits.old.queue.entries ++ noted_in l) (made_in-notes Filling more)
+  other_there : (j : ℕ) → j ≢ k → slice_index_or new.queues.items j None ≡ slice_index_or old.queues.items j None
+  other_there j apart = ap (λ l. slice_index_or l j None) items ∙ get_or-set_other old.queues.items k j (Some p') None apart
 
-      module _ (turned : Turned old new (QueueHome (k + 1)) (noted_in more)) where
-        pub visit_before : (whole : Whole) → GoesOn d whole new → GoesOn d whole old
-        visit_before whole on = record {
-          sound = on.sound;
-          board = subst (λ o. StartsWith whole.board.notes (page_in o).seen) board on.board;
-          queues = each;
-          may = on.may;
-          once = on.once;
-          stand = λ x here. on.stand x (subst (λ (l : List Stamped). Contains l x) (sym {A = List Stamped} turned.grew.own) (Contains-append_left old.caller.work.own (noted_in more) x here));
-          ended = subst (λ (s : Seat Filling). (j : ℕ) → All (HasEnd (entries_of whole)) (at j (known s)).taken) turned.seat on.ended;
+  pass_before : IsQueuePass d old.caller.work k p
+  pass_before = its_pass step.has step.is
+
+  module _ {more : List Made} {How : Kept Filling → Kept Filling → Type 0} (visits : Visits (page_of p) (page_of p') more How) where
+    -- what it found is what the domain has there
+    pub setting_found : IsSettingOf d queue (setting_of visits.old)
+    setting_found = subst (λ n. IsSettingOf d n (setting_of visits.old)) (sym step.has.at) (subst (IsSettingOf d (k + 1)) (sym (visits.setting pass_before.its pass_before.sees)) pass_before.is)
+
+    -- what was noted there is all that the worker has to know
+    visit_moves : Grew old.caller.work new.caller.work (noted_in more) → All (λ (x : Stamped). home_of d.setup d.clients x.event ≡ QueueHome queue) (noted_in more) → new.caller.seat ≡ old.caller.seat → new.caller.least ≤ published (past_in (changes_at (board_page old).seen)) → last.0 ≤ new.caller.work.stamp.0
+        → Moves d old new (noted_in more)
+    visit_moves grew home seat least above =
+        let is = step.is in
+        let w : Working = old.caller.work in
+        let w' : Working = new.caller.work in
+        let here : Home = QueueHome (k + 1) in
+        let at_home = subst (λ (n : ℕ). All (λ (x : Stamped). home_of d.setup d.clients x.event ≡ QueueHome n) (noted_in more)) step.has.at home in
+        let low = step.has.low in
+        let visited : IsQueuePass d w' k p' = record {
+          lock = step.lock;
+          maker = visits.maker ∙ pass_before.maker ∙ ap (λ (id : CallerId). id.0) (sym grew.id);
+          its = pass_before.its;
+          sees = record { rest = pass_before.sees.rest ++ (sees_more visits).0; seen = (sees_more visits).1 ∙ ap (λ l. l ++ (sees_more visits).0) pass_before.sees.seen };
+          is = pass_before.is;
+          own = queue_own d.setup d.clients here w.own (page_of p) (page_of p') more visits.own pass_before.own (on_home d here (noted_in more) at_home (eq-eqb (k + 1) (k + 1) refl)) ∙ ap (filter (stands_at d.setup d.clients here)) (sym grew.own);
+          reached = All-weaker (λ (x : Stamped). x.stamp.0 ≤ last.0) (λ (x : Stamped). x.stamp.0 ≤ w'.stamp.0) (λ x le. omega (arith, le, above)) (events_at (page_of p').seen) step.reaches.each;
+        } in
+        let takes : TakesOn (known old.caller.seat) (known new.caller.seat) = subst (λ (s : Seat Filling). TakesOn (known old.caller.seat) (known s)) (sym seat) (takes_same (known old.caller.seat)) in
+        record {
+          grew = grew;
+          among = among_at d here (noted_in more) (omega arith, omega (arith, low)) at_home;
+          seat = subst (IsSeatOf d.cells) (sym seat) is.seat;
+          taken = takes.taken;
+          filled = filled_more w w' (noted_in more) (known old.caller.seat) (known new.caller.seat) grew takes is.filled;
+          least = subst (λ o. new.caller.least ≤ published (past_in (changes_at (page_in o).seen))) (sym step.board) least;
+          board = subst (IsThere (IsBoardPass d w')) (sym step.board) (there d (IsBoardPass d w) (IsBoardPass d w') old.board (board_pass_stays d w w' (noted_in more) grew (off_home d here BoardHome (noted_in more) at_home refl)) is.board);
+          board_seen = subst (λ o. StartsWith (page_in o).seen (board_page old).seen) (sym step.board) (starts_same (board_page old).seen);
+          count = ap length step.passes ∙ length-set (slice_set old.queues.items k None) k (Some p') ∙ length-set old.queues.items k None;
+          queues = λ j low_j. elim (decided j k) [
+            | inl e ↦ subst (λ (i : ℕ). IsThere (IsQueuePass d w' i) (slice_index_or new.queues.items i None)) (sym e) (subst (IsThere (IsQueuePass d w' k)) (sym now_has.there) visited)
+            | inr apart ↦ subst (IsThere (IsQueuePass d w' j)) (sym (other_there j apart)) (there d (IsQueuePass d w j) (IsQueuePass d w' j) (slice_index_or old.queues.items j None)
+                (queue_pass_stays d w w' (noted_in more) grew j (off_home d here (QueueHome (j + 1)) (noted_in more) at_home (ne_eqb (k + 1) (j + 1) (λ e. apart (omega (arith, e)))))) (is.queues j low_j))
+          ];
+          queues_seen = seen;
         }
-          where
-            each : (queue : ℕ) → StartsWith (notes_of (whole.queues queue)) (queue_page old queue).seen
-            each zero = on.queues zero
-            each (suc j) =
-                let Begins : ℕ → Option (LockPass (QueueNote Filling)) → Type 0 = λ i o. StartsWith (notes_of (whole.queues (suc i))) (page_in o).seen in
-                elim (decided j k) [
-                  | inl e ↦ subst (λ (i : ℕ). Begins i (slice_index_or old.queues.items i None)) (sym e) (subst (Begins k) (sym was) (starts_trans _ (page_of p').seen (page_of p).seen (subst (Begins k) now_there (on.queues (suc k))) sees_more))
-                  | inr apart ↦ subst (Begins j) (other_there j apart) (on.queues (suc j))
-                ]
+      where
+        seen : (j : ℕ) → StartsWith (queue_page new j).seen (queue_page old j).seen
+        seen zero = ([], refl)
+        seen (suc j) =
+            let Begins : Option QueuePass → Option QueuePass → Type 0 = λ o o'. StartsWith (page_in o').seen (page_in o).seen in
+            elim (decided j k) [
+              | inl e ↦ subst (λ (i : ℕ). Begins (slice_index_or old.queues.items i None) (slice_index_or new.queues.items i None)) (sym e) (subst (λ o. Begins o (slice_index_or new.queues.items k None)) (sym step.has.there) (subst (Begins (Some p)) (sym now_has.there) (sees_more visits)))
+              | inr apart ↦ subst (Begins (slice_index_or old.queues.items j None)) (sym (other_there j apart)) (starts_same (page_in (slice_index_or old.queues.items j None)).seen)
+            ]
 
-        -- what was noted there, and what is shown of it, is all that the worker has to know
-        pub visit_leads : ((default : Guarded (KeptQueue Filling) (QueueNote Filling)) → IsPassOf (slice_index_or d.queues.items k default) p') → new.caller.least ≤ published (past_in (changes_at (board_page old).seen))
-            → All (λ (x : Stamped). x.stamp.0 ≤ new.caller.work.stamp.0) (events_at (page_of p').seen) → ((whole : Whole) → GoesOn d whole new → IsKnown whole new.caller.work.stamp) → ((whole : Whole) → GoesOn d whole new → Shows d whole new.caller.work) → Leads d old new
-        visit_leads lock least reached is_known shows =
-            let grew = turned.grew in
-            let w : Working = old.caller.work in
-            let w' : Working = new.caller.work in
-            let here : Home = QueueHome (k + 1) in
-            let visited : IsQueuePass d w' k p' = record {
-              lock = lock;
-              maker = visits.maker ∙ pass_before.maker ∙ ap (λ (id : CallerId). id.0) (sym grew.id);
-              its = pass_before.its;
-              sees = record { rest = pass_before.sees.rest ++ sees_more.0; seen = sees_more.1 ∙ ap (λ l. l ++ sees_more.0) pass_before.sees.seen };
-              is = pass_before.is;
-              own = queue_own d.setup d.clients here w.own (page_of p) (page_of p') more visits.own pass_before.own (on_home here (noted_in more) turned.home (eq-eqb (k + 1) (k + 1) refl)) ∙ ap (filter (stands_at d.setup d.clients here)) (sym grew.own);
-              reached = reached;
-            } in
-            let stays : (j : ℕ) → j ≢ k → IsThere (IsQueuePass d w j) (slice_index_or old.queues.items j None) → IsThere (IsQueuePass d w' j) (slice_index_or old.queues.items j None) = λ j apart.
-            there d (IsQueuePass d w j) (IsQueuePass d w' j) (slice_index_or old.queues.items j None) (queue_pass_stays d w w' (noted_in more) grew j (off_home here (QueueHome (j + 1)) (noted_in more) turned.home (ne_eqb (k + 1) (j + 1) (λ e. apart (omega (arith, e)))))) in
-            record {
-              desk = record {
-                setup = grew.setup ∙ is.setup;
-                clients = grew.clients ∙ is.clients;
-                booted = let later = grew.stamp in let booted = is.booted in omega (arith, later, booted);
-                seat = subst (IsSeatOf d.cells) (sym turned.seat) is.seat;
-                board = subst (IsThere (IsBoardPass d w')) (sym board) (there d (IsBoardPass d w) (IsBoardPass d w') old.board (board_pass_stays d w w' (noted_in more) grew (off_home here BoardHome (noted_in more) turned.home refl)) is.board);
-                least = subst (λ o. new.caller.least ≤ published (past_in (changes_at (page_in o).seen))) (sym board) least;
-                count = ap length passes ∙ length-set (slice_set old.queues.items k None) k (Some p') ∙ length-set old.queues.items k None ∙ is.count;
-                queues = λ j there_. elim (decided j k) [
-                  | inl e ↦ subst (λ (i : ℕ). IsThere (IsQueuePass d w' i) (slice_index_or new.queues.items i None)) (sym e) (subst (IsThere (IsQueuePass d w' k)) (sym now_there) visited)
-                  | inr apart ↦ subst (IsThere (IsQueuePass d w' j)) (sym (other_there j apart)) (stays j apart (is.queues j there_))
-                ];
-                made = made_more w w' (noted_in more) grew is.made;
-                among = among_more d w w' (noted_in more) grew (among_at d here (noted_in more) (omega arith, omega (arith, low)) turned.home) is.among;
-                filled = subst (λ (s : Seat Filling). FilledByEnds w'.own (known s)) (sym turned.seat) (subst (λ (l : List Stamped). FilledByEnds l (known old.caller.seat)) (sym {A = List Stamped} grew.own) (fillings_stay w.own (noted_in more) (known old.caller.seat) is.filled));
-                known_stamp = is_known;
-                shows = shows;
-              };
-              own = (noted_in more, grew.own);
-              before = visit_before;
-              stamp = grew.stamp;
-            }
+  -- nothing was noted, and the caller saw the queue's last stamp
+  module _ {How : Kept Filling → Kept Filling → Type 0} (visits : Visits (page_of p) (page_of p') [] How) (caller : new.caller ≡ record old.caller { work = seeing last old.caller.work }) where
+    pub looked_grew : Grew old.caller.work new.caller.work []
+    looked_grew = grew_none old.caller.work new.caller.work old.caller.work.room (record { 0 = max old.caller.work.stamp.0 last.0 }) (ap (λ (c : Caller). c.work) caller) (omega arith)
 
-    -- nothing was noted, and the caller saw the queue's last stamp
-    pub looked_leads : {How : Kept Filling → Kept Filling → Type 0} (last : Stamp) → Visits (page_of p) (page_of p') [] How → Reaches (page_of p') last → ((default : Guarded (KeptQueue Filling) (QueueNote Filling)) → IsPassOf (slice_index_or d.queues.items k default) p')
-        → new.caller ≡ record old.caller { work = seeing last old.caller.work } → Leads d old new
-    looked_leads last visits reaches lock caller =
+    pub looked_leads : Leads d old new
+    looked_leads =
         let w : Working = old.caller.work in
         let stamp : new.caller.work.stamp ≡ record { 0 = max w.stamp.0 last.0 } = ap (λ (c : Caller). c.work.stamp) caller in
         let higher = ap (λ (s : Stamp). s.0) stamp in
-        let grew : Grew w new.caller.work [] = record {
-          setup = ap (λ (c : Caller). c.work.setup) caller;
-          clients = ap (λ (c : Caller). c.work.clients) caller;
-          id = ap (λ (c : Caller). c.work.id) caller;
-          own = ap (λ (c : Caller). c.work.own) caller ∙ sym (append-nil w.own);
-          stamp = omega (arith, higher);
-          made = none_made;
-        } in
-        let turned : Turned old new (QueueHome (k + 1)) [] = record { grew = grew; home = All-nil (λ (x : Stamped). home_of d.setup d.clients x.event ≡ QueueHome (k + 1)); seat = ap (λ (c : Caller). c.seat) caller } in
-        let least = is.least in
+        let least = step.is.least in
         let same = ap (λ (c : Caller). c.least) caller in
-        visit_leads [] visits turned lock (omega (arith, least, same))
-        (All-weaker (λ (x : Stamped). x.stamp.0 ≤ last.0) (λ (x : Stamped). x.stamp.0 ≤ new.caller.work.stamp.0) (λ x le. omega (arith, le, higher)) (events_at (page_of p').seen) reaches.each)
-        (λ whole on. subst (IsKnown whole) (sym stamp) (larger_known whole w.stamp last (is.known_stamp whole (visit_before [] visits turned whole on)) (last_known whole (QueueHome (k + 1)) (events_at (page_of p').seen) last (seen_front whole new k p' now_there on) reaches.is)))
-        (λ whole on. shows_still d whole w new.caller.work grew (is.shows whole (visit_before [] visits turned whole on)))
+        none_leads step.is (visit_moves visits looked_grew (All-nil (λ (x : Stamped). home_of d.setup d.clients x.event ≡ QueueHome queue)) (ap (λ (c : Caller). c.seat) caller) (omega (arith, least, same)) (omega (arith, higher)))
+        (λ whole on back. subst (IsKnown whole) (sym stamp) (larger_known whole w.stamp last (step.is.known_stamp whole back) (last_known whole (QueueHome queue) (events_at (page_of p').seen) last (seen_front now_has whole on) step.reaches.is)))
 
-    -- an event was noted, with the queue's next stamp
-    module _ (maker : CallerId) (stamp : Stamp) (event : Event) {How : Kept Filling → Kept Filling → Type 0} (visits : Visits (page_of p) (page_of p') (one maker stamp event) How) where
-      abbrev Its : Stamped
-      Its = record { stamp = stamp; event = event }
+    -- where stamps would pass their end, the worker is at that then
+    pub looked_last : (seen : Stamp) (worn : Worn) → seen ≡ old.caller.work.stamp → IsWorn seen worn visits.old.queue visits.old.queue → IsAtEnd worn old new
+    looked_last seen worn saw full =
+        let entries : List Stamped = noted_in visits.old.queue.entries in
+        let first : Stamp = visits.old.queue.first in
+        let low : first.0 ≤ old.caller.work.stamp.0 = let behind_boot = (setting_found visits).first in let booted = step.is.booted in omega (arith, behind_boot, booted) in
+        record {
+          last = full.told;
+          at = ap (λ (c : Caller). c.work.stamp.0) caller
+              ∙ at_end old.caller.work.stamp first last.0 entries low (step.reaches.is ∙ ap (last_stamp no_stamp) (events_more visits ∙ append-nil entries)) (ap (λ (s : Stamp). larger_of s first entries) (sym saw) ∙ full.larger);
+          caller = (last, caller);
+        }
 
-      pub noted_leads : (last : Stamp) → Reaches (page_of p') last → ((default : Guarded (KeptQueue Filling) (QueueNote Filling)) → IsPassOf (slice_index_or d.queues.items k default) p') → stamp ≡ next_stamp old.caller.work.stamp visits.old.queue
-          → Turned old new (QueueHome (k + 1)) (Its ∷ []) → new.caller.work.stamp ≡ stamp → new.caller.least ≤ published (past_in (changes_at (board_page old).seen)) → IsBehind d.booted stamp event
-          → ((whole : Whole) → GoesOn d whole old → SawFronts d.setup d.clients (entries_of whole) stamp event (past_in old.caller.work.own))
-          → ((whole : Whole) → GoesOn d whole old → WasTold d.setup d.clients (entries_of whole) stamp (worker_events d.clients old.caller.work.id.0 (past_in old.caller.work.own)) event) → Leads d old new
-      noted_leads last reaches lock next turned now least behind saw told =
-          let w : Working = old.caller.work in
-          let more : List Made = one maker stamp event in
-          let entries : List Stamped = noted_in visits.old.queue.entries in
-          let first : visits.old.queue.first.0 ≡ pass_before.its.first.0 = ap (λ (s : Setting Filling). s.first.0) (visits.setting pass_before.its pass_before.sees) in
-          let low_first : visits.old.queue.first.0 ≤ w.stamp.0 = let behind_boot = pass_before.is.first in let booted = is.booted in omega (arith, first, behind_boot, booted) in
-          let lasts : last.0 ≡ stamp.0 = reaches.is ∙ ap (last_stamp no_stamp) (events_more more visits) ∙ last_stamp-push no_stamp entries Its in
-          let higher = ap (λ (s : Stamp). s.0) now in
-          let before : (whole : Whole) → GoesOn d whole new → GoesOn d whole old = visit_before more visits turned in
-          visit_leads more visits turned lock least
-          (All-weaker (λ (x : Stamped). x.stamp.0 ≤ last.0) (λ (x : Stamped). x.stamp.0 ≤ new.caller.work.stamp.0) (λ x le. omega (arith, le, lasts, higher)) (events_at (page_of p').seen) reaches.each)
-          (λ whole on. subst (IsKnown whole) (sym now) (inr (inl (home_of d.setup d.clients event, (Its, on.stand Its (subst (λ (l : List Stamped). Contains l Its) (sym {A = List Stamped} turned.grew.own) (Contains-push w.own Its)), refl)))))
-          (λ whole on. shows_one_more d whole w new.caller.work Its turned.grew (λ there_. absurd (cc (ap (λ h. same_home h BoardHome) (All-head (λ (x : Stamped). home_of d.setup d.clients x.event ≡ QueueHome (k + 1)) Its [] turned.home), there_))) (is.shows whole (before whole on)) (record {
-            behind = behind;
-            saw = saw whole (before whole on);
-            told = told whole (before whole on);
-            before = record { 0 = larger_of w.stamp visits.old.queue.first entries };
-            next = ap (λ (s : Stamp). s.0) next;
-            known_before = behind_known whole (QueueHome (k + 1)) w.stamp visits.old.queue.first entries (starts_trans _ (events_at (page_of p').seen) entries (seen_front whole new k p' now_there on) (noted_in more, events_more more visits)) low_first (is.known_stamp whole (before whole on));
-          }))
+  -- an event was noted, with the queue's next stamp
+  module _ (maker : CallerId) (stamp : Stamp) (event : Event) {How : Kept Filling → Kept Filling → Type 0} (visits : Visits (page_of p) (page_of p') (one maker stamp event) How) (next : stamp ≡ next_stamp old.caller.work.stamp visits.old.queue) where
+    abbrev Its : Stamped
+    Its = record { stamp = stamp; event = event }
+
+    pub later : old.caller.work.stamp.0 < stamp.0
+    later = let is_next = ap (λ (s : Stamp). s.0) next in omega (arith, is_next)
+
+    pub noted_leads : Grew old.caller.work new.caller.work (Its ∷ []) → home_of d.setup d.clients event ≡ QueueHome queue → new.caller.seat ≡ old.caller.seat → new.caller.work.stamp ≡ stamp → new.caller.least ≤ published (past_in (changes_at (board_page old).seen)) → IsBehind d.booted stamp event
+        → ((whole : Whole) → GoesOn d whole old → SawFronts d.setup d.clients (entries_of whole) stamp event (past_in old.caller.work.own))
+        → ((whole : Whole) → GoesOn d whole old → WasTold d.setup d.clients (entries_of whole) stamp (worker_events d.clients old.caller.work.id.0 (past_in old.caller.work.own)) event) → Leads d old new
+    noted_leads grew home seat now least behind saw told =
+        let is = step.is in
+        let w : Working = old.caller.work in
+        let entries : List Stamped = noted_in visits.old.queue.entries in
+        let low_first : visits.old.queue.first.0 ≤ w.stamp.0 = let behind_boot = (setting_found visits).first in let booted = is.booted in omega (arith, behind_boot, booted) in
+        let lasts : last.0 ≡ stamp.0 = step.reaches.is ∙ ap (last_stamp no_stamp) (events_more visits) ∙ last_stamp-push no_stamp entries Its in
+        let higher = ap (λ (s : Stamp). s.0) now in
+        one_leads Its is (visit_moves visits grew (All-cons (λ (x : Stamped). home_of d.setup d.clients x.event ≡ QueueHome queue) Its [] home (All-nil (λ (x : Stamped). home_of d.setup d.clients x.event ≡ QueueHome queue))) seat least (omega (arith, lasts, higher))) now
+        (λ whole on there_. absurd (cc (ap (λ h. same_home h BoardHome) home, there_)))
+        (λ whole on back. record {
+          behind = behind;
+          saw = saw whole back;
+          told = told whole back;
+          before = record { 0 = larger_of w.stamp visits.old.queue.first entries };
+          next = ap (λ (s : Stamp). s.0) next;
+          known_before = behind_known whole (QueueHome queue) w.stamp visits.old.queue.first entries (starts_trans _ (events_at (page_of p').seen) entries (seen_front now_has whole on) (Its ∷ [], events_more visits)) low_first (is.known_stamp whole back);
+        })
+
+    -- its caller is else as it was
+    pub event_leads : new.caller ≡ noted_off stamp event old.caller → (e : Event) → event ≡ e → home_of d.setup d.clients e ≡ QueueHome queue → IsMade e → IsBehind d.booted stamp e
+        → ((whole : Whole) → GoesOn d whole old → SawFronts d.setup d.clients (entries_of whole) stamp e (past_in old.caller.work.own))
+        → ((whole : Whole) → GoesOn d whole old → WasTold d.setup d.clients (entries_of whole) stamp (worker_events d.clients old.caller.work.id.0 (past_in old.caller.work.own)) e) → Leads d old new
+    event_leads caller e is home kind behind saw told =
+        let least = step.is.least in
+        let same_least = ap (λ (c : Caller). c.least) caller in
+        noted_leads (grew_one old.caller.work new.caller.work old.caller.work.room Its (ap (λ (c : Caller). c.work) caller) later (subst IsMade (sym is) kind))
+        (ap (home_of d.setup d.clients) is ∙ home) (ap (λ (c : Caller). c.seat) caller) (ap (λ (c : Caller). c.work.stamp) caller) (omega (arith, least, same_least))
+        (subst (IsBehind d.booted stamp) (sym is) behind)
+        (λ whole on. subst (λ (x : Event). SawFronts d.setup d.clients (entries_of whole) stamp x (past_in old.caller.work.own)) (sym is) (saw whole on))
+        (λ whole on. subst (WasTold d.setup d.clients (entries_of whole) stamp (worker_events d.clients old.caller.work.id.0 (past_in old.caller.work.own))) (sym is) (told whole on))

@@ -150,10 +150,12 @@ pub record IsDesk (d : Domain) (desk : Desk) : Type 0 where
   pub known_stamp : (whole : Whole) → GoesOn d whole desk → IsKnown whole desk.caller.work.stamp
   pub shows : (whole : Whole) → GoesOn d whole desk → Shows d whole desk.caller.work
 
--- it is a desk still, with all that its worker noted before; what may be in the end behind it may be behind the old one, and its stamp is no smaller
+-- it is a desk still, with all that its worker noted before, and all that its passes saw at queues; what may be in the end behind it may be behind the
+-- old one, and its stamp is no smaller
 pub record Leads (d : Domain) (old new : Desk) : Type 0 where
   pub desk : IsDesk d new
   pub own : StartsWith new.caller.work.own old.caller.work.own
+  pub pages : (queue : ℕ) → StartsWith (queue_page new queue).seen (queue_page old queue).seen
   pub before : (whole : Whole) → GoesOn d whole new → GoesOn d whole old
   pub stamp : old.caller.work.stamp.0 ≤ new.caller.work.stamp.0
 

@@ -1,5 +1,5 @@
 -- What a look-up found, as a worker may show it (XATMI, tpcall; versions of the board are this project's own).
-use Rattle.std.specs.Prelude.{◌≡◌, ℕ, ◌+◌, ◌<◌, ◌≤◌, ◌^◌, true, false, List, [], ◌∷◌, length}
+use Rattle.std.specs.Prelude.{◌≡◌, ℕ, ◌+◌, ◌<◌, ◌≤◌, ◌^◌, true, false, List, length}
 use Rattle.std.specs.List.{All, Contains}
 use Rattle.xa_types.specs.declared.data.Data.{Data}
 use Rattle.xa_types.specs.declared.row.Row.{Row}
@@ -80,7 +80,7 @@ abbrev pub ShowsWhy : Domain → ℕ → Refusal → Desk → Type 0
 ShowsWhy d queue refusals.Down desk = SawItsOwnAt d queue desk (λ past. is_down queue past ≡ true)
 ShowsWhy d queue refusals.Closed desk = SawItsOwnAt d queue desk (λ past. is_closed queue past ≡ true)
 ShowsWhy d queue (refusals.Full n) desk = (0 < n) × (n ≡ capacity_of d.setup queue) × SawItsOwnAt d queue desk (λ past. length (waiting d.setup queue past) ≡ n)
-ShowsWhy d queue (refusals.Worn stamp) desk = stamp.0 ≡ 2 ^ 63
+ShowsWhy d queue (refusals.Worn stamp) desk = (stamp.0 ≡ 2 ^ 63) × (desk.caller.work.stamp.0 ≡ 2 ^ 63)
 ShowsWhy d queue refusals.NoMemory desk = Unit {0}
 
 -- the event accepts a request, at the queue with that number

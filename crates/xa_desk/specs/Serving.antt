@@ -1,7 +1,6 @@
 -- A server's worker at its desk, and what its steps leave (this project's own).
-use Rattle.std.specs.Prelude.{◌≡◌, ◌⊎◌, ℕ, ◌+◌, ◌-◌, ◌<◌, ◌≤◌, ◌^◌, Bool, true, false, List, [], ◌∷◌, ◌++◌, length, Option, Some, None, IfSome, IsSome, Result, Ok, Err}
+use Rattle.std.specs.Prelude.{◌≡◌, ℕ, ◌+◌, ◌<◌, ◌≤◌, ◌^◌, Bool, true, false, List, [], ◌++◌, length, Option, Some, None, IfSome, IsSome, Result, Ok, Err}
 use Rattle.std.specs.List.{All, Contains, flat_map}
-use Rattle.xa_types.specs.declared.ids.RequestId.{RequestId}
 use Rattle.xa_types.specs.declared.stamp.Stamp.{Stamp}
 use Rattle.xa_types.specs.declared.stamp.Worn.{Worn}
 use Rattle.xa_types.specs.Setup.{queue_of}
@@ -9,6 +8,8 @@ use Rattle.xa_events.specs.declared.event.Event.{Event}
 use Rattle.xa_events.specs.declared.event.Event.TheVariants.{Take, Gone}
 use Rattle.xa_events.specs.declared.event.Doing.TheVariants.{Busy}
 use Rattle.xa_events.specs.Cases.{IsShut}
+use Rattle.xa_events.specs.Queue.{is_down, waiting}
+use Rattle.xa_events.specs.Server.{is_gone, AllGone}
 use Rattle.xa_events.specs.Homes.Home.{BoardHome, QueueHome}
 use Rattle.xa_stamp.specs.Home.{last_stamp}
 use Rattle.xa_crew.specs.Crew.{IsOfDomain, no_stamp}
@@ -22,7 +23,7 @@ use Rattle.xa_lock.specs.declared.makers.Made.{Made}
 use Rattle.xa_queue.specs.declared.entry.Entry.{Entry}
 use Rattle.xa_held.specs.Kept.{IsRight, Brings}
 use Rattle.xa_held.specs.Notes.{made_of, IsOther, is_down_in}
-use Rattle.xa_work.specs.Work.{Standing as Working, noted, seeing}
+use Rattle.xa_work.specs.Work.{seeing}
 use Rattle.xa_work.specs.declared.work.Halt.{Halt}
 use Rattle.xa_work.specs.declared.work.Halt.TheVariants as halts
 use Rattle.xa_caller.specs.declared.phase.Phase.TheVariants.{Idle}
@@ -73,6 +74,7 @@ Sees old new = (seen : Stamp) × (new ≡ record old { work = seeing seen old.wo
 -- stamps came to their end at the worker's or the queue's last one, which the worker saw
 pub record IsAtEnd (worn : Worn) (old new : Desk) : Type 0 where
   pub last : worn.0.0 ≡ 2 ^ 63
+  pub at : new.caller.work.stamp.0 ≡ 2 ^ 63
   pub caller : Sees old.caller new.caller
 
 -- what a take comes to
@@ -96,10 +98,14 @@ IsCleared d queue desk = (whole : Whole) → GoesOn d whole desk → (stamp : St
 abbrev pub IsFallen : ℕ → Desk → Type 0
 IsFallen queue desk = is_down_in queue (queue_page desk queue).seen ≡ true
 
--- the server was given up at its queue, and each other server of the queue before, or not
+-- the server is given up, and another server of the queue is left
+abbrev pub LeftOthers : Domain → ℕ → ℕ → List Event → Type 0
+LeftOthers d queue server past = (is_gone server past ≡ true) × (AllGone d.setup queue past → ⊥)
+
+-- the server was given up at its queue, and each other server of the queue before, or the desk saw that one is left there
 abbrev pub LeavesAs : Domain → ℕ → Result Bool Worn → ServerSlot → ServerSlot → Desk → Desk → Type 0
 LeavesAs d queue (Ok last) slot slot' old new = (slot' ≡ record slot { gone = true }) × ((stamp : Stamp) × (old.caller.work.stamp.0 < stamp.0) × (new.caller ≡ with_event stamp (Gone slot.server) old.caller))
-    × (last ≡ true → IsDeserted d queue new)
+    × (last ≡ true → IsDeserted d queue new) × (last ≡ false → SawAtQueue d queue new (LeftOthers d queue slot.server.0))
 LeavesAs d queue (Err worn) slot slot' old new = (slot' ≡ slot) × IsAtEnd worn old new
 
 -- the worker noted events of the domain at most, and its caller is else as it was
@@ -109,10 +115,15 @@ pub record OfDomain (old new : Desk) : Type 0 where
   pub theirs : All (λ (x : Stamped). IsOfDomain x.event) more
   pub rest : new.caller ≡ record old.caller { work = record old.caller.work { stamp = new.caller.work.stamp; own = new.caller.work.own } }
 
--- memory ran out, or stamps would pass their end
-abbrev pub IsHaltNear : Halt → Type 0
-IsHaltNear halts.NoMemory = Unit {0}
-IsHaltNear (halts.Worn stamp) = stamp.0 ≡ 2 ^ 63
+-- memory ran out, or stamps came to their end, which the worker saw
+abbrev pub IsHaltNear : Desk → Halt → Type 0
+IsHaltNear desk halts.NoMemory = Unit {0}
+IsHaltNear desk (halts.Worn stamp) = (stamp.0 ≡ 2 ^ 63) × (desk.caller.work.stamp.0 ≡ 2 ^ 63)
+
+-- the stamp that was seen there: the last one, or where stamps came to their end that
+abbrev pub seen_by : Halt → Stamp → Stamp
+seen_by halts.NoMemory last = last
+seen_by (halts.Worn stamp) last = stamp
 
 -- how a worker halts where a row that stands isn't withdrawn
 abbrev pub halt_by : BoardRefused → Halt
@@ -126,8 +137,12 @@ pub record IsToTell (d : Domain) (desk : Desk) (closing : Closing) : Type 0 wher
   pub reached : closing.stamp.0 ≤ last_stamp no_stamp desk.caller.work.own
   pub noted : IsSome closing.answer → desk.caller.work.own ≡ [] → ⊥
 
--- a request that waited was swept, and its caller is to be told; or none waits
-abbrev pub SweepsAs : Domain → Result (Option SweptOut) Worn → Desk → Desk → Type 0
-SweepsAs d (Ok None) old new = Sees old.caller new.caller
-SweepsAs d (Ok (Some out)) old new = OfDomain old new × IsToTell d new out.closing × IsSome out.closing.ticket
-SweepsAs d (Err worn) old new = IsAtEnd worn old new
+-- the queue is down and nothing waits there
+abbrev pub IsSwept : Domain → ℕ → List Event → Type 0
+IsSwept d queue past = (is_down queue past ≡ true) × (waiting d.setup queue past ≡ [])
+
+-- a request that waited was swept, and its caller is to be told; or the desk saw that none waits
+abbrev pub SweepsAs : Domain → ℕ → Result (Option SweptOut) Worn → Desk → Desk → Type 0
+SweepsAs d queue (Ok None) old new = Sees old.caller new.caller × SawAtQueue d queue new (IsSwept d queue)
+SweepsAs d queue (Ok (Some out)) old new = OfDomain old new × IsToTell d new out.closing × IsSome out.closing.ticket
+SweepsAs d queue (Err worn) old new = IsAtEnd worn old new

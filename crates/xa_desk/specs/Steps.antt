@@ -1,5 +1,5 @@
 -- What a call of a desk leaves, beside what its caller's contract says (this project's own).
-use Rattle.std.specs.Prelude.{◌≡◌, ◌⊎◌, ℕ, ◌<◌, true, false, List, [], take, length, Option, Some, None, IfSome}
+use Rattle.std.specs.Prelude.{◌≡◌, ◌⊎◌, ℕ, ◌<◌, true, List, [], length, Option, Some, None, IfSome}
 use Rattle.std.specs.List.{All, Contains}
 use Rattle.xa_types.specs.declared.call.Ask.{Ask}
 use Rattle.xa_types.specs.declared.call.Op.{Op}
@@ -16,6 +16,7 @@ use Rattle.xa_desk.specs.declared.domain.Domain.{Domain}
 use Rattle.xa_desk.specs.declared.desk.Desk.{Desk}
 use Rattle.xa_desk.specs.Desks.{FitsCalls}
 use Rattle.xa_desk.specs.Found.{SawAtQueue, SawItsOwnAt}
+use Rattle.xa_desk.specs.Halting.{IsHaltAt}
 
 -- what the worker noted by this call fits it: whatever it makes, if this is the call with that number
 abbrev pub FitsOn : Domain → ℕ → Ask → Desk → Desk → Type 0
@@ -37,5 +38,5 @@ full_in why = None
 
 -- why no queue of the rows that were found took the request
 abbrev pub IsWhy : Domain → FoundRows → Why → Desk → Type 0
-IsWhy d found (reasons.Halt halt) desk = Unit {0}
+IsWhy d found (reasons.Halt halt) desk = IsHaltAt desk halt
 IsWhy d found why desk = NoneTakes d found.rows (full_in why) desk

@@ -2,7 +2,7 @@
 ghost use Rattle.std.specs.Prelude.{◌≡◌, false, true, IfOk, IfErr, OnOk};
 ghost use Rattle.xa_server.specs.Told.{HasStamp};
 ghost use Rattle.xa_desk.specs.Desks.{IsDomain, IsDesk, Leads};
-ghost use Rattle.xa_desk.specs.Serving.{IsDeserted, IsCleared, OfDomain, IsHaltNear, halt_by};
+ghost use Rattle.xa_desk.specs.Serving.{IsDeserted, IsCleared, OfDomain, IsHaltNear, halt_by, seen_by};
 
 use crate::desk::{Desk, take_out};
 use crate::domain::Domain;
@@ -10,7 +10,7 @@ use std::sync::Wait;
 use xa_board::BoardRefused;
 use xa_held::{AtBoard, Clearing, clear_at};
 use xa_stamp::Noted;
-use xa_types::QueueId;
+use xa_types::{QueueId, Stamp};
 use xa_work::Halt;
 
 // How it halts where a row that stands isn't withdrawn.
@@ -20,6 +20,16 @@ fn halt_by(refused: BoardRefused) -> Halt
     match refused {
         BoardRefused::Worn(stamp) => Halt::Worn(stamp),
         _ => Halt::NoMemory,
+    }
+}
+
+// The stamp that was seen there: the last one, or where stamps came to their end that.
+fn seen_by(halt: Halt, last: Stamp) -> Stamp
+    ensures { result ≡ seen_by halt last }
+{
+    match halt {
+        Halt::NoMemory => last,
+        Halt::Worn(stamp) => stamp,
     }
 }
 
@@ -36,7 +46,7 @@ impl Desk {
         ensures clear { IfOk result (λ withdrew. withdrew ≡ false → IsCleared domain.now queue.0 self.new) }
         ensures latest { IfOk result (λ withdrew. withdrew ≡ true → HasStamp self.new.caller.work.own self.new.caller.work.stamp) }
         ensures same { (self.new.queues ≡ self.old.queues) × (self.new.reader ≡ self.old.reader) }
-        ensures halted { IfErr result IsHaltNear }
+        ensures halted { IfErr result (IsHaltNear self.new) }
     {
         let pass = take_out(&mut self.board);
         let AtBoard { pass, last, answer } = clear_at(
@@ -59,8 +69,9 @@ impl Desk {
                 Ok(false)
             }
             Err(refused) => {
-                self.caller.saw(last);
-                Err(halt_by(refused))
+                let halt = halt_by(refused);
+                self.caller.saw(seen_by(halt, last));
+                Err(halt)
             }
         }
     }
@@ -78,7 +89,7 @@ impl Desk {
         ensures noted { OfDomain self.old self.new }
         ensures clear { OnOk result (IsCleared domain.now queue.0 self.new) }
         ensures same { (self.new.queues ≡ self.old.queues) × (self.new.reader ≡ self.old.reader) }
-        ensures halted { IfErr result IsHaltNear }
+        ensures halted { IfErr result (IsHaltNear self.new) }
     {
         for _ in rt.forever() {
             if !self.clear_one(rt, domain, queue)? {

@@ -3,7 +3,7 @@ ghost use Rattle.std.specs.Prelude.{◌≡◌, None};
 ghost use Rattle.xa_caller.specs.declared.phase.Phase.TheVariants as phases;
 ghost use Rattle.xa_caller.specs.Changes.{LeavesAs};
 ghost use Rattle.xa_caller.specs.Phases.{IsPrepared};
-ghost use Rattle.xa_desk.specs.declared.desk.Desk.{Desk as Left_};
+ghost use Rattle.xa_desk.specs.declared.desk.Desk.{Desk as Ended};
 ghost use Rattle.xa_desk.specs.Desks.{IsDomain, IsDesk, Leads};
 ghost use Rattle.xa_desk.specs.Parting.{IsLeft, FitsStill};
 
@@ -28,7 +28,7 @@ impl Desk {
         requires domain { IsDomain domain.now }
         requires desk { IsDesk domain.now self }
         requires idle { self.caller.phase ≡ phases.Idle }
-        ensures left { (ended : Left_) × IsLeft result ended × Leads domain.now self ended × LeavesAs result.left.halt ended.caller.work self.caller.work × FitsStill domain.now self ended }
+        ensures left { (ended : Ended) × IsLeft result ended × Leads domain.now self ended × LeavesAs result.left.halt ended.caller.work self.caller.work × FitsStill domain.now self ended }
     {
         let _ = domain;
         let Desk {
@@ -51,7 +51,7 @@ impl Desk {
         requires domain { IsDomain domain.now }
         requires desk { IsDesk domain.now self }
         requires out { IsPrepared self.caller.phase → ⊥ }
-        ensures left { (ended : Left_) × IsLeft result ended × Leads domain.now self ended × (ended.caller.work ≡ self.caller.work) × (result.left.halt ≡ None) }
+        ensures left { (ended : Ended) × IsLeft result ended × Leads domain.now self ended × (ended.caller.work ≡ self.caller.work) × (result.left.halt ≡ None) }
     {
         let Desk {
             caller,

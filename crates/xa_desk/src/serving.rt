@@ -299,7 +299,7 @@ impl Desk {
         requires desk { IsDesk domain.now self.old }
         requires fallen { IsFallen queue.0 self.old × (0 < queue.0) × (queue.0 < length domain.now.queues.items + 1) }
         ensures leads { Leads domain.now self.old self.new }
-        ensures swept { SweepsAs domain.now result self.old self.new }
+        ensures swept { SweepsAs domain.now queue.0 result self.old self.new }
         ensures fallen { IsFallen queue.0 self.new }
         ensures board { (self.new.board ≡ self.old.board) × (self.new.reader ≡ self.old.reader) }
     {

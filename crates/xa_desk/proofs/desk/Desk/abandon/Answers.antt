@@ -1,7 +1,7 @@
 use Rattle.std.proofs.Common.{refl}
 use Rattle.xa_desk.specs.declared.desk.Desk.{Desk}
 use Rattle.xa_desk.proofs.Parting.{given_up_leads}
-use Rattle.xa_desk.proofs.Seating.{reseated}
+use Rattle.xa_desk.proofs.Telling.{reseated}
 use Rattle.xa_desk.proofs.desk.Desk.abandon.Goals as goal
 
 pub returns : goal.returns

@@ -1,5 +1,4 @@
-use Rattle.std.proofs.Common.{◌≡◌, sym, ◌∙◌, ap}
-use Rattle.xa_desk.specs.declared.desk.Desk.{Desk}
+use Rattle.std.proofs.Common.{◌∙◌}
 use Rattle.xa_desk.proofs.Falling.{of_both}
 use Rattle.xa_desk.proofs.Leading.{leads_trans}
 use Rattle.xa_desk.proofs.desk.Desk.clear.Goals as goal
@@ -21,3 +20,6 @@ loop-preserved g c = record {
   same = (c.clear_one.ensures.same.0 ∙ c.loop.invariant.same.0, c.clear_one.ensures.same.1 ∙ c.loop.invariant.same.1);
   latest = c.in_ok-clear_one.ensures.latest c.if-not-branch.false;
 }
+
+pub returns-in_err-clear_one-clause-leads : goal.returns-in_err-clear_one-clause-leads
+returns-in_err-clear_one-clause-leads g c = leads_trans c.args.domain.now c.args.self.now c.loop.self c.clear_one.new.self c.loop.invariant.leads c.clear_one.ensures.leads
