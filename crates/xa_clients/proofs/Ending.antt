@@ -1,6 +1,6 @@
 -- How a client's worker makes its calls, and leaves.
 use Rattle.std.proofs.Common.{◌≡◌, ℕ, suc, ◌+◌, ◌<◌, List, length, Option, Some, None, Result, Ok, Err, OnOk, inl, inr, refl, sym, ◌∙◌, ap, subst, arith}
-use Rattle.std.specs.Prelude.{get_or, IfErr}
+use Rattle.std.specs.Prelude.{get_or, IfErr, IfSome}
 use Rattle.std.specs.List.{All, find}
 use Rattle.std.proofs.lemmas.List.Elements.{All-get_or, Contains-push}
 use Rattle.std.proofs.lemmas.Option.{slice_get_read}
@@ -13,7 +13,8 @@ use Rattle.xa_events.specs.declared.event.Event.TheVariants.{Leave}
 use Rattle.xa_events.specs.Caller.{is_call_of, newest_call, op_of, accepted_in}
 use Rattle.xa_stamp.specs.declared.home.Stamped.{Stamped}
 use Rattle.xa_work.specs.declared.work.Halt.{Halt}
-use Rattle.xa_work.specs.Work.{Standing as Working, theirs, noted}
+use Rattle.xa_work.specs.declared.work.Halt.TheVariants.{NoMemory, Worn}
+use Rattle.xa_work.specs.Work.{Standing as Working, theirs, noted, HaltsAt}
 use Rattle.xa_work.specs.Going.{FitEach}
 use Rattle.xa_work.proofs.Noting.{theirs-more}
 use Rattle.xa_caller.specs.Caller.{IsSound}
@@ -22,8 +23,10 @@ use Rattle.xa_caller.specs.Phases.{just_in}
 use Rattle.xa_desk.specs.declared.domain.Domain.{Domain}
 use Rattle.xa_desk.specs.declared.desk.Desk.{Desk}
 use Rattle.xa_desk.specs.declared.stopped.Stopped.{Stopped}
+use Rattle.xa_desk.specs.declared.stopped.Stopped.TheVariants.{Here, Elsewhere}
 use Rattle.xa_desk.specs.Whole.{entries_of}
 use Rattle.xa_desk.specs.Desks.{Leads}
+use Rattle.xa_desk.specs.Halting.{IsHaltAt, IsStopAt}
 use Rattle.xa_desk.specs.Parting.{FitsStill}
 use Rattle.xa_desk.proofs.Leading.{leads_trans}
 use Rattle.xa_clients.specs.declared.working.Ended.{Ended}
@@ -71,10 +74,24 @@ module _ (d : Domain) (desk : Desk) where
       subst (HasMade desk.caller.op) (sym left.1.2) (record {
         last = ap op_of (called_before w stamp) ∙ sound.reads.called;
         over = ap accepted_in (called_before w stamp) ∙ sound.reads.just ∙ ap just_in ready.idle;
-        left = (stamp, Contains-push w.own x);
+        left = Contains-push w.own x;
       })
   leaves_made new None ready sound none (inr left) = absurd (cc (sym ready.client ∙ left.0))
   leaves_made new (Some halt) ready sound none left = absurd (cc none)
+
+  halted_at : (ended : Desk) (halt : Halt) → ended.caller.work ≡ desk.caller.work → HaltsAt desk.caller.work.stamp halt → IsHaltAt ended halt
+  halted_at ended NoMemory same halts = tt
+  halted_at ended (Worn stamp) same halts = (halts.1, ap (λ (w : Working). w.stamp.0) same ∙ halts.0)
+
+  -- where its caller came to a halt as it left, that is why
+  pub leaves_halted : (ended : Desk) (halt : Option Halt) → LeavesAs halt ended.caller.work desk.caller.work → IfSome (here_by halt) (IsStopAt ended)
+  leaves_halted ended None left = tt
+  leaves_halted ended (Some halt) left = halted_at ended halt left.2 left.1
+
+  pub stopped_still : (ended : Desk) (stopped : Stopped) → ended.caller.work ≡ desk.caller.work → IsStopAt desk stopped → IsStopAt ended stopped
+  stopped_still ended (Here NoMemory) same stop = tt
+  stopped_still ended (Here (Worn stamp)) same stop = (stop.0, ap (λ (w : Working). w.stamp.0) same ∙ stop.1)
+  stopped_still ended Elsewhere same stop = tt
 
   pub given_up_fits : (ended : Desk) → Leads d desk ended → ended.caller.work ≡ desk.caller.work → FitsStill d desk ended
   given_up_fits ended leads work ops fits whole on = subst (λ (w : Working). FitEach d.setup d.clients (entries_of whole) w.id.0 ops w.own) (sym work) (fits whole (leads.before whole on))
@@ -93,6 +110,7 @@ module _ (d : Domain) (desk : Desk) where
     fits = λ fits. ended.fits ops (goes.fits fits);
     same = same_trans first desk ended.ended goes.same ended.same;
     all = λ none. all made ready stopped none;
+    halts = ended.halts;
   }
     where
       all : {U : Type 0} (made : Result U Stopped) → OnOk made (IsReady d n desk) → IfErr made (λ stopped. HasStopped stopped desk result) → result.stopped ≡ None → HasMade n ended.ended.caller.work

@@ -1,5 +1,5 @@
 -- What a client's worker leaves behind (this project's own).
-use Rattle.std.specs.Prelude.{◌≡◌, ℕ, List, Option, Some, None}
+use Rattle.std.specs.Prelude.{◌≡◌, ℕ, List, Option, Some, None, IfSome}
 use Rattle.std.specs.List.{Contains}
 use Rattle.xa_types.specs.declared.call.Op.{Op}
 use Rattle.xa_types.specs.declared.stamp.Stamp.{Stamp}
@@ -12,6 +12,7 @@ use Rattle.xa_desk.specs.declared.desk.Desk.{Desk}
 use Rattle.xa_desk.specs.declared.stopped.Stopped.{Stopped}
 use Rattle.xa_desk.specs.declared.stopped.Stopped.TheVariants.{Here, Elsewhere}
 use Rattle.xa_desk.specs.Desks.{IsDesk, Leads, FitsCalls}
+use Rattle.xa_desk.specs.Halting.{IsStopAt}
 use Rattle.xa_desk.specs.Parting.{IsLeft, FitsStill}
 use Rattle.xa_clients.specs.Going.{IsReady, IsOut, IsSame}
 use Rattle.xa_clients.specs.declared.working.Ended.{Ended}
@@ -28,11 +29,11 @@ pub record GoesThrough (d : Domain) (ops : List Op) (old new : Desk) : Type 0 wh
   pub fits : FitsBy d ops old new
   pub same : IsSame old new
 
--- so many calls were made, the last of them is over, and the client has left
+-- so many calls were made, the last of them is over, and the client has left, which came last
 pub record HasMade (made : ℕ) (w : Working) : Type 0 where
   pub last : last_op w.id.0 (theirs w) ≡ made
   pub over : just_accepted w.id.0 (theirs w) ≡ None
-  pub left : (stamp : Stamp) × Contains w.own (record { stamp = stamp; event = Leave w.id })
+  pub left : Contains w.own (record { stamp = w.stamp; event = Leave w.id })
 
 -- what the worker leaves behind is what a desk has left to which the old one led; where it didn't stop before, all of its calls were made
 pub record HasEnded (d : Domain) (Fits : Desk → Desk → Type 0) (made : ℕ) (old : Desk) (result : Ended) : Type 0 where
@@ -42,6 +43,7 @@ pub record HasEnded (d : Domain) (Fits : Desk → Desk → Type 0) (made : ℕ) 
   pub fits : Fits old ended
   pub same : IsSame old ended
   pub all : result.stopped ≡ None → HasMade made ended.caller.work
+  pub halts : IfSome result.stopped (IsStopAt ended)
 
 -- why it stopped, where its caller came to a halt as it left
 abbrev pub here_by : Option Halt → Option Stopped

@@ -16,6 +16,7 @@ use Rattle.xa_desk.specs.declared.desk.Desk.{Desk}
 use Rattle.xa_desk.specs.declared.stopped.Stopped.{Stopped}
 use Rattle.xa_desk.specs.declared.stopped.Stopped.TheVariants as ends
 use Rattle.xa_desk.specs.Desks.{IsDesk, Leads}
+use Rattle.xa_desk.specs.Halting.{IsStopAt}
 use Rattle.xa_desk.specs.Steps.{FitsOn}
 use Rattle.xa_clients.specs.declared.sending.Tried.{Tried}
 use Rattle.xa_clients.specs.declared.sending.Tried.TheVariants as attempts
@@ -43,6 +44,10 @@ pub record IsWaiting (d : Domain) (op : ℕ) (desk : Desk) : Type 0 where
 abbrev pub IsOut : Desk → Type 0
 IsOut desk = IsPrepared desk.caller.phase → ⊥
 
+-- it stopped for that reason, and may be given up
+abbrev pub IsStopped : Desk → Stopped → Type 0
+IsStopped desk stopped = IsOut desk × IsStopAt desk stopped
+
 -- ---- how it goes on
 
 -- the desk is the same worker's
@@ -60,20 +65,20 @@ pub record GoesBy (d : Domain) (op : ℕ) (ask : Ask) (old new : Desk) : Type 0 
 abbrev pub ToldAs : Domain → ℕ → Result Bool Stopped → Desk → Type 0
 ToldAs d op (Ok true) desk = IsReady d op desk
 ToldAs d op (Ok false) desk = IsWaiting d op desk
-ToldAs d op (Err stopped) desk = IsOut desk
+ToldAs d op (Err stopped) desk = IsStopped desk stopped
 
 -- what an attempt to send leaves: the request is out, or the call was refused, or nothing was sent, since all queues that are up are full
 abbrev pub TriedAs : Domain → ℕ → Result Tried Stopped → Desk → Type 0
 TriedAs d op (Ok attempts.Sent) desk = IsWaiting d op desk
 TriedAs d op (Ok attempts.Refused) desk = IsReady d op desk
 TriedAs d op (Ok attempts.Full) desk = (before : ℕ) × (before + 1 ≡ op) × IsReady d before desk
-TriedAs d op (Err stopped) desk = IsOut desk
+TriedAs d op (Err stopped) desk = IsStopped desk stopped
 
 -- what sending comes to: the request is out, or the call was refused
 abbrev pub SentAs : Domain → ℕ → Result Bool Stopped → Desk → Type 0
 SentAs d op (Ok true) desk = IsWaiting d op desk
 SentAs d op (Ok false) desk = IsReady d op desk
-SentAs d op (Err stopped) desk = IsOut desk
+SentAs d op (Err stopped) desk = IsStopped desk stopped
 
 -- ---- what one outcome says by another
 

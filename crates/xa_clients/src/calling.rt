@@ -1,9 +1,9 @@
 // A client makes a call.
-ghost use Rattle.std.specs.Prelude.{◌≡◌, ◌+◌, OnOk, OnErr};
+ghost use Rattle.std.specs.Prelude.{◌≡◌, ◌+◌, OnOk, IfErr};
 ghost use Rattle.xa_types.specs.declared.call.Ask.{Ask as Asked};
 ghost use Rattle.xa_types.specs.declared.call.Op.TheVariants.{Call};
 ghost use Rattle.xa_desk.specs.Desks.{IsDomain};
-ghost use Rattle.xa_clients.specs.Going.{IsReady, IsWaiting, IsOut, GoesBy, ToldAs, IsCall, told_by};
+ghost use Rattle.xa_clients.specs.Going.{IsReady, IsWaiting, IsStopped, GoesBy, ToldAs, IsCall, told_by};
 
 use crate::sending::{refused_by, send};
 use std::alloc::Global;
@@ -44,7 +44,7 @@ fn await_reply<W: Wait>(rt: &W, domain: &Domain, desk: &mut Desk, ask: &Ask) -> 
     requires waiting { IsWaiting domain.now desk.old.caller.op desk.old }
     ensures goes { GoesBy domain.now desk.old.caller.op ask.now desk.old desk.new }
     ensures told { OnOk result (IsReady domain.now desk.old.caller.op desk.new) }
-    ensures stopped { OnErr result (IsOut desk.new) }
+    ensures stopped { IfErr result (IsStopped desk.new) }
 {
     for _ in 0..LOOKS {
         if is_told(domain, desk, ask)? {
@@ -85,7 +85,7 @@ fn call<W: Wait>(
     requires turn { op ≡ desk.old.caller.op + 1 }
     ensures goes { GoesBy domain.now op ask.now desk.old desk.new }
     ensures made { OnOk result (IsReady domain.now op desk.new) }
-    ensures stopped { OnErr result (IsOut desk.new) }
+    ensures stopped { IfErr result (IsStopped desk.new) }
 {
     let service = match desk.check(domain, op, ask) {
         Ok(service) => service,
@@ -116,7 +116,7 @@ pub fn perform<W: Wait, G: Gate>(
     requires kind { IsCall ask.now }
     ensures goes { (asked : Asked) → ask.now ≡ Call asked → GoesBy domain.now op asked desk.old desk.new }
     ensures made { OnOk result (IsReady domain.now op desk.new) }
-    ensures stopped { OnErr result (IsOut desk.new) }
+    ensures stopped { IfErr result (IsStopped desk.new) }
 {
     match ask {
         Op::Call(ask) => {

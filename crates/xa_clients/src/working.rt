@@ -1,8 +1,8 @@
 // A client's worker.
-ghost use Rattle.std.specs.Prelude.{◌≡◌, ◌<◌, ◌^◌, length, OnOk, OnErr, IfErr};
+ghost use Rattle.std.specs.Prelude.{◌≡◌, ◌<◌, ◌^◌, length, OnOk, IfErr};
 ghost use Rattle.xa_desk.specs.Desks.{IsDomain, IsDesk};
 ghost use Rattle.xa_desk.specs.Parting.{FitsStill};
-ghost use Rattle.xa_clients.specs.Going.{IsReady, IsOut, AllCalls};
+ghost use Rattle.xa_clients.specs.Going.{IsReady, IsStopped, AllCalls};
 ghost use Rattle.xa_clients.specs.Ending.{FitsBy, GoesThrough, HasEnded, here_by, HasStopped, MayWork, HasWorked, MayEnd, EndsAs, IsBehind, IsStampOf};
 
 use crate::calling::perform;
@@ -41,7 +41,7 @@ fn perform_all<W: Wait, G: Gate>(
     requires few { length ops.now < 2 ^ 32 }
     ensures goes { GoesThrough domain.now ops.now desk.old desk.new }
     ensures made { OnOk result (IsReady domain.now (length ops.now) desk.new) }
-    ensures stopped { OnErr result (IsOut desk.new) }
+    ensures stopped { IfErr result (IsStopped desk.new) }
 {
     let mut number = 0u32;
     for op in ops {
@@ -66,7 +66,7 @@ fn leave(domain: &Domain, desk: Desk, made: Result<(), Stopped>) -> Ended
     requires domain { IsDomain domain.now }
     requires desk { IsDesk domain.now desk }
     requires ready { OnOk made (IsReady domain.now desk.caller.op desk) }
-    requires out { OnErr made (IsOut desk) }
+    requires out { IfErr made (IsStopped desk) }
     ensures ended { HasEnded domain.now (FitsStill domain.now) desk.caller.op desk result }
     ensures stopped { IfErr made (λ stopped. HasStopped stopped desk result) }
 {
