@@ -1,0 +1,433 @@
+-- A life of a server goes on by a request.
+use Rattle.std.proofs.Common.{◌≡◌, ◌⊎◌, ℕ, ◌+◌, ◌%◌, ◌^◌, Bool, true, false, cond, ℤ, List, [], ◌∷◌, ◌++◌, length, Some, None, inl, inr, refl, sym, ◌∙◌, ap, subst, append-nil, arith, if◌then◌else◌}
+use Rattle.std.specs.Prelude.{take, drop, IfSome, ◌&&◌}
+use Rattle.std.proofs.lemmas.List.{length-append}
+use Rattle.std.proofs.Math.Seq.{drop-append_seam}
+use Rattle.std.proofs.lemmas.List.Elements.{All-nil, All-cons}
+use Rattle.xa_types.specs.declared.ids.Generation.{Generation}
+use Rattle.xa_types.specs.declared.ids.RequestId.{RequestId}
+use Rattle.xa_types.specs.declared.call.Rval.{Rval}
+use Rattle.xa_types.specs.declared.call.Rval.TheVariants as rvals
+use Rattle.xa_types.specs.declared.data.Data.{Data}
+use Rattle.xa_types.specs.declared.setup.Setup.{Setup}
+use Rattle.xa_types.specs.Kind.{is_sound}
+use Rattle.xa_events.specs.declared.event.Event.{Event}
+use Rattle.xa_events.specs.declared.event.Event.TheVariants.{Take, End}
+use Rattle.xa_events.specs.declared.event.Taken.{Taken}
+use Rattle.xa_events.specs.declared.event.Ended.{Ended}
+use Rattle.xa_events.specs.declared.event.StopCause.TheVariants as causes
+use Rattle.xa_events.specs.declared.event.Outcome.TheVariants as outcomes
+use Rattle.xa_events.specs.declared.event.Doing.{Doing}
+use Rattle.xa_events.specs.declared.event.Doing.TheVariants.{Off, Idle, Busy}
+use Rattle.xa_events.specs.declared.event.Outcome.{Outcome}
+use Rattle.xa_types.specs.declared.stamp.Stamp.{Stamp}
+use Rattle.xa_events.specs.Words.{AtEach, count}
+use Rattle.xa_events.specs.Server.{after_end}
+use Rattle.xa_events.specs.Finishing.{returned as outcome_by_value, return_by, is_empty}
+use Rattle.xa_frame.specs.declared.frame.Frame.{Frame}
+use Rattle.xa_lock.specs.declared.makers.Made.{Made}
+use Rattle.xa_queue.specs.declared.entry.Entry.{Entry}
+use Rattle.xa_held.specs.declared.cargo.Invocation.{Invocation}
+use Rattle.xa_held.specs.Kept.{Brings}
+use Rattle.xa_work.specs.Work.{theirs}
+use Rattle.xa_caller.specs.Drafts.{Cargo}
+use Rattle.xa_pipe.specs.declared.hearing.Return.{Return}
+use Rattle.xa_pipe.specs.declared.turn.Turn.{Turn}
+use Rattle.xa_pipe.specs.declared.turn.Turn.TheVariants.{AwaitsReady, AwaitsNext, AwaitsInvoke, Serving, Exited}
+use Rattle.xa_pipe.specs.Frames.{is_of_life, is_take_in, invocation, ready_frame, next_frame, return_frame}
+use Rattle.xa_pipe.specs.Life.{LinkShows, EachCame, came_in, outcome_of, outcome_by, turn_behind, returns_in}
+use Rattle.xa_pipe.specs.Pipe.{invoke_frame}
+use Rattle.xa_pipe.specs.Standing.{Standing as Life, Ending, IsOver, returned, tag_of}
+use Rattle.xa_pipe.specs.Changes.{Heard, Fell, Greeted, FellGreeting, Invoked, Unsent, ShutDown, Exits, next_invoke, with_said, turn_after}
+use Rattle.xa_pipe.specs.Following.{Follows, Settled}
+use Rattle.xa_pipe.proofs.Followed.{follows_greeted, follows_next, follows_take, follows_end, settles_fallen, settles_shut, settles_exited, settles_lost, settles_unsent}
+use Rattle.xa_pipe.proofs.Saying.{returns_append, returns_next, returns_push}
+use Rattle.xa_server.specs.declared.closing.Closing.{Closing}
+use Rattle.xa_server.specs.declared.slot.ServerSlot.{ServerSlot}
+use Rattle.xa_server.specs.declared.slot.Last.TheVariants as lasts
+use Rattle.xa_server.specs.Served.{StarterShows}
+use Rattle.xa_server.specs.Doings.{life_in, last_by, InHand}
+use Rattle.xa_server.specs.declared.served.Served.{Served}
+use Rattle.xa_server.specs.Noting.{IsWorn}
+use Rattle.xa_server.specs.Changes.{Invokes, Finishes, Stops}
+use Rattle.xa_types.specs.declared.stamp.Worn.{Worn}
+use Rattle.xa_desk.specs.declared.stopped.Stopped.{Stopped}
+use Rattle.xa_desk.specs.declared.domain.Domain.{Domain}
+use Rattle.xa_desk.specs.declared.desk.Desk.{Desk}
+use Rattle.xa_desk.specs.Desks.{Leads}
+use Rattle.xa_desk.specs.Found.{SawAtQueue}
+use Rattle.xa_desk.specs.Serving.{IsServing, IsTaken}
+use Rattle.xa_events.specs.Cases.{IsShut}
+use Rattle.xa_links.specs.declared.working.ServerWorker.{ServerWorker}
+use Rattle.xa_links.specs.Lives.{IsHanded}
+use Rattle.xa_links.specs.Steps.{Serves, Takes, is_exit, stop_by}
+use Rattle.xa_links.specs.Standing.{brought_at, SettlesBy, IsLast, IsAtWork, IsOff, IsIn, IsFree, HasTaken, MayDie, HasEnded}
+use Rattle.xa_links.proofs.Stepping.{noted_steps}
+use Rattle.xa_links.proofs.Keeping.{OfLife, handed_wider, handed_led, going_on}
+use Rattle.xa_desk.proofs.Staying.{queue_stays}
+use Rattle.xa_events.specs.Server.{was_shut_down}
+use Rattle.xa_links.proofs.Lasting.{at_desk, at_kept, number_of, last_on, work_on, ends_done}
+use Rattle.xa_links.proofs.Deaths.{is_its, death_in, stops_idle, worn_still}
+
+-- ---- a life with another turn
+
+-- what it is stays
+pub record Becomes (asked : List Frame) (new old : Life) : Type 0 where
+  pub link : LinkShows
+  pub said : List Frame
+  pub turn : Turn
+  pub made : new ≡ record old { link = link; asked = asked; said = said; turn = turn }
+
+module _ {new old : Life} (asked : List Frame) (becomes : Becomes asked new old) where
+  pub at_still : {L T : Type 0} {d : Domain} {named : T → List ℕ} {shows : T → StarterShows} {w : ServerWorker L T} → IsAtWork d named shows w (old.generation ∷ []) → IsAtWork d named shows w (new.generation ∷ [])
+  at_still {L} {T} {d} {named} {shows} {w} at = subst (λ (l : Life). IsAtWork d named shows w (l.generation ∷ [])) (sym becomes.made) at
+
+  pub last_still : {name : List ℕ} {slot : ServerSlot} → IsLast name slot old → IsLast name slot new
+  last_still last = record { server = ap (λ (l : Life). l.server) becomes.made ∙ last.server; named = ap (λ (l : Life). l.name) becomes.made ∙ last.named; number = ap (λ (l : Life). l.generation.0) becomes.made ∙ last.number }
+
+  pub handed_still : (brought : List Made) (own : List Event) → AtEach (IsHanded old.server.0 old.generation.0 asked brought) own → AtEach (IsHanded new.server.0 new.generation.0 new.asked brought) own
+  handed_still brought own each = subst (λ (l : Life). AtEach (IsHanded l.server.0 l.generation.0 l.asked brought) own) (sym becomes.made) each
+
+  pub does_still : (doing : Doing) → doing ≡ Idle old.generation → doing ≡ Idle new.generation
+  does_still doing is = is ∙ ap (λ (l : Life). Idle l.generation) (sym becomes.made)
+
+-- what a RETURN comes to
+pub return_is : (setup : Setup) (conns : List RequestId) (value : Rval) (code : ℤ) (payload : Data) → conns ≡ [] → return_by setup conns value code payload ≡ outcome_by setup value code payload
+return_is setup conns value code payload none = ap (λ (l : List RequestId). return_by setup l value code payload) none ∙ by value (is_sound setup payload)
+  where
+    by : (v : Rval) (b : Bool) → (if b && true then outcome_by_value v code payload else outcomes.BadReturn) ≡ (if b then outcome_of v code payload else outcomes.BadReturn)
+    by rvals.Success true = refl
+    by rvals.Fail true = refl
+    by rvals.Exit true = refl
+    by v false = refl
+
+-- the server is idle then
+plain_idle : (value : Rval) (code : ℤ) (payload : Data) (b : Bool) (g : Generation) → after_end (if b then outcome_by_value value code payload else outcomes.BadReturn) g ≡ Idle g
+plain_idle value code payload false g = refl
+plain_idle rvals.Success code payload true g = refl
+plain_idle rvals.Fail code payload true g = refl
+plain_idle rvals.Exit code payload true g = refl
+
+exits_badly : (setup : Setup) (conns : List RequestId) (value : Rval) (code : ℤ) (payload : Data) → is_exit value ≡ true → last_by (return_by setup conns value code payload) ≡ lasts.Badly
+exits_badly setup conns value code payload exits = by value (is_sound setup payload && is_empty conns) exits
+  where
+    by : (v : Rval) (b : Bool) → is_exit v ≡ true → last_by (if b then outcome_by_value v code payload else outcomes.BadReturn) ≡ lasts.Badly
+    by rvals.Exit true is = refl
+    by rvals.Success true is = absurd (cc is)
+    by rvals.Fail true is = absurd (cc is)
+    by v false is = refl
+
+pub exits_turn : (value : Rval) → is_exit value ≡ true → turn_behind value ≡ Exited
+exits_turn rvals.Exit is = refl
+exits_turn rvals.Success is = absurd (cc is)
+exits_turn rvals.Fail is = absurd (cc is)
+
+pub stays_turn : (value : Rval) → is_exit value ≡ false → turn_behind value ≡ AwaitsNext
+stays_turn rvals.Exit is = absurd (cc is)
+stays_turn rvals.Success is = refl
+stays_turn rvals.Fail is = refl
+
+-- how many RETURNs there were
+returned_next : (frames : List Frame) → length (returns_in (frames ++ next_frame ∷ [])) ≡ length (returns_in frames)
+returned_next frames = ap length (returns_next frames)
+
+returned_push : (frames : List Frame) (tag : ℕ) (back : Return) → length (returns_in (frames ++ return_frame tag back.value back.code back.payload ∷ [])) ≡ length (returns_in frames) + 1
+returned_push frames tag back = ap length (returns_push frames tag back) ∙ length-append (returns_in frames) (back ∷ [])
+
+returned_ready : (name : List ℕ) (frames : List Frame) → length (returns_in (frames ++ ready_frame name ∷ next_frame ∷ [])) ≡ length (returns_in frames)
+returned_ready name frames = ap length (returns_append frames (ready_frame name ∷ next_frame ∷ []) ∙ append-nil (returns_in frames))
+
+-- whether the server was shut down is what its slot says
+pub shut_read : {d : Domain} {queue : ℕ} {slot : ServerSlot} {desk : Desk} → IsServing d queue slot desk → slot.shut ≡ true → was_shut_down slot.server.0 (theirs desk.caller.work) ≡ true
+unfolding was_shut_down
+shut_read serving is = serving.stands.tables.reads.stopped ∙ is
+
+abbrev pub own_of : {L T : Type 0} → ServerWorker L T → List Event
+own_of w = theirs w.desk.caller.work
+
+abbrev pub brought_of : {L T : Type 0} → ServerWorker L T → List Made
+brought_of w = brought_at w.queue.0 w.desk
+
+-- the INVOKE at its place
+invoke_is : (life : Life) (before : List Event) (t : Taken) (what : Invocation) → is_of_life life.server.0 life.generation.0 t.server.0 t.generation.0 ≡ true → count (is_take_in life.server.0 life.generation.0) before ≡ length life.asked → length life.asked ≡ returned life
+    → take 1 (drop (count (is_take_in life.server.0 life.generation.0) before) (life.asked ++ next_invoke what.service what.routine what.payload life ∷ []))
+    ≡ invoke_frame what.service what.routine (invocation life.server.0 life.generation.0 (Take t ∷ before)) what.payload ∷ []
+unfolding invocation
+invoke_is life before t what its taken even =
+    let f : Frame = next_invoke what.service what.routine what.payload life in
+    ap (λ (n : ℕ). take 1 (drop n (life.asked ++ f ∷ []))) taken ∙ ap (take 1) (drop-append_seam life.asked (f ∷ []))
+    ∙ ap (λ (n : ℕ). invoke_frame what.service what.routine ((n + 1) % 2 ^ 32) what.payload ∷ []) (sym (taken ∙ even))
+    ∙ ap (λ (b : Bool). invoke_frame what.service what.routine (cond b (count (is_take_in life.server.0 life.generation.0) before + 1) (count (is_take_in life.server.0 life.generation.0) before) % 2 ^ 32) what.payload ∷ []) (sym its)
+
+-- the request in hand ended
+pub finish_serves : {L T : Type 0} {d : Domain} (w : ServerWorker L T) (outcome : Outcome) (closing : Closing) (slot' : ServerSlot) (desk' : Desk) → Leads d w.desk desk' → IsServing d w.queue.0 w.served.slot w.desk → IsServing d w.queue.0 slot' desk' → Finishes outcome closing slot' w.served.slot desk'.caller.work w.desk.caller.work
+    → (e : Ended) × Serves d w.queue.0 (End e ∷ []) w.served.slot slot' w.desk desk' × (e.server ≡ w.served.slot.server) × (e.generation ≡ life_in w.served.slot.doing) × (e.outcome ≡ outcome)
+finish_serves w outcome closing slot' desk' leads was serving finishes =
+    let ends = finishes.ends in
+    let e : Ended = record { request = ends.entry.request; server = w.served.slot.server; generation = life_in w.served.slot.doing; outcome = outcome } in (
+      e,
+      record {
+        steps = noted_steps finishes.stamp (End e) _ leads (number_of was) ends.noted;
+        serving = serving;
+        server = ap (λ (s : ServerSlot). s.server) finishes.left ∙ ap (λ (s : ServerSlot). s.server) ends.left;
+        made = ap (λ (s : ServerSlot). s.made) finishes.left ∙ ap (λ (s : ServerSlot). s.made) ends.left;
+        gone = ap (λ (s : ServerSlot). s.gone) finishes.left ∙ ap (λ (s : ServerSlot). s.gone) ends.left;
+      },
+      refl,
+      refl,
+      refl,
+    )
+
+module _ {L T : Type 0} {d : Domain} {named : T → List ℕ} {shows : T → StarterShows} (w : ServerWorker L T) where
+  -- ---- its program says something
+
+  pub greeted_in : (new old : Life) → Greeted new old → IsIn d named shows (Idle old.generation) AwaitsReady 0 old w → IsFree d named shows new w
+  greeted_in new old greeted is =
+      let becomes : Becomes old.asked new old = record { link = new.link; said = _; turn = AwaitsInvoke; made = greeted.made } in
+      record {
+        at = at_still old.asked becomes is.at;
+        last = last_still old.asked becomes is.last;
+        going = record { follows = follows_greeted d.setup old new (own_of w) greeted is.going.follows; handed = handed_still old.asked becomes (brought_of w) (own_of w) is.going.handed };
+        does = does_still old.asked becomes w.served.slot.doing is.does;
+        turns = ap (λ (l : Life). l.turn) greeted.made;
+        asked = ap (λ (l : Life). length l.asked) greeted.made ∙ is.asked ∙ ap (λ (n : ℕ). n + 0) (sym (ap (λ (l : Life). length (returns_in l.said)) greeted.made ∙ returned_ready old.name old.said));
+        room = is.room;
+      }
+
+  pub next_in : (new old : Life) → Heard next_frame new old → IsIn d named shows (Idle old.generation) AwaitsNext 0 old w → IsFree d named shows new w
+  next_in new old heard is =
+      let becomes : Becomes old.asked new old = record { link = new.link; said = _; turn = _; made = heard.made } in
+      record {
+        at = at_still old.asked becomes is.at;
+        last = last_still old.asked becomes is.last;
+        going = record { follows = follows_next d.setup old new (own_of w) heard is.going.follows; handed = handed_still old.asked becomes (brought_of w) (own_of w) is.going.handed };
+        does = does_still old.asked becomes w.served.slot.doing is.does;
+        turns = ap (λ (l : Life). l.turn) heard.made ∙ ap (λ (t : Turn). turn_after t next_frame.body) is.turns;
+        asked = ap (λ (l : Life). length l.asked) heard.made ∙ is.asked ∙ ap (λ (n : ℕ). n + 0) (sym (ap (λ (l : Life). length (returns_in l.said)) heard.made ∙ returned_next old.said));
+        room = is.room;
+      }
+
+  -- it said READY, and may fall behind that
+  pub ready_in : (link : LinkShows) (old : Life) → IsIn d named shows (Idle old.generation) AwaitsReady 0 old w → IsIn d named shows (Idle old.generation) AwaitsNext 0 (with_said (ready_frame old.name) link old) w
+  ready_in link old is = record {
+    at = is.at;
+    last = record { server = is.last.server; named = is.last.named; number = is.last.number };
+    going = record {
+      follows = record {
+        alive = is.going.follows.alive;
+        taken = is.going.follows.taken;
+        came = subst (λ (rs : List Return). EachCame d.setup rs (came_in old.server.0 old.generation.0 (own_of w))) (sym (returns_append old.said (ready_frame old.name ∷ []) ∙ append-nil (returns_in old.said))) is.going.follows.came;
+      };
+      handed = is.going.handed;
+    };
+    does = is.does;
+    turns = ap (λ (t : Turn). turn_after t (ready_frame old.name).body) is.turns;
+    asked = is.asked ∙ ap (λ (rs : List Return). length rs + 0) (sym (returns_append old.said (ready_frame old.name ∷ []) ∙ append-nil (returns_in old.said)));
+    room = is.room;
+  }
+
+  -- ---- a request is taken and sent
+
+  pub taken_in : (slot' : ServerSlot) (desk' : Desk) (life : Life) → Takes d w.queue.0 w.served.slot slot' w.desk desk' → IsFree d named shows life w → HasTaken d named shows life (at_desk w slot' desk')
+  taken_in slot' desk' life takes is =
+      let t : Taken = takes.t in
+      let g : t.generation ≡ life.generation = takes.generation ∙ ap life_in is.does in
+      let number : t.generation.0 ≡ w.served.slot.made = ap (λ h. h.0) g ∙ is.last.number in
+      record {
+        at = work_on w slot' desk' (Take t ∷ []) life.generation takes.serves (All-cons (OfLife w.served.slot.made) (Take t) [] number (All-nil (OfLife w.served.slot.made))) is.at;
+        last = last_on w.name w.served.slot slot' life takes.serves.server takes.serves.made is.last;
+        t = t;
+        before = (own_of w);
+        own = takes.serves.steps.own;
+        its = is_its life.server.0 life.generation.0 t.server.0 t.generation.0 (ap (λ s. s.0) takes.server ∙ ap (λ s. s.0) (sym is.last.server)) (ap (λ h. h.0) g);
+        going = going_on takes.serves.steps w.queue.0 (own_of w) life is.going;
+        entry = takes.entry;
+        hand = takes.hand;
+        request = takes.request;
+        does = takes.busy ∙ ap (λ h. Busy h t.request) g;
+        turns = is.turns;
+        asked = let even = is.asked in omega (arith, even);
+        room = is.room;
+      }
+
+  module _ (life : Life) (has : HasTaken d named shows life w) (what : Invocation) (invokes : Invokes w.served.slot.hand what) where
+    abbrev f : Frame
+    f = next_invoke what.service what.routine what.payload life
+
+    same_entry : (a b : Entry Cargo) → w.served.slot.hand ≡ Some a → w.served.slot.hand ≡ Some b → a ≡ b
+    same_entry a b is so = cc (sym is ∙ so)
+
+    -- the request that was taken is handed on by it
+    sent_handed : AtEach (IsHanded life.server.0 life.generation.0 (life.asked ++ f ∷ []) (brought_of w)) (Take has.t ∷ has.before)
+    sent_handed =
+        let taken : IsTaken d w.queue.0 w.desk has.entry = subst (λ h. IfSome h (IsTaken d w.queue.0 w.desk)) has.hand has.at.serving.hand in
+        let asked : has.entry.cargo.invocation ≡ what = sym (invokes.sent ∙ ap (λ (e : Entry Cargo). e.cargo.invocation) (same_entry invokes.entry has.entry invokes.in_hand has.hand)) in
+        let brings : Brings has.t.request what taken.brought.noted.event =
+        subst (λ (i : Invocation). Brings has.t.request i taken.brought.noted.event) asked (subst (λ (r : RequestId). Brings r has.entry.cargo.invocation taken.brought.noted.event) (sym has.request) taken.brings) in (
+          λ its. (taken.brought, what, taken.stands, brings, invoke_is life has.before has.t what has.its has.going.follows.taken has.asked),
+          subst (λ (b : List Made). AtEach (IsHanded life.server.0 life.generation.0 (life.asked ++ f ∷ []) b) has.before) (append-nil (brought_of w)) (handed_wider life.server.0 life.generation.0 life.asked (f ∷ []) (brought_of w) [] has.before has.going.handed),
+        )
+
+    pub sent_in : (new : Life) → Invoked f new life → IsIn d named shows (Busy new.generation has.t.request) Serving 1 new w
+    sent_in new invoked =
+        let becomes : Becomes (life.asked ++ f ∷ []) new life = record { link = _; said = life.said; turn = Serving; made = invoked.made } in
+        record {
+          at = at_still (life.asked ++ f ∷ []) becomes has.at;
+          last = last_still (life.asked ++ f ∷ []) becomes has.last;
+          going = record {
+            follows = subst (Follows d.setup new) (sym {A = List Event} has.own) (follows_take d.setup life new has.before has.t f has.its invoked has.going.follows);
+            handed = subst (AtEach (IsHanded new.server.0 new.generation.0 new.asked (brought_of w))) (sym {A = List Event} has.own) (handed_still (life.asked ++ f ∷ []) becomes (brought_of w) (Take has.t ∷ has.before) sent_handed);
+          };
+          does = has.does ∙ ap (λ (l : Life). Busy l.generation has.t.request) (sym invoked.made);
+          turns = ap (λ (l : Life). l.turn) invoked.made;
+          asked = ap (λ (l : Life). length l.asked) invoked.made ∙ length-append life.asked (f ∷ []) ∙ ap (λ (n : ℕ). n + 1) (has.asked ∙ ap (λ (l : Life). length (returns_in l.said)) (sym invoked.made));
+          room = has.room;
+        }
+
+    -- or it wasn't sent
+    pub unsent_dies : (over : Ending) → Unsent f over life → MayDie d named shows over w
+    unsent_dies over unsent =
+        let becomes : Becomes (life.asked ++ f ∷ []) over.life life = record { link = over.life.link; said = life.said; turn = Serving; made = unsent.life } in
+        let serving : over.life.turn ≡ Serving = ap (λ (l : Life). l.turn) unsent.life in
+        record {
+          at = at_still (life.asked ++ f ∷ []) becomes has.at;
+          last = last_still (life.asked ++ f ∷ []) becomes has.last;
+          handed = subst (AtEach (IsHanded over.life.server.0 over.life.generation.0 over.life.asked (brought_of w))) (sym {A = List Event} has.own) (handed_still (life.asked ++ f ∷ []) becomes (brought_of w) (Take has.t ∷ has.before) sent_handed);
+          settles = subst (SettlesBy d over (own_of w)) (sym has.does) (
+            ap (λ (l : Life). l.generation) (sym unsent.life),
+            λ e ours outcome. subst (λ (l : List Event). Settled d.setup over (End e ∷ l)) (sym {A = List Event} has.own) (settles_unsent d.setup life over has.before has.t e f unsent has.its ours outcome has.going.follows),
+          );
+          dies = death_in over.cause over.life.turn over.written (λ exited. cc (exited, serving)) (λ idle. cc (idle, serving));
+          shut = λ idle. cc (idle, serving);
+          room = has.room;
+        }
+
+  -- ---- its program says nothing more
+
+  pub falls_busy : (old : Life) (over : Ending) (request : RequestId) → Fell over old → IsIn d named shows (Busy old.generation request) Serving 1 old w → MayDie d named shows over w
+  falls_busy old over request fell is =
+      let becomes : Becomes old.asked over.life old = record { link = over.life.link; said = old.said; turn = old.turn; made = fell.life } in
+      let serving : over.life.turn ≡ Serving = ap (λ (l : Life). l.turn) fell.life ∙ is.turns in
+      record {
+        at = at_still old.asked becomes is.at;
+        last = last_still old.asked becomes is.last;
+        handed = handed_still old.asked becomes (brought_of w) (own_of w) is.going.handed;
+        settles = subst (SettlesBy d over (own_of w)) (sym is.does) (ap (λ (l : Life). l.generation) (sym fell.life), λ e ours outcome. settles_lost d.setup old over (own_of w) e fell is.turns ours outcome is.going.follows);
+        dies = death_in over.cause over.life.turn over.written (λ exited. cc (exited, serving)) (λ idle. cc (idle, serving));
+        shut = λ idle. cc (idle, serving);
+        room = is.room;
+      }
+
+  pub falls_idle : (old : Life) (over : Ending) (turn : Turn) → (turn ≡ AwaitsReady) ⊎ (turn ≡ AwaitsNext) → Fell over old → IsIn d named shows (Idle old.generation) turn 0 old w → MayDie d named shows over w
+  falls_idle old over turn reads fell is =
+      let becomes : Becomes old.asked over.life old = record { link = over.life.link; said = old.said; turn = old.turn; made = fell.life } in
+      let same : over.life.turn ≡ turn = ap (λ (l : Life). l.turn) fell.life ∙ is.turns in
+      let turns = is.turns in
+      record {
+        at = at_still old.asked becomes is.at;
+        last = last_still old.asked becomes is.last;
+        handed = handed_still old.asked becomes (brought_of w) (own_of w) is.going.handed;
+        settles = subst (SettlesBy d over (own_of w)) (sym is.does) (ap (λ (l : Life). l.generation) (sym fell.life), settles_fallen d.setup old over (own_of w) fell (λ h. elim reads [ inl r ↦ cc (r, turns, h) | inr n ↦ cc (n, turns, h) ]) is.going.follows);
+        dies = death_in over.cause over.life.turn over.written (λ exited. elim reads [ inl r ↦ cc (r, same, exited) | inr n ↦ cc (n, same, exited) ]) (λ idle. elim reads [ inl r ↦ cc (r, same, idle) | inr n ↦ cc (n, same, idle) ]);
+        shut = λ idle. elim reads [ inl r ↦ cc (r, same, idle) | inr n ↦ cc (n, same, idle) ];
+        room = is.room;
+      }
+
+  pub falls_greeting : (old : Life) (over : Ending) → FellGreeting over old → IsIn d named shows (Idle old.generation) AwaitsReady 0 old w → MayDie d named shows over w
+  falls_greeting old over (inl fell) is = falls_idle old over AwaitsReady (inl refl) fell is
+  falls_greeting old over (inr fell) is = falls_idle (with_said (ready_frame old.name) over.life.link old) over AwaitsNext (inr refl) fell (ready_in over.life.link old is)
+
+  -- or it wasn't told to end
+  pub shut_dies : (old : Life) (over : Ending) → ShutDown over old → (over.cause ≡ causes.Shutdown → ⊥) → SawAtQueue d w.queue.0 w.desk (IsShut d.setup w.queue.0) → IsFree d named shows old w → MayDie d named shows over w
+  shut_dies old over shut unshut saw is =
+      let becomes : Becomes old.asked over.life old = record { link = over.life.link; said = old.said; turn = old.turn; made = shut.life } in
+      let same : over.life.turn ≡ AwaitsInvoke = ap (λ (l : Life). l.turn) shut.life ∙ is.turns in
+      record {
+        at = at_still old.asked becomes is.at;
+        last = last_still old.asked becomes is.last;
+        handed = handed_still old.asked becomes (brought_of w) (own_of w) is.going.handed;
+        settles = subst (SettlesBy d over (own_of w)) (sym is.does) (ap (λ (l : Life). l.generation) (sym shut.life), settles_shut d.setup old over (own_of w) shut is.turns is.going.follows);
+        dies = death_in over.cause over.life.turn over.written (λ exited. cc (exited, same)) (λ idle. unshut);
+        shut = λ idle. saw;
+        room = is.room;
+      }
+
+  -- ---- it returns
+
+  pub returned_in : (new old : Life) (request : RequestId) (value : Rval) (code : ℤ) (payload : Data) (conns : List RequestId) (closing : Closing) (slot' : ServerSlot) (desk' : Desk) → Heard (return_frame (tag_of old) value code payload) new old → IsIn d named shows (Busy old.generation request) Serving 1 old w
+      → conns ≡ [] → Leads d w.desk desk' → IsServing d w.queue.0 slot' desk' → Finishes (return_by d.setup conns value code payload) closing slot' w.served.slot desk'.caller.work w.desk.caller.work
+      → IsIn d named shows (Idle new.generation) (turn_behind value) 0 new (at_desk w slot' desk') × (is_exit value ≡ true → slot'.last ≡ lasts.Badly)
+  returned_in new old request value code payload conns closing slot' desk' heard is none leads serving finishes =
+      let ended = finish_serves w (return_by d.setup conns value code payload) closing slot' desk' leads is.at.serving serving finishes in
+      let e : Ended = ended.0 in
+      let serves = ended.1 in
+      let slot : ServerSlot = w.served.slot in
+      let back : Return = record { value = value; code = code; payload = payload } in
+      let lived : life_in slot.doing ≡ old.generation = ap life_in is.does in
+      let gen : e.generation ≡ old.generation = ended.3 ∙ lived in
+      let its = is_its old.server.0 old.generation.0 e.server.0 e.generation.0 (ap (λ s. s.0) ended.2 ∙ ap (λ s. s.0) (sym is.last.server)) (ap (λ h. h.0) gen) in
+      let becomes : Becomes old.asked new old = record { link = new.link; said = _; turn = _; made = heard.made } in
+      let at = work_on w slot' desk' (End e ∷ []) old.generation serves (All-cons (OfLife slot.made) (End e) [] (ap (λ h. h.0) gen ∙ is.last.number) (All-nil (OfLife slot.made))) is.at in
+      let last = last_on w.name slot slot' old serves.server serves.made is.last in (
+        record {
+          at = at_still old.asked becomes at;
+          last = last_still old.asked becomes last;
+          going = record {
+            follows = subst (Follows d.setup new) (sym {A = List Event} serves.steps.own) (follows_end d.setup old new (own_of w) e back (tag_of old) its heard (ended.4 ∙ return_is d.setup conns value code payload none) is.going.follows);
+            handed = subst (AtEach (IsHanded new.server.0 new.generation.0 new.asked (brought_at w.queue.0 desk'))) (sym {A = List Event} serves.steps.own)
+                (tt, handed_still old.asked becomes (brought_at w.queue.0 desk') (own_of w) (handed_led old.server.0 old.generation.0 d w.queue.0 w.desk desk' old.asked (own_of w) leads is.going.handed));
+          };
+          does = ap (λ (s : ServerSlot). s.doing) finishes.left ∙ ap (λ (s : ServerSlot). s.doing) finishes.ends.left ∙ plain_idle value code payload _ (life_in slot.doing) ∙ ap Idle lived ∙ ap (λ (l : Life). Idle l.generation) (sym heard.made);
+          turns = ap (λ (l : Life). l.turn) heard.made ∙ ap (λ (t : Turn). turn_after t (return_frame (tag_of old) value code payload).body) is.turns;
+          asked = ap (λ (l : Life). length l.asked) heard.made ∙ is.asked ∙ sym (ap (λ (l : Life). length (returns_in l.said)) heard.made ∙ returned_push old.said (tag_of old) back) ∙ add_none (returned new);
+          room = is.room;
+        },
+        λ exits. ap (λ (s : ServerSlot). s.last) finishes.left ∙ ap (λ (s : ServerSlot). s.last) finishes.ends.left ∙ exits_badly d.setup conns value code payload exits,
+      )
+    where
+      add_none : (n : ℕ) → n ≡ n + 0
+      add_none n = omega arith
+
+  pub in_turn : {doing : Doing} {turn turn' : Turn} {n : ℕ} {life : Life} → turn ≡ turn' → IsIn d named shows doing turn n life w → IsIn d named shows doing turn' n life w
+  in_turn {doing} {turn} {turn'} {n} {life} same is = subst (λ (t : Turn). IsIn d named shows doing t n life w) same is
+
+  -- its life ends by that
+
+  pub exits_off : (life : Life) (over : Ending) (kept : Served L T) (slot' : ServerSlot) (desk' : Desk) (stamp : Stamp) → IsIn d named shows (Idle life.generation) Exited 0 life w → Exits over life → IsOver over → kept.lives.items ≡ w.served.lives.items ++ over ∷ [] → kept.starter ≡ w.served.starter
+      → Leads d w.desk desk' → IsServing d w.queue.0 slot' desk' → Stops causes.Exit stamp slot' w.served.slot desk'.caller.work w.desk.caller.work → IsOff d named shows (at_kept w kept slot' desk')
+  exits_off life over kept slot' desk' stamp is exits ended lives starter leads serving stopped =
+      let turn : over.life.turn ≡ Exited = ap (λ (l : Life). l.turn) exits.life ∙ is.turns in
+      record {
+        at = stops_idle w over (subst (λ (l : Life). IsAtWork d named shows w (l.generation ∷ [])) (sym exits.life) is.at) (subst (IsLast w.name w.served.slot) (sym exits.life) is.last) ended
+            (subst (λ (l : Life). AtEach (IsHanded l.server.0 l.generation.0 l.asked (brought_of w)) (own_of w)) (sym exits.life) is.going.handed) kept lives starter slot' desk' leads serving causes.Exit stamp (sym exits.cause) (ap life_in is.does ∙ ap (λ (l : Life). l.generation) (sym exits.life))
+            (settles_exited d.setup life over (own_of w) exits is.turns is.going.follows) (λ idle. cc (idle, turn)) stopped;
+        off = ap (λ (s : ServerSlot). s.doing) stopped.left;
+        up = ap (λ (s : ServerSlot). s.shut) stopped.left;
+      }
+
+  pub exits_worn : (life : Life) (over : Ending) (kept : Served L T) (slot' : ServerSlot) (desk' : Desk) → IsIn d named shows (Idle life.generation) Exited 0 life w → Exits over life → IsOver over → kept.lives.items ≡ w.served.lives.items ++ over ∷ [] → kept.starter ≡ w.served.starter
+      → Leads d w.desk desk' → IsServing d w.queue.0 slot' desk' → (worn : Worn) (stopped : Stopped) → stopped ≡ stop_by worn → IsWorn worn w.desk.caller.work → slot' ≡ w.served.slot → desk'.caller.work ≡ w.desk.caller.work → HasEnded d named shows (Some stopped) (at_kept w kept slot' desk')
+  exits_worn life over kept slot' desk' is exits ended lives starter leads serving worn stopped by full same work =
+      worn_still w over (subst (λ (l : Life). IsAtWork d named shows w (l.generation ∷ [])) (sym exits.life) is.at) (subst (IsLast w.name w.served.slot) (sym exits.life) is.last) ended
+      (subst (λ (l : Life). AtEach (IsHanded l.server.0 l.generation.0 l.asked (brought_of w)) (own_of w)) (sym exits.life) is.going.handed) kept lives starter slot' desk' leads serving worn stopped by full same work
+
+  pub shuts_worn : (life : Life) (over : Ending) (kept : Served L T) (slot' : ServerSlot) (desk' : Desk) → IsFree d named shows life w → ShutDown over life → IsOver over → kept.lives.items ≡ w.served.lives.items ++ over ∷ [] → kept.starter ≡ w.served.starter
+      → Leads d w.desk desk' → IsServing d w.queue.0 slot' desk' → (worn : Worn) (stopped : Stopped) → stopped ≡ stop_by worn → IsWorn worn w.desk.caller.work → slot' ≡ w.served.slot → desk'.caller.work ≡ w.desk.caller.work → HasEnded d named shows (Some stopped) (at_kept w kept slot' desk')
+  shuts_worn life over kept slot' desk' is shut ended lives starter leads serving worn stopped by full same work =
+      let becomes : Becomes life.asked over.life life = record { link = over.life.link; said = life.said; turn = life.turn; made = shut.life } in
+      worn_still w over (at_still life.asked becomes is.at) (last_still life.asked becomes is.last) ended (handed_still life.asked becomes (brought_of w) (own_of w) is.going.handed) kept lives starter slot' desk' leads serving worn stopped by full same work
+
+  -- or it was told to end
+
+  pub shuts_down : (life : Life) (over : Ending) (kept : Served L T) (slot' : ServerSlot) (desk' : Desk) (stamp : Stamp) → IsFree d named shows life w → ShutDown over life → IsOver over → causes.Shutdown ≡ over.cause → kept.lives.items ≡ w.served.lives.items ++ over ∷ [] → kept.starter ≡ w.served.starter
+      → Leads d w.desk desk' → IsServing d w.queue.0 slot' desk' → SawAtQueue d w.queue.0 w.desk (IsShut d.setup w.queue.0) → Stops causes.Shutdown stamp slot' w.served.slot desk'.caller.work w.desk.caller.work → HasEnded d named shows None (at_kept w kept slot' desk')
+  shuts_down life over kept slot' desk' stamp is shut ended why lives starter leads serving saw stopped =
+      let becomes : Becomes life.asked over.life life = record { link = over.life.link; said = life.said; turn = life.turn; made = shut.life } in
+      let at = stops_idle w over (at_still life.asked becomes is.at) (last_still life.asked becomes is.last) ended (handed_still life.asked becomes (brought_of w) (own_of w) is.going.handed) kept lives starter slot' desk' leads serving causes.Shutdown stamp why
+      (ap life_in is.does ∙ ap (λ (l : Life). l.generation) (sym shut.life)) (settles_shut d.setup life over (own_of w) shut is.turns is.going.follows) (λ idle. saw) stopped in
+      let server = ap (λ (s : ServerSlot). s.server) stopped.left in
+      let off : slot'.doing ≡ Off = ap (λ (s : ServerSlot). s.doing) stopped.left in
+      ends_done (at_kept w kept slot' desk') at (off_hand slot'.doing off serving.stands.hand) (inl (shut_read serving (ap (λ (s : ServerSlot). s.shut) stopped.left), queue_stays d w.desk desk' leads w.queue.0 (IsShut d.setup w.queue.0) saw))
+    where
+      off_hand : (doing : Doing) → doing ≡ Off → InHand doing slot'.hand → slot'.hand ≡ None
+      off_hand doing off hand = subst (λ (x : Doing). InHand x slot'.hand) off hand

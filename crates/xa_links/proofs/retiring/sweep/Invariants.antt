@@ -1,0 +1,10 @@
+use Rattle.xa_desk.specs.Serving.{IsFallen}
+use Rattle.xa_links.specs.Steps.{OfDomainAt}
+use Rattle.xa_links.proofs.retiring.sweep.Given as goal
+
+-- each that was swept so far was told
+abbrev pub invariant-loop : goal.invariant-loop
+invariant-loop g l = record {
+  goes : OfDomainAt l.domain l.fn.desk l.desk;
+  fallen : IsFallen l.queue.0 l.desk;
+}

@@ -1,0 +1,83 @@
+use Rattle.std.proofs.Common.{subst}
+use Rattle.xa_server.specs.Served.{Tries, Counts}
+use Rattle.xa_links.proofs.Lasting.{in_counted, goes_counted, goes_trans}
+use Rattle.xa_links.proofs.Exchanges.{greeted_in, falls_greeting}
+use Rattle.xa_links.proofs.Starts.{served_at, starts_in, starts_goes, fails_off, start_halts}
+use Rattle.xa_links.proofs.working.ServerWorker.live.Goals as goal
+
+pub returns-in-Ok-None-clause-off : goal.returns-in-Ok-None-clause-off
+returns-in-Ok-None-clause-off g c =
+    let w = c.args.self.now in
+    let off = c.requires.off.off in
+    let served' = c.start-started.new.served in
+    let desk' = c.start-started.new.self in
+    let s = c.start-started.ensures in
+    let fails = subst (λ o. Tries w.name 0 o served'.slot w.served.slot desk'.caller.work w.desk.caller.work) c.in-Ok-None.field-0-is c.in-Ok-None.ensures.tried in
+    let rose = subst (λ o. Counts o (g.T.Starter.start_faults w.served.starter) (g.T.Starter.start_faults served'.starter)) c.in-Ok-None.field-0-is c.in-Ok-None.ensures.counted in
+    (fails_off w off served' desk' s.leads (s.serving w.queue.0 off.at.serving) s.same s.rest.1 fails c.in-Ok-None.ensures.asked rose, tt)
+
+pub returns-in-Err-clause-halted : goal.returns-in-Err-clause-halted
+returns-in-Err-clause-halted g c =
+    let w = c.args.self.now in
+    let off = c.requires.off.off in
+    let served' = c.start-started.new.served in
+    let desk' = c.start-started.new.self in
+    let s = c.start-started.ensures in
+    start_halts w off served' desk' s.leads (s.serving w.queue.0 off.at.serving) s.same s.rest.1 c.in-Err.halt c.in-Err.ensures.kept c.in-Err.ensures.halted
+
+pub serve-requires-clause-free : goal.serve-requires-clause-free
+serve-requires-clause-free g c κs within =
+    let w = c.args.self.now in
+    let off = c.requires.off.off in
+    let served' = c.start-started.new.served in
+    let desk' = c.start-started.new.self in
+    let s = c.start-started.ensures in
+    let begins = subst (λ o. Tries w.name 0 o served'.slot w.served.slot desk'.caller.work w.desk.caller.work) c.in-Ok-Some.field-0-is c.in-Ok-Some.ensures.tried in
+    let faults = subst (λ o. Counts o (g.T.Starter.start_faults w.served.starter) (g.T.Starter.start_faults served'.starter)) c.in-Ok-Some.field-0-is c.in-Ok-Some.ensures.counted in
+    let is = starts_in w off served' desk' s.leads (s.serving w.queue.0 off.at.serving) s.same s.rest.1 c.in-Ok-Some.life begins c.in-Ok-Some.ensures.asked faults c.in-Ok-Some.ensures.room in
+    in_counted (served_at w served' desk') c.count_up.new.self c.count_up.ensures (greeted_in (served_at w served' desk') c.in-Ok.life c.in-Ok-Some.life c.in-Ok.ensures.greeted is)
+
+pub died-requires-clause-may : goal.died-requires-clause-may
+died-requires-clause-may g c =
+    let w = c.args.self.now in
+    let off = c.requires.off.off in
+    let served' = c.start-started.new.served in
+    let desk' = c.start-started.new.self in
+    let s = c.start-started.ensures in
+    let begins = subst (λ o. Tries w.name 0 o served'.slot w.served.slot desk'.caller.work w.desk.caller.work) c.in-Ok-Some.field-0-is c.in-Ok-Some.ensures.tried in
+    let faults = subst (λ o. Counts o (g.T.Starter.start_faults w.served.starter) (g.T.Starter.start_faults served'.starter)) c.in-Ok-Some.field-0-is c.in-Ok-Some.ensures.counted in
+    let is = starts_in w off served' desk' s.leads (s.serving w.queue.0 off.at.serving) s.same s.rest.1 c.in-Ok-Some.life begins c.in-Ok-Some.ensures.asked faults c.in-Ok-Some.ensures.room in
+    falls_greeting (served_at w served' desk') c.in-Ok-Some.life c.in-Err-greet.over c.in-Err-greet.ensures.over is
+
+pub returns-in_err-died-in-Err-greet-clause-goes : goal.returns-in_err-died-in-Err-greet-clause-goes
+returns-in_err-died-in-Err-greet-clause-goes g c =
+    let w = c.args.self.now in
+    let off = c.requires.off.off in
+    let served' = c.start-started.new.served in
+    let desk' = c.start-started.new.self in
+    let s = c.start-started.ensures in
+    let begins = subst (λ o. Tries w.name 0 o served'.slot w.served.slot desk'.caller.work w.desk.caller.work) c.in-Ok-Some.field-0-is c.in-Ok-Some.ensures.tried in
+    let goes = starts_goes w off served' desk' s.leads (s.serving w.queue.0 off.at.serving) s.same s.rest.1 c.in-Ok-Some.life begins in
+    goes_trans w (served_at w served' desk') c.died.new.self goes c.in_err-died-in-Err-greet.ensures.goes
+
+pub returns-in-Ok-clause-goes : goal.returns-in-Ok-clause-goes
+returns-in-Ok-clause-goes g c =
+    let w = c.args.self.now in
+    let off = c.requires.off.off in
+    let served' = c.start-started.new.served in
+    let desk' = c.start-started.new.self in
+    let s = c.start-started.ensures in
+    let begins = subst (λ o. Tries w.name 0 o served'.slot w.served.slot desk'.caller.work w.desk.caller.work) c.in-Ok-Some.field-0-is c.in-Ok-Some.ensures.tried in
+    let goes = starts_goes w off served' desk' s.leads (s.serving w.queue.0 off.at.serving) s.same s.rest.1 c.in-Ok-Some.life begins in
+    goes_trans w c.count_up.new.self c.serve.new.self (goes_counted (served_at w served' desk') w c.count_up.new.self c.count_up.ensures goes) c.serve.ensures.goes
+
+pub returns-in_ok-died-in-Err-greet-clause-goes : goal.returns-in_ok-died-in-Err-greet-clause-goes
+returns-in_ok-died-in-Err-greet-clause-goes g c =
+    let w = c.args.self.now in
+    let off = c.requires.off.off in
+    let served' = c.start-started.new.served in
+    let desk' = c.start-started.new.self in
+    let s = c.start-started.ensures in
+    let begins = subst (λ o. Tries w.name 0 o served'.slot w.served.slot desk'.caller.work w.desk.caller.work) c.in-Ok-Some.field-0-is c.in-Ok-Some.ensures.tried in
+    let goes = starts_goes w off served' desk' s.leads (s.serving w.queue.0 off.at.serving) s.same s.rest.1 c.in-Ok-Some.life begins in
+    goes_trans w (served_at w served' desk') c.died.new.self goes c.in_ok-died-in-Err-greet.ensures.goes

@@ -1,0 +1,9 @@
+use Rattle.xa_links.specs.Standing.{Goes, MayGoOn}
+use Rattle.xa_links.proofs.working.ServerWorker.live_all.Given as goal
+
+-- the server is off, and may be started
+abbrev pub invariant-loop : goal.invariant-loop
+invariant-loop g l = record {
+  goes : Goes l.domain l.fn.self l.self;
+  off : MayGoOn l.domain g.T.Starter.server_name (λ s. record { asked = g.T.Starter.asked s; faults = g.T.Starter.start_faults s }) l.self;
+}

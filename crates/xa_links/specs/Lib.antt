@@ -1,0 +1,4 @@
+pub mod Lives
+pub mod Working
+pub mod Steps
+pub mod Standing

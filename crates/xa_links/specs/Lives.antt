@@ -1,0 +1,107 @@
+-- The lives of a server beside its worker's own events, and how a server is done (after Tuxedo, UBBCONFIG; that a server's worker notes its events is
+-- this project's own). Lists of events have the newest first.
+use Rattle.std.specs.Prelude.{◌≡◌, ◌⊎◌, ℕ, zero, suc, ◌+◌, ◌-◌, ◌^◌, ◌==◌, min, if◌then◌else◌, Bool, true, false, List, [], ◌∷◌, ◌++◌, map, reverse, length, take, drop, Option, Some, None, IfSome}
+use Rattle.std.specs.List.{All, Contains, filter_map, flat_map}
+use Rattle.xa_types.specs.declared.ids.Generation.{Generation}
+use Rattle.xa_events.specs.declared.event.Event.{Event}
+use Rattle.xa_events.specs.declared.event.Event.TheVariants.{Take, Start, StartFailed}
+use Rattle.xa_events.specs.Words.{AtEach, count}
+use Rattle.xa_events.specs.Server.{starts, is_gone, was_shut_down}
+use Rattle.xa_events.specs.Cases.{IsShut}
+use Rattle.xa_frame.specs.declared.frame.Frame.{Frame}
+use Rattle.xa_events.specs.Homes.Home.{QueueHome}
+use Rattle.xa_stamp.specs.declared.home.Stamped.{Stamped}
+use Rattle.xa_crew.specs.Seen.{SawFront}
+use Rattle.xa_lock.specs.declared.makers.Made.{Made}
+use Rattle.xa_held.specs.declared.cargo.Invocation.{Invocation}
+use Rattle.xa_held.specs.Kept.{Brings}
+use Rattle.xa_held.specs.Notes.{made_of}
+use Rattle.xa_pipe.specs.declared.turn.Turn.TheVariants.{AwaitsInvoke}
+use Rattle.xa_pipe.specs.Frames.{is_of_life, is_take_in, invocation}
+use Rattle.xa_pipe.specs.Following.{HasStopped}
+use Rattle.xa_pipe.specs.Life.{stops_life}
+use Rattle.xa_pipe.specs.Pipe.{invoke_frame}
+use Rattle.xa_pipe.specs.Standing.{Ending, IsOver}
+use Rattle.xa_server.specs.Served.{StarterShows}
+use Rattle.xa_work.specs.Work.{theirs}
+use Rattle.xa_desk.specs.declared.domain.Domain.{Domain}
+use Rattle.xa_desk.specs.declared.desk.Desk.{Desk}
+use Rattle.xa_desk.specs.Whole.{Whole, entries_of}
+use Rattle.xa_desk.specs.Desks.{GoesOn, queue_page}
+use Rattle.xa_desk.specs.Found.{SawAtQueue}
+use Rattle.xa_desk.specs.Serving.{LeftOthers, IsSwept}
+
+-- ---- its starts
+
+-- the generation of the life of that server that the event starts, if it starts one
+abbrev pub generation_in : ℕ → Event → Option Generation
+generation_in server (Start s) = if s.server.0 == server then Some s.generation else None
+generation_in server _ = None
+
+-- the generations of the server's lives, the oldest first
+abbrev pub lives_in : ℕ → List Event → List Generation
+lives_in server past = reverse (filter_map (generation_in server) past)
+
+abbrev pub fails_start : ℕ → Event → Bool
+fails_start server (StartFailed s) = s.server.0 == server
+fails_start server _ = false
+
+-- how many starts of the server failed
+abbrev pub failed_starts : ℕ → List Event → ℕ
+failed_starts server past = count (fails_start server) past
+
+-- the first n starts of the server of that name
+abbrev pub starts_of : List ℕ → ℕ → List (List ℕ × Generation)
+starts_of name zero = []
+starts_of name (suc n) = starts_of name n ++ (name, record { 0 = suc n }) ∷ []
+
+-- the starter was asked for the first n starts of the server of that name, where it tells them, and counts so many that failed, up to 2^64 - 1
+pub record HasStarted (name : List ℕ) (n failed : ℕ) (shown : StarterShows) : Type 0 where
+  pub asked : IfSome shown.asked (λ all. all ≡ starts_of name n)
+  pub counts : shown.faults ≡ min failed (2 ^ 64 - 1)
+
+-- so it was, or it was asked for one start more, which failed or not
+abbrev pub HasStartedSoFar : List ℕ → ℕ → ℕ → StarterShows → Type 0
+HasStartedSoFar name n failed shown = HasStarted name n failed shown ⊎ HasStarted name (n + 1) failed shown ⊎ HasStarted name (n + 1) (failed + 1) shown
+
+-- ---- a life
+
+-- a take of the life was handed on by the INVOKE at its place among these, with what one of these events of the queue brought
+abbrev pub IsHanded : ℕ → ℕ → List Frame → List Made → Event → List Event → Type 0
+IsHanded server g asked brought (Take t) before = is_of_life server g t.server.0 t.generation.0 ≡ true
+    → (made : Made) × (what : Invocation) × Contains brought made × Brings t.request what made.noted.event
+    × (take 1 (drop (count (is_take_in server g) before) asked) ≡ invoke_frame what.service what.routine (invocation server g (Take t ∷ before)) what.payload ∷ [])
+IsHanded server g asked brought e before = Unit {0}
+
+-- the queue was seen closed, with nothing that waits, before the end of the life was noted
+abbrev pub EndsShut : Domain → ℕ → Desk → Ending → Type 0
+EndsShut d queue desk over = (whole : Whole) → GoesOn d whole desk
+    → All (λ (x : Stamped). stops_life over.life.server.0 over.life.generation.0 x.event ≡ true → SawFront (entries_of whole (QueueHome queue)) x.stamp (IsShut d.setup queue)) desk.caller.work.own
+
+-- a life that ended, of the server of that name and number: it went and ended as its worker noted, each request that it took was handed on, and where it
+-- waited for one as it ended its queue was shut
+pub record IsLived (d : Domain) (name : List ℕ) (queue server : ℕ) (desk : Desk) (over : Ending) : Type 0 where
+  pub over_is : IsOver over
+  pub its : over.life.server.0 ≡ server
+  pub named : over.life.name ≡ name
+  pub stopped : HasStopped d.setup over (theirs desk.caller.work)
+  pub shut : over.life.turn ≡ AwaitsInvoke → EndsShut d queue desk over
+  pub handed : AtEach (IsHanded server over.life.generation.0 over.life.asked (flat_map made_of (queue_page desk queue).seen)) (theirs desk.caller.work)
+
+-- ---- its end
+
+-- the server was shut down, behind the close of its queue, where nothing waited; or it was given up, before another server of the queue, or as the
+-- queue's last one, and then the queue went down and was swept
+abbrev pub IsDone : Domain → ℕ → ℕ → Desk → Type 0
+IsDone d queue server desk = ((was_shut_down server (theirs desk.caller.work) ≡ true) × SawAtQueue d queue desk (IsShut d.setup queue))
+    ⊎ ((is_gone server (theirs desk.caller.work) ≡ true) × (SawAtQueue d queue desk (LeftOthers d queue server) ⊎ SawAtQueue d queue desk (IsSwept d queue)))
+
+-- all that the worker shows of its server in the end: which lives there were, and how often its starter was asked; where it came to its end, also how
+-- each life went, and how the server was done
+pub record ServerShows (d : Domain) (name : List ℕ) (queue server : ℕ) (desk : Desk) (lives : List Ending) (cut : List Generation) (shown : StarterShows) (Whole : Type 0) : Type 0 where
+  pub lives_are : map (λ (over : Ending). over.life.generation) lives ++ cut ≡ lives_in server (theirs desk.caller.work)
+  pub so_far : HasStartedSoFar name (length (starts server (theirs desk.caller.work))) (failed_starts server (theirs desk.caller.work)) shown
+  pub none_cut : Whole → cut ≡ []
+  pub lived : Whole → All (IsLived d name queue server desk) lives
+  pub started : Whole → HasStarted name (length (starts server (theirs desk.caller.work))) (failed_starts server (theirs desk.caller.work)) shown
+  pub done : Whole → IsDone d queue server desk

@@ -1,0 +1,46 @@
+-- What a server's worker asks, and what it leaves (this project's own).
+use Rattle.std.specs.Prelude.{◌≡◌, ℕ, List, [], ◌∷◌, Option, Some, None, IfSome}
+use Rattle.xa_types.specs.declared.ids.Generation.{Generation}
+use Rattle.xa_restart.specs.Rule.{Standing as Restarts}
+use Rattle.xa_work.specs.Work.{theirs}
+use Rattle.xa_caller.specs.declared.phase.Phase.TheVariants.{Idle}
+use Rattle.xa_server.specs.Changes.{new_slot}
+use Rattle.xa_server.specs.Served.{StarterShows}
+use Rattle.xa_desk.specs.declared.domain.Domain.{Domain}
+use Rattle.xa_desk.specs.Desks.{IsDesk, Leads}
+use Rattle.xa_desk.specs.Halting.{IsStopAt}
+use Rattle.xa_desk.specs.Serving.{IsServing}
+use Rattle.xa_links.specs.declared.working.CutLife.{CutLife}
+use Rattle.xa_links.specs.declared.working.ServerWorker.{ServerWorker}
+use Rattle.xa_links.specs.Lives.{HasStarted, ServerShows}
+
+abbrev pub cut_in : {L : Type 0} → Option (CutLife L) → List Generation
+cut_in None = []
+cut_in (Some life) = life.generation ∷ []
+
+module _ {L T : Type 0} (d : Domain) (named : T → List ℕ) (shows : T → StarterShows) where
+  -- a worker that has done nothing, of a server that was never started
+  pub record MayServe (worker : ServerWorker L T) : Type 0 where
+    pub is : IsDesk d worker.desk
+    pub serving : IsServing d worker.queue.0 worker.served.slot worker.desk
+    pub restarts : Restarts
+    pub fresh : worker.served.slot ≡ new_slot worker.served.slot.server restarts
+    pub none : restarts.starts ≡ []
+    pub own : theirs worker.desk.caller.work ≡ []
+    pub lives : worker.served.lives.items ≡ []
+    pub cut : worker.cut ≡ None
+    pub stopped : worker.stopped ≡ None
+    pub name_is : named worker.served.starter ≡ worker.name
+    pub unasked : HasStarted worker.name 0 0 (shows worker.served.starter)
+
+  -- behind its work: its desk went on and may be left, nothing is in hand, and it shows how its server lived
+  pub record HasServed (old new : ServerWorker L T) : Type 0 where
+    pub leads : Leads d old.desk new.desk
+    pub id : new.desk.caller.work.id ≡ old.desk.caller.work.id
+    pub clients : new.desk.caller.work.clients ≡ old.desk.caller.work.clients
+    pub idle : new.desk.caller.phase ≡ Idle
+    pub hand : new.served.slot.hand ≡ None
+    pub server : new.served.slot.server ≡ old.served.slot.server
+    pub starter : named new.served.starter ≡ old.name
+    pub shown : ServerShows d old.name old.queue.0 old.served.slot.server.0 new.desk new.served.lives.items (cut_in new.cut) (shows new.served.starter) (new.stopped ≡ None)
+    pub halts : IfSome new.stopped (IsStopAt new.desk)

@@ -1,0 +1,10 @@
+//! A server's worker: it starts the server, hands it the requests of its queue one after another, and retires it.
+#![tactic(auto)]
+
+mod living;
+mod retiring;
+mod taking;
+mod telling;
+mod working;
+
+pub use working::{CutLife, ServerWorker};

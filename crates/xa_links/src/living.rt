@@ -1,0 +1,208 @@
+// A life of a server.
+ghost use Rattle.std.specs.Prelude.{◌≡◌, ◌∷◌, [], IfOk, IfErr, IfSome, Some, None};
+ghost use Rattle.xa_types.specs.declared.stamp.Stamp.{Stamp};
+ghost use Rattle.xa_events.specs.Cases.{IsShut};
+ghost use Rattle.xa_events.specs.Server.{is_shutdown};
+ghost use Rattle.xa_events.specs.declared.event.Doing.TheVariants as doings;
+ghost use Rattle.xa_pipe.specs.declared.turn.Turn.TheVariants.{Serving, Exited};
+ghost use Rattle.xa_pipe.specs.Frames.{return_frame};
+ghost use Rattle.xa_pipe.specs.Standing.{Standing as Lives, tag_of};
+ghost use Rattle.xa_pipe.specs.Changes.{Heard};
+ghost use Rattle.xa_server.specs.Doings.{life_in};
+ghost use Rattle.xa_server.specs.declared.slot.Last.TheVariants as lasts;
+ghost use Rattle.xa_types.specs.declared.ids.RequestId.{RequestId as Asked};
+ghost use Rattle.xa_desk.specs.Desks.{IsDomain};
+ghost use Rattle.xa_desk.specs.Found.{SawAtQueue};
+ghost use Rattle.xa_links.specs.Steps.{IsToldOf, is_exit};
+ghost use Rattle.xa_links.specs.Working.{cut_in};
+ghost use Rattle.xa_links.specs.Standing.{Goes, IsIn, IsFree, HasTaken, MayDie, HasEnded, OverWith, ExchangedAs, OffAs};
+
+use crate::taking::stop_by;
+use crate::telling::{Told, tell_if, told_by};
+use crate::working::{CutLife, ServerWorker};
+use std::alloc::Global;
+use xa_desk::{Domain, Stopped};
+use xa_events::StopCause;
+use xa_link::{Gate, Link, Starter};
+use xa_pipe::{Answered, EndedLife, Life, Return};
+use xa_types::Rval;
+
+/// What comes of a life: it goes on, or is over, and then a request may have to be answered.
+pub(crate) enum Exchanged<L: Link> {
+    Going(Life<L>),
+    Over(Option<Told>),
+}
+
+/// How a life came to its end: its queue was closed, or it died or left, and then a request may have to be answered.
+pub(crate) enum Off {
+    Shut,
+    Dead(Option<Told>),
+}
+
+fn is_exit(value: Rval) -> bool
+    ensures { result ≡ is_exit value }
+{
+    matches!(value, Rval::Exit)
+}
+
+fn is_shutdown(cause: StopCause) -> bool
+    ensures { result ≡ is_shutdown cause }
+{
+    matches!(cause, StopCause::Shutdown)
+}
+
+impl<L: Link, T: Starter<L>> ServerWorker<L, T> {
+    // The life isn't gone on with.
+    pub(crate) fn cut(&mut self, life: Life<L>)
+        ensures rest { self.new ≡ record self.old { cut = self.new.cut } }
+        ensures cut { cut_in self.new.cut ≡ life_in self.old.served.slot.doing ∷ [] }
+    {
+        let killed = life.abandon();
+        self.cut = Some(CutLife {
+            server: self.served.slot.server(),
+            generation: self.served.slot.life(),
+            killed,
+        });
+    }
+
+    // The life ended by itself.
+    pub(crate) fn died(
+        &mut self,
+        domain: &Domain,
+        over: EndedLife<L>,
+    ) -> Result<Option<Told>, Stopped>
+        requires domain { IsDomain domain.now }
+        requires may { MayDie domain.now T.server_name (λ s. record { asked = T.asked s; faults = T.start_faults s }) over self.old }
+        ensures goes { Goes domain.now self.old self.new }
+        ensures over { IfOk result (λ told. OverWith domain.now T.server_name (λ s. record { asked = T.asked s; faults = T.start_faults s }) told self.new) }
+        ensures halted { IfErr result (λ stopped. HasEnded domain.now T.server_name (λ s. record { asked = T.asked s; faults = T.start_faults s }) (Some stopped) self.new) }
+    {
+        let cause = over.cause();
+        self.served.keep(over);
+        let request = self.served.slot.request();
+        match self.desk.die(domain, &mut self.served.slot, cause) {
+            Ok(closing) => Ok(told_by(request, closing)),
+            Err(worn) => Err(stop_by(worn)),
+        }
+    }
+
+    // The service returned with TPEXIT, which ends the life.
+    fn exit<G: Gate>(
+        &mut self,
+        domain: &Domain,
+        gate: &G,
+        life: Life<L>,
+        told: Option<Told>,
+    ) -> Result<Option<Told>, Stopped>
+        requires domain { IsDomain domain.now }
+        requires life { IsIn domain.now T.server_name (λ s. record { asked = T.asked s; faults = T.start_faults s }) (doings.Idle life.generation) Exited 0 life self.old }
+        requires last { self.old.served.slot.last ≡ lasts.Badly }
+        requires told { IfSome told (IsToldOf domain.now self.old.desk) }
+        ensures goes { Goes domain.now self.old self.new }
+        ensures over { IfOk result (λ told. OverWith domain.now T.server_name (λ s. record { asked = T.asked s; faults = T.start_faults s }) told self.new) }
+        ensures halted { IfErr result (λ stopped. HasEnded domain.now T.server_name (λ s. record { asked = T.asked s; faults = T.start_faults s }) (Some stopped) self.new) }
+    {
+        let over = life.exit();
+        let _cause = over.cause();
+        self.served.keep(over);
+        match self
+            .desk
+            .stop(domain, &mut self.served.slot, StopCause::Exit)
+        {
+            Ok(_) => {
+                let _rises = self.desk.caller.latest();
+                Ok(told)
+            }
+            Err(worn) => {
+                tell_if(domain, &mut self.desk, gate, told);
+                Err(stop_by(worn))
+            }
+        }
+    }
+
+    // The service returned.
+    fn returned<G: Gate>(
+        &mut self,
+        alloc: Global,
+        domain: &Domain,
+        gate: &G,
+        life: Life<L>,
+        back: Return,
+    ) -> Result<Exchanged<L>, Stopped>
+        requires domain { IsDomain domain.now }
+        requires before { (old : Lives) × (request : Asked) × IsIn domain.now T.server_name (λ s. record { asked = T.asked s; faults = T.start_faults s }) (doings.Busy old.generation request) Serving 1 old self.old
+            × Heard (return_frame (tag_of old) back.value back.code back.payload) life old }
+        ensures goes { Goes domain.now self.old self.new }
+        ensures exchanged { IfOk result (λ exchanged. ExchangedAs domain.now T.server_name (λ s. record { asked = T.asked s; faults = T.start_faults s }) exchanged self.new) }
+        ensures halted { IfErr result (λ stopped. HasEnded domain.now T.server_name (λ s. record { asked = T.asked s; faults = T.start_faults s }) (Some stopped) self.new) }
+    {
+        let exits = is_exit(back.value);
+        let request = self.served.slot.request();
+        let finished = self.desk.finish(alloc, domain, &mut self.served.slot, back);
+        let closing = match finished {
+            Ok(closing) => closing,
+            Err(halt) => {
+                self.cut(life);
+                return Err(Stopped::Here(halt));
+            }
+        };
+        let told = told_by(request, closing);
+        if exits {
+            return Ok(Exchanged::Over(self.exit(domain, gate, life, told)?));
+        }
+        tell_if(domain, &mut self.desk, gate, told);
+        match life.read_next() {
+            Ok(life) => Ok(Exchanged::Going(life)),
+            Err(over) => Ok(Exchanged::Over(self.died(domain, over)?)),
+        }
+    }
+
+    // Hands the request in hand to the program, and hears what its service returns.
+    pub(crate) fn exchange<G: Gate>(
+        &mut self,
+        alloc: Global,
+        domain: &Domain,
+        gate: &G,
+        life: Life<L>,
+    ) -> Result<Exchanged<L>, Stopped>
+        requires domain { IsDomain domain.now }
+        requires taken { HasTaken domain.now T.server_name (λ s. record { asked = T.asked s; faults = T.start_faults s }) life self.old }
+        ensures goes { Goes domain.now self.old self.new }
+        ensures exchanged { IfOk result (λ exchanged. ExchangedAs domain.now T.server_name (λ s. record { asked = T.asked s; faults = T.start_faults s }) exchanged self.new) }
+        ensures halted { IfErr result (λ stopped. HasEnded domain.now T.server_name (λ s. record { asked = T.asked s; faults = T.start_faults s }) (Some stopped) self.new) }
+    {
+        let asked = self.served.slot.invocation();
+        let sent = life.send(&asked.service, &asked.routine, &asked.payload);
+        let life = match sent {
+            Ok(life) => life,
+            Err(over) => return Ok(Exchanged::Over(self.died(domain, over)?)),
+        };
+        match life.hear() {
+            Ok(Answered { life, back }) => self.returned(alloc, domain, gate, life, back),
+            Err(over) => Ok(Exchanged::Over(self.died(domain, over)?)),
+        }
+    }
+
+    // Its program is told to end.
+    pub(crate) fn shut_down(&mut self, domain: &Domain, life: Life<L>) -> Result<Off, Stopped>
+        requires domain { IsDomain domain.now }
+        requires free { IsFree domain.now T.server_name (λ s. record { asked = T.asked s; faults = T.start_faults s }) life self.old }
+        requires shut { SawAtQueue domain.now self.old.queue.0 self.old.desk (IsShut domain.now.setup self.old.queue.0) }
+        ensures goes { Goes domain.now self.old self.new }
+        ensures off { IfOk result (λ off. OffAs domain.now T.server_name (λ s. record { asked = T.asked s; faults = T.start_faults s }) off self.new) }
+        ensures halted { IfErr result (λ stopped. HasEnded domain.now T.server_name (λ s. record { asked = T.asked s; faults = T.start_faults s }) (Some stopped) self.new) }
+    {
+        let over = life.shut_down();
+        if !is_shutdown(over.cause()) {
+            return Ok(Off::Dead(self.died(domain, over)?));
+        }
+        self.served.keep(over);
+        match self
+            .desk
+            .stop(domain, &mut self.served.slot, StopCause::Shutdown)
+        {
+            Ok(_) => Ok(Off::Shut),
+            Err(worn) => Err(stop_by(worn)),
+        }
+    }
+}
