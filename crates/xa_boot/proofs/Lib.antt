@@ -1,0 +1,15 @@
+mod Noting
+mod Settings
+mod Numbered
+mod Opened
+mod Pairs
+mod Unused
+mod Serving
+mod Locks
+mod Taking
+mod Dealt
+mod Noted
+mod Seated
+mod Hired
+mod Manned
+mod Begun

@@ -1,0 +1,191 @@
+-- What the domain noted at the boot, and what the board shows of it.
+use Rattle.std.proofs.Common.{◌≡◌, ◌⊎◌, ℕ, suc, ◌+◌, ◌≤◌, ◌^◌, Bool, true, false, List, [], ◌∷◌, ◌++◌, length, map, reverse, inl, inr, refl, sym, ◌∙◌, ap, subst, arith, append_assoc, length-append, append-nil}
+use Rattle.std.specs.List.{All, Contains, filter}
+use Rattle.std.proofs.lemmas.List.{reverse-append, reverse-reverse, length-reverse}
+use Rattle.std.proofs.lemmas.List.Elements.{All-nil, All-cons, All-head, All-tail, All-weaker, All-filter, Contains-push, Contains-append_left, Contains-append_right}
+use Rattle.xa_types.specs.declared.setup.Setup.{Setup}
+use Rattle.xa_types.specs.declared.stamp.Stamp.{Stamp}
+use Rattle.xa_events.specs.declared.event.Event.{Event}
+use Rattle.xa_events.specs.declared.event.Event.TheVariants.{Advertise}
+use Rattle.xa_events.specs.Cases.{HomePart, WorkerPart}
+use Rattle.xa_events.specs.Homes.{Home, home_of, same_home, of_worker}
+use Rattle.xa_events.specs.Homes.Home.{BoardHome, QueueHome}
+use Rattle.xa_events.specs.Local.{worker_events}
+use Rattle.xa_events.specs.Words.{AtEach}
+use Rattle.xa_stamp.specs.declared.home.Stamped.{Stamped}
+use Rattle.xa_stamp.specs.Home.{Rises, last_stamp}
+use Rattle.xa_stamp.proofs.Stamps.{last_stamp-push, Rises-push}
+use Rattle.xa_lock.specs.Makers.{made_by, noted_in}
+use Rattle.xa_lock.specs.Pages.{StartsWith}
+use Rattle.xa_crew.specs.Crew.{IsOfDomain, MayNote, MetAmong, TellsEach, no_stamp, stands_at}
+use Rattle.xa_crew.specs.Seen.{past_in, IsBehind, SawFronts, WasTold}
+use Rattle.xa_crew.proofs.Lists.{filter-yes, filter-none, past_in-filter, map-reverse, AtEach-later, AtEach-cut}
+use Rattle.xa_crew.proofs.Before.{All-on}
+use Rattle.xa_crew.proofs.Workers.{AtEach-from, All-at}
+use Rattle.xa_held.specs.declared.kept_board.BoardNote.TheVariants.{Opened, By}
+use Rattle.xa_held.specs.Board.{made_in}
+use Rattle.xa_held.specs.Joins.{changes_at}
+use Rattle.xa_held.proofs.Fronts.{changes_front}
+use Rattle.xa_work.specs.Work.{IsWorkOf}
+use Rattle.xa_server.specs.Told.{HasStamp}
+use Rattle.xa_desk.specs.Desks.{IsGrounded}
+use Rattle.xa_desk.specs.Whole.{Whole, entries_of, IsKnown}
+use Rattle.xa_boot.specs.Booting.{IsBoots}
+use Rattle.xa_boot.specs.Opening.{IsNextNote, opening, IsBoot}
+use Rattle.xa_boot.proofs.Noting.{domain}
+
+-- ---- an event of the boot
+
+of_domain : (e : Event) → IsBoots e → IsOfDomain e
+of_domain (Advertise a) b = record { domain = b.0; none = b.1 }
+of_domain _ b = absurd b
+
+worker_part : (setup : Setup) (clients : ℕ) (e : Event) (past : List Event) → IsBoots e → WorkerPart setup clients e past
+worker_part setup clients (Advertise a) past b = inl (record { domain = b.0; none = b.1 })
+worker_part setup clients _ past b = absurd b
+
+on_board : (setup : Setup) (clients : ℕ) (e : Event) → IsBoots e → home_of setup clients e ≡ BoardHome
+on_board setup clients (Advertise a) b = refl
+on_board setup clients _ b = absurd b
+
+is_behind : (last stamp : Stamp) (e : Event) → IsBoots e → IsBehind last stamp e
+is_behind last stamp (Advertise a) b = tt
+is_behind last stamp _ b = absurd b
+
+saw_fronts : (setup : Setup) (clients : ℕ) (entries : Home → List Stamped) (stamp : Stamp) (e : Event) (older : List Event) → IsBoots e → SawFronts setup clients entries stamp e older
+saw_fronts setup clients entries stamp (Advertise a) older b = tt
+saw_fronts setup clients entries stamp _ older b = absurd b
+
+was_told : (setup : Setup) (clients : ℕ) (entries : Home → List Stamped) (stamp : Stamp) (own : List Event) (e : Event) → IsBoots e → WasTold setup clients entries stamp own e
+was_told setup clients entries stamp own (Advertise a) b = tt
+was_told setup clients entries stamp own _ b = absurd b
+
+-- ---- the board's home
+
+made_by-in : (own : List Stamped) → noted_in (made_in (map By (made_by domain own))) ≡ own
+made_by-in [] = refl
+made_by-in (x ∷ own) = ap (λ (l : List Stamped). x ∷ l) (made_by-in own)
+
+pub opening-changes : (setup : Setup) (own : List Stamped) → changes_at (opening setup own) ≡ own
+opening-changes setup own = made_by-in own
+
+by_grounded : (own others : List Stamped) → All (IsGrounded others) (map By (made_by domain own))
+by_grounded [] others = All-nil (IsGrounded others)
+by_grounded (x ∷ own) others = All-cons (IsGrounded others) (By (record { maker = domain; noted = x })) (map By (made_by domain own)) tt (by_grounded own others)
+
+pub opening_grounded : (setup : Setup) (own others : List Stamped) → All (IsGrounded others) (opening setup own)
+opening_grounded setup own others = All-cons (IsGrounded others) (Opened setup) (map By (made_by domain own)) tt (by_grounded own others)
+
+-- ---- lists
+
+each-weaker : {X : Type 0} (P Q : X → List X → Type 0) → ((x : X) (older : List X) → P x older → Q x older) → (past : List X) → AtEach P past → AtEach Q past
+each-weaker P Q from [] each = tt
+each-weaker P Q from (x ∷ past) each = (from x past each.0, each-weaker P Q from past each.1)
+
+pub filter-all : {X : Type 0} (p : X → Bool) (xs : List X) → All (λ x. p x ≡ true) xs → filter p xs ≡ xs
+filter-all p [] all = refl
+filter-all p (x ∷ xs) all = filter-yes p x xs (All-head (λ x. p x ≡ true) x xs all) ∙ ap (λ ys. x ∷ ys) (filter-all p xs (All-tail (λ x. p x ≡ true) x xs all))
+
+module _ (setup : Setup) where
+  -- the stamp of the last of these is their number
+  last_note : (past : List Stamped) → AtEach (IsNextNote setup) past → (length past ≡ 0) ⊎ HasStamp (reverse past) (record { 0 = length past })
+  last_note [] each = inl refl
+  last_note (x ∷ older) each =
+      let next = each.0.next in
+      let stamp : x.stamp.0 ≡ suc (length older) = omega (arith, next) in
+      inr (x, subst (λ (l : List Stamped). Contains l x) (sym (reverse-append (x ∷ []) older)) (Contains-append_right (reverse older) (x ∷ []) x (Contains-push [] x)), ap (λ n. record { 0 = n }) stamp)
+
+  rises : (past : List Stamped) → AtEach (IsNextNote setup) past → length past ≤ 2 ^ 63 → Rises no_stamp (reverse past) × (last_stamp no_stamp (reverse past) ≡ length past)
+  rises [] each bound = (omega arith, refl)
+  rises (x ∷ older) each bound =
+      let rest = rises older each.1 (omega (arith, bound)) in
+      let next = each.0.next in
+      let turned : reverse (x ∷ older) ≡ reverse older ++ x ∷ [] = reverse-append (x ∷ []) older in (
+        subst (Rises no_stamp) (sym turned) (Rises-push no_stamp (reverse older) x rest.0 (omega (arith, rest.1, next)) (omega (arith, next, bound))),
+        ap (last_stamp no_stamp) turned ∙ last_stamp-push no_stamp (reverse older) x ∙ omega (arith, next),
+      )
+
+  module _ (own : List Stamped) (is : IsBoot setup own) where
+    turned : reverse (reverse own) ≡ own
+    turned = reverse-reverse own
+
+    each_note : (Q : Stamped → Type 0) → ((before after : List Stamped) (x : Stamped) → own ≡ before ++ x ∷ after → IsNextNote setup x (reverse before) → Q x) → All Q own
+    each_note Q from = All-on Q [] own (λ before after x at. from before after x at (AtEach-cut (IsNextNote setup) own before after x is.boots at))
+
+    pub all_boots : All (λ (x : Stamped). IsBoots x.event) own
+    all_boots = each_note (λ (x : Stamped). IsBoots x.event) (λ before after x at note. note.boots)
+
+    pub all_reached : All (λ (x : Stamped). x.stamp.0 ≤ length own) own
+    all_reached = each_note (λ (x : Stamped). x.stamp.0 ≤ length own) (λ before after x at note.
+        let next = note.next in
+        let turned = length-reverse before in
+        let whole = ap length at in
+        let parts = length-append before (x ∷ after) in
+        omega (arith, next, turned, whole, parts))
+
+    pub all_on_board : (clients : ℕ) → filter (stands_at setup clients BoardHome) own ≡ own
+    all_on_board clients =
+        filter-all (stands_at setup clients BoardHome) own
+        (All-weaker (λ (x : Stamped). IsBoots x.event) (λ (x : Stamped). stands_at setup clients BoardHome x ≡ true) (λ x b. ap (λ h. same_home h BoardHome) (on_board setup clients x.event b)) own all_boots)
+
+    pub none_on_queue : (clients queue : ℕ) → filter (stands_at setup clients (QueueHome queue)) own ≡ []
+    none_on_queue clients queue =
+        filter-none (stands_at setup clients (QueueHome queue)) own
+        (All-weaker (λ (x : Stamped). IsBoots x.event) (λ (x : Stamped). stands_at setup clients (QueueHome queue) x ≡ false) (λ x b. ap (λ h. same_home h (QueueHome queue)) (on_board setup clients x.event b)) own all_boots)
+
+    pub is_work : (clients : ℕ) → IsWorkOf setup clients 0 own
+    is_work clients =
+        let theirs : List Stamped = filter (λ (x : Stamped). of_worker clients 0 x.event) own in
+        let its = All-filter (λ (x : Stamped). of_worker clients 0 x.event) (λ (x : Stamped). IsBoots x.event) own all_boots in
+        record {
+          rises = subst (Rises no_stamp) turned (rises (reverse own) is.boots (let n = length-reverse own in let bound = is.bound in omega (arith, n, bound))).0;
+          may = All-weaker (λ (x : Stamped). IsBoots x.event) (λ (x : Stamped). MayNote clients 0 x.event) (λ x b. inr (of_domain x.event b)) own all_boots;
+          met = subst (AtEach (WorkerPart setup clients)) (sym (past_in-filter (of_worker clients 0) own))
+              (AtEach-from (WorkerPart setup clients) theirs (λ before after x at. worker_part setup clients x.event (past_in before) (All-at (λ (y : Stamped). IsBoots y.event) before after x (subst (All (λ (y : Stamped). IsBoots y.event)) at its))));
+        }
+
+    -- ---- as the board goes on
+
+    module _ (whole : Whole) (begins : StartsWith whole.board.notes (opening setup own)) where
+      stands : (rest : List Stamped) × (entries_of whole BoardHome ≡ own ++ rest)
+      stands = let front = changes_front whole.board.notes (opening setup own) begins in (front.0, front.1 ∙ ap (λ (l : List Stamped). l ++ front.0) (opening-changes setup own))
+
+      -- the stamp of the last of the first n is known
+      known_in : (before after : List Stamped) → own ≡ before ++ after → IsKnown whole (record { 0 = length before })
+      known_in before after at =
+          let parts : reverse own ≡ reverse after ++ reverse before = ap reverse at ∙ reverse-append before after in
+          let each : AtEach (IsNextNote setup) (reverse before) = AtEach-later (IsNextNote setup) (reverse after) (reverse before) (subst (AtEach (IsNextNote setup)) parts is.boots) in
+          let count = length-reverse before in
+          elim (last_note (reverse before) each) [
+            | inl none ↦ inl (sym count ∙ none)
+            | inr has ↦
+                let here : Contains before has.0 = subst (λ (l : List Stamped). Contains l has.0) (reverse-reverse before) has.1 in
+                let all : entries_of whole BoardHome ≡ before ++ (after ++ stands.0) = stands.1 ∙ ap (λ (l : List Stamped). l ++ stands.0) at ∙ append_assoc before after stands.0 in
+                inr (inl (BoardHome, (has.0, subst (λ (l : List Stamped). Contains l has.0) (sym all) (Contains-append_left before (after ++ stands.0) has.0 here), has.2 ∙ ap (λ n. record { 0 = n }) count)))
+          ]
+
+      pub last_known : IsKnown whole (record { 0 = length own })
+      last_known = known_in own [] (sym (append-nil own))
+
+      pub all_met : All (MetAmong setup (entries_of whole BoardHome)) own
+      all_met = each_note (MetAmong setup (entries_of whole BoardHome)) (λ before after x at note. record {
+        before = before;
+        after = after ++ stands.0;
+        stands = stands.1 ∙ ap (λ (l : List Stamped). l ++ stands.0) at ∙ append_assoc before (x ∷ after) stands.0;
+        shows = subst (HomePart setup x.event) (map-reverse (λ (y : Stamped). y.event) before) note.met;
+      })
+
+      pub all_next : All (λ (x : Stamped). (before : Stamp) × (x.stamp.0 ≡ before.0 + 1) × IsKnown whole before) own
+      all_next = each_note (λ (x : Stamped). (before : Stamp) × (x.stamp.0 ≡ before.0 + 1) × IsKnown whole before) (λ before after x at note.
+          (record { 0 = length before }, note.next ∙ ap (λ n. n + 1) (length-reverse before), known_in before (x ∷ after) at))
+
+    pub all_behind : (last : Stamp) → All (λ (x : Stamped). IsBehind last x.stamp x.event) own
+    all_behind last = All-weaker (λ (x : Stamped). IsBoots x.event) (λ (x : Stamped). IsBehind last x.stamp x.event) (λ x b. is_behind last x.stamp x.event b) own all_boots
+
+    pub all_saw : (clients : ℕ) (entries : Home → List Stamped) → AtEach (λ (x : Stamped) older. SawFronts setup clients entries x.stamp x.event (map (λ (y : Stamped). y.event) older)) (reverse own)
+    all_saw clients entries = each-weaker (IsNextNote setup) (λ (x : Stamped) older. SawFronts setup clients entries x.stamp x.event (map (λ (y : Stamped). y.event) older)) (λ x older note. saw_fronts setup clients entries x.stamp x.event (map (λ (y : Stamped). y.event) older) note.boots) (reverse own) is.boots
+
+    pub all_told : (clients : ℕ) (entries : Home → List Stamped) (worker : ℕ) → TellsEach setup clients entries worker own
+    all_told clients entries worker =
+        each-weaker (IsNextNote setup) (λ (x : Stamped) older. WasTold setup clients entries x.stamp (worker_events clients worker (map (λ (y : Stamped). y.event) older)) x.event)
+        (λ x older note. was_told setup clients entries x.stamp (worker_events clients worker (map (λ (y : Stamped). y.event) older)) x.event note.boots) (reverse own) is.boots

@@ -1,0 +1,24 @@
+use Rattle.std.proofs.Common.{List, length, ap, ◌∙◌, arith}
+use Rattle.xa_stamp.specs.declared.home.Stamped.{Stamped}
+use Rattle.xa_work.specs.Work.{Standing as Working}
+use Rattle.xa_caller.specs.declared.phase.Phase.TheVariants.{Idle}
+use Rattle.xa_boot.proofs.Seated.{new_desk}
+use Rattle.xa_boot.proofs.staff.Staff.desk.Goals as goal
+
+pub returns : goal.returns
+returns c =
+    let d = c.args.domain.now in
+    let old = c.args.self.now in
+    let hires = c.next-seat.ensures in
+    let staff = hires.staff d c.requires.staff in
+    let some = c.requires.some in
+    let left = hires.left in
+    record {
+      left = left;
+      own = hires.own;
+      full = hires.full;
+      staff = staff;
+      desk_is = new_desk d old.own c.next-seat.new.self.left c.next-seat.result c.new.result c.next-seat.new.self.version (omega (arith, some, left)) c.requires.staff.boot (hires.is_post d c.requires.staff) c.requires.staff.booted
+          (staff.version ∙ ap (λ (l : List Stamped). length l) hires.own)
+          (c.new.ensures ∙ ap (λ (w : Working). record { work = w; seat = c.next-seat.result.seat; op = 0; sent = 0; least = c.next-seat.new.self.version; phase = Idle }) c.new-work.ensures);
+    }

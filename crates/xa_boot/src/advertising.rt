@@ -1,0 +1,102 @@
+// The domain advertises the configured services on a board that nobody else has seen.
+ghost use Rattle.std.specs.Prelude.{◌≡◌, ◌+◌, ◌<◌, [], ◌∷◌, length, position, true, IfOk, OnOk};
+ghost use Rattle.std.specs.List.{All};
+ghost use Rattle.std.specs.Str.{bytes_eq};
+ghost use Rattle.xa_types.specs.Configured.{is_configured, is_among, queue_names};
+ghost use Rattle.xa_types.specs.Rows.{Put, changes_of, configured};
+ghost use Rattle.xa_types.specs.Setup.{queue_named};
+ghost use Rattle.xa_boot.specs.Opening.{Remain, Begin, Passed};
+
+use xa_board::Board;
+use xa_held::KeptBoard;
+use xa_route::{is_same, row_for};
+use xa_types::{CallerId, Name, NoMemory, QueueId, ServiceSetup, Setup, Stamp};
+use xa_work::Own;
+
+/// The board, and what the domain noted there.
+#[derive(Drop)]
+pub struct Opening {
+    pub board: KeptBoard,
+    pub own: Own,
+}
+
+// The place of the queue of that name, from 0.
+fn place_of_queue(setup: &Setup, name: &Name) -> Option<usize>
+    ensures { result ≡ position (λ queue. bytes_eq queue.name name.now) setup.now.queues }
+{
+    let mut queues = setup.queues.slice().iter();
+    queues.position(|queue| is_same(&queue.name, name))
+}
+
+/// The queue of that name.
+pub(crate) fn queue_named(setup: &Setup, name: &Name) -> QueueId
+    requires { is_configured setup.now ≡ true }
+    ensures { result.0 ≡ queue_named setup.now name.now }
+{
+    match place_of_queue(setup, name) {
+        Some(place) => QueueId(place as u16 + 1),
+        None => QueueId(0),
+    }
+}
+
+impl Opening {
+    /// Nothing is advertised yet.
+    pub(crate) fn new(board: Board, setup: &Setup) -> Opening
+        requires first { board.first.0 ≡ 0 }
+        requires entries { board.entries ≡ [] }
+        ensures { Remain setup.now (configured setup.now) result }
+    {
+        Opening {
+            board: KeptBoard::of(board, setup),
+            own: Own::new(),
+        }
+    }
+
+    // Advertises a service on a queue. The domain has seen nothing but the board.
+    fn advertise(
+        &mut self,
+        setup: &Setup,
+        service: &ServiceSetup,
+        queue: QueueId,
+    ) -> Result<(), NoMemory>
+        requires configured { is_configured setup.now ≡ true }
+        requires placed { (0 < queue.0) × (queue.0 < length setup.now.queues + 1) }
+        requires next { Begin setup.now (Put service.now.name queue.0 service.now.routine ∷ []) self.old }
+        ensures { OnOk result (Passed setup.now (Put service.now.name queue.0 service.now.routine ∷ []) self.old self.new) }
+    {
+        let row = row_for(setup, queue, service.name, service.routine);
+        let domain = CallerId(0);
+        let Ok(done) = self.board.advertise(Stamp(0), domain, domain, 0, row) else {
+            return Err(NoMemory);
+        };
+        self.own.add(done.noted.stamp, done.noted.event);
+        Ok(())
+    }
+
+    // Advertises a service on each of its queues.
+    fn advertise_service(&mut self, setup: &Setup, service: &ServiceSetup) -> Result<(), NoMemory>
+        requires configured { is_configured setup.now ≡ true }
+        requires known { All (λ name. is_among (queue_names setup.now) name ≡ true) service.now.queues }
+        requires next { Begin setup.now (changes_of setup.now service.now) self.old }
+        ensures { OnOk result (Passed setup.now (changes_of setup.now service.now) self.old self.new) }
+    {
+        let names = service.queues.slice();
+        for name in names {
+            self.advertise(setup, service, queue_named(setup, name))?;
+        }
+        Ok(())
+    }
+
+    /// Advertises each configured service on each of its queues.
+    pub(crate) fn advertise_all(&mut self, setup: &Setup) -> Result<(), NoMemory>
+        requires configured { is_configured setup.now ≡ true }
+        requires none { Remain setup.now (configured setup.now) self.old }
+        ensures { OnOk result (Remain setup.now [] self.new) }
+    {
+        let services = setup.services.slice();
+        for service in services {
+            self.advertise_service(setup, service)?;
+        }
+        Ok(())
+    }
+}

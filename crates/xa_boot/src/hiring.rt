@@ -1,0 +1,134 @@
+// The workers with their desks, of which each takes what the workers before it have left.
+ghost use Rattle.std.specs.Prelude.{◌≡◌, ◌+◌, ◌<◌, ◌≤◌, [], length, map, slice_get, Some, true, vec_capacity};
+ghost use Rattle.std.specs.List.{All};
+ghost use Rattle.xa_types.specs.Configured.{is_configured};
+ghost use Rattle.xa_links.specs.Lives.{HasStarted};
+ghost use Rattle.xa_restart.specs.Rule.{Standing as Restarts};
+ghost use Rattle.xa_desk.specs.Desks.{IsDomain};
+ghost use Rattle.xa_boot.specs.Booting.{IsNewServer, IsNewCloser};
+ghost use Rattle.xa_boot.specs.Supplies.{restarts_of};
+ghost use Rattle.xa_boot.specs.Hiring.{AreLeft, HasClients, HasServers};
+
+use crate::advertising::queue_named;
+use crate::closer::Closer;
+use crate::staff::{Post, Staff, last_of};
+use std::alloc::Global;
+use xa_clients::ClientWorker;
+use xa_desk::Domain;
+use xa_link::{Link, Starter};
+use xa_links::ServerWorker;
+use xa_restart::Lives;
+use xa_server::{Served, ServerSlot};
+use xa_types::ServerId;
+
+// The worker of the server at that place, which is the last that is left.
+fn server_worker<L: Link, T: Starter<L>>(
+    alloc: Global,
+    domain: &Domain,
+    staff: &mut Staff,
+    place: usize,
+    lives: Lives,
+    starter: T,
+) -> ServerWorker<L, T>
+    requires domain { IsDomain domain.now }
+    requires left { AreLeft domain.now (domain.now.clients + place + 2) staff.old }
+    requires place { place < length domain.now.setup.servers }
+    requires lives { slice_get (map restarts_of domain.now.setup.servers) place ≡ Some lives }
+    requires named { slice_get (map (λ server. server.name) domain.now.setup.servers) place ≡ Some (T.server_name starter) }
+    requires unasked { HasStarted (T.server_name starter) 0 0 (record { asked = T.asked starter; faults = T.start_faults starter }) }
+    ensures left { AreLeft domain.now (domain.now.clients + place + 1) staff.new }
+    ensures own { staff.new.own ≡ staff.old.own }
+    ensures starter { result.served.starter ≡ starter }
+    ensures worker { IsNewServer domain.now T.server_name (λ s. record { asked = T.asked s; faults = T.start_faults s }) (place + 1) result }
+{
+    let configured = &domain.setup.servers.slice()[place];
+    let slot = ServerSlot::new(ServerId(place as u16 + 1), lives);
+    ServerWorker {
+        desk: staff.desk(alloc, domain),
+        served: Served::new(alloc, slot, starter),
+        name: configured.name,
+        queue: queue_named(&domain.setup, &configured.queue),
+        counted: false,
+        cut: None,
+        stopped: None,
+    }
+}
+
+/// Each server gets its worker.
+pub(crate) fn hire_servers<L: Link, T: Starter<L>>(
+    alloc: Global,
+    domain: &Domain,
+    staff: &mut Staff,
+    mut lives: Vec<Lives>,
+    mut starters: Vec<T>,
+    servers: &mut Vec<ServerWorker<L, T>>,
+)
+    requires domain { IsDomain domain.now }
+    requires left { AreLeft domain.now (domain.now.clients + length starters.items + 1) staff.old }
+    requires lives { lives.items ≡ map restarts_of domain.now.setup.servers }
+    requires named { map (λ s. T.server_name s) starters.items ≡ map (λ server. server.name) domain.now.setup.servers }
+    requires unasked { All (λ s. HasStarted (T.server_name s) 0 0 (record { asked = T.asked s; faults = T.start_faults s })) starters.items }
+    requires room { (servers.old.items ≡ []) × (length starters.items ≤ vec_capacity servers.old) }
+    ensures left { AreLeft domain.now (domain.now.clients + 1) staff.new }
+    ensures own { staff.new.own ≡ staff.old.own }
+    ensures servers { HasServers domain.now T.server_name (λ s. record { asked = T.asked s; faults = T.start_faults s }) starters.items servers.new.items }
+{
+    while let Some(starter) = starters.pop() {
+        let place = starters.len();
+        let its = last_of(&mut lives);
+        servers.push_reserved(server_worker(alloc, domain, staff, place, its, starter));
+    }
+    starters.destroy_empty();
+    servers.reverse();
+}
+
+/// Each client gets its worker.
+pub(crate) fn hire_clients(
+    alloc: Global,
+    domain: &Domain,
+    staff: &mut Staff,
+    clients: &mut Vec<ClientWorker>,
+)
+    requires left { AreLeft domain.now (domain.now.clients + 1) staff.old }
+    requires room { (clients.old.items ≡ []) × (domain.now.clients ≤ vec_capacity clients.old) }
+    ensures left { AreLeft domain.now 1 staff.new }
+    ensures own { staff.new.own ≡ staff.old.own }
+    ensures clients { HasClients domain.now clients.new.items }
+{
+    for _ in 0..domain.clients {
+        clients.push_reserved(ClientWorker::Ready(staff.desk(alloc, domain)));
+    }
+    clients.reverse();
+}
+
+/// The domain itself gets what is left.
+pub(crate) fn hire_closer(domain: &Domain, mut staff: Staff) -> Closer
+    requires left { AreLeft domain.now 1 staff }
+    ensures { IsNewCloser domain.now result }
+{
+    let Post {
+        seat,
+        reader: _,
+        board,
+        queues,
+    } = staff.next();
+    let Staff {
+        left: _,
+        own,
+        version: _,
+        seats,
+        readers: _,
+        boards: _,
+        queues: _,
+        rooms: _,
+    } = staff;
+    seats.destroy_empty();
+    Closer {
+        seat,
+        board: Some(board),
+        queues,
+        own,
+        seen: domain.booted,
+        halt: None,
+    }
+}
