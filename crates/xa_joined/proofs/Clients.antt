@@ -24,7 +24,7 @@ use Rattle.xa_joined.proofs.Left.{same_homes}
 use Rattle.xa_joined.proofs.Going.{one_goes_on}
 
 -- what a caller noted is what its desk has
-noted_is : (domain : Working) (desks : List Desk) (client : ℕ) (desk : Desk) → numbered client desks ≡ Some desk → noted_of domain desks client ≡ desk.caller.work.own
+pub noted_is : (domain : Working) (desks : List Desk) (client : ℕ) (desk : Desk) → numbered client desks ≡ Some desk → noted_of domain desks client ≡ desk.caller.work.own
 noted_is domain desks zero desk there = absurd (cc there)
 noted_is domain desks (suc n) desk there = ap (λ (o : Option Desk). list_in (option_map (λ (desk : Desk). desk.caller.work.own) o)) there
 

@@ -36,7 +36,7 @@ use Rattle.xa_joined.proofs.Going.{one_goes_on}
 
 -- ---- stamps that rise
 
-rises-lower : (low high : Stamp) (xs : List Stamped) → low.0 ≤ high.0 → Rises high xs → Rises low xs
+pub rises-lower : (low high : Stamp) (xs : List Stamped) → low.0 ≤ high.0 → Rises high xs → Rises low xs
 rises-lower low high [] le rises = omega (arith, le, rises)
 rises-lower low high (x ∷ xs) le rises = (omega (arith, le, rises.0), rises.1)
 
@@ -97,7 +97,7 @@ module _ (d : Domain) (b : Back) (domain : Working) (desks : List Desk) (all : A
   queue_home queue None there = (no_stamp, omega arith)
   queue_home queue (Some kept) there = (kept.queue.first, (all.each queue kept there).sound.rises)
 
-  home_rises : (home : Home) → (first : Stamp) × Rises first (held home)
+  pub home_rises : (home : Home) → (first : Stamp) × Rises first (held home)
   home_rises BoardHome = (b.board.board.first, changes_rise b.board.board.first b.board.notes all.board.climbs (let latest = all.board.latest in let bound = all.board.bound in omega (arith, latest, bound)))
   home_rises (QueueHome queue) = subst (λ (o : Option (List Made)). (first : Stamp) × Rises first (noted_in (list_in o))) (sym (numbered_map (λ (kept : Kept Filling). kept.queue.entries) queue b.queues)) (queue_home queue (numbered queue b.queues) refl)
   home_rises ClockHome = (no_stamp, omega arith)

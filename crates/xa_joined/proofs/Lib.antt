@@ -7,3 +7,9 @@ pub mod Crew
 pub mod Homes
 pub mod Stamps
 pub mod Clients
+pub mod Recorded
+pub mod Merged
+pub mod Configured
+pub mod Gone
+pub mod Deserting
+pub mod History

@@ -77,9 +77,9 @@ module _ (d : Domain) (b : Back) (domain : Working) (desks : List Desk) (all : A
   grounds = all_makers (IsGround held) change_maker (workers_of d.setup d.clients) b.board.notes its_grounds all.makers
 
   looks : All (IsOfEventIn held) b.board.notes
-  looks = looks_known held b.board.board.first.0 b.board.notes (inl all.first) all.board.climbs grounds (All-contains_itself (changes_at b.board.notes))
+  looks = looks_known held b.board.board.first.0 b.board.notes (inl all.board.begins) all.board.climbs grounds (All-contains_itself (changes_at b.board.notes))
 
-  known_stamp : (stamp : Stamp) → IsKnown (whole_of d b) stamp → IsOfEvent held stamp.0
+  pub known_stamp : (stamp : Stamp) → IsKnown (whole_of d b) stamp → IsOfEvent held stamp.0
   known_stamp stamp (inl none) = inl none
   known_stamp stamp (inr (inl at)) = event_stamp held at.0 stamp (subst (λ (l : List Stamped). HasStamp l stamp) (same_homes d b at.0) at.1)
   known_stamp stamp (inr (inr look)) = subst (IsOfEvent held) (ap (λ (s : Stamp). s.0) look.2) (All-contains (IsOfEventIn held) b.board.notes (Looked look.0) looks look.1)

@@ -111,7 +111,6 @@ pub record AllLeft (d : Domain) (b : Back) (domain : Working) (desks : List Desk
   pub own : length b.own ≡ length desks
   pub board : IsSoundBoard b.board
   pub reads : BoardReads b.board.board
-  pub first : b.board.board.first.0 ≡ 0
   pub makers : All (λ note. change_maker note < workers_of d.setup d.clients) b.board.notes
   pub booted : IsBooted d.setup d.booted (changes_at b.board.notes)
   pub queues : length b.queues ≡ length d.setup.queues

@@ -2,4 +2,5 @@
 //! are laws alone.
 #![tactic(auto)]
 
+pub mod ending;
 pub mod laws;

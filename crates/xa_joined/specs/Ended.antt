@@ -1,0 +1,51 @@
+-- How the workers of a domain ended, by what their desks show (this project's own).
+use Rattle.std.specs.Prelude.{◌≡◌, ℕ, ◌+◌, true, List, [], length, map, Some, IsSomeAnd}
+use Rattle.xa_types.specs.declared.ids.Generation.{Generation}
+use Rattle.xa_types.specs.declared.call.Op.{Op}
+use Rattle.xa_types.specs.declared.setup.ServerSetup.{ServerSetup}
+use Rattle.xa_types.specs.Setup.{numbered, queue_of}
+use Rattle.xa_events.specs.Words.{EachNumbered}
+use Rattle.xa_stamp.specs.Home.{Notes}
+use Rattle.xa_crew.specs.Ending.{AreAll}
+use Rattle.xa_held.specs.Board.{made_in}
+use Rattle.xa_held.specs.Kept.{Kept}
+use Rattle.xa_work.specs.Work.{Standing as Working}
+use Rattle.xa_caller.specs.declared.cargo.Filling.{Filling}
+use Rattle.xa_pipe.specs.Standing.{Ending}
+use Rattle.xa_server.specs.Served.{StarterShows}
+use Rattle.xa_desk.specs.declared.domain.Domain.{Domain}
+use Rattle.xa_desk.specs.declared.desk.Desk.{Desk}
+use Rattle.xa_desk.specs.Desks.{FitsCalls}
+use Rattle.xa_clients.specs.Ending.{HasMade}
+use Rattle.xa_links.specs.Lives.{ServerShows}
+use Rattle.xa_joined.specs.Joined.{Back, AllLeft}
+
+-- what a server's worker hands back: its server's name, its lives that ended, that which went on at a halt, and what its starter shows
+pub record ServerEnd : Type 0 where
+  pub name : List ℕ
+  pub lives : List Ending
+  pub cut : List Generation
+  pub shown : StarterShows
+
+-- a client made all of these calls, and left
+pub record HasMadeAll (d : Domain) (ops : List Op) (desk : Desk) : Type 0 where
+  pub made : HasMade (length ops) desk.caller.work
+  pub fits : FitsCalls d ops desk
+
+-- each server's worker shows how its server lived; to its end, where the run came to its own
+abbrev pub EachServer : Domain → List Desk → List ServerEnd → Type 0 → Type 0
+EachServer d desks servers Whole = EachNumbered (λ k (x : ServerEnd). IsSomeAnd (numbered (d.clients + k) desks) (λ desk. ServerShows d x.name (queue_of d.setup k) k desk x.lives x.cut x.shown Whole)) 1 servers
+
+-- all of it: the workers left, these are all homes, in their order, and each server shows its lives
+pub record Ends (d : Domain) (b : Back) (domain : Working) (desks : List Desk) (servers : List ServerEnd) (homes : List Notes) (Whole : Type 0) : Type 0 where
+  pub left : AllLeft d b domain desks
+  pub homes_are : AreAll d.setup d.clients (made_in b.board.notes) [] (map (λ (kept : Kept Filling). kept.queue.entries) b.queues) b.own homes
+  pub count : length servers ≡ length d.setup.servers
+  pub names : map (λ (x : ServerEnd). x.name) servers ≡ map (λ (server : ServerSetup). server.name) d.setup.servers
+  pub each : EachServer d desks servers Whole
+
+-- the run came to its end: each client made its calls and left, and each queue was closed
+pub record EndsWhole (d : Domain) (b : Back) (desks : List Desk) (calls : List (List Op)) : Type 0 where
+  pub clients : length calls ≡ d.clients
+  pub made : EachNumbered (λ k ops. IsSomeAnd (numbered k desks) (HasMadeAll d ops)) 1 calls
+  pub closed : (queue : ℕ) (kept : Kept Filling) → numbered queue b.queues ≡ Some kept → kept.queue.closed ≡ true
