@@ -1,0 +1,7 @@
+pub mod Numbered
+pub mod Readings
+pub mod Own
+pub mod SoFar
+pub mod Sent
+pub mod Merged
+pub mod Lives

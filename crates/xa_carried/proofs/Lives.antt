@@ -1,0 +1,178 @@
+-- A life of a server, by its worker's own list, in the run.
+use Rattle.std.proofs.Common.{◌≡◌, ℕ, ◌+◌, ◌<◌, ◌%◌, ◌^◌, true, cond, List, [], ◌∷◌, ◌++◌, map, reverse, append-nil, sym, ◌∙◌, ap, subst, arith}
+use Rattle.std.specs.Prelude.{take, drop}
+use Rattle.std.specs.List.{All, Contains, filter, flat_map}
+use Rattle.std.proofs.lemmas.List.{length-map}
+use Rattle.std.proofs.lemmas.List.Elements.{All-tail, All-weaker, filter-append}
+use Rattle.xa_types.specs.declared.ids.Generation.{Generation}
+use Rattle.xa_types.specs.Setup.{queue_of}
+use Rattle.xa_events.specs.Cases.{IsShut}
+use Rattle.xa_events.specs.declared.event.Event.{Event}
+use Rattle.xa_events.specs.declared.event.Event.TheVariants.{Take}
+use Rattle.xa_events.specs.declared.event.Taken.{Taken}
+use Rattle.xa_events.specs.Homes.{of_worker}
+use Rattle.xa_events.specs.Homes.Home.{QueueHome}
+use Rattle.xa_events.specs.Laws.{LawOfEnds}
+use Rattle.xa_events.specs.Local.{worker_events}
+use Rattle.xa_events.specs.Queue.{is_closed}
+use Rattle.xa_events.specs.Request.{sent_as}
+use Rattle.xa_events.specs.State.{caller_of}
+use Rattle.xa_events.specs.Words.{AtEach, EachNumbered}
+use Rattle.xa_events.proofs.Merge.{AtEach-here}
+use Rattle.xa_stamp.specs.declared.home.Stamped.{Stamped}
+use Rattle.xa_stamp.specs.Home.{Notes}
+use Rattle.xa_stamp.specs.Merge.{IsMerged}
+use Rattle.xa_lock.specs.declared.makers.Made.{Made}
+use Rattle.xa_lock.specs.Makers.{noted_in}
+use Rattle.xa_crew.specs.Seen.{SawFront}
+use Rattle.xa_crew.proofs.Lists.{AtEach-later}
+use Rattle.xa_held.specs.declared.cargo.Invocation.{Invocation}
+use Rattle.xa_held.specs.Kept.{Brings}
+use Rattle.xa_held.specs.Notes.{made_of}
+use Rattle.xa_frame.specs.declared.frame.Frame.{Frame}
+use Rattle.xa_pipe.specs.declared.turn.Turn.TheVariants.{AwaitsInvoke}
+use Rattle.xa_pipe.specs.Following.{is_of, IsSent, StandsIn}
+use Rattle.xa_pipe.specs.Frames.{is_of_life, invocation}
+use Rattle.xa_pipe.specs.Life.{IsLife, StopsClosed, stops_life}
+use Rattle.xa_pipe.specs.Standing.{Ending}
+use Rattle.xa_pipe.specs.Pipe.{invoke_frame}
+use Rattle.xa_pipe.proofs.Followed.{is_life}
+use Rattle.xa_work.specs.Work.{Standing as Working, theirs}
+use Rattle.xa_desk.specs.declared.domain.Domain.{Domain}
+use Rattle.xa_desk.specs.declared.desk.Desk.{Desk}
+use Rattle.xa_desk.specs.Whole.{entries_of}
+use Rattle.xa_desk.specs.Desks.{queue_page}
+use Rattle.xa_desk.specs.Made.{IsMade}
+use Rattle.xa_links.specs.Lives.{lives_in, HasStarted, IsHanded, IsLived}
+use Rattle.xa_joined.specs.Joined.{Back, whole_of, kept_of, noted_of}
+use Rattle.xa_joined.specs.Ended.{ServerEnd, Ends}
+use Rattle.xa_joined.specs.Served.{generations_of, IsLifeOf, IsStarterOf, IsCarried}
+use Rattle.xa_joined.proofs.Going.{one_goes_on}
+use Rattle.xa_joined.proofs.Left.{same_homes}
+use Rattle.xa_joined.proofs.Merged.{merged_made}
+use Rattle.xa_carried.proofs.Merged.{law_of_ends, seen_too, closed_before}
+use Rattle.xa_carried.proofs.Numbered.{each_from, each_map}
+use Rattle.xa_carried.proofs.Own.{is_worker, its_noted}
+use Rattle.xa_carried.proofs.Readings.{of_life, stop_of_life, life_own, taken_own}
+use Rattle.xa_carried.proofs.Sent.{AtEach-splits, IsAsked, asked_frame, taken_as_brought}
+use Rattle.xa_carried.proofs.SoFar.{Shown, shown, of_starts, of_lives}
+
+all_later : {X : Type 0} (P : X → Type 0) (front before : List X) → All P (front ++ before) → All P before
+all_later P [] before all = all
+all_later P (x ∷ front) before all = all_later P front before (All-tail P x (front ++ before) all)
+
+-- ---- what was written for a take
+
+module _ (clients server g : ℕ) (asked : List Frame) where
+  abbrev its : List Event → List Event
+  its past = worker_events clients (caller_of clients server) past
+
+  same_number : (t : Taken) (before : List Event) → invocation server g (Take t ∷ its before) ≡ invocation server g (Take t ∷ before)
+  unfolding invocation
+  same_number t before = ap (λ (n : ℕ). cond (is_of_life server g t.server.0 t.generation.0) (n + 1) n % 2 ^ 32) (taken_own clients server g before)
+
+  -- a take that was handed on by what brought its request came to its INVOKE
+  handed_sent : (brought : List Made) (t : Taken) (before : List Event) → ((made : Made) (what : Invocation) → Contains brought made → Brings t.request what made.noted.event → IsAsked what (sent_as t.request before))
+      → IsHanded server g asked brought (Take t) (its before) → IsSent server g asked (Take t) before
+  handed_sent brought t before said handed of_life =
+      let h = handed of_life in
+      let what = h.1 in
+      asked_frame what (invocation server g (Take t ∷ before)) (sent_as t.request before) (said h.0 what h.2 h.3)
+      ∙ (sym (ap (λ (n : ℕ). invoke_frame what.service what.routine n what.payload ∷ []) (same_number t before))
+      ∙ (sym h.4 ∙ ap (λ (n : ℕ). take 1 (drop n asked)) (taken_own clients server g before)))
+
+module _ (d : Domain) (b : Back) (domain : Working) (desks : List Desk) (servers : List ServerEnd) (homes : List Notes) (Whole : Type 0) (ends : Ends d b domain desks servers homes Whole) (events : List Event) (merged : IsMerged homes events) where
+  abbrev past : List Event
+  past = reverse events
+
+  abbrev ShownHere : ℕ → ServerEnd → Type 0
+  ShownHere server end = Shown d b domain desks servers homes Whole ends events merged server end
+
+  module _ (server : ℕ) (end : ServerEnd) (shows : ShownHere server end) (over : Ending) (lived : IsLived d end.name (queue_of d.setup server) server shows.desk over) where
+    abbrev g : ℕ
+    g = over.life.generation.0
+
+    abbrev queue : ℕ
+    queue = queue_of d.setup server
+
+    abbrev worker : ℕ
+    worker = caller_of d.clients server
+
+    abbrev own : List Event
+    own = theirs shows.desk.caller.work
+
+    abbrev Handed : Event → List Event → Type 0
+    Handed = IsHanded server g over.life.asked (flat_map made_of (queue_page shows.desk queue).seen)
+
+    handed_at : (front before : List Event) (e : Event) → past ≡ front ++ e ∷ before → of_worker d.clients worker e ≡ true → Handed e (worker_events d.clients worker before)
+    handed_at front before e split mine =
+        let parted : own ≡ worker_events d.clients worker front ++ worker_events d.clients worker (e ∷ before) = sym shows.own ∙ (ap (worker_events d.clients worker) split ∙ filter-append (of_worker d.clients worker) front (e ∷ before)) in
+        AtEach-here (of_worker d.clients worker) Handed e before mine (AtEach-later Handed (worker_events d.clients worker front) (worker_events d.clients worker (e ∷ before)) (subst (AtEach Handed) parted lived.handed))
+
+    sent_at : (front before : List Event) (e : Event) → past ≡ front ++ e ∷ before → IsSent server g over.life.asked e before
+    sent_at front before (Take t) split = λ is.
+        let made : All IsMade before = All-tail IsMade (Take t) before (all_later IsMade front (Take t ∷ before) (subst (All IsMade) split (merged_made d b domain desks homes events ends.left ends.homes_are merged))) in
+        let law : LawOfEnds (front ++ Take t ∷ before) = subst LawOfEnds split (law_of_ends d b domain desks ends.left homes events ends.homes_are merged) in
+        handed_sent d.clients server g over.life.asked (flat_map made_of (queue_page shows.desk queue).seen) t before
+        (λ brought what among brings.
+        let S : Event → Type 0 = λ e. Brings t.request what e → IsAsked what (sent_as t.request before) in
+        seen_too d b domain desks ends.left homes events ends.homes_are merged S (subst (All S) (sym split) (taken_as_brought what t front before law made)) (d.clients + server) shows.desk shows.there queue brought among brings)
+        (handed_at front before (Take t) split (of_life d.clients server g (Take t) is)) is
+    sent_at front before _ split = tt
+
+    shut_before : over.life.turn ≡ AwaitsInvoke → AtEach (StopsClosed d.setup server g) past
+    shut_before idle =
+        let some = shows.some in
+        let behind : 0 < worker = omega (arith, some) in
+        let Saw : List Stamped → List Stamped → Type 0 = λ entries noted. All (λ (x : Stamped). stops_life server g x.event ≡ true → SawFront entries x.stamp (IsShut d.setup queue)) noted in
+        let saw : Saw (noted_in (kept_of b (QueueHome queue))) (noted_of domain desks worker) =
+        subst (λ (entries : List Stamped). Saw entries (noted_of domain desks worker)) (same_homes d b (QueueHome queue))
+        (subst (Saw (entries_of (whole_of d b) (QueueHome queue))) (sym (its_noted d b domain desks ends.left worker shows.desk behind shows.there))
+        (subst (λ (s : ℕ). All (λ (x : Stamped). stops_life s g x.event ≡ true → SawFront (entries_of (whole_of d b) (QueueHome queue)) x.stamp (IsShut d.setup queue)) shows.desk.caller.work.own) lived.its
+        (lived.shut idle (whole_of d b) (one_goes_on d b domain desks ends.left worker shows.desk shows.there)))) in
+        closed_before d b domain desks ends.left homes events ends.homes_are merged worker behind (is_worker d b domain desks ends.left worker shows.desk shows.there) queue (stops_life server g)
+        (λ e stops. of_life d.clients server g e (stop_of_life d.clients server g e stops))
+        (All-weaker (λ (x : Stamped). stops_life server g x.event ≡ true → SawFront (noted_in (kept_of b (QueueHome queue))) x.stamp (IsShut d.setup queue))
+        (λ (x : Stamped). stops_life server g x.event ≡ true → SawFront (noted_in (kept_of b (QueueHome queue))) x.stamp (λ past. is_closed queue past ≡ true))
+        (λ x front stops. let f = front stops in record { front = f.front; stands = f.stands; before = f.before; shows = f.shows.closed }) (noted_of domain desks worker) saw)
+
+    stands : StandsIn d.setup over own past
+    stands = record {
+      same = subst (λ (s : ℕ). filter (is_of s g) own ≡ filter (is_of s g) past) (sym lived.its) (ap (filter (is_of server g)) (sym shows.own) ∙ life_own d.clients server g past);
+      sent = subst (λ (s : ℕ). AtEach (IsSent s g over.life.asked) past) (sym lived.its) (AtEach-splits (IsSent server g over.life.asked) past sent_at);
+      closed = subst (λ (s : ℕ). over.life.turn ≡ AwaitsInvoke → AtEach (StopsClosed d.setup s g) past) (sym lived.its) shut_before;
+    }
+
+    life_of : IsLifeOf d.setup past server over
+    life_of =
+        let Is : List ℕ → ℕ → Type 0 = λ name s. IsLife d.setup (record { name = name; server = s; generation = g }) past over.life.link in
+        (lived.its, subst (λ (name : List ℕ). Is name server) (lived.named ∙ shows.named) (subst (Is over.life.name) lived.its (is_life d.setup over own past lived.over_is lived.stopped stands)))
+
+  module _ (whole : Whole) where
+    all_lives : (server : ℕ) (end : ServerEnd) → ShownHere server end → generations_of end.lives ≡ lives_in server past
+    all_lives server end its =
+        sym (append-nil (generations_of end.lives)) ∙ (ap (λ (l : List Generation). generations_of end.lives ++ l) (sym (its.shows.none_cut whole)) ∙ of_lives d b domain desks servers homes Whole ends events merged server end its)
+
+    starter_of : (server : ℕ) (end : ServerEnd) → ShownHere server end → IsStarterOf d.setup server end.name end.shown past
+    starter_of server end its = record {
+      its = its.named;
+      started = of_starts d b domain desks servers homes Whole ends events merged server end its (λ name n failed. HasStarted name n failed end.shown) (its.shows.started whole);
+    }
+
+    lives_of : (server : ℕ) (end : ServerEnd) → ShownHere server end → All (IsLifeOf d.setup past server) end.lives
+    lives_of server end its = All-weaker (IsLived d end.name (queue_of d.setup server) server its.desk) (IsLifeOf d.setup past server) (life_of server end its) end.lives (its.shows.lived whole)
+
+    -- what holds of each server that shows its lives
+    by_server : (P : ℕ → ServerEnd → Type 0) → ((server : ℕ) (end : ServerEnd) → ShownHere server end → P server end) → EachNumbered P 1 servers
+    by_server P holds = each_from P servers (λ server end there. holds server end (shown d b domain desks servers homes Whole ends events merged server end there))
+
+    pub carried : IsCarried (λ (x : ServerEnd). x.name) (λ (x : ServerEnd). x.shown) d.setup past (map (λ (x : ServerEnd). x.lives) servers) servers
+    carried = record {
+      all = ends.count;
+      lives_are = record {
+        all = length-map servers (λ (x : ServerEnd). x.lives) ∙ ends.count;
+        each = each_map (λ server its. generations_of its ≡ lives_in server past) (λ (x : ServerEnd). x.lives) 1 servers (by_server (λ server end. generations_of end.lives ≡ lives_in server past) all_lives);
+      };
+      pipes = each_map (λ server its. All (IsLifeOf d.setup past server) its) (λ (x : ServerEnd). x.lives) 1 servers (by_server (λ server end. All (IsLifeOf d.setup past server) end.lives) lives_of);
+      each = by_server (λ server end. IsStarterOf d.setup server end.name end.shown past) starter_of;
+    }
