@@ -107,4 +107,4 @@ new_client d client desk some least new =
     let clients = new.clients in
     let first : nat_le 1 desk.caller.work.id.0 ≡ true = le-leb 1 desk.caller.work.id.0 (omega (arith, id, some)) in
     let last : nat_le desk.caller.work.id.0 desk.caller.work.clients ≡ true = le-leb desk.caller.work.id.0 desk.caller.work.clients (omega (arith, id, clients, least)) in
-    (record { is = new.is; client = ap₂ (λ a b. a && b) first last; idle = new.idle; made = new.made }, new.id, new.clients)
+    (record { is = new.is; client = ap₂ (λ a b. a && b) first last; idle = new.idle; made = new.made }, new.id, new.clients, new.none)

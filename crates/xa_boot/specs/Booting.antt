@@ -1,5 +1,5 @@
 -- A domain that was booted, and its workers (this project's own).
-use Rattle.std.specs.Prelude.{◌≡◌, ℕ, ◌+◌, ◌<◌, ◌≤◌, ◌^◌, List, length, map, None, slice_index_or}
+use Rattle.std.specs.Prelude.{◌≡◌, ℕ, ◌+◌, ◌<◌, ◌≤◌, ◌^◌, List, [], length, map, None, slice_index_or}
 use Rattle.std.specs.List.{All}
 use Rattle.xa_types.specs.declared.setup.Setup.{Setup}
 use Rattle.xa_types.specs.declared.setup.ServerSetup.{ServerSetup}
@@ -55,8 +55,9 @@ pub record IsNewCloser (d : Domain) (closer : Closer) : Type 0 where
   pub shows : (whole : Whole) → IsSoundBoard whole.board → StartsWith whole.board.notes (page_in closer.board).seen → Shows d whole (work_of d closer)
   pub halt : closer.halt ≡ None
 
+-- a client before its first call, which noted nothing
 abbrev pub IsNewClient : Domain → ℕ → ClientWorker → Type 0
-IsNewClient d client (Ready desk) = IsReady d 0 desk × (desk.caller.work.id.0 ≡ client) × (desk.caller.work.clients ≡ d.clients)
+IsNewClient d client (Ready desk) = IsReady d 0 desk × (desk.caller.work.id.0 ≡ client) × (desk.caller.work.clients ≡ d.clients) × (desk.caller.work.own ≡ [])
 IsNewClient d client worker = ⊥
 
 -- the worker of the server with that number
