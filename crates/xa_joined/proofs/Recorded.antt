@@ -4,6 +4,7 @@ use Rattle.std.specs.List.{All, Contains, filter, flat_map}
 use Rattle.std.proofs.lemmas.Bool.{cases_Bool, cases_lt, and_parts}
 use Rattle.std.proofs.lemmas.List.Elements.{All-head, All-tail, All-weaker, All-map, All-filter, All-contains, All-contains_itself, filter_passes, Contains-append_left, Contains-append_right}
 use Rattle.xa_types.specs.declared.setup.Setup.{Setup}
+use Rattle.xa_types.specs.declared.stamp.Stamp.{Stamp}
 use Rattle.xa_events.specs.declared.event.Event.{Event}
 use Rattle.xa_events.specs.declared.event.Event.TheVariants.{Advertise, Withdraw, Sweep, Down, Close}
 use Rattle.xa_events.specs.Homes.{Home, home_of, worker_of, of_worker, same_home, all_homes}
@@ -29,6 +30,7 @@ use Rattle.xa_caller.specs.declared.cargo.Filling.{Filling}
 use Rattle.xa_work.specs.Work.{Standing as Working}
 use Rattle.xa_desk.specs.declared.domain.Domain.{Domain}
 use Rattle.xa_desk.specs.declared.desk.Desk.{Desk}
+use Rattle.xa_desk.specs.Whole.{IsKnown}
 use Rattle.xa_desk.specs.Desks.{GoesOn}
 use Rattle.xa_joined.specs.Joined.{Back, whole_of, kept_of, noted_of, HasLeft, AllLeft}
 use Rattle.xa_joined.specs.Served.{HoldAll, IsOwn, EachOwn, IsRecorded, is_made_at}
@@ -250,13 +252,18 @@ among_stamps held home x here (h ∷ homes) (n ∷ names) are some =
       | inr off ↦ Contains-append_right (map stamp h.entries) (stamps_of homes) x.stamp.0 (among_stamps held home x here homes names more (λ none. some (count_no (same_home home) n names off ∙ none)))
     ]
 
-pub worn_noted : (d : Domain) (b : Back) (domain : Working) (desks : List Desk) (homes : List Notes) → AllLeft d b domain desks → HoldAll d b homes → (desk : Desk) → Contains desks desk → desk.caller.work.stamp.0 ≡ 2 ^ 63 → Contains (stamps_of homes) (2 ^ 63)
-worn_noted d b domain desks homes all hold desk there worn =
+-- a known stamp that is at the end of stamps is an event's
+pub known_noted : (d : Domain) (b : Back) (domain : Working) (desks : List Desk) (homes : List Notes) → AllLeft d b domain desks → HoldAll d b homes → (stamp : Stamp) → IsKnown (whole_of d b) stamp → stamp.0 ≡ 2 ^ 63 → Contains (stamps_of homes) (2 ^ 63)
+known_noted d b domain desks homes all hold stamp is worn =
     let are = names_are d b domain desks all homes hold in
-    let is = (All-contains (HasLeft d b) desks desk all.left there).is.known_stamp (whole_of d b) (All-contains (GoesOn d (whole_of d b)) desks desk (desks_go_on d b domain desks all) there) in
-    elim (known_stamp d b domain desks all desk.caller.work.stamp is) [
+    elim (known_stamp d b domain desks all stamp is) [
       | inl none ↦ absurd (omega (arith, none, worn))
       | inr its ↦
           subst (Contains (stamps_of homes)) (its.3 ∙ worn)
           (among_stamps (held d b domain desks all) its.0 its.1 its.2 homes (names d b domain desks all) are.are (λ none. let empty : Contains [] its.1 = subst (λ (l : List Made). Contains (noted_in l) its.1) (are.rest its.0 none) its.2 in absurd (omega (arith, empty.1))))
     ]
+
+pub worn_noted : (d : Domain) (b : Back) (domain : Working) (desks : List Desk) (homes : List Notes) → AllLeft d b domain desks → HoldAll d b homes → (desk : Desk) → Contains desks desk → desk.caller.work.stamp.0 ≡ 2 ^ 63 → Contains (stamps_of homes) (2 ^ 63)
+worn_noted d b domain desks homes all hold desk there worn =
+    let is = (All-contains (HasLeft d b) desks desk all.left there).is.known_stamp (whole_of d b) (All-contains (GoesOn d (whole_of d b)) desks desk (desks_go_on d b domain desks all) there) in
+    known_noted d b domain desks homes all hold desk.caller.work.stamp is worn
