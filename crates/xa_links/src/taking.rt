@@ -63,6 +63,9 @@ pub(crate) fn next<W: Wait, G: Gate>(
             Some(work) => Some(work.prepare_wait()),
             None => None,
         };
+        if domain.halt.get().is_some() {
+            return Err(Stopped::Elsewhere);
+        }
         let took = match take(rt, domain, gate, desk, slot, queue) {
             Ok(took) => took,
             Err(stopped) => return Err(stopped),
@@ -74,9 +77,6 @@ pub(crate) fn next<W: Wait, G: Gate>(
             }
             Took::Closed => return Ok(false),
             Took::Nothing => {}
-        }
-        if domain.halt.get().is_some() {
-            return Err(Stopped::Elsewhere);
         }
         if let Some(key) = key {
             key.wait(rt);

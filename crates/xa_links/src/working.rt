@@ -96,6 +96,9 @@ impl<L: Link, T: Starter<L>> ServerWorker<L, T> {
         ensures off { IfOk result (λ off. OffAs domain.now T.server_name (λ s. record { asked = T.asked s; faults = T.start_faults s }) off self.new) }
         ensures halted { IfErr result (λ stopped. HasEnded domain.now T.server_name (λ s. record { asked = T.asked s; faults = T.start_faults s }) (Some stopped) self.new) }
     {
+        if domain.halt.get().is_some() {
+            return Err(Stopped::Elsewhere);
+        }
         let started = self
             .desk
             .start(alloc, domain, &mut self.served, &self.name, NOW);

@@ -17,8 +17,7 @@ pub returns-in-Closed : goal.returns-in-Closed
 returns-in-Closed g c = subst (λ t. TakesFrom c.args.domain.now c.args.queue.0 (Ok t) c.args.slot.now c.take.new.slot c.args.desk.now c.take.new.desk) c.in-Closed.is (waits_takes c.take.new.slot c.take.new.desk (Ok c.in-Ok.took) c.loop.invariant.waits c.in-Ok.ensures)
 
 pub returns-then-is_some : goal.returns-then-is_some
-returns-then-is_some g c =
-    (subst (λ t. TakesFrom c.args.domain.now c.args.queue.0 (Ok t) c.args.slot.now c.take.new.slot c.args.desk.now c.take.new.desk) c.in-Nothing.is (waits_takes c.take.new.slot c.take.new.desk (Ok c.in-Ok.took) c.loop.invariant.waits c.in-Ok.ensures), tt)
+returns-then-is_some g c = (c.loop.invariant.waits, tt)
 
 pub loop-preserved-in-Some-key : goal.loop-preserved-in-Some-key
 loop-preserved-in-Some-key g c = record {

@@ -1,9 +1,17 @@
-use Rattle.std.proofs.Common.{subst}
+use Rattle.std.proofs.Common.{[], ap, subst}
 use Rattle.xa_server.specs.Served.{Tries, Counts}
-use Rattle.xa_links.proofs.Lasting.{in_counted, goes_counted, goes_trans}
+use Rattle.xa_desk.specs.declared.stopped.Stopped.TheVariants.{Elsewhere}
+use Rattle.xa_links.proofs.Lasting.{halts_at, in_counted, goes_counted, goes_trans}
+use Rattle.xa_links.specs.Working.{cut_in}
 use Rattle.xa_links.proofs.Exchanges.{greeted_in, falls_greeting}
 use Rattle.xa_links.proofs.Starts.{served_at, starts_in, starts_goes, fails_off, start_halts}
 use Rattle.xa_links.proofs.working.ServerWorker.live.Goals as goal
+
+pub returns-then-is_some-clause-halted : goal.returns-then-is_some-clause-halted
+returns-then-is_some-clause-halted g c =
+    let w = c.args.self.now in
+    let at = c.requires.off.off.at in
+    halts_at w w.cut [] Elsewhere at (ap cut_in at.cut) tt
 
 pub returns-in-Ok-None-clause-off : goal.returns-in-Ok-None-clause-off
 returns-in-Ok-None-clause-off g c =
