@@ -1,0 +1,7 @@
+mod Leaving
+mod Stepping
+mod Numbered
+mod Working
+mod Sending
+mod Sharing
+mod Serving
