@@ -1,0 +1,12 @@
+//! The end of a domain: what its workers leave is brought together, the locks and the cells are closed, and the homes, the
+//! lives and the starters are handed back.
+#![tactic(auto)]
+
+mod closing;
+mod gathering;
+mod handing;
+mod room;
+mod tokens;
+
+pub use handing::{Handed, hand_back};
+pub use room::Room;
