@@ -1,10 +1,1 @@
-pub mod Living
-pub mod Standing
-pub mod Calling
-pub mod Recording
 pub mod Serving
-pub mod Handing
-pub mod Making
-pub mod Beginning
-pub mod Closing
-pub mod Merging

@@ -1,14 +1,10 @@
-//! The domain: what serves a script. It boots the board, starts the servers, makes each client's calls, and shuts down.
-//! On one thread, one call at a time.
+//! The domain: what serves a script. It is booted, each client and each server runs on a thread of its own, and what they
+//! leave is handed back.
 #![tactic(auto)]
 
-mod calling;
-mod closing;
-mod handing;
-mod retiring;
 mod serving;
-mod shaped;
-mod starting;
 
-pub use serving::{Life, Served, serve};
-pub use xa_tables::Halt;
+pub use serving::{Served, serve};
+pub use xa_links::CutLife;
+pub use xa_pipe::EndedLife;
+pub use xa_work::Halt;

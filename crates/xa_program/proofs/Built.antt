@@ -1,5 +1,5 @@
 -- The calls of a script are tpcalls, and are few.
-use Rattle.std.proofs.Common.{◌≡◌, ℕ, zero, suc, not, nat_le, Bool, true, false, cond, codes, Ok, Err, ◌++◌, ap, length-append, ◌+◌, ◌-◌, ◌<◌, ◌≤◌, ◌^◌, List, [], ◌∷◌, length, drop, Option, Some, None, inl, inr, refl, sym, subst, arith, length-drop}
+use Rattle.std.proofs.Common.{◌≡◌, ℕ, zero, suc, not, nat_le, Bool, true, false, cond, codes, Ok, Err, ◌++◌, ap, length-append, ◌+◌, ◌-◌, ◌<◌, ◌≤◌, ◌^◌, List, [], ◌∷◌, length, drop, Option, Some, None, refl, sym, subst, arith, length-drop}
 use Rattle.std.specs.Prelude.{All, ⊤}
 use Rattle.std.specs.List.{position}
 use Rattle.std.specs.Str.Lines.{lines}
@@ -13,7 +13,9 @@ use Rattle.xa_types.specs.declared.setup.Setup.{Setup}
 use Rattle.xa_types.specs.declared.call.Op.{Op}
 use Rattle.xa_types.specs.declared.call.Op.TheVariants.{Call}
 use Rattle.xa_script.specs.declared.script.Client.{Client}
-use Rattle.xa_domain.specs.Serving.{IsBuiltOp, IsBuilt}
+use Rattle.xa_clients.specs.Going.{IsCall, AllCalls}
+use Rattle.xa_workers.specs.Working.{IsBuiltClient}
+use Rattle.xa_domain.specs.Serving.{IsBuilt}
 use Rattle.xa_script.specs.declared.calls.Verb.{Verb}
 use Rattle.xa_script.specs.declared.draft.Cause.TheVariants.{Unprinted, NoName, Doubled, OneTooMany, NotServed}
 use Rattle.xa_script.specs.Words.{is_printed, is_skipped, next_word}
@@ -44,13 +46,13 @@ few_lines octets = lines_within (length octets) octets (omega arith)
 
 -- ---- the calls that are served
 
-served_built : (op : Op) → is_served op ≡ true → IsBuiltOp op
+served_built : (op : Op) → is_served op ≡ true → IsCall op
 served_built (Call ask) served = tt
 served_built op served = absurd cc
 
 -- each call is a tpcall, and there are so many at most
 abbrev AreBuilt : ℕ → List Op → Type 0
-AreBuilt most ops = All IsBuiltOp ops × (length ops ≤ most)
+AreBuilt most ops = AllCalls ops × (length ops ≤ most)
 
 abbrev HaveBuilt : ℕ → List Client → Type 0
 HaveBuilt most [] = ⊤
@@ -64,11 +66,11 @@ begun_built : (n : ℕ) (clients : List Client) (name : List ℕ) → HaveBuilt 
 begun_built n [] name built = ((λ k d low. absurd (omega arith), omega arith), tt)
 begun_built n (client ∷ clients) name built = (built.0, begun_built n clients name built.1)
 
-called_built : (n : ℕ) (clients : List Client) (op : Op) → IsBuiltOp op → HaveBuilt n clients → HaveBuilt (suc n) (with_call clients op)
+called_built : (n : ℕ) (clients : List Client) (op : Op) → IsCall op → HaveBuilt n clients → HaveBuilt (suc n) (with_call clients op)
 called_built n [] op this built = tt
 called_built n (client ∷ []) op this built =
     let few = built.0.1 in
-    ((All-append IsBuiltOp client.ops (op ∷ []) built.0.0 (All-cons IsBuiltOp op [] this (λ k d low. absurd (omega arith))), omega (arith, few, length-append client.ops (op ∷ []))), tt)
+    ((All-append IsCall client.ops (op ∷ []) built.0.0 (All-cons IsCall op [] this (λ k d low. absurd (omega arith))), omega (arith, few, length-append client.ops (op ∷ []))), tt)
 called_built n (client ∷ other ∷ clients) op this built =
     let few = built.0.1 in ((built.0.0, omega (arith, few)), called_built n (other ∷ clients) op this built.1)
 
@@ -151,11 +153,11 @@ lines_few setup most n clients found (line ∷ all) is few =
       | Err cause ↦ λ e h. absurd cc
     ] refl is
 
-each_built : (most : ℕ) (clients : List Client) → most < 2 ^ 32 → HaveBuilt most clients → All (λ (client : Client). All IsBuiltOp client.ops × (length client.ops < 2 ^ 32)) clients
+each_built : (most : ℕ) (clients : List Client) → most < 2 ^ 32 → HaveBuilt most clients → All IsBuiltClient clients
 each_built most [] few built = λ k d low. absurd (omega arith)
 each_built most (client ∷ clients) few built =
-    let calls = built.0.1 in
-    All-cons (λ (c : Client). All IsBuiltOp c.ops × (length c.ops < 2 ^ 32)) client clients (built.0.0, omega (arith, calls, few)) (each_built most clients few built.1)
+    let short = built.0.1 in
+    All-cons IsBuiltClient client clients (record { calls = built.0.0; few = omega (arith, short, few) }) (each_built most clients few built.1)
 
 pub script_built : (setup : Setup) (most : ℕ) (all : List (List ℕ)) (clients : List Client) → most ≤ 64 → length all < 2 ^ 32 → IsScriptOf setup most all clients → IsBuilt clients
 script_built setup most all clients low few script =

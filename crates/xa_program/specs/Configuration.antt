@@ -1,5 +1,5 @@
 -- The setup of a run: what a configuration says, or the setup of `play` (this project's own).
-use Rattle.std.specs.Prelude.{◌≡◌, ◌⊎◌, ◌≤◌, ℕ, List, length, Option, Some, None, ⊤}
+use Rattle.std.specs.Prelude.{◌≡◌, ◌⊎◌, ◌≤◌, ℕ, List, length, Option, Some, None}
 use Rattle.xa_types.specs.declared.setup.Setup.{Setup}
 use Rattle.xa_link.specs.Told.{Rose}
 use Rattle.xa_link.specs.Reads.{Holds, HoldsMore}

@@ -8,11 +8,13 @@ use Rattle.xa_stamp.specs.Merge.{IsMerged, IsDense}
 use Rattle.xa_script.specs.declared.script.Client.{Client}
 use Rattle.xa_script.specs.Script.{IsScript, IsFirstFault}
 use Rattle.xa_text.specs.Transcript.{transcript}
-use Rattle.xa_domain.specs.declared.serving.Life.{Life}
-use Rattle.xa_tables.specs.declared.halt.Halt.{Halt}
-use Rattle.xa_tables.specs.declared.halt.Halt.TheVariants as halts
-use Rattle.xa_domain.specs.Recording.{IsRecorded, HasHomes}
-use Rattle.xa_domain.specs.Serving.{StarterShows, LinkTells, IsServedWhole, IsServedSoFar, IsWorn}
+use Rattle.xa_types.specs.declared.ids.Generation.{Generation}
+use Rattle.xa_work.specs.declared.work.Halt.{Halt}
+use Rattle.xa_work.specs.declared.work.Halt.TheVariants as halts
+use Rattle.xa_pipe.specs.Standing.{Ending}
+use Rattle.xa_server.specs.Served.{StarterShows}
+use Rattle.xa_joined.specs.Served.{IsRecorded, IsServedWhole, IsServedSoFar, IsWorn}
+use Rattle.xa_domain.specs.Serving.{HasHomes, IsNoneCut}
 use Rattle.xa_program.specs.declared.words.Command.{Command}
 use Rattle.xa_program.specs.declared.words.Command.TheVariants.{Play, Server}
 use Rattle.xa_program.specs.declared.status.Status.{Status}
@@ -73,56 +75,69 @@ pub record IsIdle (streams : Streams) : Type 0 where
 
 -- ---- what a run hands back
 
+-- the homes, the history, and by server the lives that ended, the one that went on at a halt, and the starter
+pub record Handed (S : Type 0) : Type 0 where
+  pub homes : List Notes
+  pub history : List Event
+  pub lives : List (List Ending)
+  pub cut : List (List Generation)
+  pub starters : List S
+
+-- the name of a starter's server, and what the starter shows of its starts
+pub record StarterTells (S : Type 0) : Type 0 where
+  pub named : S → List ℕ
+  pub shows : S → StarterShows
+
 -- nothing
-abbrev pub HandsNothing : {L S : Type 0} → List Notes → List Event → List (Life L) → List S → Type 0
-HandsNothing homes history lives starters = (homes ≡ []) × (history ≡ []) × (lives ≡ []) × (starters ≡ [])
+pub record HandsNothing {S : Type 0} (handed : Handed S) : Type 0 where
+  pub no_home : handed.homes ≡ []
+  pub no_event : handed.history ≡ []
+  pub no_life : handed.lives ≡ []
+  pub none_cut : handed.cut ≡ []
+  pub no_starter : handed.starters ≡ []
 
 abbrev pub names_of : List Client → List (List ℕ)
 names_of clients = map (λ client. client.name) clients
 
 -- what came from the input, to its end, is the script of these clients; the history is the merge of the homes, each event of which stands at its own, with
--- dense stamps that rise, and is the whole run of the setup with these clients, and the pipes are its
-pub record IsServedRun {L S : Type 0} (tells : LinkTells L) (shows : S → StarterShows) (streams : Streams) (setup : Setup) (most : ℕ) (clients : List Client)
-    (homes : List Notes) (history : List Event) (lives : List (Life L)) (starters : List S) : Type 0 where
+-- dense stamps that rise, and is the whole run of the setup with these clients, and the pipes are its; no life was cut
+pub record IsServedRun {S : Type 0} (tells : StarterTells S) (streams : Streams) (setup : Setup) (most : ℕ) (clients : List Client) (handed : Handed S) : Type 0 where
   pub script : IsTheScript setup most streams.input clients
   pub reads : ReadsWell streams
-  pub merged : IsMerged homes history
-  pub recorded : IsRecorded setup (length clients) homes
-  pub dense : IsDense (record { 0 = 0 }) homes
-  pub whole : IsServedWhole tells shows setup clients history lives starters
+  pub merged : IsMerged handed.homes handed.history
+  pub recorded : IsRecorded setup (length clients) handed.homes
+  pub dense : IsDense (record { 0 = 0 }) handed.homes
+  pub whole : IsServedWhole tells.named tells.shows setup clients handed.history handed.lives handed.starters
+  pub none_cut : IsNoneCut handed.cut
 
 -- what came from the input, to its end, is the script of these clients, and nothing was written; the merge of the homes, each event of which
 -- stands at its own, with dense stamps that rise, is the beginning of a run of the setup with so many clients, and the lives and the starters' starts are those of these events; the history is that
 -- merge, or there is none
-pub record IsHaltedRun {L S : Type 0} (shows : S → StarterShows) (streams : Streams) (halt : Halt) (setup : Setup) (most : ℕ) (clients : List Client)
-    (homes : List Notes) (history : List Event) (lives : List (Life L)) (starters : List S) : Type 0 where
+pub record IsHaltedRun {S : Type 0} (tells : StarterTells S) (streams : Streams) (halt : Halt) (setup : Setup) (most : ℕ) (clients : List Client) (handed : Handed S) : Type 0 where
   pub script : IsTheScript setup most streams.input clients
   pub reads : ReadsWell streams
   pub silent : IsSilent streams
-  pub merged : (history ≡ []) ⊎ IsMerged homes history
-  pub recorded : HasHomes (Some halt) setup (length clients) homes
-  pub dense : IsDense (record { 0 = 0 }) homes
-  pub so_far : (events : List Event) → IsMerged homes events → IsServedSoFar shows halt setup clients events lives starters
+  pub merged : (handed.history ≡ []) ⊎ IsMerged handed.homes handed.history
+  pub recorded : HasHomes (Some halt) setup (length clients) handed.homes
+  pub dense : IsDense (record { 0 = 0 }) handed.homes
+  pub so_far : (events : List Event) → IsMerged handed.homes events → IsServedSoFar tells.named tells.shows halt setup (length clients) events handed.lives handed.cut handed.starters
 
 -- ---- how a run ends
 
 -- how serving the script ends, and what that shows, where that is the setup and so many clients may be
-abbrev pub ScriptEnds : {L S : Type 0} → LinkTells L → (S → StarterShows) → Streams → Setup → ℕ → Status → List Notes → List Event → List (Life L) → List S → Type 0
-ScriptEnds tells shows streams setup most Done homes history lives starters =
-    (clients : List Client) × IsServedRun tells shows streams setup most clients homes history lives starters
-    × Grew streams.took_before streams.took_after (transcript (names_of clients) (reverse history)) × WritesWell streams
-ScriptEnds tells shows streams setup most WriteFault homes history lives starters =
-    (clients : List Client) × IsServedRun tells shows streams setup most clients homes history lives starters
-    × GrewByPart streams.took_before streams.took_after (transcript (names_of clients) (reverse history)) × Rose streams.writes_before streams.writes_after
-ScriptEnds tells shows streams setup most ScriptRead homes history lives starters = Rose streams.reads_before streams.reads_after × IsSilent streams
-ScriptEnds tells shows streams setup most (TooLong inputs.Script) homes history lives starters = CameOver streams.input longest_script × ReadsWell streams × IsSilent streams
-ScriptEnds tells shows streams setup most (BadLine line cause) homes history lives starters = HasFirstFault setup most streams.input line cause × ReadsWell streams × IsSilent streams
-ScriptEnds tells shows streams setup most (Worn stamp) homes history lives starters =
-    (clients : List Client) × IsHaltedRun shows streams (halts.Worn stamp) setup most clients homes history lives starters × IsWorn (halts.Worn stamp) homes
-ScriptEnds tells shows streams setup most NoMemory homes history lives starters =
-    (ReadsWell streams × IsSilent streams × HandsNothing homes history lives starters)
-    ⊎ ((clients : List Client) × IsHaltedRun shows streams halts.NoMemory setup most clients homes history lives starters)
-ScriptEnds tells shows streams setup most status homes history lives starters = ⊥
+abbrev pub ScriptEnds : {S : Type 0} → StarterTells S → Streams → Setup → ℕ → Status → Handed S → Type 0
+ScriptEnds tells streams setup most Done handed =
+    (clients : List Client) × IsServedRun tells streams setup most clients handed × Grew streams.took_before streams.took_after (transcript (names_of clients) (reverse handed.history)) × WritesWell streams
+ScriptEnds tells streams setup most WriteFault handed =
+    (clients : List Client) × IsServedRun tells streams setup most clients handed
+    × GrewByPart streams.took_before streams.took_after (transcript (names_of clients) (reverse handed.history)) × Rose streams.writes_before streams.writes_after
+ScriptEnds tells streams setup most ScriptRead handed = Rose streams.reads_before streams.reads_after × IsSilent streams
+ScriptEnds tells streams setup most (TooLong inputs.Script) handed = CameOver streams.input longest_script × ReadsWell streams × IsSilent streams
+ScriptEnds tells streams setup most (BadLine line cause) handed = HasFirstFault setup most streams.input line cause × ReadsWell streams × IsSilent streams
+ScriptEnds tells streams setup most (Worn stamp) handed = (clients : List Client) × IsHaltedRun tells streams (halts.Worn stamp) setup most clients handed × IsWorn (halts.Worn stamp) handed.homes
+ScriptEnds tells streams setup most NoMemory handed =
+    (ReadsWell streams × IsSilent streams × HandsNothing handed) ⊎ ((clients : List Client) × IsHaltedRun tells streams halts.NoMemory setup most clients handed)
+ScriptEnds tells streams setup most status handed = ⊥
 
 -- whether the command serves a script
 abbrev pub Serves : Command → Type 0
@@ -130,25 +145,23 @@ Serves (Server name) = ⊥
 Serves command = ⊤
 
 -- how `run CONFIG` and `play SERVICE` end, and what that shows: without a setup, or as serving the script by their setup does
-abbrev pub RunEnds : {L S : Type 0} → LinkTells L → (S → StarterShows) → ShelfTells → Streams → Command → Status → List Notes → List Event → List (Life L) → List S → Type 0
-RunEnds tells shows shelf streams command ConfigRead homes history lives starters = LacksSetup shelf command ConfigRead × IsIdle streams
-RunEnds tells shows shelf streams command (TooLong inputs.Configuration) homes history lives starters = LacksSetup shelf command (TooLong inputs.Configuration) × IsIdle streams
-RunEnds tells shows shelf streams command (ConfigFault number key) homes history lives starters = LacksSetup shelf command (ConfigFault number key) × IsIdle streams
-RunEnds tells shows shelf streams command NoMemory homes history lives starters =
-    (IsIdle streams × HandsNothing homes history lives starters)
-    ⊎ ((setup : Setup) × IsSetup shelf.file command setup × ScriptEnds tells shows streams setup (most_clients command) NoMemory homes history lives starters)
-RunEnds tells shows shelf streams command status homes history lives starters =
-    (setup : Setup) × IsSetup shelf.file command setup × ScriptEnds tells shows streams setup (most_clients command) status homes history lives starters
+abbrev pub RunEnds : {S : Type 0} → StarterTells S → ShelfTells → Streams → Command → Status → Handed S → Type 0
+RunEnds tells shelf streams command ConfigRead handed = LacksSetup shelf command ConfigRead × IsIdle streams
+RunEnds tells shelf streams command (TooLong inputs.Configuration) handed = LacksSetup shelf command (TooLong inputs.Configuration) × IsIdle streams
+RunEnds tells shelf streams command (ConfigFault number key) handed = LacksSetup shelf command (ConfigFault number key) × IsIdle streams
+RunEnds tells shelf streams command NoMemory handed =
+    (IsIdle streams × HandsNothing handed) ⊎ ((setup : Setup) × IsSetup shelf.file command setup × ScriptEnds tells streams setup (most_clients command) NoMemory handed)
+RunEnds tells shelf streams command status handed = (setup : Setup) × IsSetup shelf.file command setup × ScriptEnds tells streams setup (most_clients command) status handed
 
 -- where the words, the configuration, the input or the script were refused, nothing is handed back
-abbrev pub EndsEarly : {L S : Type 0} → Status → List Notes → List Event → List (Life L) → List S → Type 0
-EndsEarly Usage homes history lives starters = HandsNothing homes history lives starters
-EndsEarly ConfigRead homes history lives starters = HandsNothing homes history lives starters
-EndsEarly (ConfigFault number key) homes history lives starters = HandsNothing homes history lives starters
-EndsEarly (TooLong which) homes history lives starters = HandsNothing homes history lives starters
-EndsEarly ScriptRead homes history lives starters = HandsNothing homes history lives starters
-EndsEarly (BadLine line cause) homes history lives starters = HandsNothing homes history lives starters
-EndsEarly status homes history lives starters = ⊤
+abbrev pub EndsEarly : {S : Type 0} → Status → Handed S → Type 0
+EndsEarly Usage handed = HandsNothing handed
+EndsEarly ConfigRead handed = HandsNothing handed
+EndsEarly (ConfigFault number key) handed = HandsNothing handed
+EndsEarly (TooLong which) handed = HandsNothing handed
+EndsEarly ScriptRead handed = HandsNothing handed
+EndsEarly (BadLine line cause) handed = HandsNothing handed
+EndsEarly status handed = ⊤
 
 -- the run came to its end, or stamps or memory came to theirs
 abbrev pub EndsWithoutFault : Status → Type 0

@@ -10,8 +10,8 @@ use Rattle.xa_stamp.specs.Home.{Notes}
 use Rattle.xa_stamp.specs.Merge.{IsMerged}
 use Rattle.xa_script.specs.declared.script.Client.{Client}
 use Rattle.xa_text.specs.Transcript.{transcript}
-use Rattle.xa_tables.specs.declared.halt.Halt.{Halt}
-use Rattle.xa_tables.specs.declared.halt.Halt.TheVariants as halts
+use Rattle.xa_work.specs.declared.work.Halt.{Halt}
+use Rattle.xa_work.specs.declared.work.Halt.TheVariants as halts
 use Rattle.xa_program.specs.declared.words.Command.{Command}
 use Rattle.xa_program.specs.declared.words.Command.TheVariants.{Run}
 use Rattle.xa_program.specs.declared.status.Status.{Status}

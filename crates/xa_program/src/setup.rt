@@ -3,7 +3,6 @@ ghost use Rattle.std.specs.Prelude.{◌≡◌, true, Some, IfOk, IfErr, OnOk};
 ghost use Rattle.xa_types.specs.Configured.{is_configured};
 ghost use Rattle.xa_types.specs.Name.{IsName};
 ghost use Rattle.xa_link.specs.Starts.{AsksFile};
-ghost use Rattle.xa_domain.specs.Serving.{NoneRestarts};
 ghost use Rattle.xa_program.specs.declared.words.Command.TheVariants.{Run};
 ghost use Rattle.xa_program.specs.PlaySetup.{play_setup};
 ghost use Rattle.xa_program.specs.Configuration.{IsSetup, AsksShelf};
@@ -22,7 +21,6 @@ const LONGEST_CONFIGURATION: u32 = 262_144;
 pub fn read_setup<S: Shelf>(alloc: Global, name: &[u8], shelf: &mut S) -> Result<Setup, Status>
     ensures found { IfOk result (IsSetup (S.file shelf.old) (Run name.now)) }
     ensures configured { IfOk result (λ setup. is_configured setup ≡ true) }
-    ensures restarts { IfOk result (λ setup. NoneRestarts setup) }
     ensures quiet { OnOk result (S.shelf_faults shelf.new ≡ S.shelf_faults shelf.old) }
     ensures refused { IfErr result (SetupRefusedAs (record { file = S.file shelf.old; faults = S.shelf_faults shelf.old; faults_after = S.shelf_faults shelf.new }) name.now) }
     ensures asks { OnOk result (AsksFile (S.asked shelf.old) (S.asked shelf.new) name.now) }
@@ -56,7 +54,6 @@ fn name_of(octets: &[u8]) -> Name
 pub fn play_setup(alloc: Global, service: &Name) -> Result<Setup, NoMemory>
     ensures setup { IfOk result (λ setup. setup ≡ play_setup service.now) }
     ensures configured { IfOk result (λ setup. is_configured setup ≡ true) }
-    ensures restarts { IfOk result (λ setup. NoneRestarts setup) }
 {
     let queue = name_of(b"Q");
     let queues = vec![in alloc;

@@ -1,11 +1,11 @@
 // The top call.
 ghost use Rattle.std.specs.Prelude.{◌≡◌, ◌≤◌, ◌↔◌, true, ℕ, List, map, string_bytes, None, Some, IfOk, IfErr, OnOk, length};
 ghost use Rattle.xa_link.specs.Told.{Rose};
+ghost use Rattle.xa_links.specs.Working.{cut_in};
 ghost use Rattle.xa_types.specs.Configured.{is_configured};
 ghost use Rattle.xa_types.specs.declared.setup.Setup.{Setup};
 ghost use Rattle.xa_script.specs.declared.script.Script.{Script};
 ghost use Rattle.xa_script.specs.Script.{IsScript};
-ghost use Rattle.xa_domain.specs.Serving.{NoneRestarts};
 ghost use Rattle.xa_program.specs.declared.words.Command.{Command};
 ghost use Rattle.xa_program.specs.declared.words.Command.TheVariants.{Server};
 ghost use Rattle.xa_program.specs.Configuration.{IsSetup, TellsSetup, KeepsShelf, AsksFiles, AsksShelf};
@@ -24,6 +24,8 @@ use crate::status::Status;
 use crate::telling::tell;
 use crate::words::{Command, read_words};
 use std::alloc::Global;
+use std::sync::Wait;
+use std::thread::Threads;
 use xa_domain::{Served, serve};
 use xa_link::{Gate, Shelf, Sink, Source, Yard};
 use xa_stamp::Record;
@@ -38,7 +40,7 @@ use xa_types::{NoMemory, Sequence, Setup};
 ///
 /// The history of `run` and `play` is a run of the machine, so the laws `ends_once`, `answers_once`, `reads_forward` and
 /// `ended_servers_are_off` of `xa_events` hold of it.
-pub fn run<R, S: Shelf, I: Source, O: Sink, Y: Yard, G: Gate>(
+pub fn run<R: Threads + Wait + Sync, S: Shelf, I: Source, O: Sink, Y: Yard, G: Gate>(
     rt: &R,
     alloc: Global,
     words: &[String],
@@ -60,7 +62,7 @@ pub fn run<R, S: Shelf, I: Source, O: Sink, Y: Yard, G: Gate>(
 
     // What `run` and `play` come to.
     ensures ends { (command : Command) → command_in (map string_bytes words.now) ≡ Some command → Serves command
-        → RunEnds (record { took = Y.Line.took; gave = Y.Line.gave; left = Y.Line.left; reads = Y.Line.read_faults; writes = Y.Line.write_faults; whose = Y.Line.whose }) (λ s. record { server = Y.Start.server_name s; faults = Y.Start.start_faults s; asked = Y.Start.asked s })
+        → RunEnds (record { named = Y.Start.server_name; shows = λ s. record { asked = Y.Start.asked s; faults = Y.Start.start_faults s } })
         (record { file = S.file shelf.old; faults = S.shelf_faults shelf.old; faults_after = S.shelf_faults shelf.new })
         (record {
           input = record { left = I.left input.old; left_after = I.left input.new; gave = I.gave input.old; gave_after = I.gave input.new };
@@ -71,7 +73,7 @@ pub fn run<R, S: Shelf, I: Source, O: Sink, Y: Yard, G: Gate>(
           writes_before = O.write_faults out.old;
           writes_after = O.write_faults out.new;
         })
-        command result.status result.homes.homes result.history.items result.lives.items result.starters.items }
+        command result.status (record { homes = result.homes.homes; history = result.history.items; lives = map (λ v. v.items) result.lives.items; cut = map cut_in result.cut.items; starters = result.starters.items }) }
 
     // Where the shelf tells a configuration that is not too long, or none is wanted, and the input tells octets that are a script for it and not
     // too long, and none of the shelf, the input and the output fails, the run ends with Done, Worn or NoMemory. That they don't fail is
@@ -88,10 +90,10 @@ pub fn run<R, S: Shelf, I: Source, O: Sink, Y: Yard, G: Gate>(
     // What the program of a server comes to; nothing is handed back.
     ensures server { (name : List ℕ) → command_in (map string_bytes words.now) ≡ Some (Server name)
         → ServerEnds name (I.left input.old) (I.left input.new) (I.gave input.old) (I.gave input.new) (O.took out.old) (O.took out.new) (I.read_faults input.old) (I.read_faults input.new) (O.write_faults out.old) (O.write_faults out.new) result.status
-        × HandsNothing result.homes.homes result.history.items result.lives.items result.starters.items }
+        × HandsNothing (record { homes = result.homes.homes; history = result.history.items; lives = map (λ v. v.items) result.lives.items; cut = map cut_in result.cut.items; starters = result.starters.items }) }
 
     // Where the words, the configuration, the input or the script are refused, nothing is handed back.
-    ensures early { EndsEarly result.status result.homes.homes result.history.items result.lives.items result.starters.items }
+    ensures early { EndsEarly result.status (record { homes = result.homes.homes; history = result.history.items; lives = map (λ v. v.items) result.lives.items; cut = map cut_in result.cut.items; starters = result.starters.items }) }
 {
     match read_words(alloc, words) {
         Ok(Some(command)) => obey(rt, alloc, &command, shelf, input, out, yard, gate),
@@ -100,7 +102,7 @@ pub fn run<R, S: Shelf, I: Source, O: Sink, Y: Yard, G: Gate>(
     }
 }
 
-fn obey<R, S: Shelf, I: Source, O: Sink, Y: Yard, G: Gate>(
+fn obey<R: Threads + Wait + Sync, S: Shelf, I: Source, O: Sink, Y: Yard, G: Gate>(
     rt: &R,
     alloc: Global,
     command: &Command,
@@ -113,7 +115,7 @@ fn obey<R, S: Shelf, I: Source, O: Sink, Y: Yard, G: Gate>(
     ensures known { result.status ≡ Status.Usage → ⊥ }
     ensures shelf { KeepsShelf (Some command.now) result.status (S.shelf_faults shelf.old) (S.shelf_faults shelf.new) (S.asked shelf.old) (S.asked shelf.new) }
     ensures ends { Serves command.now
-        → RunEnds (record { took = Y.Line.took; gave = Y.Line.gave; left = Y.Line.left; reads = Y.Line.read_faults; writes = Y.Line.write_faults; whose = Y.Line.whose }) (λ s. record { server = Y.Start.server_name s; faults = Y.Start.start_faults s; asked = Y.Start.asked s })
+        → RunEnds (record { named = Y.Start.server_name; shows = λ s. record { asked = Y.Start.asked s; faults = Y.Start.start_faults s } })
         (record { file = S.file shelf.old; faults = S.shelf_faults shelf.old; faults_after = S.shelf_faults shelf.new })
         (record {
           input = record { left = I.left input.old; left_after = I.left input.new; gave = I.gave input.old; gave_after = I.gave input.new };
@@ -124,12 +126,12 @@ fn obey<R, S: Shelf, I: Source, O: Sink, Y: Yard, G: Gate>(
           writes_before = O.write_faults out.old;
           writes_after = O.write_faults out.new;
         })
-        command.now result.status result.homes.homes result.history.items result.lives.items result.starters.items }
+        command.now result.status (record { homes = result.homes.homes; history = result.history.items; lives = map (λ v. v.items) result.lives.items; cut = map cut_in result.cut.items; starters = result.starters.items }) }
     ensures yard { AsksYard (S.file shelf.old) (Some command.now) result.status (Y.asked yard.old) (Y.asked yard.new) }
     ensures server { (name : List ℕ) → command.now ≡ Server name
         → ServerEnds name (I.left input.old) (I.left input.new) (I.gave input.old) (I.gave input.new) (O.took out.old) (O.took out.new) (I.read_faults input.old) (I.read_faults input.new) (O.write_faults out.old) (O.write_faults out.new) result.status
-        × HandsNothing result.homes.homes result.history.items result.lives.items result.starters.items }
-    ensures early { EndsEarly result.status result.homes.homes result.history.items result.lives.items result.starters.items }
+        × HandsNothing (record { homes = result.homes.homes; history = result.history.items; lives = map (λ v. v.items) result.lives.items; cut = map cut_in result.cut.items; starters = result.starters.items }) }
+    ensures early { EndsEarly result.status (record { homes = result.homes.homes; history = result.history.items; lives = map (λ v. v.items) result.lives.items; cut = map cut_in result.cut.items; starters = result.starters.items }) }
 {
     if let Command::Server(name) = command {
         return nothing(alloc, child_work(alloc, name, input, out));
@@ -142,7 +144,7 @@ fn obey<R, S: Shelf, I: Source, O: Sink, Y: Yard, G: Gate>(
 
 fn nothing<Y: Yard>(alloc: Global, status: Status) -> Outcome<Y>
     ensures status { result.status ≡ status }
-    ensures none { HandsNothing result.homes.homes result.history.items result.lives.items result.starters.items }
+    ensures none { HandsNothing (record { homes = result.homes.homes; history = result.history.items; lives = map (λ v. v.items) result.lives.items; cut = map cut_in result.cut.items; starters = result.starters.items }) }
 {
     let homes = Record {
         homes: Sequence::from_vec(Vec::new(alloc)),
@@ -152,6 +154,7 @@ fn nothing<Y: Yard>(alloc: Global, status: Status) -> Outcome<Y>
         homes,
         history: Vec::new(alloc),
         lives: Vec::new(alloc),
+        cut: Vec::new(alloc),
         starters: Vec::new(alloc),
     }
 }
@@ -166,7 +169,6 @@ fn setup_of<S: Shelf>(
     ensures found { IfOk result (λ found. IsSetup (S.file shelf.old) command.now found.0) }
     ensures most { IfOk result (λ found. found.1 ≡ most_clients command.now) }
     ensures configured { IfOk result (λ found. is_configured found.0 ≡ true) }
-    ensures restarts { IfOk result (λ found. NoneRestarts found.0) }
     ensures quiet { OnOk result (S.shelf_faults shelf.new ≡ S.shelf_faults shelf.old) }
     ensures refused { IfErr result (CommandRefusedAs (record { file = S.file shelf.old; faults = S.shelf_faults shelf.old; faults_after = S.shelf_faults shelf.new }) command.now) }
     ensures asks { OnOk result (AsksFiles command.now (S.asked shelf.old) (S.asked shelf.new)) }
@@ -180,7 +182,7 @@ fn setup_of<S: Shelf>(
 }
 
 // Reads the script, serves it, and writes the transcript.
-fn serve_script<R, I: Source, O: Sink, Y: Yard, G: Gate>(
+fn serve_script<R: Threads + Wait + Sync, I: Source, O: Sink, Y: Yard, G: Gate>(
     rt: &R,
     alloc: Global,
     setup: Setup,
@@ -191,9 +193,8 @@ fn serve_script<R, I: Source, O: Sink, Y: Yard, G: Gate>(
     gate: &G,
 ) -> Outcome<Y>
     requires configured { is_configured setup ≡ true }
-    requires restarts { NoneRestarts setup }
     requires most { (1 ≤ most) × (most ≤ 64) }
-    ensures ends { ScriptEnds (record { took = Y.Line.took; gave = Y.Line.gave; left = Y.Line.left; reads = Y.Line.read_faults; writes = Y.Line.write_faults; whose = Y.Line.whose }) (λ s. record { server = Y.Start.server_name s; faults = Y.Start.start_faults s; asked = Y.Start.asked s })
+    ensures ends { ScriptEnds (record { named = Y.Start.server_name; shows = λ s. record { asked = Y.Start.asked s; faults = Y.Start.start_faults s } })
         (record {
           input = record { left = I.left input.old; left_after = I.left input.new; gave = I.gave input.old; gave_after = I.gave input.new };
           reads_before = I.read_faults input.old;
@@ -203,9 +204,9 @@ fn serve_script<R, I: Source, O: Sink, Y: Yard, G: Gate>(
           writes_before = O.write_faults out.old;
           writes_after = O.write_faults out.new;
         })
-        setup most result.status result.homes.homes result.history.items result.lives.items result.starters.items }
+        setup most result.status (record { homes = result.homes.homes; history = result.history.items; lives = map (λ v. v.items) result.lives.items; cut = map cut_in result.cut.items; starters = result.starters.items }) }
     ensures yard { AsksBy setup result.status (Y.asked yard.old) (Y.asked yard.new) }
-    ensures early { EndsEarly result.status result.homes.homes result.history.items result.lives.items result.starters.items }
+    ensures early { EndsEarly result.status (record { homes = result.homes.homes; history = result.history.items; lives = map (λ v. v.items) result.lives.items; cut = map cut_in result.cut.items; starters = result.starters.items }) }
 {
     let script = match read_script(alloc, &setup, most, input) {
         Ok(script) => script,
@@ -215,6 +216,7 @@ fn serve_script<R, I: Source, O: Sink, Y: Yard, G: Gate>(
         halt,
         homes,
         lives,
+        cut,
         starters,
     } = serve(rt, alloc, setup, &script, yard, gate);
     let (status, history) = tell(alloc, halt, &homes, script.clients.slice(), out);
@@ -223,6 +225,7 @@ fn serve_script<R, I: Source, O: Sink, Y: Yard, G: Gate>(
         homes,
         history,
         lives,
+        cut,
         starters,
     }
 }

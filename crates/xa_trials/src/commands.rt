@@ -1,6 +1,6 @@
 //! Commands by their words, and the program's own server in memory.
 use crate::rows::none_fails;
-use crate::running::{End, Script, runs};
+use crate::running::{End, Runtime, Script, runs};
 use xa_program::LocalYard;
 
 const CALL: &[u8] = b"client a\ncall ECHO none\n";
@@ -115,12 +115,12 @@ static ROWS: [Row; 26] = [
     ),
 ];
 
-fn is_told(rt: &HostRuntime, (words, script, end, wrote): Row) -> bool {
+fn is_told<R: Runtime>(rt: &R, (words, script, end, wrote): Row) -> bool {
     let mut yard = LocalYard::new(rt.alloc());
     runs(rt, words, (&[], &[]), script, &mut yard, (end, wrote))
 }
 
-fn first_not_told(rt: &HostRuntime) -> Option<usize> {
+fn first_not_told<R: Runtime>(rt: &R) -> Option<usize> {
     for (place, row) in ROWS.iter().enumerate() {
         if !is_told(rt, *row) {
             return Some(place);

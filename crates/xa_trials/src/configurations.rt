@@ -1,8 +1,8 @@
 //! Runs by a configuration, with its servers in memory.
 use crate::lives::{NEXT, READY, SOUND, SUCCESS, yard_of};
 use crate::rows::none_fails;
-use crate::running::{End, Script, runs};
-use xa_link::Yard;
+use crate::running::{End, Runtime, Script, run_of};
+use xa_link::{Gate, OpenGate, Yard};
 use xa_program::LocalYard;
 
 // One queue with one server.
@@ -37,7 +37,7 @@ const ONCE: &[u8] = b"client a\ncall ECHO none\n";
 // The configuration, the script with its faults, how it ends, and what is written.
 type Row = (&'static [u8], Script<'static>, End, &'static [u8]);
 
-static ROWS: [Row; 22] = [
+static ROWS: [Row; 21] = [
     (ONE, (b"client a\n", &[], &[]), End::Done, b""),
     // Clients without calls before and behind one with a call.
     (
@@ -119,17 +119,6 @@ static ROWS: [Row; 22] = [
         b"a 1 OK 0 c:entry 0000000700000000000000fa626f6f6b656400000000000000000000\n\
         a 2 TPESVCFAIL 2 c:entry 0000000cffffffffffffffff766f6964000000000000000000000000\n",
     ),
-    // The next client is told that no server is left.
-    (
-        ONE,
-        (
-            b"client a\ncall DIE none\nclient b\ncall ECHO none\n",
-            &[],
-            &[],
-        ),
-        End::Done,
-        b"a 1 TPESVCERR\nb 1 TPENOENT\n",
-    ),
     // Each of three servers dies by a call, those of the first queue first.
     (
         TWO,
@@ -191,28 +180,36 @@ static ROWS: [Row; 22] = [
 ];
 
 // Whether the row is run so, from a shelf of which these reads fail.
-fn is_run<Y: Yard>(rt: &HostRuntime, yard: &mut Y, row: Row, fails: &[u64]) -> bool
+fn is_run<R: Runtime, Y: Yard, G: Gate>(
+    rt: &R,
+    yard: &mut Y,
+    gate: &G,
+    row: Row,
+    fails: &[u64],
+) -> bool
 where
     Y::Line: Drop,
     Y::Start: Drop,
 {
     let (config, script, end, wrote) = row;
     let files: [(&[u8], &[u8]); 1] = [(b"c", config)];
-    runs(
+    run_of(
         rt,
         &["run", "c"],
         (&files, fails),
         script,
         yard,
-        (end, wrote),
+        gate,
+        (end, &[wrote]),
     )
+    .is_some()
 }
 
-fn is_run_in_memory(rt: &HostRuntime, row: Row, fails: &[u64]) -> bool {
-    is_run(rt, &mut LocalYard::new(rt.alloc()), row, fails)
+fn is_run_in_memory<R: Runtime>(rt: &R, row: Row, fails: &[u64]) -> bool {
+    is_run(rt, &mut LocalYard::new(rt.alloc()), &OpenGate, row, fails)
 }
 
-fn first_not_run(rt: &HostRuntime) -> Option<usize> {
+fn first_not_run<R: Runtime>(rt: &R) -> Option<usize> {
     for (place, row) in ROWS.iter().enumerate() {
         if !is_run_in_memory(rt, *row, &[]) {
             return Some(place);
@@ -239,10 +236,10 @@ const BOTH: &[u8] = b"[[queue]]\nname = \"Q\"\n[[queue]]\nname = \"P\"\n\
     [[server]]\nname = \"T\"\nqueue = \"P\"\n\
     [[service]]\nname = \"ECHO\"\nqueues = [\"P\", \"Q\"]\n";
 
-fn goes_to_the_other(rt: &HostRuntime) -> bool {
+fn goes_to_the_other<R: Runtime>(rt: &R) -> bool {
     let row: Row = (BOTH, (ONCE, &[], &[]), End::Done, b"a 1 OK 0 none\n");
     match yard_of(rt.alloc(), Some(&[READY, NEXT, SUCCESS, NEXT]), SOUND) {
-        Some(mut yard) => is_run(rt, &mut yard, row, &[]),
+        Some(mut yard) => is_run(rt, &mut yard, &OpenGate, row, &[]),
         None => false,
     }
 }

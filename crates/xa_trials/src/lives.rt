@@ -1,8 +1,8 @@
 //! Lives of a server in memory, and what each call is told of them.
 use crate::rows::none_fails;
-use crate::running::{End, runs, sink_of, source_of};
+use crate::running::{End, Runtime, run_of, sink_of, source_of};
 use std::alloc::Global;
-use xa_link::{MemoryLink, MemoryYard};
+use xa_link::{MemoryLink, MemoryYard, OpenGate};
 
 /// What a server's program says: READY, NEXT, and RETURNs to the first invocation, of which the last is cut short.
 pub const READY: &[u8] = b"XA\x01\x01\0\0\0\x02\0\0\0\0\x01S";
@@ -26,69 +26,71 @@ const ONE: &[u8] = b"client a\ncall ECHO none\n";
 
 const TWO: &[u8] = b"client a\ncall ECHO none\ncall ECHO none\n";
 
-const DIED: &[u8] = b"a 1 TPESVCERR\na 2 TPENOENT\n";
+const DIED: &[&[u8]] = &[b"a 1 TPESVCERR\na 2 TPENOENT\n"];
 
-const DOWN: &[u8] = b"a 1 TPENOENT\na 2 TPENOENT\n";
+// A life that ends behind its answer: the next call comes before the rows of the queue are withdrawn, and is swept from
+// it or finds it down, or after that.
+const GONE: &[&[u8]] = &[
+    b"a 1 OK 0 none\na 2 TPENOENT\n",
+    b"a 1 OK 0 none\na 2 TPESYSTEM\n",
+];
+
+const DOWN: &[&[u8]] = &[b"a 1 TPENOENT\na 2 TPENOENT\n"];
 
 // The script, what the program says or `None` where it can't be started, the reads and writes of the link that fail and
-// the writes that take nothing, and the transcript.
+// the writes that take nothing, and the transcripts that may come.
 type Row = (
     &'static [u8],
     Option<&'static [&'static [u8]]>,
     [&'static [u64]; 3],
-    &'static [u8],
+    &'static [&'static [u8]],
 );
 
 pub const SOUND: [&[u64]; 3] = [&[], &[], &[]];
 
 static ROWS: [Row; 20] = [
-    (b"client a\n", Some(&[READY, NEXT]), SOUND, b""),
+    (b"client a\n", Some(&[READY, NEXT]), SOUND, &[b""]),
     (
         TWO,
         Some(&[READY, NEXT, SUCCESS, NEXT, SECOND, NEXT]),
         SOUND,
-        b"a 1 OK 0 none\na 2 OK 0 none\n",
+        &[b"a 1 OK 0 none\na 2 OK 0 none\n"],
     ),
     // A request that is refused, or that fails, and the server goes on.
     (
         b"client a\ncall .X none\ncall OTHER none\ncall ECHO none\n",
         Some(&[READY, NEXT, SUCCESS, NEXT]),
         SOUND,
-        b"a 1 TPEINVAL\na 2 TPENOENT\na 3 OK 0 none\n",
+        &[b"a 1 TPEINVAL\na 2 TPENOENT\na 3 OK 0 none\n"],
     ),
     (
         TWO,
         Some(&[READY, NEXT, FAIL, NEXT, SECOND, NEXT]),
         SOUND,
-        b"a 1 TPESVCFAIL 99 none\na 2 OK 0 none\n",
+        &[b"a 1 TPESVCFAIL 99 none\na 2 OK 0 none\n"],
     ),
     (
         TWO,
         Some(&[READY, NEXT, TYPED, NEXT, SECOND, NEXT]),
         SOUND,
-        b"a 1 TPESVCERR\na 2 OK 0 none\n",
+        &[b"a 1 TPESVCERR\na 2 OK 0 none\n"],
     ),
     // A life that ends with its answer, or behind it.
     (
         TWO,
         Some(&[READY, NEXT, EXIT]),
         SOUND,
-        b"a 1 TPESVCFAIL 1 none\na 2 TPENOENT\n",
+        &[b"a 1 TPESVCFAIL 1 none\na 2 TPENOENT\n"],
     ),
-    (
-        TWO,
-        Some(&[READY, NEXT, SUCCESS]),
-        SOUND,
-        b"a 1 OK 0 none\na 2 TPENOENT\n",
-    ),
-    (
-        TWO,
-        Some(&[READY, NEXT, SUCCESS, SECOND]),
-        SOUND,
-        b"a 1 OK 0 none\na 2 TPENOENT\n",
-    ),
+    (TWO, Some(&[READY, NEXT, SUCCESS]), SOUND, GONE),
+    (TWO, Some(&[READY, NEXT, SUCCESS, SECOND]), SOUND, GONE),
     // A request that dies with its server.
-    (ONE, Some(&[READY, NEXT, SHORT]), SOUND, b"a 1 TPESVCERR\n"),
+    (
+        ONE,
+        Some(&[READY, NEXT, SHORT]),
+        SOUND,
+        &[b"a 1 TPESVCERR\n"],
+    ),
     (TWO, Some(&[READY, NEXT, SHORT]), SOUND, DIED),
     (TWO, Some(&[READY, NEXT, SECOND]), SOUND, DIED),
     (TWO, Some(&[READY, NEXT]), SOUND, DIED),
@@ -116,7 +118,7 @@ static ROWS: [Row; 20] = [
         b"client a\ncall .X none\ncall ECHO none\n",
         None,
         SOUND,
-        b"a 1 TPEINVAL\na 2 TPENOENT\n",
+        &[b"a 1 TPEINVAL\na 2 TPENOENT\n"],
     ),
     (TWO, Some(&[]), SOUND, DOWN),
     (TWO, Some(&[READY]), SOUND, DOWN),
@@ -156,25 +158,27 @@ pub fn yard_of(alloc: Global, life: Option<&[&[u8]]>, faults: [&[u64]; 3]) -> Op
     }
 }
 
-fn is_served(rt: &HostRuntime, yard: &mut MemoryYard, script: &[u8], wrote: &[u8]) -> bool {
-    runs(
+fn is_served<R: Runtime>(rt: &R, yard: &mut MemoryYard, script: &[u8], wrote: &[&[u8]]) -> bool {
+    run_of(
         rt,
         &["play", "ECHO"],
         (&[], &[]),
         (script, &[], &[]),
         yard,
+        &OpenGate,
         (End::Done, wrote),
     )
+    .is_some()
 }
 
-fn serves(rt: &HostRuntime, (script, life, faults, wrote): Row) -> bool {
+fn serves<R: Runtime>(rt: &R, (script, life, faults, wrote): Row) -> bool {
     match yard_of(rt.alloc(), life, faults) {
         Some(mut yard) => is_served(rt, &mut yard, script, wrote),
         None => false,
     }
 }
 
-fn first_not_served(rt: &HostRuntime) -> Option<usize> {
+fn first_not_served<R: Runtime>(rt: &R) -> Option<usize> {
     for (place, row) in ROWS.iter().enumerate() {
         if !serves(rt, *row) {
             return Some(place);

@@ -2,10 +2,17 @@
 ghost use Rattle.std.specs.Prelude.{◌<◌};
 
 use std::alloc::Global;
+use std::sync::Wait;
+use std::thread::Threads;
 use xa_events::Event;
-use xa_link::{MemoryShelf, MemorySink, MemorySource, OpenGate, Yard};
-use xa_program::{Input, Life, Outcome, Status, run};
+use xa_link::{Gate, MemoryShelf, MemorySink, MemorySource, OpenGate, Yard};
+use xa_program::{EndedLife, Input, Outcome, Status, run};
 use xa_types::Octets;
+
+/// What a run asks of the runtime: memory, and threads that may wait for each other.
+pub trait Runtime: Threads + Wait + Sync + AllocGlobal {}
+
+impl<R: Threads + Wait + Sync + AllocGlobal> Runtime for R {}
 
 /// The files of a shelf, by their names, and the reads of it that fail.
 pub type Files<'a> = (&'a [(&'a [u8], &'a [u8])], &'a [u64]);
@@ -44,6 +51,16 @@ fn ends_so(status: &Status, end: End) -> bool {
         }
         _ => false,
     }
+}
+
+/// Whether these octets are one of those.
+pub fn is_among(octets: &[u8], those: &[&[u8]]) -> bool {
+    for one in those {
+        if octets == *one {
+            return true;
+        }
+    }
+    false
 }
 
 // What a command is run on. A read gives seven octets at most, and a write takes five.
@@ -111,16 +128,20 @@ fn set_up(
     })
 }
 
-/// The history and the lives of a command of these words, with these files, this script and this yard, where it ends so
-/// and has written that.
-pub fn run_of<Y: Yard>(
-    rt: &HostRuntime,
+/// The history, and by server the lives that ended.
+pub type Ran<L> = (Vec<Event>, Vec<Vec<EndedLife<L>>>);
+
+/// The history and the lives of a command of these words, with these files, this script, this yard and this gate, where
+/// it ends so and has written one of these.
+pub fn run_of<R: Runtime, Y: Yard, G: Gate>(
+    rt: &R,
     words: &[&str],
     files: Files<'_>,
     script: Script<'_>,
     yard: &mut Y,
-    want: (End, &[u8]),
-) -> Option<(Vec<Event>, Vec<Life<Y::Line>>)>
+    gate: &G,
+    want: (End, &[&[u8]]),
+) -> Option<Ran<Y::Line>>
 where
     Y::Line: Drop,
     Y::Start: Drop,
@@ -131,6 +152,7 @@ where
         homes: _,
         history,
         lives,
+        cut: _,
         starters: _,
     } = run(
         rt,
@@ -140,15 +162,15 @@ where
         &mut stage.input,
         &mut stage.out,
         yard,
-        &OpenGate,
+        gate,
     );
-    let as_wanted = ends_so(&status, want.0) && stage.out.taken() == want.1;
+    let as_wanted = ends_so(&status, want.0) && is_among(stage.out.taken(), want.1);
     as_wanted.then_some((history, lives))
 }
 
-/// Whether such a command ends so and has written that.
-pub fn runs<Y: Yard>(
-    rt: &HostRuntime,
+/// Whether such a command, with no gate, ends so and has written that.
+pub fn runs<R: Runtime, Y: Yard>(
+    rt: &R,
     words: &[&str],
     files: Files<'_>,
     script: Script<'_>,
@@ -159,5 +181,14 @@ where
     Y::Line: Drop,
     Y::Start: Drop,
 {
-    run_of(rt, words, files, script, yard, want).is_some()
+    run_of(
+        rt,
+        words,
+        files,
+        script,
+        yard,
+        &OpenGate,
+        (want.0, &[want.1]),
+    )
+    .is_some()
 }

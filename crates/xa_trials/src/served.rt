@@ -1,13 +1,13 @@
 //! Whole runs with real processes: what each call is told where servers end, fail or can't be started, and what is left.
 use crate::rows::none_fails;
-use crate::running::{source_of, words_of};
+use crate::running::{Runtime, is_among, source_of, words_of};
 use crate::statuses::are_lives_told;
 use std::alloc::Global;
 use std::fs;
 use xa_events::Event;
-use xa_link::{ChildYard, FileShelf, MemorySink, MemorySource, OpenGate};
+use xa_link::{ChildYard, FileShelf, Gate, HoldUntil, MemorySink, MemorySource, OpenGate, Point};
 use xa_program::{Outcome, run};
-use xa_types::{Name, Octets};
+use xa_types::{CallerId, Name, Octets, ServerId};
 
 // The shell's words for a server. One is started with the words `server` and its name, so `sh` reads its script from the
 // file `server`, and has the name, of one octet, as `$1`. It greets with READY and NEXT, takes an INVOKE of `ECHO`
@@ -57,10 +57,10 @@ fn set_up(rt: &HostRuntime, words: &[&str], script: &str) -> Option<Stage> {
     })
 }
 
-// What a run by so many processes is to print, and the line of a life that failed; without one, any may be said.
+// What a run by so many processes may print, and the line of a life that failed; without one, any may be said.
 #[derive(Clone, Copy)]
 struct Want {
-    wrote: &'static str,
+    wrote: &'static [&'static [u8]],
     count: usize,
     ended: Option<&'static str>,
 }
@@ -74,13 +74,26 @@ fn is_told(alloc: Global, history: &[Event], ended: Option<&str>) -> bool {
     }
 }
 
+// Whether there are so many lives, of all servers.
+fn are_so_many<T>(servers: &[Vec<T>], count: usize) -> bool {
+    let mut left = count;
+    for lives in servers {
+        match left.checked_sub(lives.len()) {
+            Some(rest) => left = rest,
+            None => return false,
+        }
+    }
+    left == 0
+}
+
 // Whether the command is done so.
-fn prints(rt: &HostRuntime, stage: &mut Stage, want: Want) -> bool {
+fn prints<R: Runtime, G: Gate>(rt: &R, stage: &mut Stage, gate: &G, want: Want) -> bool {
     let Outcome {
         status,
         homes: _,
         history,
         lives,
+        cut: _,
         starters: _,
     } = run(
         rt,
@@ -90,10 +103,10 @@ fn prints(rt: &HostRuntime, stage: &mut Stage, want: Want) -> bool {
         &mut stage.input,
         &mut stage.out,
         &mut stage.yard,
-        &OpenGate,
+        gate,
     );
-    let printed = stage.out.taken() == want.wrote.as_bytes();
-    let done = status.number() == 0 && lives.len() == want.count;
+    let printed = is_among(stage.out.taken(), want.wrote);
+    let done = status.number() == 0 && are_so_many(lives.as_slice(), want.count);
     printed && done && is_told(rt.alloc(), history.as_slice(), want.ended)
 }
 
@@ -105,13 +118,44 @@ pub fn has(rt: &HostRuntime, name: &str, text: &str) -> bool {
     }
 }
 
+fn is_childless(rt: &HostRuntime, thread: &str) -> bool {
+    let Ok(path) = format!(in rt.alloc(); "/proc/self/task/{thread}/children") else {
+        return false;
+    };
+    match fs::read_to_string(rt, path.as_str()) {
+        Ok(children) => children.is_empty(),
+        Err(_) => true,
+    }
+}
+
+// Whether no thread has a process that it started, or that another left to it. A thread that ends by now has none.
+fn has_no_child(rt: &HostRuntime) -> bool {
+    let Ok(threads) = fs::read_dir(rt, "/proc/self/task") else {
+        return false;
+    };
+    for thread in threads {
+        match thread {
+            Ok(thread) if is_childless(rt, thread.file_name()) => {}
+            _ => return false,
+        }
+    }
+    true
+}
+
 // Whether the command serves the script so, and leaves none of its processes.
-fn serves(rt: &HostRuntime, words: [&str; 2], script: &str, want: Want) -> bool {
+fn serves<R: Runtime, G: Gate>(
+    threads: &R,
+    rt: &HostRuntime,
+    words: [&str; 2],
+    script: &str,
+    gate: &G,
+    want: Want,
+) -> bool {
     let served = match set_up(rt, &words, script) {
-        Some(mut stage) => prints(rt, &mut stage, want),
+        Some(mut stage) => prints(threads, &mut stage, gate, want),
         None => false,
     };
-    served && has(rt, "/proc/thread-self/children", "")
+    served && has_no_child(rt)
 }
 
 /// Removes the files that a test wrote, and answers whether they were there.
@@ -127,11 +171,15 @@ pub fn remove(rt: &HostRuntime, names: &[&str]) -> bool {
 
 const TWICE: &str = "client a\ncall ECHO none\ncall ECHO none\n";
 
-const ONCE: &str = "a 1 OK 0 none\na 2 TPENOENT\n";
+// The next call comes before the rows of the queue are withdrawn, and is swept from it or finds it down, or after that.
+const ONCE: &[&[u8]] = &[
+    b"a 1 OK 0 none\na 2 TPENOENT\n",
+    b"a 1 OK 0 none\na 2 TPESYSTEM\n",
+];
 
-const DIED: &str = "a 1 TPESVCERR\na 2 TPENOENT\n";
+const DIED: &[&[u8]] = &[b"a 1 TPESVCERR\na 2 TPENOENT\n"];
 
-const NEVER: &str = "a 1 TPENOENT\na 2 TPENOENT\n";
+const NEVER: &[&[u8]] = &[b"a 1 TPENOENT\na 2 TPENOENT\n"];
 
 // One server, whose program is the shell.
 const ONE: &str = "[[queue]]\nname = \"Q\"\n\
@@ -140,9 +188,14 @@ const ONE: &str = "[[queue]]\nname = \"Q\"\n\
 
 static COMMANDS: [[&str; 2]; 2] = [["play", "ECHO"], ["run", "config"]];
 
-// What the server does, what is printed, what is said of its life, and whether it comes to its own end behind its closed pipes and notes that in
+// What the server does, what may be printed, what is said of its life, and whether it comes to its own end behind its closed pipes and notes that in
 // the file `ended`. The others that would go on are ended by force: else the test would last longer than it may.
-type Row = (&'static str, &'static str, Option<&'static str>, bool);
+type Row = (
+    &'static str,
+    &'static [&'static [u8]],
+    Option<&'static str>,
+    bool,
+);
 
 static ROWS: [Row; 10] = [
     // It ends, or is ended by another, while the call waits.
@@ -188,26 +241,26 @@ static ROWS: [Row; 10] = [
     ),
     (
         "greet $1; take; give 1; next; take; echo no frame but text; exec sleep 600",
-        "a 1 OK 0 none\na 2 TPESVCERR\n",
+        &[b"a 1 OK 0 none\na 2 TPESVCERR\n"],
         Some("server S: life 1: ended by BadBytes at 56"),
         false,
     ),
     // It is shut down, or returned TPEXIT.
     (
         "greet $1; take; give 1; next; take; give 2; next; cat >/dev/null; sleep 0.1; echo x >ended",
-        "a 1 OK 0 none\na 2 OK 0 none\n",
+        &[b"a 1 OK 0 none\na 2 OK 0 none\n"],
         Some(""),
         true,
     ),
     (
         "greet $1; take; leave; cat >/dev/null; sleep 0.1; echo x >ended",
-        "a 1 TPESVCFAIL 1 none\na 2 TPENOENT\n",
+        &[b"a 1 TPESVCFAIL 1 none\na 2 TPENOENT\n"],
         Some(""),
         true,
     ),
 ];
 
-fn fails_so(rt: &HostRuntime, (server, wrote, ended, ends): Row) -> bool {
+fn fails_so<R: Runtime>(threads: &R, rt: &HostRuntime, (server, wrote, ended, ends): Row) -> bool {
     if !write_server(rt, server) {
         return false;
     }
@@ -217,16 +270,16 @@ fn fails_so(rt: &HostRuntime, (server, wrote, ended, ends): Row) -> bool {
         ended,
     };
     for command in COMMANDS {
-        if !serves(rt, command, TWICE, want) || remove(rt, &["ended"]) != ends {
+        if !serves(threads, rt, command, TWICE, &OpenGate, want) || remove(rt, &["ended"]) != ends {
             return false;
         }
     }
     true
 }
 
-fn first_not_ended(rt: &HostRuntime) -> Option<usize> {
+fn first_not_ended<R: Runtime>(threads: &R, rt: &HostRuntime) -> Option<usize> {
     for (place, row) in ROWS.iter().enumerate() {
-        if !fails_so(rt, *row) {
+        if !fails_so(threads, rt, *row) {
             return Some(place);
         }
     }
@@ -236,7 +289,7 @@ fn first_not_ended(rt: &HostRuntime) -> Option<usize> {
 #[test]
 fn a_server_that_fails_is_ended(rt: HostRuntime) {
     assert!(rt; fs::write(&rt, "config", ONE).is_ok());
-    none_fails(&rt, first_not_ended(&rt));
+    none_fails(&rt, first_not_ended(&rt, &rt));
     assert!(rt; remove(&rt, &["config", "server"]));
 }
 
@@ -260,7 +313,35 @@ const OTHER: &str =
     "for n in 1 2; do take; if test -e /proc/$(cat pid); then exit; fi; give $n; next; done\n\
     cat >/dev/null";
 
-const PAIRED: &str = "a 1 TPESVCERR\na 2 OK 0 none\nb 1 OK 0 none\n";
+const PAIRED: &[&[u8]] = &[b"a 1 TPESVCERR\na 2 OK 0 none\nb 1 OK 0 none\n"];
+
+// The first call of the first client is taken by the first server, and is over before the second client calls.
+#[derive(Drop)]
+struct FirstToOne {
+    server: HoldUntil,
+    client: HoldUntil,
+}
+
+impl FirstToOne {
+    fn new() -> FirstToOne {
+        let over = Point::AfterOp(CallerId(1), 1);
+        FirstToOne {
+            server: HoldUntil::new(Point::BeforeTake(ServerId(2)), over),
+            client: HoldUntil::new(Point::BeforeOp(CallerId(2), 1), over),
+        }
+    }
+}
+
+impl Gate for FirstToOne {
+    fn holds(&self, point: Point) -> bool {
+        self.server.holds(point) || self.client.holds(point)
+    }
+
+    fn passed(&self, point: Point) {
+        self.server.passed(point);
+        self.client.passed(point);
+    }
+}
 
 fn pair_text(alloc: Global, end: &str) -> Option<String> {
     format!(in alloc; "greet $1\nif test $1 = A; then echo $$ >pid; take; {end}; fi\n{OTHER}").ok()
@@ -273,7 +354,7 @@ fn write_pair(rt: &HostRuntime, end: &str) -> bool {
     }
 }
 
-fn first_not_outlived(rt: &HostRuntime) -> Option<usize> {
+fn first_not_outlived<R: Runtime>(threads: &R, rt: &HostRuntime) -> Option<usize> {
     let script = "client a\ncall ECHO none\ncall ECHO none\nclient b\ncall ECHO none\n";
     let want = Want {
         wrote: PAIRED,
@@ -281,7 +362,8 @@ fn first_not_outlived(rt: &HostRuntime) -> Option<usize> {
         ended: None,
     };
     for (place, end) in ENDS.iter().enumerate() {
-        if !write_pair(rt, end) || !serves(rt, ["run", "config"], script, want) {
+        let gate = FirstToOne::new();
+        if !write_pair(rt, end) || !serves(threads, rt, ["run", "config"], script, &gate, want) {
             return Some(place);
         }
     }
@@ -291,8 +373,33 @@ fn first_not_outlived(rt: &HostRuntime) -> Option<usize> {
 #[test]
 fn the_other_server_of_a_queue_goes_on(rt: HostRuntime) {
     assert!(rt; fs::write(&rt, "config", PAIR).is_ok());
-    none_fails(&rt, first_not_outlived(&rt));
+    none_fails(&rt, first_not_outlived(&rt, &rt));
     assert!(rt; remove(&rt, &["config", "server", "pid"]));
+}
+
+// Each server answers once both have a call in hand.
+const BOTH: &str = "greet $1; take; echo x >has$1; n=0\n\
+                    while test $n -lt 1000; do\n\
+                    if test -e hasA && test -e hasB; then give 1; next; cat >/dev/null; exit; fi\n\
+                    sleep 0.01; n=$((n + 1))\n\
+                    done";
+
+fn serves_both_at_once<R: Runtime>(threads: &R, rt: &HostRuntime) -> bool {
+    let script = "client a\ncall ECHO none\nclient b\ncall ECHO none\n";
+    let want = Want {
+        wrote: &[b"a 1 OK 0 none\nb 1 OK 0 none\n"],
+        count: 2,
+        ended: None,
+    };
+    fs::write(rt, "config", PAIR).is_ok()
+        && write_server(rt, BOTH)
+        && serves(threads, rt, ["run", "config"], script, &OpenGate, want)
+}
+
+#[test]
+fn two_calls_are_in_hand_at_once(rt: HostRuntime) {
+    assert!(rt; serves_both_at_once(&rt, &rt));
+    assert!(rt; remove(&rt, &["config", "server", "hasA", "hasB"]));
 }
 
 // Three queues with a server each: the program of the first isn't there, that of the second is a file that can't be
@@ -305,20 +412,20 @@ const THREE: &str = "[[queue]]\nname = \"P\"\n[[queue]]\nname = \"Q\"\n[[queue]]
                      [[service]]\nname = \"TWO\"\nqueues = [\"Q\"]\n\
                      [[service]]\nname = \"ECHO\"\nqueues = [\"R\"]\n";
 
-fn serves_one_of_three(rt: &HostRuntime) -> bool {
+fn serves_one_of_three<R: Runtime>(threads: &R, rt: &HostRuntime) -> bool {
     let script = "client a\ncall ONE none\ncall TWO none\ncall ECHO none\n";
     let want = Want {
-        wrote: "a 1 TPENOENT\na 2 TPENOENT\na 3 OK 0 none\n",
+        wrote: &[b"a 1 TPENOENT\na 2 TPENOENT\na 3 OK 0 none\n"],
         count: 1,
         ended: None,
     };
     fs::write(rt, "config", THREE).is_ok()
         && write_server(rt, "greet $1; take; give 1; next; cat >/dev/null")
-        && serves(rt, ["run", "config"], script, want)
+        && serves(threads, rt, ["run", "config"], script, &OpenGate, want)
 }
 
 #[test]
 fn a_server_that_cannot_be_started_takes_its_queue_alone(rt: HostRuntime) {
-    assert!(rt; serves_one_of_three(&rt));
+    assert!(rt; serves_one_of_three(&rt, &rt));
     assert!(rt; remove(&rt, &["config", "server"]));
 }

@@ -1,6 +1,6 @@
 //! Data and scripts as long as they may be: no clause says that memory suffices for them.
 use crate::rows::none_fails;
-use crate::running::{End, runs};
+use crate::running::{End, Runtime, runs};
 use std::alloc::Global;
 use std::io::Write;
 use xa_program::{Input, LocalYard};
@@ -63,7 +63,7 @@ fn octets_of(alloc: Global, (first, again, last): Long, count: usize) -> Option<
     Some(octets)
 }
 
-fn is_run(rt: &HostRuntime, words: &[&str], input: &[u8], want: (End, &[u8])) -> bool {
+fn is_run<R: Runtime>(rt: &R, words: &[&str], input: &[u8], want: (End, &[u8])) -> bool {
     let mut yard = LocalYard::new(rt.alloc());
     runs(rt, words, (&[], &[]), (input, &[], &[]), &mut yard, want)
 }
@@ -74,7 +74,7 @@ static CONFIGURATIONS: [(usize, End); 2] = [
     (262_145, End::TooLong(Input::Configuration)),
 ];
 
-fn is_configured(rt: &HostRuntime, config: &[u8], script: &[u8], want: (End, &[u8])) -> bool {
+fn is_configured<R: Runtime>(rt: &R, config: &[u8], script: &[u8], want: (End, &[u8])) -> bool {
     let mut yard = LocalYard::new(rt.alloc());
     let files: [(&[u8], &[u8]); 1] = [(b"c", config)];
     runs(
@@ -87,14 +87,14 @@ fn is_configured(rt: &HostRuntime, config: &[u8], script: &[u8], want: (End, &[u
     )
 }
 
-fn is_read(rt: &HostRuntime, count: usize, end: End) -> bool {
+fn is_read<R: Runtime>(rt: &R, count: usize, end: End) -> bool {
     match octets_of(rt.alloc(), (b"", b"#", b""), count) {
         Some(config) => is_configured(rt, &config, b"", (end, b"")),
         None => false,
     }
 }
 
-fn first_not_read(rt: &HostRuntime) -> Option<usize> {
+fn first_not_read<R: Runtime>(rt: &R) -> Option<usize> {
     for (place, (count, end)) in CONFIGURATIONS.iter().enumerate() {
         if !is_read(rt, *count, *end) {
             return Some(place);
@@ -108,7 +108,7 @@ fn the_longest_configuration_is_read(rt: HostRuntime) {
     none_fails(&rt, first_not_read(&rt));
 }
 
-fn is_played(rt: &HostRuntime, (words, count, input, wrote, end): Row) -> bool {
+fn is_played<R: Runtime>(rt: &R, (words, count, input, wrote, end): Row) -> bool {
     let Some(input) = octets_of(rt.alloc(), input, count) else {
         return false;
     };
@@ -118,7 +118,7 @@ fn is_played(rt: &HostRuntime, (words, count, input, wrote, end): Row) -> bool {
     }
 }
 
-fn first_not_played(rt: &HostRuntime) -> Option<usize> {
+fn first_not_played<R: Runtime>(rt: &R) -> Option<usize> {
     for (place, row) in ROWS.iter().enumerate() {
         if !is_played(rt, *row) {
             return Some(place);
@@ -159,7 +159,7 @@ fn calls_of(alloc: Global) -> Option<Both> {
     Some((script, lines_of(alloc, "a ", " OK 0 none", CALLS)?))
 }
 
-fn are_played(rt: &HostRuntime) -> bool {
+fn are_played<R: Runtime>(rt: &R) -> bool {
     match calls_of(rt.alloc()) {
         Some((script, lines)) => is_run(rt, PLAY, &script, (End::Done, &lines)),
         None => false,
@@ -183,14 +183,14 @@ fn clients_of(alloc: Global, count: u32, served: u32) -> Option<Both> {
     Some((script, lines_of(alloc, "c", " 1 OK 0 none", served)?))
 }
 
-fn are_served(rt: &HostRuntime, (count, served, end): (u32, u32, End)) -> bool {
+fn are_served<R: Runtime>(rt: &R, (count, served, end): (u32, u32, End)) -> bool {
     match clients_of(rt.alloc(), count, served) {
         Some((script, wrote)) => is_configured(rt, ONE, &script, (end, &wrote)),
         None => false,
     }
 }
 
-fn first_not_served(rt: &HostRuntime) -> Option<usize> {
+fn first_not_served<R: Runtime>(rt: &R) -> Option<usize> {
     for (place, clients) in CLIENTS.iter().enumerate() {
         if !are_served(rt, *clients) {
             return Some(place);

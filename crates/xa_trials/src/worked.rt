@@ -1,9 +1,10 @@
 //! Runs of one server, worked out by hand: what its program got, and what stands in the history.
 use crate::lives::{NEXT, SOUND, yard_of};
 use crate::rows::none_fails;
-use crate::running::{End, run_of};
+use crate::running::{End, Runtime, run_of};
 use xa_events::{Event, Evidence, Refused};
-use xa_link::MemoryYard;
+use xa_link::{MemoryLink, MemoryYard, OpenGate};
+use xa_program::{EndedLife, Pipes};
 
 // One queue with one server, and three services.
 const CONFIG: &[u8] = b"[[queue]]\nname = \"Q1\"\n\
@@ -62,7 +63,25 @@ fn version_of(history: &[Event]) -> Option<u64> {
     })
 }
 
-fn is_worked(rt: &HostRuntime, yard: &mut MemoryYard, row: Row) -> bool {
+// Whether there was one life of one server, and its program got that.
+fn got_alone(mut servers: Vec<Vec<EndedLife<MemoryLink>>>, got: &[u8]) -> bool {
+    let Some(mut lives) = servers.pop() else {
+        return false;
+    };
+    let last = lives.pop();
+    if !servers.is_empty() || !lives.is_empty() {
+        return false;
+    }
+    match last {
+        Some(life) => match life.into_pipes() {
+            Pipes::Open(link) => link.taken() == got,
+            Pipes::Killed(_) => false,
+        },
+        None => false,
+    }
+}
+
+fn is_worked<R: Runtime>(rt: &R, yard: &mut MemoryYard, row: Row) -> bool {
     let (script, _, wrote, got, version) = row;
     let files: [(&[u8], &[u8]); 1] = [(b"c", CONFIG)];
     match run_of(
@@ -71,24 +90,22 @@ fn is_worked(rt: &HostRuntime, yard: &mut MemoryYard, row: Row) -> bool {
         (&files, &[]),
         (script, &[], &[]),
         yard,
-        (End::Done, wrote),
+        &OpenGate,
+        (End::Done, &[wrote]),
     ) {
-        Some((history, lives)) => match lives.as_slice() {
-            [life] => life.link.taken() == got && version_of(&history) == version,
-            _ => false,
-        },
+        Some((history, lives)) => got_alone(lives, got) && version_of(&history) == version,
         None => false,
     }
 }
 
-fn works(rt: &HostRuntime, row: Row) -> bool {
+fn works<R: Runtime>(rt: &R, row: Row) -> bool {
     match yard_of(rt.alloc(), Some(row.1), SOUND) {
         Some(mut yard) => is_worked(rt, &mut yard, row),
         None => false,
     }
 }
 
-fn first_not_worked(rt: &HostRuntime) -> Option<usize> {
+fn first_not_worked<R: Runtime>(rt: &R) -> Option<usize> {
     for (place, row) in ROWS.iter().enumerate() {
         if !works(rt, *row) {
             return Some(place);

@@ -9,6 +9,8 @@ use std::alloc::Global;
 use std::mem::forget;
 use std::process::ExitCode;
 use std::rt::Env;
+use std::sync::Wait;
+use std::thread::Threads;
 use xa_link::{
     ChildStarter, ChildYard, FileShelf, OpenGate, ReadSource, Starter, SystemArguments, WriteSink,
 };
@@ -37,17 +39,23 @@ fn names_of(alloc: Global, starters: &[ChildStarter<HostRuntime>]) -> Result<Vec
     Ok(names)
 }
 
-// Runs the command of these words, as the program of that name. The processes that it started are waited for before it
-// answers.
-fn run_words(rt: HostRuntime, own: Octets, words: &[String]) -> Status {
+// Runs the command of these words on these threads, as the program of that name. The processes that it started are
+// waited for before it answers.
+fn run_words<R: Threads + Wait + Sync>(
+    threads: &R,
+    rt: HostRuntime,
+    own: Octets,
+    words: &[String],
+) -> Status {
     let Outcome {
         status,
         homes,
         history,
         lives,
+        cut,
         starters,
     } = run(
-        &rt,
+        threads,
         rt.alloc(),
         words,
         &mut FileShelf::new(rt, rt.alloc()),
@@ -57,6 +65,7 @@ fn run_words(rt: HostRuntime, own: Octets, words: &[String]) -> Status {
         &OpenGate,
     );
     drop(lives);
+    drop(cut);
     if let Ok(names) = names_of(rt.alloc(), starters.as_slice()) {
         let _ = report_lives(&rt, names.as_slice(), history.as_slice());
     }
@@ -66,9 +75,9 @@ fn run_words(rt: HostRuntime, own: Octets, words: &[String]) -> Status {
     status
 }
 
-fn run_command(rt: HostRuntime) -> Status {
+fn run_command<R: Threads + Wait + Sync>(threads: &R, rt: HostRuntime) -> Status {
     match words(rt) {
-        Ok((own, words)) => run_words(rt, own, words.as_slice()),
+        Ok((own, words)) => run_words(threads, rt, own, words.as_slice()),
         Err(status) => status,
     }
 }
@@ -82,5 +91,5 @@ fn finish<R: Eprint>(rt: &R, status: Status) -> ExitCode
 }
 
 fn main(rt: HostRuntime) -> ExitCode {
-    finish(&rt, run_command(rt))
+    finish(&rt, run_command(&rt, rt))
 }

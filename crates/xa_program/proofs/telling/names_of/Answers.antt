@@ -1,7 +1,7 @@
 use Rattle.std.proofs.Common.{◌∙◌, ap}
 use Rattle.std.proofs.lemmas.List.{take_all}
 use Rattle.xa_program.specs.Headline.{names_of}
-use Rattle.xa_tables.proofs.Failing.{none_made}
+use Rattle.xa_program.proofs.Failing.{none_made}
 use Rattle.xa_program.proofs.Given.{names_more}
 use Rattle.xa_program.proofs.telling.names_of.Goals as goal
 

@@ -5,15 +5,12 @@ use Rattle.xa_program.proofs.top.obey.Goals as goal
 
 pub returns-in-Ok-clause-ends : goal.returns-in-Ok-clause-ends
 returns-in-Ok-clause-ends g c serves =
-    run_so _ (λ s. record { server = g.Y.Start.Starter.server_name s; faults = g.Y.Start.Starter.start_faults s; asked = g.Y.Start.Starter.asked s }) _ _
-    c.serve_script.result.homes.homes c.serve_script.result.history.items c.serve_script.result.lives.items c.serve_script.result.starters.items
-    c.args.command.now c.in-Ok.setup c.in-Ok.most c.serve_script.result.status c.in-Ok.ensures.found c.in-Ok.ensures.most c.serve_script.ensures.ends
+    run_so _ _ _ _ c.args.command.now c.in-Ok.setup c.in-Ok.most c.serve_script.result.status c.in-Ok.ensures.found c.in-Ok.ensures.most c.serve_script.ensures.ends
 
 pub returns-in-Ok-clause-shelf : goal.returns-in-Ok-clause-shelf
 returns-in-Ok-clause-shelf g c =
     shelf_kept c.args.command.now c.serve_script.result.status _ _ _ _
-    (ends_as _ (λ s. record { server = g.Y.Start.Starter.server_name s; faults = g.Y.Start.Starter.start_faults s; asked = g.Y.Start.Starter.asked s }) _ c.in-Ok.setup c.in-Ok.most c.serve_script.result.status ConfigRead
-    c.serve_script.result.homes.homes c.serve_script.result.history.items c.serve_script.result.lives.items c.serve_script.result.starters.items c.serve_script.ensures.ends) c.in-Ok.ensures.quiet c.in-Ok.ensures.asks
+    (ends_as _ _ c.in-Ok.setup c.in-Ok.most c.serve_script.result.status ConfigRead _ c.serve_script.ensures.ends) c.in-Ok.ensures.quiet c.in-Ok.ensures.asks
 
 pub returns-in-Ok-clause-yard : goal.returns-in-Ok-clause-yard
 returns-in-Ok-clause-yard g c = asks_yard _ c.args.command.now c.in-Ok.setup c.serve_script.result.status _ _ c.in-Ok.ensures.found c.serve_script.ensures.yard

@@ -4,6 +4,13 @@ use Rattle.xa_program.proofs.Complete.{nothing_else}
 use Rattle.std.proofs.lemmas.Option.{none-some}
 use Rattle.xa_program.proofs.top.run.Goals as goal
 
+pub returns-in-Ok-Some-clause-ends : goal.returns-in-Ok-Some-clause-ends
+returns-in-Ok-Some-clause-ends g c command is serves =
+    let both : Some c.in-Ok-Some.command ≡ Some command = sym c.in-Ok-Some.field-0-is ∙ c.in-Ok-Some.ensures.found ∙ is in
+    let same : c.in-Ok-Some.command ≡ command = cc both in
+    let ends = rw same at c.obey.ensures.ends in
+    ends serves
+
 pub returns-in-Ok-Some-clause-server : goal.returns-in-Ok-Some-clause-server
 returns-in-Ok-Some-clause-server g c name is =
     let both : Some c.in-Ok-Some.command ≡ Some (Server name) = sym c.in-Ok-Some.field-0-is ∙ c.in-Ok-Some.ensures.found ∙ is in
@@ -14,8 +21,7 @@ returns-in-Ok-Some-clause-complete g c command setup octets script is serves con
     let both : Some c.in-Ok-Some.command ≡ Some command = sym c.in-Ok-Some.field-0-is ∙ c.in-Ok-Some.ensures.found ∙ is in
     let same : c.in-Ok-Some.command ≡ command = cc both in
     let ends = rw same at c.obey.ensures.ends in
-    nothing_else _ (λ s. record { server = g.Y.Start.Starter.server_name s; faults = g.Y.Start.Starter.start_faults s; asked = g.Y.Start.Starter.asked s }) _ _ command c.obey.result.status
-    c.obey.result.homes.homes c.obey.result.history.items c.obey.result.lives.items c.obey.result.starters.items setup octets script (ends serves) configured told short is_script files reads writes
+    nothing_else _ _ _ command c.obey.result.status _ setup octets script (ends serves) configured told short is_script files reads writes
 
 -- ---- the words are no command's
 

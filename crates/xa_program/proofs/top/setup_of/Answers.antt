@@ -1,4 +1,4 @@
-use Rattle.xa_tables.proofs.Failing.{none_done, none_made}
+use Rattle.xa_program.proofs.Failing.{none_done, none_made}
 use Rattle.xa_program.proofs.top.setup_of.Goals as goal
 
 pub returns-in_err-read_setup-in-Run-clause-found : goal.returns-in_err-read_setup-in-Run-clause-found
@@ -9,9 +9,6 @@ returns-in_err-read_setup-in-Run-clause-most g c = none_made c.from_residual.res
 
 pub returns-in_err-read_setup-in-Run-clause-configured : goal.returns-in_err-read_setup-in-Run-clause-configured
 returns-in_err-read_setup-in-Run-clause-configured g c = none_made c.from_residual.result _ _ c.from_residual.ensures.1
-
-pub returns-in_err-read_setup-in-Run-clause-restarts : goal.returns-in_err-read_setup-in-Run-clause-restarts
-returns-in_err-read_setup-in-Run-clause-restarts g c = none_made c.from_residual.result _ _ c.from_residual.ensures.1
 
 pub returns-in_err-read_setup-in-Run-clause-quiet : goal.returns-in_err-read_setup-in-Run-clause-quiet
 returns-in_err-read_setup-in-Run-clause-quiet g c = none_done c.from_residual.result _ _ c.from_residual.ensures.1
@@ -24,9 +21,6 @@ returns-in_err-play_setup-in-Play-clause-most g c = none_made c.from_residual-in
 
 pub returns-in_err-play_setup-in-Play-clause-configured : goal.returns-in_err-play_setup-in-Play-clause-configured
 returns-in_err-play_setup-in-Play-clause-configured g c = none_made c.from_residual-in_err-play_setup-in-Play.result _ _ c.from_residual-in_err-play_setup-in-Play.ensures.1
-
-pub returns-in_err-play_setup-in-Play-clause-restarts : goal.returns-in_err-play_setup-in-Play-clause-restarts
-returns-in_err-play_setup-in-Play-clause-restarts g c = none_made c.from_residual-in_err-play_setup-in-Play.result _ _ c.from_residual-in_err-play_setup-in-Play.ensures.1
 
 pub returns-in_err-play_setup-in-Play-clause-quiet : goal.returns-in_err-play_setup-in-Play-clause-quiet
 returns-in_err-play_setup-in-Play-clause-quiet g c = none_done c.from_residual-in_err-play_setup-in-Play.result _ _ c.from_residual-in_err-play_setup-in-Play.ensures.1

@@ -1,0 +1,58 @@
+-- A whole run is one so far.
+use Rattle.std.proofs.Common.{◌≡◌, ◌∙◌, ℕ, zero, suc, ◌+◌, List, [], ◌∷◌, length, reverse, Option, Some, None, inl, refl, sym, arith}
+use Rattle.std.specs.Prelude.{slice_get}
+use Rattle.std.proofs.lemmas.List.{append-nil}
+use Rattle.std.proofs.lemmas.Option.{slice_get_within, get_or_from_slice_get}
+use Rattle.xa_types.specs.declared.ids.Generation.{Generation}
+use Rattle.xa_types.specs.declared.setup.Setup.{Setup}
+use Rattle.xa_types.specs.Setup.{numbered}
+use Rattle.xa_events.specs.declared.event.Event.{Event}
+use Rattle.xa_events.specs.Words.{EachNumbered}
+use Rattle.xa_crew.specs.Ending.{list_in}
+use Rattle.xa_work.specs.declared.work.Halt.TheVariants as halts
+use Rattle.xa_script.specs.declared.script.Client.{Client}
+use Rattle.xa_pipe.specs.Standing.{Ending}
+use Rattle.xa_server.specs.Served.{StarterShows}
+use Rattle.xa_links.specs.Lives.{lives_in}
+use Rattle.xa_joined.specs.Served.{IsServedSoFar, AreLives, AreLivesSoFar, IsStarterOf, IsStarterSoFar, generations_of}
+use Rattle.xa_carried.proofs.Numbered.{each_at, numbered_there}
+use Rattle.xa_domain.specs.Serving.{IsNoneCut, ComesTo}
+
+-- of no server a life was cut
+nothing_in : (cut : List (List Generation)) → IsNoneCut cut → (place : ℕ) (found : Option (List Generation)) → slice_get cut place ≡ found → list_in found ≡ []
+nothing_in cut none place None is = refl
+nothing_in cut none place (Some its) is = sym (get_or_from_slice_get cut place its [] is) ∙ none place [] (slice_get_within cut place its is)
+
+none_cut : (cut : List (List Generation)) → IsNoneCut cut → (server : ℕ) → list_in (numbered server cut) ≡ []
+none_cut cut none zero = refl
+none_cut cut none (suc place) = nothing_in cut none place (slice_get cut place) refl
+
+lives_so_far : (setup : Setup) (past : List Event) (lives : List (List Ending)) (cut : List (List Generation)) → AreLives setup past lives → length cut ≡ length setup.servers → IsNoneCut cut
+    → AreLivesSoFar setup past lives cut
+lives_so_far setup past lives cut are count none = record {
+  lives_of = let all = are.all in omega (arith, all);
+  cut_of = omega (arith, count);
+  each = λ server low high.
+      let all = are.all in
+      let there = numbered_there server lives low (omega (arith, high, all)) in
+      let its = each_at (λ (n : ℕ) (its : List Ending). generations_of its ≡ lives_in n past) server lives there.0 are.each there.1 in
+      rw (there.1, none_cut cut none server) (append-nil (generations_of there.0) ∙ its);
+}
+
+starters_so_far : {S : Type 0} (named : S → List ℕ) (shows : S → StarterShows) (setup : Setup) (past : List Event) (n : ℕ) (starters : List S)
+    → EachNumbered (λ server starter. IsStarterOf setup server (named starter) (shows starter) past) n starters → EachNumbered (λ server starter. IsStarterSoFar setup server (named starter) (shows starter) past) n starters
+starters_so_far named shows setup past n [] each = tt
+starters_so_far named shows setup past n (starter ∷ starters) each =
+    (record { its = let first = each.0 in first.its; started = let first = each.0 in inl first.started }, starters_so_far named shows setup past (n + 1) starters each.1)
+
+pub whole_so_far : {S : Type 0} (named : S → List ℕ) (shows : S → StarterShows) (setup : Setup) (clients : List Client) (events : List Event) (lives : List (List Ending)) (cut : List (List Generation)) (starters : List S)
+    → ComesTo named shows setup clients None events lives cut starters → IsServedSoFar named shows halts.NoMemory setup (length clients) events lives cut starters
+whole_so_far named shows setup clients events lives cut starters comes =
+    let whole = comes.0 in
+    record {
+      run = whole.machine.run;
+      made = whole.machine.made;
+      all = inl whole.carried.all;
+      lives_are = lives_so_far setup (reverse events) lives cut whole.carried.lives_are comes.2 comes.1;
+      each = starters_so_far named shows setup (reverse events) 1 starters whole.carried.each;
+    }
