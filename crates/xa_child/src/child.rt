@@ -1,5 +1,5 @@
 // A server's program, frame by frame.
-ghost use Rattle.std.specs.Prelude.{◌≡◌, ◌↔◌, true, false, IfOk, OnOk, OnErr, IsErrOf};
+ghost use Rattle.std.specs.Prelude.{◌≡◌, ◌↔◌, ◌∷◌, [], true, false, IfOk, OnOk, OnErr, IsErrOf};
 ghost use Rattle.xa_child.specs.Child.{begun, following, greeting, admits, answer, after, next};
 ghost use Rattle.xa_child.specs.Said.{frame_of, all_said};
 ghost use Rattle.xa_child.specs.declared.child.ChildRefused.TheVariants as refusals;
@@ -84,13 +84,17 @@ pub fn said_to(alloc: Global, frame: &Frame) -> Result<Option<Said<'_>>, NoMemor
 fn answer(alloc: Global, frame: &Frame) -> Result<Vec<Frame>, NoMemory>
     ensures { IfOk result (λ frames. frames.items ≡ answer frame.now) }
 {
-    let Some(said) = said_to(alloc, frame)? else {
-        return Ok(Vec::new(alloc));
-    };
-    let mut frames = Vec::with_capacity(alloc, 2)?;
-    frames.push_reserved(copied(alloc, said)?);
-    frames.push_reserved(next());
-    Ok(frames)
+    match said_to(alloc, frame)? {
+        Some(said) => with_next(alloc, copied(alloc, said)?),
+        None => Ok(Vec::new(alloc)),
+    }
+}
+
+// That frame and NEXT.
+fn with_next(alloc: Global, frame: Frame) -> Result<Vec<Frame>, NoMemory>
+    ensures { IfOk result (λ frames. frames.items ≡ frame ∷ next ∷ []) }
+{
+    Ok(Vec::from_array(alloc, [frame, next()])?)
 }
 
 // What is said as a frame, with a copy of data that stays where it is.
@@ -108,12 +112,11 @@ impl Child {
         ensures state { IfOk result (λ started. started.0 ≡ begun) }
         ensures greets { IfOk result (λ started. started.1.items ≡ greeting name.now) }
     {
-        let mut frames = Vec::with_capacity(alloc, 2)?;
-        frames.push_reserved(Frame {
+        let ready = Frame {
             tag: 0,
             body: Body::Ready(*name),
-        });
-        frames.push_reserved(next());
+        };
+        let frames = with_next(alloc, ready)?;
         let child = Child {
             invocations: 0,
             ended: false,

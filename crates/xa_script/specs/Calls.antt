@@ -109,15 +109,21 @@ ask_of setup buffered octets = do
   flags ← flags_of setup buffered payload.1
   Some (ask_with service.0 payload.0 flags directions.Neither)
 
+-- DIRECTION FLAGS
+unfoldable pub joined_of : Setup → List ℕ → Option (Direction × Flags)
+joined_of setup octets = do
+  word ← word_at octets
+  direction ← direction_of word.0
+  flags ← flags_of setup false word.1
+  Some (direction, flags)
+
 -- SERVICE DATA DIRECTION FLAGS
 unfoldable pub connect_of : Setup → List ℕ → Option (Option Ask)
 connect_of setup octets = do
   service ← service_at octets
   payload ← payload_at setup service.1
-  word ← word_at payload.1
-  direction ← direction_of word.0
-  flags ← flags_of setup false word.1
-  Some (ask_with service.0 payload.0 flags direction)
+  joined ← joined_of setup payload.1
+  Some (ask_with service.0 payload.0 joined.1 joined.0)
 
 -- CD FLAGS
 unfoldable pub get_of : Setup → List ℕ → Option (Option Op)

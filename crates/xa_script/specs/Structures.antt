@@ -32,10 +32,15 @@ abbrev pub filled : Content → List Field → Option Content
 filled content [] = Some content
 filled content (field ∷ fields) = with_given content field >>= λ more. filled more fields
 
+-- what is packed then
+abbrev pub packed_with : Content → List Field → Option Data
+packed_with content given = do
+  full ← filled content given
+  Some (packed full)
+
 -- data of that subtype, where it is configured and its shape takes what is given
 unfoldable pub struct_of : Setup → List ℕ → List Field → Option Data
 struct_of setup subtype given = do
   name ← name_of subtype
   content ← result_ok (allocated setup.shapes (kinds.Struct name) 0)
-  full ← filled content given
-  Some (packed full)
+  packed_with content given

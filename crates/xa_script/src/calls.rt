@@ -1,14 +1,15 @@
 // The calls of a script: a line's first word tells the kind of call, and its parts follow in order.
-ghost use Rattle.std.specs.Prelude.{◌≡◌, Some, None, option_map};
+ghost use Rattle.std.specs.Prelude.{◌≡◌, Option, Some, None, option_map};
+ghost use Rattle.xa_types.specs.declared.call.Op.{Op};
 ghost use Rattle.xa_types.specs.declared.call.Op.TheVariants as ops;
 ghost use Rattle.xa_types.specs.declared.call.Direction.TheVariants as directions;
-ghost use Rattle.xa_script.specs.Words.{Reads, Makes, no_more};
-ghost use Rattle.xa_script.specs.Calls.{service_at, descriptor_at, direction_of, ask_with, ask_of, connect_of, kind_with, get_of, get_any_of, passes_at, send_of, receive_of, cancel_of, disconnect_of, amount_of, is_absolute, priority_of, advertise_of, unadvertise_of, tick_of, verb_of, op_of};
+ghost use Rattle.xa_script.specs.Words.{Reads, Makes};
+ghost use Rattle.xa_script.specs.Calls.{service_at, descriptor_at, direction_of, ask_with, ask_of, joined_of, connect_of, kind_with, get_of, get_any_of, passes_at, send_of, receive_of, cancel_of, disconnect_of, amount_of, is_absolute, priority_of, advertise_of, unadvertise_of, tick_of, verb_of, op_of};
 
 use crate::flags::{Flags, flags_of};
 use crate::payload::{payload_at, signed_of};
 use crate::structures::Shaped;
-use crate::words::{NoForm, ReadError, is_blank, next_word, number_of, word_at};
+use crate::words::{NoForm, ReadError, is, is_blank, next_word, number_of, word_at};
 use std::alloc::Global;
 use xa_types::{Ask, Data, Direction, Kind, Octets, Op};
 
@@ -34,31 +35,31 @@ pub enum Verb {
 pub fn verb_of(word: &[u8]) -> Option<Verb>
     ensures { result ≡ verb_of word.now }
 {
-    if word == b"call".as_slice() {
+    if is(word, b"call") {
         Some(Verb::Call)
-    } else if word == b"acall".as_slice() {
+    } else if is(word, b"acall") {
         Some(Verb::Acall)
-    } else if word == b"get".as_slice() {
+    } else if is(word, b"get") {
         Some(Verb::Get)
-    } else if word == b"getany".as_slice() {
+    } else if is(word, b"getany") {
         Some(Verb::GetAny)
-    } else if word == b"cancel".as_slice() {
+    } else if is(word, b"cancel") {
         Some(Verb::Cancel)
-    } else if word == b"connect".as_slice() {
+    } else if is(word, b"connect") {
         Some(Verb::Connect)
-    } else if word == b"send".as_slice() {
+    } else if is(word, b"send") {
         Some(Verb::Send)
-    } else if word == b"recv".as_slice() {
+    } else if is(word, b"recv") {
         Some(Verb::Receive)
-    } else if word == b"discon".as_slice() {
+    } else if is(word, b"discon") {
         Some(Verb::Disconnect)
-    } else if word == b"prio".as_slice() {
+    } else if is(word, b"prio") {
         Some(Verb::Priority)
-    } else if word == b"advertise".as_slice() {
+    } else if is(word, b"advertise") {
         Some(Verb::Advertise)
-    } else if word == b"unadvertise".as_slice() {
+    } else if is(word, b"unadvertise") {
         Some(Verb::Unadvertise)
-    } else if word == b"tick".as_slice() {
+    } else if is(word, b"tick") {
         Some(Verb::Tick)
     } else {
         None
@@ -90,25 +91,14 @@ fn descriptor_at(octets: &[u8]) -> Result<(u64, &[u8]), NoForm>
 fn direction_of(word: &[u8]) -> Result<Direction, NoForm>
     ensures { Reads (λ x. x) result (direction_of word.now) }
 {
-    if word == b"send".as_slice() {
+    if is(word, b"send") {
         Ok(Direction::SendOnly)
-    } else if word == b"recv".as_slice() {
+    } else if is(word, b"recv") {
         Ok(Direction::RecvOnly)
-    } else if word == b"both".as_slice() {
+    } else if is(word, b"both") {
         Ok(Direction::Both)
-    } else if word == b"neither".as_slice() {
+    } else if is(word, b"neither") {
         Ok(Direction::Neither)
-    } else {
-        Err(NoForm)
-    }
-}
-
-// Nothing more stands in the line.
-fn no_more(op: Op, octets: &[u8]) -> Result<Option<Op>, NoForm>
-    ensures { Reads (λ x. x) result (no_more (Some op) octets.now) }
-{
-    if is_blank(octets) {
-        Ok(Some(op))
     } else {
         Err(NoForm)
     }
@@ -169,6 +159,17 @@ fn ask_of(
     ask_with(alloc, service, payload, flags, Direction::Neither)
 }
 
+// DIRECTION FLAGS.
+#[tactic(auto, unfolding(crate::specs::Calls::joined_of))]
+fn joined_of(setup: &Shaped, octets: &[u8]) -> Result<(Direction, Flags), NoForm>
+    ensures { Reads (λ x. x) result (joined_of setup.now octets.now) }
+{
+    let (word, rest) = word_at(octets)?;
+    let direction = direction_of(word)?;
+    let flags = flags_of(setup, false, rest)?;
+    Ok((direction, flags))
+}
+
 // SERVICE DATA DIRECTION FLAGS.
 #[tactic(auto, unfolding(crate::specs::Calls::connect_of))]
 fn connect_of(alloc: Global, setup: &Shaped, octets: &[u8]) -> Result<Option<Ask>, ReadError>
@@ -176,9 +177,7 @@ fn connect_of(alloc: Global, setup: &Shaped, octets: &[u8]) -> Result<Option<Ask
 {
     let (service, rest) = service_at(octets)?;
     let (payload, rest) = payload_at(alloc, setup, rest)?;
-    let (word, rest) = word_at(rest)?;
-    let direction = direction_of(word)?;
-    let flags = flags_of(setup, false, rest)?;
+    let (direction, flags) = joined_of(setup, rest)?;
     ask_with(alloc, service, payload, flags, direction)
 }
 
@@ -213,7 +212,7 @@ fn passes_at(octets: &[u8]) -> (bool, &[u8])
     ensures rest { result.1.now ≡ (passes_at octets.now).1 }
 {
     let (word, rest) = next_word(octets);
-    if word == b"recv".as_slice() {
+    if is(word, b"recv") {
         (true, rest)
     } else {
         (false, octets)
@@ -251,7 +250,10 @@ fn cancel_of(octets: &[u8]) -> Result<Option<Op>, NoForm>
     ensures { Reads (λ x. x) result (cancel_of octets.now) }
 {
     let (descriptor, rest) = descriptor_at(octets)?;
-    no_more(Op::Cancel(descriptor), rest)
+    if !is_blank(rest) {
+        return Err(NoForm);
+    }
+    Ok(Some(Op::Cancel(descriptor)))
 }
 
 // CD.
@@ -260,7 +262,10 @@ fn disconnect_of(octets: &[u8]) -> Result<Option<Op>, NoForm>
     ensures { Reads (λ x. x) result (disconnect_of octets.now) }
 {
     let (descriptor, rest) = descriptor_at(octets)?;
-    no_more(Op::Disconnect(descriptor), rest)
+    if !is_blank(rest) {
+        return Err(NoForm);
+    }
+    Ok(Some(Op::Disconnect(descriptor)))
 }
 
 // A number from -1,000 to 1,000.
@@ -276,10 +281,12 @@ fn amount_of(number: Option<i64>) -> Result<i32, NoForm>
 fn is_absolute(word: &[u8]) -> Result<bool, NoForm>
     ensures { Reads (λ x. x) result (is_absolute word.now) }
 {
-    match word {
-        b"abs" => Ok(true),
-        b"add" => Ok(false),
-        _ => Err(NoForm),
+    if is(word, b"abs") {
+        Ok(true)
+    } else if is(word, b"add") {
+        Ok(false)
+    } else {
+        Err(NoForm)
     }
 }
 
@@ -293,7 +300,10 @@ fn priority_of(octets: &[u8]) -> Result<Option<Op>, NoForm>
     let (number, rest) = word_at(rest)?;
     let number = signed_of(number)?;
     let amount = amount_of(number)?;
-    no_more(Op::Priority(absolute, amount), rest)
+    if !is_blank(rest) {
+        return Err(NoForm);
+    }
+    Ok(Some(Op::Priority(absolute, amount)))
 }
 
 // SERVICE ROUTINE.
@@ -303,9 +313,12 @@ fn advertise_of(alloc: Global, octets: &[u8]) -> Result<Option<Op>, ReadError>
 {
     let (service, rest) = service_at(octets)?;
     let (routine, rest) = service_at(rest)?;
+    if !is_blank(rest) {
+        return Err(ReadError::NoForm);
+    }
     let service = Octets::of(alloc, service)?;
     let routine = Octets::of(alloc, routine)?;
-    Ok(no_more(Op::Advertise(service, routine), rest)?)
+    Ok(Some(Op::Advertise(service, routine)))
 }
 
 // SERVICE.
@@ -314,8 +327,10 @@ fn unadvertise_of(alloc: Global, octets: &[u8]) -> Result<Option<Op>, ReadError>
     ensures { Makes (λ x. x) result (unadvertise_of octets.now) }
 {
     let (service, rest) = service_at(octets)?;
-    let service = Octets::of(alloc, service)?;
-    Ok(no_more(Op::Unadvertise(service), rest)?)
+    if !is_blank(rest) {
+        return Err(ReadError::NoForm);
+    }
+    Ok(Some(Op::Unadvertise(Octets::of(alloc, service)?)))
 }
 
 // N.
@@ -325,7 +340,20 @@ fn tick_of(octets: &[u8]) -> Result<Option<Op>, NoForm>
 {
     let (word, rest) = word_at(octets)?;
     let number = number_of(1, 2_147_483_647, word)?;
-    no_more(Op::Tick(number as u32), rest)
+    if !is_blank(rest) {
+        return Err(NoForm);
+    }
+    Ok(Some(Op::Tick(number as u32)))
+}
+
+// The same, where memory may run out too.
+fn made(read: Result<Option<Op>, NoForm>) -> Result<Option<Op>, ReadError>
+    ensures { (said : Option (Option Op)) → Reads (λ x. x) read said → Makes (λ x. x) result said }
+{
+    match read {
+        Ok(op) => Ok(op),
+        Err(_) => Err(ReadError::NoForm),
+    }
 }
 
 /// The call that the rest of a line of that kind is, if the setup takes each part.
@@ -340,16 +368,16 @@ pub fn op_of(
     match verb {
         Verb::Call => Ok(ask_of(alloc, setup, true, octets)?.map(Op::Call)),
         Verb::Acall => Ok(ask_of(alloc, setup, false, octets)?.map(Op::Acall)),
-        Verb::Get => Ok(get_of(setup, octets)?),
-        Verb::GetAny => Ok(get_any_of(setup, octets)?),
-        Verb::Cancel => Ok(cancel_of(octets)?),
+        Verb::Get => made(get_of(setup, octets)),
+        Verb::GetAny => made(get_any_of(setup, octets)),
+        Verb::Cancel => made(cancel_of(octets)),
         Verb::Connect => Ok(connect_of(alloc, setup, octets)?.map(Op::Connect)),
         Verb::Send => send_of(alloc, setup, octets),
-        Verb::Receive => Ok(receive_of(setup, octets)?),
-        Verb::Disconnect => Ok(disconnect_of(octets)?),
-        Verb::Priority => Ok(priority_of(octets)?),
+        Verb::Receive => made(receive_of(setup, octets)),
+        Verb::Disconnect => made(disconnect_of(octets)),
+        Verb::Priority => made(priority_of(octets)),
         Verb::Advertise => advertise_of(alloc, octets),
         Verb::Unadvertise => unadvertise_of(alloc, octets),
-        Verb::Tick => Ok(tick_of(octets)?),
+        Verb::Tick => made(tick_of(octets)),
     }
 }

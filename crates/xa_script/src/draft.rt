@@ -10,7 +10,7 @@ ghost use Rattle.xa_script.specs.Draft.{kept};
 use crate::calls::{Verb, op_of, verb_of};
 use crate::script::{Client, Script};
 use crate::structures::Shaped;
-use crate::words::{NoForm, ReadError, all_printed, is_blank, is_skipped, next_word, word_at};
+use crate::words::{NoForm, ReadError, all_printed, is, is_blank, is_skipped, next_word, word_at};
 use std::alloc::Global;
 use std::marker::Model;
 use std::mem;
@@ -226,7 +226,7 @@ impl Draft {
             return Ok(None);
         }
         let (word, rest) = next_word(line);
-        if word == b"client".as_slice() {
+        if is(word, b"client") {
             return self.begin(alloc, most, rest);
         }
         match verb_of(word) {

@@ -4,7 +4,7 @@ ghost use Rattle.xa_script.specs.Words.{Reads};
 ghost use Rattle.xa_script.specs.Calls.{no_flags, expect_of, flagged, nochange_at, flag_by, flags_from, flags_of};
 
 use crate::structures::Shaped;
-use crate::words::{NoForm, is_blank, word_at};
+use crate::words::{NoForm, is, is_blank, word_at};
 use xa_types::{CallFlags, Kind};
 
 /// The flags of a call, and the kind of its TPNOCHANGE buffer where it has one; a buffer of a shape that the setup
@@ -26,7 +26,7 @@ fn no_flags() -> CallFlags
 fn expect_of(setup: &Shaped, word: &[u8]) -> Result<Option<Kind>, NoForm>
     ensures { Reads (λ x. x) result (expect_of setup.now word.now) }
 {
-    if word == b"octet".as_slice() {
+    if is(word, b"octet") {
         return Ok(Some(Kind::Octet));
     }
     match word {
@@ -50,7 +50,7 @@ fn unless(stood: bool, flags: CallFlags) -> Result<CallFlags, NoForm>
 fn flagged(flags: CallFlags, word: &[u8]) -> Result<CallFlags, NoForm>
     ensures { Reads (λ x. x) result (flagged flags word.now) }
 {
-    if word == b"noblock".as_slice() {
+    if is(word, b"noblock") {
         unless(
             flags.no_block,
             CallFlags {
@@ -58,7 +58,7 @@ fn flagged(flags: CallFlags, word: &[u8]) -> Result<CallFlags, NoForm>
                 ..flags
             },
         )
-    } else if word == b"notime".as_slice() {
+    } else if is(word, b"notime") {
         unless(
             flags.no_time,
             CallFlags {
@@ -66,7 +66,7 @@ fn flagged(flags: CallFlags, word: &[u8]) -> Result<CallFlags, NoForm>
                 ..flags
             },
         )
-    } else if word == b"noreply".as_slice() {
+    } else if is(word, b"noreply") {
         unless(
             flags.no_reply,
             CallFlags {
@@ -74,7 +74,7 @@ fn flagged(flags: CallFlags, word: &[u8]) -> Result<CallFlags, NoForm>
                 ..flags
             },
         )
-    } else if word == b"notran".as_slice() {
+    } else if is(word, b"notran") {
         unless(
             flags.no_tran,
             CallFlags {
@@ -82,7 +82,7 @@ fn flagged(flags: CallFlags, word: &[u8]) -> Result<CallFlags, NoForm>
                 ..flags
             },
         )
-    } else if word == b"sigrstrt".as_slice() {
+    } else if is(word, b"sigrstrt") {
         unless(
             flags.sig_restart,
             CallFlags {
@@ -124,7 +124,7 @@ fn flag_by<'a>(
 ) -> Result<&'a [u8], NoForm>
     ensures { Reads (λ x. (flags.new, x.now)) result (flag_by setup.now buffered flags.old word.now octets.now) }
 {
-    if word == b"nochange".as_slice() {
+    if is(word, b"nochange") {
         return nochange_at(setup, buffered, flags, octets);
     }
     flags.call = flagged(flags.call, word)?;

@@ -7,8 +7,8 @@ ghost use Rattle.xa_script.specs.Structures.{struct_of};
 
 use crate::structures::{Field, Shaped};
 use crate::words::{
-    NoForm, ReadError, cut_word, decimal, hex_octet, hex_octets, is_decimal, is_quoted, name_of,
-    next_word, number_of, quoted_at, skip_spaces, word_at,
+    NoForm, ReadError, cut_word, decimal, hex_octet, hex_octets, is, is_decimal, is_quoted,
+    name_of, next_word, number_of, quoted_at, skip_spaces, word_at,
 };
 use memchr::memchr;
 use std::alloc::Global;
@@ -187,12 +187,17 @@ pub fn payload_at<'a>(
     ensures { Makes (λ x. (x.0, x.1.now)) result (payload_at setup.now octets.now) }
 {
     let (form, rest) = word_at(octets)?;
-    match form {
-        b"none" => Ok((Some(Data::Absent), rest)),
-        b"text" => text_at(alloc, rest),
-        b"octet" => octets_at(alloc, rest),
-        b"fill" => fill_at(alloc, rest),
-        b"c" => struct_at(alloc, setup, rest),
-        _ => Err(ReadError::NoForm),
+    if is(form, b"none") {
+        Ok((Some(Data::Absent), rest))
+    } else if is(form, b"text") {
+        text_at(alloc, rest)
+    } else if is(form, b"octet") {
+        octets_at(alloc, rest)
+    } else if is(form, b"fill") {
+        fill_at(alloc, rest)
+    } else if is(form, b"c") {
+        struct_at(alloc, setup, rest)
+    } else {
+        Err(ReadError::NoForm)
     }
 }

@@ -5,7 +5,7 @@ ghost use Rattle.xa_types.specs.Configured.{is_configured};
 ghost use Rattle.xa_types.specs.declared.data.Kind.TheVariants as kinds;
 ghost use Rattle.xa_buffer.specs.Contents.{shape_of, allocated};
 ghost use Rattle.xa_script.specs.Words.{Reads, Makes};
-ghost use Rattle.xa_script.specs.Structures.{with_given, filled, struct_of};
+ghost use Rattle.xa_script.specs.Structures.{with_given, filled, packed_with, struct_of};
 
 use crate::words::{NoForm, ReadError, name_of};
 use std::alloc::Global;
@@ -78,6 +78,14 @@ fn fill(buffer: &mut Buffer, given: &[Field]) -> Result<(), NoForm>
     Ok(())
 }
 
+// What is packed in the buffer, once it is filled.
+fn pack(alloc: Global, buffer: &mut Buffer, given: &[Field]) -> Result<Data, ReadError>
+    ensures { Makes (λ x. x) result (packed_with buffer.old given.now) }
+{
+    fill(buffer, given)?;
+    Ok(buffer.pack(alloc)?)
+}
+
 impl<'a> Shaped<'a> {
     pub fn new(alloc: Global, setup: &'a Setup) -> Result<Shaped<'a>, NoMemory>
         requires { is_configured setup.now ≡ true }
@@ -117,7 +125,6 @@ impl<'a> Shaped<'a> {
     {
         let subtype = name_of(subtype)?;
         let mut buffer = self.zeroed(alloc, subtype)?;
-        fill(&mut buffer, given)?;
-        Ok(buffer.pack(alloc)?)
+        pack(alloc, &mut buffer, given)
     }
 }

@@ -1,6 +1,7 @@
 // The parts of a line: words, quoted texts and numbers. Each reader answers its part and the octets behind it.
 ghost use Rattle.std.specs.Prelude.{◌≡◌, ◌+◌, ◌-◌, ◌*◌, ◌==◌, ◌≤◌, option_map, ◌<◌, ◌^◌, IfOk, IsTrue, Some, None, length, nat_lt, if◌then◌else◌, []};
 ghost use Rattle.std.specs.List.{list_all, position, position_or_len};
+ghost use Rattle.std.specs.Str.{bytes_eq};
 ghost use Rattle.xa_types.specs.Name.{is_digit, is_name};
 ghost use Rattle.xa_script.specs.declared.words.NoForm.{NoForm};
 ghost use Rattle.xa_script.specs.declared.words.ReadError.TheVariants as errors;
@@ -150,6 +151,13 @@ pub fn word_at(octets: &[u8]) -> Result<(&[u8], &[u8]), NoForm>
         return Err(NoForm);
     }
     Ok((word, rest))
+}
+
+/// Whether the word is that one.
+pub fn is(word: &[u8], other: &[u8]) -> bool
+    ensures { result ≡ bytes_eq word.now other.now }
+{
+    word == other
 }
 
 /// The name that these octets are.

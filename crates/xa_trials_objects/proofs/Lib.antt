@@ -1,5 +1,3 @@
-mod Calling
 mod AtBoard
-mod Seats
+pub mod Seats
 mod Working
-mod Serving

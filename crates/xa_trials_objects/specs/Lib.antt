@@ -1,4 +1,2 @@
 pub mod Held
 pub mod Queues
-pub mod Callers
-pub mod Servers

@@ -16,15 +16,18 @@ enum Ask {
     Find,
 }
 
-// What it is told: the stamp of its last change, or why there is none; or the queues.
+/// What it is told: the stamp of its last change, or that of a look behind which all changes are, or why there is no change;
+/// or the queues, and under its lock the version too.
 #[derive(Clone, Copy)]
-enum Told {
+pub enum Told {
     Done(u64),
+    Clear(u64),
     Match,
     NoEnt,
     Full,
     Worn,
     Found(&'static [u16]),
+    FoundAt(u64, &'static [u16]),
 }
 
 // What was seen before a call, the call, its queue, and what it is told.
@@ -78,7 +81,8 @@ static BOARDS: [(u16, &[Step]); 4] = [
     ),
 ];
 
-fn is_refused(why: BoardRefused, told: Told) -> bool {
+/// Whether that refusal is what is told.
+pub fn is_refused(why: BoardRefused, told: Told) -> bool {
     match why {
         BoardRefused::Match(_) => matches!(told, Told::Match),
         BoardRefused::NoEnt => matches!(told, Told::NoEnt),
@@ -88,17 +92,16 @@ fn is_refused(why: BoardRefused, told: Told) -> bool {
     }
 }
 
-fn is_done(answer: Result<Changed, BoardRefused>, told: Told) -> bool {
+/// Whether a change's answer is what is told.
+pub fn is_done(answer: Result<Changed, BoardRefused>, told: Told) -> bool {
     match answer {
         Ok(done) => matches!(told, Told::Done(want) if done.noted.stamp.0 == want),
         Err(why) => is_refused(why, told),
     }
 }
 
-fn has_found(rows: &[Row], told: Told) -> bool {
-    let Told::Found(queues) = told else {
-        return false;
-    };
+/// Whether the rows stand on these queues.
+pub fn are_on(rows: &[Row], queues: &[u16]) -> bool {
     for (place, row) in rows.iter().enumerate() {
         if queues.get(place) != Some(&row.queue.0) {
             return false;
@@ -142,7 +145,7 @@ fn is_told(board: &mut Board, reader: &mut Reader, service: Name, step: Step) ->
         Ask::OutAll => is_stamped(board.withdraw_all(seen, queue), told),
         Ask::Find => {
             board.lookup(reader, &service, false);
-            has_found(&reader.found().rows, told)
+            matches!(told, Told::Found(queues) if are_on(&reader.found().rows, queues))
         }
     }
 }

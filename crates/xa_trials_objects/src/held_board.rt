@@ -6,13 +6,13 @@ ghost use Rattle.xa_lock.specs.Known.{IsPassOf, passes_of};
 ghost use Rattle.xa_held.specs.Board.{IsPlaced};
 ghost use Rattle.xa_trials_objects.specs.Held.{IsOwn};
 
+use crate::board::{Told, are_on, is_done, is_refused};
 use crate::held_steps::next;
-use crate::memory::setup_of;
 use crate::rows::none_fails;
 use std::alloc::Global;
 use std::process::Abort;
 use std::sync::Wait;
-use xa_board::{Board, BoardRefused, Changed, Reader};
+use xa_board::{Board, BoardRefused, Reader};
 use xa_held::{
     AtBoard, BoardNote, Clearing, KeptBoard, advertise_at, clear_at, look_up_at, withdraw_at,
 };
@@ -39,18 +39,6 @@ enum Ask {
     Find,
 }
 
-// What it is told: the stamp of the change, or of a look behind which all changes are; the version and the queues; or why
-// there is no change.
-#[derive(Clone, Copy)]
-enum Told {
-    Done(u64),
-    Clear(u64),
-    Found(u64, &'static [u16]),
-    Match,
-    NoEnt,
-    Worn,
-}
-
 // What was seen before a step, the step, its queue, what is told, and the stamp of the last change or look then, which is 0
 // where there was no change.
 type Step = (u64, Ask, u16, Told, u64);
@@ -59,21 +47,21 @@ type Step = (u64, Ask, u16, Told, u64);
 static BOARDS: [(&[Step], usize); 2] = [
     (
         &[
-            (0, Ask::Find, 0, Told::Found(0, &[]), 0),
+            (0, Ask::Find, 0, Told::FoundAt(0, &[]), 0),
             (3, Ask::Clear, 3, Told::Clear(3), 0),
             (0, Ask::Put(b"R"), 1, Told::Done(4), 4),
             (5, Ask::Put(b"R"), 2, Told::Done(6), 6),
-            (0, Ask::Find, 0, Told::Found(2, &[1, 2]), 6),
+            (0, Ask::Find, 0, Told::FoundAt(2, &[1, 2]), 6),
             (0, Ask::Put(b"S"), 1, Told::Match, 6),
             (0, Ask::Out, 3, Told::NoEnt, 6),
             (0, Ask::Put(b"R"), 1, Told::Done(7), 7),
-            (0, Ask::Find, 0, Told::Found(3, &[2, 1]), 7),
+            (0, Ask::Find, 0, Told::FoundAt(3, &[2, 1]), 7),
             (20, Ask::Clear, 3, Told::Clear(20), 20),
             (9, Ask::Clear, 1, Told::Done(21), 21),
             (9, Ask::Clear, 1, Told::Clear(21), 21),
-            (0, Ask::Find, 0, Told::Found(4, &[2]), 21),
+            (0, Ask::Find, 0, Told::FoundAt(4, &[2]), 21),
             (0, Ask::Out, 2, Told::Done(22), 22),
-            (0, Ask::Find, 0, Told::Found(5, &[]), 22),
+            (0, Ask::Find, 0, Told::FoundAt(5, &[]), 22),
         ],
         5,
     ),
@@ -84,27 +72,11 @@ static BOARDS: [(&[Step], usize); 2] = [
             (0, Ask::Out, 1, Told::Worn, END),
             (0, Ask::Clear, 1, Told::Worn, END),
             (0, Ask::Clear, 2, Told::Clear(END), END),
-            (0, Ask::Find, 0, Told::Found(1, &[1]), END),
+            (0, Ask::Find, 0, Told::FoundAt(1, &[1]), END),
         ],
         1,
     ),
 ];
-
-fn is_refused(why: BoardRefused, told: Told) -> bool {
-    match why {
-        BoardRefused::Match(_) => matches!(told, Told::Match),
-        BoardRefused::NoEnt => matches!(told, Told::NoEnt),
-        BoardRefused::Worn(larger) => matches!(told, Told::Worn) && larger == Stamp::LAST,
-        BoardRefused::Full | BoardRefused::NoMemory => false,
-    }
-}
-
-fn is_done(answer: Result<Changed, BoardRefused>, told: Told) -> bool {
-    match answer {
-        Ok(done) => matches!(told, Told::Done(want) if done.noted.stamp.0 == want),
-        Err(why) => is_refused(why, told),
-    }
-}
 
 fn is_cleared(answer: Result<Clearing, BoardRefused>, told: Told) -> bool {
     match answer {
@@ -117,15 +89,7 @@ fn is_cleared(answer: Result<Clearing, BoardRefused>, told: Told) -> bool {
 }
 
 fn has_found(version: u64, rows: &[Row], told: Told) -> bool {
-    let Told::Found(want, queues) = told else {
-        return false;
-    };
-    for (place, row) in rows.iter().enumerate() {
-        if queues.get(place) != Some(&row.queue.0) {
-            return false;
-        }
-    }
-    version == want && rows.len() == queues.len()
+    matches!(told, Told::FoundAt(want, queues) if version == want && are_on(rows, queues))
 }
 
 // Advertises the service with a routine, on a queue that the setup has.
@@ -263,7 +227,7 @@ fn is_right<R: Abort + Wait>(rt: &R, alloc: Global, steps: &[Step], changes: usi
     let Ok(service) = Name::read(b"A") else {
         panic!(rt; "no name")
     };
-    let Some(setup) = setup_of(alloc, SETUP) else {
+    let Ok(setup) = xa_config::read(alloc, SETUP) else {
         panic!(rt; "no setup")
     };
     let (lock, mut reader, mut passes, pass) = open(rt, alloc, &setup);

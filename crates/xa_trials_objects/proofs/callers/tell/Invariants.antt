@@ -1,5 +1,0 @@
-use Rattle.xa_trials_objects.specs.Callers.{Rests}
-use Rattle.xa_trials_objects.proofs.callers.tell.Given as goal
-
-abbrev pub invariant-loop-row : goal.invariant-loop-row
-invariant-loop-row g l = Rests l.setup l.cells l.client.last l.client.caller

@@ -1,4 +1,0 @@
-use Rattle.xa_trials_objects.proofs.clients.+places_of.Given as goal
-
-abbrev pub decreases-places_of : goal.decreases-places_of
-decreases-places_of l = l.most

@@ -1,5 +1,0 @@
-use Rattle.xa_caller.specs.Caller.{AreRowsOf}
-use Rattle.xa_trials_objects.proofs.clients.found_of.Given as goal
-
-abbrev pub invariant-loop-queue : goal.invariant-loop-queue
-invariant-loop-queue l = AreRowsOf l.setup l.service l.rows.items

@@ -1,9 +1,0 @@
-use Rattle.xa_caller.specs.Unsent.{MayBe}
-use Rattle.xa_trials_objects.specs.Callers.{HasDraft}
-use Rattle.xa_trials_objects.proofs.clients.put.Given as goal
-
-abbrev pub invariant-loop-attempt : goal.invariant-loop-attempt
-invariant-loop-attempt g l = record {
-  draft : HasDraft l.setup l.cells l.client.last l.found l.entry l.client.caller;
-  why : MayBe l.setup l.why;
-}
