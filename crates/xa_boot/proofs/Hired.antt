@@ -9,12 +9,8 @@ use Rattle.xa_types.specs.declared.setup.Setup.{Setup}
 use Rattle.xa_types.specs.declared.setup.ServerSetup.{ServerSetup}
 use Rattle.xa_types.specs.Configured.{is_among, queue_names}
 use Rattle.xa_types.specs.Setup.{numbered, queue_named, queue_in, queue_of}
-use Rattle.xa_events.specs.Local.{worker_events}
-use Rattle.xa_stamp.specs.declared.home.Stamped.{Stamped}
-use Rattle.xa_crew.specs.Seen.{past_in}
 use Rattle.xa_held.specs.Notes.{IsOther}
 use Rattle.xa_restart.specs.Rule.{Standing as Restarts, IsRuleOf}
-use Rattle.xa_work.specs.Work.{theirs}
 use Rattle.xa_server.specs.Changes.{new_slot}
 use Rattle.xa_server.specs.declared.slot.ServerSlot.{ServerSlot}
 use Rattle.xa_server.specs.Served.{StarterShows}
@@ -87,7 +83,7 @@ module _ (d : Domain) (domain : IsDomain d) (place : ℕ) (configured : ServerSe
           restarts = restarts_of configured;
           fresh = is ∙ ap (λ (s : ServerSlot). new_slot s.server (restarts_of configured)) (sym is);
           none = refl;
-          own = ap (λ (k : Desk). theirs k.caller.work) at ∙ ap (λ (l : List Stamped). worker_events desk.caller.work.clients desk.caller.work.id.0 (past_in l)) new.none;
+          own = ap (λ (k : Desk). k.caller.work.own) at ∙ new.none;
           lives = none;
           cut = uncut;
           stopped = unstopped;

@@ -29,6 +29,7 @@ use Rattle.xa_caller.specs.declared.cargo.Filling.{Filling}
 use Rattle.xa_caller.specs.Caller.{Standing as Caller}
 use Rattle.xa_caller.specs.declared.phase.Phase.TheVariants.{Idle}
 use Rattle.xa_server.specs.Told.{EndedFor}
+use Rattle.xa_told.specs.Told.{WasTaken}
 use Rattle.xa_desk.specs.declared.domain.Domain.{Domain}
 use Rattle.xa_desk.specs.declared.desk.Desk.{Desk}
 use Rattle.xa_desk.specs.Made.{IsMade}
@@ -139,6 +140,7 @@ module _ (d : Domain) (own : List Stamped) (k : ℕ) (post : Post) (least : ℕ)
         made = All-nil (λ (x : Stamped). IsMade x.event);
         among = All-nil (λ (x : Stamped). IsAmong (length d.queues.items) (home_of d.setup d.clients x.event));
         filled = none_filled;
+        took = All-nil (λ (x : Stamped). WasTaken (known post.seat) x.stamp x.event);
         known_stamp = λ whole on.
             let stamp : d.booted ≡ record { 0 = length own } = ap (λ n. record { 0 = n }) reached in
             let begins = subst (λ l. StartsWith whole.board.notes l) (ap (λ (p : Page BoardNote). p.seen) its.board.page) on.board in

@@ -32,7 +32,7 @@ use Rattle.xa_desk.specs.declared.desk.Desk.{Desk}
 use Rattle.xa_desk.specs.Whole.{Whole, IsKnown}
 use Rattle.xa_desk.specs.Desks.{IsGrounded, IsBoardPass, IsQueuePass, IsThere, GoesOn, IsDesk, Leads, page_in, page_at, board_page, queue_page}
 use Rattle.xa_desk.proofs.Leading.{Grew, grew_none, Moves, none_leads, starts_same, there, filled_more, among_at, on_home, off_home, grounded_stay, queue_pass_stays}
-use Rattle.xa_desk.proofs.Seating.{TakesOn, takes_same}
+use Rattle.xa_desk.proofs.Seating.{TakesOn, takes_same, none_taken}
 use Rattle.xa_desk.proofs.Visiting.{larger_known}
 
 -- the stamp of a change or a look that was seen is known
@@ -102,6 +102,7 @@ module _ {d : Domain} {old new : Desk} {p p' : LockPass BoardNote} (step : Board
           seat = subst (IsSeatOf d.cells) (sym seat) is.seat;
           taken = takes.taken;
           filled = filled_more w w' (changes_at more) (known old.caller.seat) (known new.caller.seat) grew takes is.filled;
+          took = none_taken d.setup d.clients BoardHome (known new.caller.seat) (changes_at more) (λ caller same. cc same) home;
           least = subst (λ (o : Option (LockPass BoardNote)). new.caller.least ≤ published (past_in (changes_at (page_in o).seen))) (sym step.now) (omega (arith, least, same, rises));
           board = subst (IsThere (IsBoardPass d w')) (sym step.now) visited;
           board_seen = subst (λ o. StartsWith (page_in o).seen (board_page old).seen) (sym step.now) (subst (λ o. StartsWith (page_of p').seen (page_in o).seen) (sym step.was) board_sees_more);

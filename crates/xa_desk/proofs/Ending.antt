@@ -82,7 +82,7 @@ end_leads d queue desk slot slot' outcome stamp room new is serving plain ends =
     let booted = is.booted in
     let next = ends.noted.next in
     event_leads d desk stamp (End (record { request = ends.entry.request; server = slot.server; generation = life_in slot.doing; outcome = outcome })) (room - 1) new next ends.noted.made is
-    (ap CallerHome (ap (λ n. caller_of n slot.server.0) (sym is.clients) ∙ number)) plain.1 (omega (arith, booted, next)) (λ whole on version some. cc (plain.0, some)) (λ whole on. tt)
+    (ap CallerHome (ap (λ n. caller_of n slot.server.0) (sym is.clients) ∙ number)) plain.1 tt (omega (arith, booted, next)) (λ whole on version some. cc (plain.0, some)) (λ whole on. tt)
 
 -- ---- a return
 

@@ -37,7 +37,8 @@ use Rattle.xa_desk.specs.declared.desk.Desk.{Desk}
 use Rattle.xa_desk.specs.Whole.{Whole, entries_of, IsKnown}
 use Rattle.xa_desk.specs.Made.{IsMade}
 use Rattle.xa_desk.specs.Desks.{IsAmong, IsGrounded, IsBoardPass, IsQueuePass, IsThere, GoesOn, Shows, IsDesk, Leads, board_page, queue_page}
-use Rattle.xa_desk.proofs.Seating.{TakesAll, TakesOn, taken_before, filled_on}
+use Rattle.xa_told.specs.Told.{WasTaken, AnswersTaken}
+use Rattle.xa_desk.proofs.Seating.{TakesAll, TakesOn, taken_before, took_on, filled_on}
 
 -- the events are such as workers make
 abbrev pub AllMade : List Stamped → Type 0
@@ -71,6 +72,10 @@ grew_none w w' room stamp is later = subst (λ (v : Working). Grew w v []) (sym 
 -- what is filled has its end still
 pub filled_more : (w w' : Working) (more : List Stamped) (v v' : View Filling) → Grew w w' more → TakesOn v v' → FilledByEnds w.own v → FilledByEnds w'.own v'
 filled_more w w' more v v' grew takes filled = filled_on w'.own v v' takes (subst (λ (l : List Stamped). FilledByEnds l v) (sym {A = List Stamped} grew.own) (fillings_stay w.own more v filled))
+
+-- each answer was taken still, and so are these
+pub took_more : (w w' : Working) (more : List Stamped) (v v' : View Filling) → Grew w w' more → TakesAll v v' → AnswersTaken v w.own → AnswersTaken v' more → AnswersTaken v' w'.own
+took_more w w' more v v' grew takes old new = subst (AnswersTaken v') (sym {A = List Stamped} grew.own) (All-append (λ (x : Stamped). WasTaken v' x.stamp x.event) w.own more (took_on w.own v v' takes old) new)
 
 -- and they stand where the domain has homes
 pub among_more : (d : Domain) (w w' : Working) (more : List Stamped) → Grew w w' more → AllAmong d more → AllAmong d w.own → AllAmong d w'.own
@@ -212,6 +217,7 @@ pub record Moves (d : Domain) (old new : Desk) (more : List Stamped) : Type 0 wh
   pub seat : IsSeatOf d.cells new.caller.seat
   pub taken : TakesAll (known old.caller.seat) (known new.caller.seat)
   pub filled : FilledByEnds new.caller.work.own (known new.caller.seat)
+  pub took : AnswersTaken (known new.caller.seat) more
   pub least : new.caller.least ≤ published (past_in (changes_at (board_page new).seen))
   pub board : IsThere (IsBoardPass d new.caller.work) new.board
   pub board_seen : StartsWith (board_page new).seen (board_page old).seen
@@ -246,6 +252,7 @@ module _ {d : Domain} {old new : Desk} where
         made = made_more old.caller.work new.caller.work more grew is.made;
         among = among_more d old.caller.work new.caller.work more grew moves.among is.among;
         filled = moves.filled;
+        took = took_more old.caller.work new.caller.work more (known old.caller.seat) (known new.caller.seat) grew moves.taken is.took moves.took;
         known_stamp = λ whole on. is_known whole on (moves_before whole on);
         shows = λ whole on. shows whole on (moves_before whole on);
       };
@@ -271,8 +278,8 @@ module _ {d : Domain} {old new : Desk} where
 
 module _ {d : Domain} {desk : Desk} {new : Caller} where
   pub own_moves : {more : List Stamped} → IsDesk d desk → Grew desk.caller.work new.work more → All (λ (x : Stamped). home_of d.setup d.clients x.event ≡ CallerHome desk.caller.work.id.0) more → IsSeatOf d.cells new.seat → TakesAll (known desk.caller.seat) (known new.seat)
-      → FilledByEnds new.work.own (known new.seat) → new.least ≤ published (past_in (changes_at (board_page desk).seen)) → Moves d desk (record desk { caller = new }) more
-  own_moves {more} is grew home seat taken filled least =
+      → FilledByEnds new.work.own (known new.seat) → AnswersTaken (known new.seat) more → new.least ≤ published (past_in (changes_at (board_page desk).seen)) → Moves d desk (record desk { caller = new }) more
+  own_moves {more} is grew home seat taken filled took least =
       let w : Working = desk.caller.work in
       let own : Home = CallerHome w.id.0 in
       record {
@@ -281,6 +288,7 @@ module _ {d : Domain} {desk : Desk} {new : Caller} where
         seat = seat;
         taken = taken;
         filled = filled;
+        took = took;
         least = least;
         board = there d (IsBoardPass d w) (IsBoardPass d new.work) desk.board (board_pass_stays d w new.work more grew (off_home d own BoardHome more home refl)) is.board;
         board_seen = starts_same (board_page desk).seen;
@@ -299,18 +307,18 @@ pub record IsQuiet (d : Domain) (desk : Desk) (new : Caller) : Type 0 where
 module _ (d : Domain) (desk : Desk) (new : Caller) where
   -- the caller noted an event at its own home
   pub own_leads : (x : Stamped) → Grew desk.caller.work new.work (x ∷ []) → new.work.stamp ≡ x.stamp → home_of d.setup d.clients x.event ≡ CallerHome desk.caller.work.id.0 → IsSeatOf d.cells new.seat → TakesOn (known desk.caller.seat) (known new.seat)
-      → new.least ≤ published (past_in (changes_at (board_page desk).seen)) → IsDesk d desk → ((whole : Whole) → GoesOn d whole (record desk { caller = new }) → GoesOn d whole desk → IsShown d whole desk.caller.work x) → Leads d desk (record desk { caller = new })
-  own_leads x grew now home seat takes least is shown =
+      → WasTaken (known new.seat) x.stamp x.event → new.least ≤ published (past_in (changes_at (board_page desk).seen)) → IsDesk d desk → ((whole : Whole) → GoesOn d whole (record desk { caller = new }) → GoesOn d whole desk → IsShown d whole desk.caller.work x) → Leads d desk (record desk { caller = new })
+  own_leads x grew now home seat takes took least is shown =
       one_leads x is
       (own_moves is grew (All-cons (λ (y : Stamped). home_of d.setup d.clients y.event ≡ CallerHome desk.caller.work.id.0) x [] home (All-nil (λ (y : Stamped). home_of d.setup d.clients y.event ≡ CallerHome desk.caller.work.id.0))) seat takes.taken
-      (filled_more desk.caller.work new.work (x ∷ []) (known desk.caller.seat) (known new.seat) grew takes is.filled) least)
+      (filled_more desk.caller.work new.work (x ∷ []) (known desk.caller.seat) (known new.seat) grew takes is.filled) (All-cons (λ (y : Stamped). WasTaken (known new.seat) y.stamp y.event) x [] took (All-nil (λ (y : Stamped). WasTaken (known new.seat) y.stamp y.event))) least)
       now (λ whole on there_. absurd (cc (ap (λ h. same_home h BoardHome) home, there_))) shown
 
   pub quiet_leads : IsQuiet d desk new → IsDesk d desk → ((whole : Whole) → GoesOn d whole (record desk { caller = new }) → GoesOn d whole desk → IsKnown whole new.work.stamp) → Leads d desk (record desk { caller = new })
   quiet_leads quiet is is_known =
       none_leads is
       (own_moves is quiet.grew (All-nil (λ (y : Stamped). home_of d.setup d.clients y.event ≡ CallerHome desk.caller.work.id.0)) quiet.seat quiet.takes.taken
-      (filled_more desk.caller.work new.work [] (known desk.caller.seat) (known new.seat) quiet.grew quiet.takes is.filled) (subst (λ (n : ℕ). n ≤ published (past_in (changes_at (board_page desk).seen))) (sym quiet.least) is.least)) is_known
+      (filled_more desk.caller.work new.work [] (known desk.caller.seat) (known new.seat) quiet.grew quiet.takes is.filled) (All-nil (λ (y : Stamped). WasTaken (known new.seat) y.stamp y.event)) (subst (λ (n : ℕ). n ≤ published (past_in (changes_at (board_page desk).seen))) (sym quiet.least) is.least)) is_known
 
   -- with the stamp that it had
   pub calm_leads : IsQuiet d desk new → IsDesk d desk → new.work.stamp ≡ desk.caller.work.stamp → Leads d desk (record desk { caller = new })

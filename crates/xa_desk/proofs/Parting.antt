@@ -33,7 +33,7 @@ module _ (d : Domain) (desk : Desk) (is : IsDesk d desk) where
   leave_goes stamp new next made =
       let booted = is.booted in
       let id : ℕ = desk.caller.work.id.0 in
-      let leads : Leads d desk (with_work new) = event_leads d desk stamp (Leave desk.caller.work.id) desk.caller.work.room new next made is refl tt (omega (arith, booted, next)) (λ whole on. tt) (λ whole on. tt) in (
+      let leads : Leads d desk (with_work new) = event_leads d desk stamp (Leave desk.caller.work.id) desk.caller.work.room new next made is refl tt tt (omega (arith, booted, next)) (λ whole on. tt) (λ whole on. tt) in (
         leads,
         λ ops fits whole on.
             subst (λ (w : Working). FitEach d.setup d.clients (entries_of whole) w.id.0 ops w.own) (sym made)

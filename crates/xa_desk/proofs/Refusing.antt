@@ -65,7 +65,7 @@ module _ (d : Domain) (desk : Desk) (left new : Caller) (op : ℕ) (fault : Faul
         let low = is.least in
         let stays = same.least in
         let shows_least : least_by (version_in evidence) left.least ≤ published (past_in (changes_at (board_page desk).seen)) = least_low (version_in evidence) left.least (published (past_in (changes_at (board_page desk).seen))) (omega (arith, low, stays)) shown in
-        own_leads d desk new One grew (ap (λ (c : Caller). c.work.stamp) made) (ap (λ (w : Working). CallerHome w.id.0) same.work) (subst (λ (c : Caller). IsSeatOf d.cells c.seat) (sym made) same.seat) (subst (λ (c : Caller). TakesOn (known desk.caller.seat) (known c.seat)) (sym made) same.takes)
+        own_leads d desk new One grew (ap (λ (c : Caller). c.work.stamp) made) (ap (λ (w : Working). CallerHome w.id.0) same.work) (subst (λ (c : Caller). IsSeatOf d.cells c.seat) (sym made) same.seat) (subst (λ (c : Caller). TakesOn (known desk.caller.seat) (known c.seat)) (sym made) same.takes) tt
         (subst (λ (c : Caller). c.least ≤ published (past_in (changes_at (board_page desk).seen))) (sym made) shows_least) is
         (λ whole on back. record { behind = omega (arith, next, booted); saw = saw whole back; told = told whole back; before = desk.caller.work.stamp; next = next; known_before = is.known_stamp whole back })
 

@@ -30,7 +30,7 @@ use Rattle.xa_caller.specs.declared.outcomes.Step.TheVariants as steps
 use Rattle.xa_caller.specs.Caller.{Standing as Caller}
 use Rattle.xa_caller.specs.Changes.{Answers, StepsAs}
 use Rattle.xa_caller.specs.Phases.{just_in}
-use Rattle.xa_told.specs.Told.{EndsAt, HasEnd}
+use Rattle.xa_told.specs.Told.{WasTaken, EndsAt, HasEnd}
 use Rattle.xa_told.proofs.Calls.{asked_looked, took_is_more}
 use Rattle.xa_told.proofs.Growth.{only_at, takes_grows}
 use Rattle.xa_told.proofs.Joining.{shown}
@@ -93,6 +93,24 @@ module _ (d : Domain) (desk : Desk) (new : Caller) (is : IsDesk d desk) (its : I
         let next = answers.noted.next in
         (end.home, record { entry = end.entry; stands = end.stands; before = omega (arith, by, next); shows = holds end.entry (subst (λ (r : RequestId). IsSomeAnd (settlement_in r end.entry.event) (λ settlement. answers.reply ≡ reply_of settlement)) same end.settles.tells) })
 
+    was_taken : WasTaken (known new.seat) stamp One.event
+    was_taken =
+        let first = more answers.sent.place.cell answers.filling answers.took in
+        let cell = answers.sent.place.cell in
+        let here : Fill Filling = fill first.opening answers.filling in
+        let next = answers.noted.next in
+        record {
+          cell = cell;
+          fill = here;
+          expect = expect;
+          taken = subst (λ (l : List (Fill Filling)). Contains l here) (sym {A = List (Fill Filling)} first.taken) (Contains-push (at cell (known desk.caller.seat)).taken here);
+          request = cc (sym first.asked ∙ answers.asked);
+          reply = answers.reply;
+          says = answers.says;
+          before = omega (arith, next);
+          told = refl;
+        }
+
     pub told_leads : Leads d desk Next
     told_leads =
         let made = answers.noted.made in
@@ -100,7 +118,7 @@ module _ (d : Domain) (desk : Desk) (new : Caller) (is : IsDesk d desk) (its : I
         let booted = is.booted in
         let low = is.least in
         let least = ap (λ (c : Caller). c.least) made in
-        own_leads d desk new One grew (ap (λ (c : Caller). c.work.stamp) made) refl its (takes answers.sent.place.cell answers.filling answers.took) (omega (arith, low, least)) is (λ whole on back.
+        own_leads d desk new One grew (ap (λ (c : Caller). c.work.stamp) made) refl its (takes answers.sent.place.cell answers.filling answers.took) was_taken (omega (arith, low, least)) is (λ whole on back.
         record {
           behind = omega (arith, next, booted);
           saw = tt;

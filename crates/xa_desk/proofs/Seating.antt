@@ -2,6 +2,12 @@
 use Rattle.std.proofs.Common.{◌≡◌, ℕ, List, refl, sym, subst}
 use Rattle.std.specs.List.{All, Contains}
 use Rattle.std.proofs.lemmas.List.Elements.{All-weaker, All-contains, All-contains_itself}
+use Rattle.xa_types.specs.declared.setup.Setup.{Setup}
+use Rattle.xa_types.specs.declared.stamp.Stamp.{Stamp}
+use Rattle.xa_events.specs.declared.event.Event.{Event}
+use Rattle.xa_events.specs.declared.event.Event.TheVariants.{Answer}
+use Rattle.xa_events.specs.Homes.{Home, home_of}
+use Rattle.xa_events.specs.Homes.Home.{CallerHome}
 use Rattle.xa_stamp.specs.declared.home.Stamped.{Stamped}
 use Rattle.xa_cell.specs.declared.tokens.Seat.{Seat}
 use Rattle.xa_cell.specs.declared.view.Fill.{Fill}
@@ -11,7 +17,7 @@ use Rattle.xa_cell.specs.Known.{known}
 use Rattle.xa_cell.specs.Views.{at}
 use Rattle.xa_caller.specs.declared.cargo.Filling.{Filling}
 use Rattle.xa_server.specs.Told.{EndedFor, FilledByEnds}
-use Rattle.xa_told.specs.Told.{HasEnd}
+use Rattle.xa_told.specs.Told.{WasTaken, AnswersTaken, HasEnd}
 use Rattle.xa_desk.specs.Whole.{Whole, entries_of}
 
 -- what the one seat took the other did too
@@ -22,6 +28,22 @@ TakesAll v w = (k : ℕ) (f : Fill Filling) → Contains (at k v).taken f → Co
 pub taken_before : (whole : Whole) (old new : Seat Filling) → TakesAll (known old) (known new) → ((k : ℕ) → All (HasEnd (entries_of whole)) (at k (known new)).taken) → (k : ℕ) → All (HasEnd (entries_of whole)) (at k (known old)).taken
 taken_before whole old new stands ended k =
     All-weaker (Contains (at k (known old)).taken) (HasEnd (entries_of whole)) (λ f here. All-contains (HasEnd (entries_of whole)) (at k (known new)).taken f (ended k) (stands k f here)) (at k (known old)).taken (All-contains_itself (at k (known old)).taken)
+
+-- each answer that was taken was so still
+pub took_on : (own : List Stamped) (v w : View Filling) → TakesAll v w → AnswersTaken v own → AnswersTaken w own
+took_on own v w takes all = All-weaker (λ (x : Stamped). WasTaken v x.stamp x.event) (λ (x : Stamped). WasTaken w x.stamp x.event) (λ x is. by x.stamp x.event is) own all
+  where
+    by : (stamp : Stamp) (e : Event) → WasTaken v stamp e → WasTaken w stamp e
+    by stamp (Answer a) is = record { cell = is.cell; fill = is.fill; expect = is.expect; taken = takes is.cell is.fill is.taken; request = is.request; reply = is.reply; says = is.says; before = is.before; told = is.told }
+    by stamp _ is = tt
+
+-- none is at a home that is no caller's
+pub none_taken : (setup : Setup) (clients : ℕ) (home : Home) (v : View Filling) (more : List Stamped) → ((caller : ℕ) → CallerHome caller ≡ home → ⊥) → All (λ (x : Stamped). home_of setup clients x.event ≡ home) more → AnswersTaken v more
+none_taken setup clients home v more apart at = All-weaker (λ (x : Stamped). home_of setup clients x.event ≡ home) (λ (x : Stamped). WasTaken v x.stamp x.event) (λ x here. by x.stamp x.event here) more at
+  where
+    by : (stamp : Stamp) (e : Event) → home_of setup clients e ≡ home → WasTaken v stamp e
+    by stamp (Answer a) here = absurd (apart a.by.0 here)
+    by stamp _ here = tt
 
 -- and it filled no more
 pub record TakesOn (v w : View Filling) : Type 0 where

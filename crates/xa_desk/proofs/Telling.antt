@@ -18,6 +18,7 @@ use Rattle.xa_server.specs.declared.closing.Given.{Given}
 use Rattle.xa_server.specs.Told.{GivenTo, GivenAs, HasStamp}
 use Rattle.xa_server.proofs.Telling.{given_ended}
 use Rattle.xa_told.specs.Growing.{Grows}
+use Rattle.xa_told.specs.Told.{WasTaken}
 use Rattle.xa_told.proofs.Calls.{fill_grows}
 use Rattle.xa_desk.specs.declared.domain.Domain.{Domain}
 use Rattle.xa_desk.specs.declared.desk.Desk.{Desk}
@@ -49,4 +50,4 @@ give_leads d desk closing became seat is told its given =
     let grows = given_grows closing.ticket closing.answer stamp (known desk.caller.seat) (known seat) became given in
     none_leads is
     (own_moves is (grew_none desk.caller.work desk.caller.work desk.caller.work.room desk.caller.work.stamp refl (omega arith)) (All-nil (λ (y : Stamped). home_of d.setup d.clients y.event ≡ CallerHome desk.caller.work.id.0)) its grows.taken
-    (given_ended own closing stamp (known desk.caller.seat) (known seat) became given told.reached (λ answered. latest_has own (told.noted answered)) told.backed is.filled) is.least) (λ whole on back. is.known_stamp whole back)
+    (given_ended own closing stamp (known desk.caller.seat) (known seat) became given told.reached (λ answered. latest_has own (told.noted answered)) told.backed is.filled) (All-nil (λ (y : Stamped). WasTaken (known seat) y.stamp y.event)) is.least) (λ whole on back. is.known_stamp whole back)

@@ -51,7 +51,7 @@ use Rattle.xa_desk.specs.Whole.{Whole, entries_of, IsKnown}
 use Rattle.xa_desk.specs.Made.{IsMade}
 use Rattle.xa_desk.specs.Desks.{IsBoardPass, IsQueuePass, IsSettingOf, IsThere, GoesOn, IsDesk, Leads, page_in, page_at, board_page, queue_page}
 use Rattle.xa_desk.proofs.Leading.{Grew, grew_one, grew_none, Moves, none_leads, one_leads, starts_same, starts_trans, there, filled_more, among_at, on_home, off_home, board_pass_stays, queue_pass_stays}
-use Rattle.xa_desk.proofs.Seating.{TakesOn, takes_same}
+use Rattle.xa_desk.proofs.Seating.{TakesOn, takes_same, none_taken}
 use Rattle.xa_desk.proofs.Telling.{latest_has}
 
 -- ---- what is known
@@ -183,6 +183,7 @@ module _ {d : Domain} {queue k : ℕ} {old new : Desk} {p p' : QueuePass} {last 
           seat = subst (IsSeatOf d.cells) (sym seat) is.seat;
           taken = takes.taken;
           filled = filled_more w w' (noted_in more) (known old.caller.seat) (known new.caller.seat) grew takes is.filled;
+          took = none_taken d.setup d.clients here (known new.caller.seat) (noted_in more) (λ caller same. cc same) at_home;
           least = subst (λ o. new.caller.least ≤ published (past_in (changes_at (page_in o).seen))) (sym step.board) least;
           board = subst (IsThere (IsBoardPass d w')) (sym step.board) (there d (IsBoardPass d w) (IsBoardPass d w') old.board (board_pass_stays d w w' (noted_in more) grew (off_home d here BoardHome (noted_in more) at_home refl)) is.board);
           board_seen = subst (λ o. StartsWith (page_in o).seen (board_page old).seen) (sym step.board) (starts_same (board_page old).seen);

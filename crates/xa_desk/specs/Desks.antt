@@ -37,7 +37,7 @@ use Rattle.xa_work.specs.Work.{Standing as Working}
 use Rattle.xa_work.specs.Going.{FitEach}
 use Rattle.xa_caller.specs.declared.cargo.Filling.{Filling}
 use Rattle.xa_server.specs.Told.{HasStamp, FilledByEnds}
-use Rattle.xa_told.specs.Told.{HasEnd, StandAt}
+use Rattle.xa_told.specs.Told.{AnswersTaken, HasEnd, StandAt}
 use Rattle.xa_desk.specs.declared.domain.Domain.{Domain}
 use Rattle.xa_desk.specs.declared.desk.Desk.{Desk}
 use Rattle.xa_desk.specs.Made.{IsMade}
@@ -134,7 +134,7 @@ IsAmong n (QueueHome queue) = (0 < queue) × (queue < n + 1)
 IsAmong n home = Unit {0}
 
 -- a desk of the domain: its passes are of the domain's locks, its worker made events of tpcall and of lives, each filling of its seat has its end among
--- them, and in the end the worker shows all that it noted
+-- them, each answer that it noted was taken by its seat, and in the end the worker shows all that it noted
 pub record IsDesk (d : Domain) (desk : Desk) : Type 0 where
   pub setup : desk.caller.work.setup ≡ d.setup
   pub clients : desk.caller.work.clients ≡ d.clients
@@ -147,6 +147,7 @@ pub record IsDesk (d : Domain) (desk : Desk) : Type 0 where
   pub made : All (λ (x : Stamped). IsMade x.event) desk.caller.work.own
   pub among : All (λ (x : Stamped). IsAmong (length d.queues.items) (home_of d.setup d.clients x.event)) desk.caller.work.own
   pub filled : FilledByEnds desk.caller.work.own (known desk.caller.seat)
+  pub took : AnswersTaken (known desk.caller.seat) desk.caller.work.own
   pub known_stamp : (whole : Whole) → GoesOn d whole desk → IsKnown whole desk.caller.work.stamp
   pub shows : (whole : Whole) → GoesOn d whole desk → Shows d whole desk.caller.work
 

@@ -5,7 +5,8 @@ use Rattle.xa_types.specs.declared.stamp.Stamp.{Stamp}
 use Rattle.xa_types.specs.declared.stamp.Worn.{Worn}
 use Rattle.xa_types.specs.Setup.{queue_of}
 use Rattle.xa_events.specs.declared.event.Event.{Event}
-use Rattle.xa_events.specs.declared.event.Event.TheVariants.{Take, Gone}
+use Rattle.xa_types.specs.declared.ids.QueueId.{QueueId}
+use Rattle.xa_events.specs.declared.event.Event.TheVariants.{Take, Gone, Sweep}
 use Rattle.xa_events.specs.declared.event.Doing.TheVariants.{Busy}
 use Rattle.xa_events.specs.Cases.{IsShut}
 use Rattle.xa_events.specs.Queue.{is_down, waiting}
@@ -141,8 +142,14 @@ pub record IsToTell (d : Domain) (desk : Desk) (closing : Closing) : Type 0 wher
 abbrev pub IsSwept : Domain → ℕ → List Event → Type 0
 IsSwept d queue past = (is_down queue past ≡ true) × (waiting d.setup queue past ≡ [])
 
+-- that request was swept, which the worker noted
+pub record Sweeps (out : SweptOut) (old new : Desk) : Type 0 where
+  pub stamp : Stamp
+  pub queue : QueueId
+  pub noted : new.caller ≡ with_event stamp (Sweep (record { request = out.request; queue = queue })) old.caller
+
 -- a request that waited was swept, and its caller is to be told; or the desk saw that none waits
 abbrev pub SweepsAs : Domain → ℕ → Result (Option SweptOut) Worn → Desk → Desk → Type 0
 SweepsAs d queue (Ok None) old new = Sees old.caller new.caller × SawAtQueue d queue new (IsSwept d queue)
-SweepsAs d queue (Ok (Some out)) old new = OfDomain old new × IsToTell d new out.closing × IsSome out.closing.ticket
+SweepsAs d queue (Ok (Some out)) old new = OfDomain old new × IsToTell d new out.closing × IsSome out.closing.ticket × Sweeps out old new
 SweepsAs d queue (Err worn) old new = IsAtEnd worn old new

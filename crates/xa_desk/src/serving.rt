@@ -69,7 +69,7 @@ impl Desk {
         ensures counted { IfOk result (λ life. Counts life (T.start_faults served.old.starter) (T.start_faults served.new.starter)) }
         ensures asked { OnOk result (AsksFor (T.asked served.old.starter) (T.asked served.new.starter) name.now (next_life served.old.slot)) }
         ensures same { T.server_name served.new.starter ≡ T.server_name served.old.starter }
-        ensures rest { (self.new ≡ record self.old { caller = self.new.caller }) × (served.new.lives.items ≡ served.old.lives.items) }
+        ensures rest { (self.new ≡ record self.old { caller = self.new.caller }) × (served.new.lives.items ≡ served.old.lives.items) × (self.new.caller.seat ≡ self.old.caller.seat) }
         ensures room { OnOk result (vec_len served.new.lives < vec_capacity served.new.lives) }
         ensures halted { IfErr result (Halts name.now (next_life served.old.slot) (record { asked = T.asked served.new.starter; faults = T.start_faults served.new.starter }) (record { asked = T.asked served.old.starter; faults = T.start_faults served.old.starter }) self.new.caller.work self.old.caller.work) }
         ensures kept { OnErr result (served.new.slot ≡ served.old.slot) }
@@ -144,7 +144,7 @@ impl Desk {
         ensures serving { (queue : ℕ) → IsServing domain.now queue slot.old self.old → IsServing domain.now queue slot.new self.new }
         ensures ok { IfOk result (λ closing. Finishes (return_by domain.now.setup (connections self.old.caller.work.id.0 (theirs self.old.caller.work)) back.value back.code back.payload) closing slot.new slot.old self.new.caller.work self.old.caller.work) }
         ensures told { IfOk result (IsToTell domain.now self.new) }
-        ensures rest { self.new ≡ record self.old { caller = self.new.caller } }
+        ensures rest { (self.new ≡ record self.old { caller = self.new.caller }) × (self.new.caller.seat ≡ self.old.caller.seat) }
         ensures halted { IfErr result (HaltsWith 3 self.new.caller.work self.old.caller.work) }
         ensures kept { OnErr result (slot.new ≡ slot.old) }
     {
@@ -171,7 +171,7 @@ impl Desk {
         ensures serving { (queue : ℕ) → IsServing domain.now queue slot.old self.old → IsServing domain.now queue slot.new self.new }
         ensures ok { IfOk result (λ closing. Dies cause closing slot.new slot.old self.new.caller.work self.old.caller.work) }
         ensures told { IfOk result (IsToTell domain.now self.new) }
-        ensures rest { self.new ≡ record self.old { caller = self.new.caller } }
+        ensures rest { (self.new ≡ record self.old { caller = self.new.caller }) × (self.new.caller.seat ≡ self.old.caller.seat) }
         ensures worn { IfErr result (λ worn. DiesWorn cause worn slot.new slot.old self.new.caller.work self.old.caller.work) }
     {
         let _ = domain;
@@ -192,7 +192,7 @@ impl Desk {
         ensures leads { Leads domain.now self.old self.new }
         ensures serving { (queue : ℕ) → IsServing domain.now queue slot.old self.old → IsServing domain.now queue slot.new self.new }
         ensures ok { IfOk result (λ stamp. Stops cause stamp slot.new slot.old self.new.caller.work self.old.caller.work) }
-        ensures rest { self.new ≡ record self.old { caller = self.new.caller } }
+        ensures rest { (self.new ≡ record self.old { caller = self.new.caller }) × (self.new.caller.seat ≡ self.old.caller.seat) }
         ensures worn { IfErr result (λ worn. IsWorn worn self.old.caller.work) }
         ensures kept { OnErr result ((slot.new ≡ slot.old) × (self.new.caller.work ≡ self.old.caller.work)) }
     {

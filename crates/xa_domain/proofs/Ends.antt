@@ -27,7 +27,8 @@ use Rattle.xa_desk.specs.declared.desk.Desk.{Desk}
 use Rattle.xa_boot.specs.declared.booting.Booted.{Booted}
 use Rattle.xa_joined.specs.Ended.{ServerEnd, Ends, EndsWhole}
 use Rattle.xa_joined.specs.Served.{IsRecorded, IsWorn, IsLifeOf, AreLives, AreLivesSoFar, IsStarterOf, IsStarterSoFar, HasStarters}
-use Rattle.xa_joined.proofs.Recorded.{recorded, dense, known_noted, worn_noted}
+use Rattle.xa_joined.proofs.Behind.{ends_recorded}
+use Rattle.xa_joined.proofs.Recorded.{dense, known_noted, worn_noted}
 use Rattle.xa_joined.proofs.Merged.{merged_run, merged_made}
 use Rattle.xa_joined.proofs.History.{ends_history}
 use Rattle.xa_carried.proofs.SoFar.{lives_so_far, starters_so_far}
@@ -50,7 +51,7 @@ module _ (d : Domain) (desks : List Desk) (W : Type 0) (whole : W) where
   servers_whole n [] each = tt
   servers_whole n (x ∷ servers) each = (
     some_weaker (λ desk. ServerShows d x.name (queue_of d.setup n) n desk x.lives x.cut x.shown W) (λ desk. ServerShows d x.name (queue_of d.setup n) n desk x.lives x.cut x.shown ⊤)
-        (λ desk shows. record { lives_are = shows.lives_are; so_far = shows.so_far; none_cut = λ _. shows.none_cut whole; lived = λ _. shows.lived whole; started = λ _. shows.started whole; done = λ _. shows.done whole })
+        (λ desk shows. record { lives_are = shows.lives_are; so_far = shows.so_far; told = shows.told; none_cut = λ _. shows.none_cut whole; lived = λ _. shows.lived whole; started = λ _. shows.started whole; done = λ _. shows.done whole })
         (numbered (d.clients + n) desks) each.0,
     servers_whole (n + 1) servers each.1,
   )
@@ -161,7 +162,7 @@ module _ {L T : Type 0} (named : T → List ℕ) (shows : T → StarterShows) (c
   serve_ends =
       let ends = back.ends in
       record {
-        homed = has_homes h.halt d homes (length clients) count (recorded d back.b back.domain back.desks homes ends.left ends.homes_are);
+        homed = has_homes h.halt d homes (length clients) count (ends_recorded d back.b back.domain back.desks servers homes ends);
         dense = dense d back.b back.domain back.desks homes ends.left ends.homes_are;
         worn = if_worn h.halt back.worn;
         comes = comes_by h.halt ends back.whole;

@@ -87,7 +87,7 @@ servers_if : (d : Domain) (desks : List Desk) (V W : Type 0) → (W → V) → (
 servers_if d desks V W from n [] each = tt
 servers_if d desks V W from n (x ∷ servers) each = (
   some_if (λ desk. ServerShows d x.name (queue_of d.setup n) n desk x.lives x.cut x.shown V) (λ desk. ServerShows d x.name (queue_of d.setup n) n desk x.lives x.cut x.shown W)
-      (λ desk shows. record { lives_are = shows.lives_are; so_far = shows.so_far; none_cut = λ w. shows.none_cut (from w); lived = λ w. shows.lived (from w); started = λ w. shows.started (from w); done = λ w. shows.done (from w) })
+      (λ desk shows. record { lives_are = shows.lives_are; so_far = shows.so_far; told = shows.told; none_cut = λ w. shows.none_cut (from w); lived = λ w. shows.lived (from w); started = λ w. shows.started (from w); done = λ w. shows.done (from w) })
       (numbered (d.clients + n) desks) each.0,
   servers_if d desks V W from (n + 1) servers each.1,
 )

@@ -339,6 +339,7 @@ shows_weaker : (d : Domain) (name : List ℕ) (queue server : ℕ) (desk : Desk)
 shows_weaker d name queue server desk lives cut shown Whole Less from is = record {
   lives_are = is.lives_are;
   so_far = is.so_far;
+  told = is.told;
   none_cut = λ whole. is.none_cut (from whole);
   lived = λ whole. is.lived (from whole);
   started = λ whole. is.started (from whole);

@@ -77,7 +77,7 @@ module _ (d : Domain) (b : Back) (domain : Working) (desks : List Desk) (all : A
       (record { each = λ k. All-weaker (λ (fill : Fill Filling). fill.answer.answer ≡ None) (HasEnd (entries_of whole)) (none_answered whole) (at k (known all.seat)).filled (all.silent k) })
       (All-map Ended seat_of desks (All-weaker (HasLeft d b) (λ desk. Ended (seat_of desk)) desk_ended desks all.left)))
 
-  among : All (λ desk. Contains b.seats (seat_of desk)) desks
+  pub among : All (λ desk. Contains b.seats (seat_of desk)) desks
   among =
       let later : All (Contains b.seats) (map seat_of desks) =
       All-weaker (Contains (map seat_of desks)) (Contains b.seats) (λ seat here. subst (λ (l : List (Seat Filling)). Contains l seat) (sym all.seats) (Contains-append_right (all.seat ∷ []) (map seat_of desks) seat here)) (map seat_of desks) (All-contains_itself (map seat_of desks)) in

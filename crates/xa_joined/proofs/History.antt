@@ -59,7 +59,7 @@ use Rattle.xa_joined.proofs.Merged.{merged_run, merged_made}
 
 -- ---- numbered ones
 
-each_at : {X : Type 0} (P : ℕ → X → Type 0) (n : ℕ) (xs : List X) → EachNumbered P n xs → (k : ℕ) → n ≤ k → k < n + length xs → (x : X) × P k x
+pub each_at : {X : Type 0} (P : ℕ → X → Type 0) (n : ℕ) (xs : List X) → EachNumbered P n xs → (k : ℕ) → n ≤ k → k < n + length xs → (x : X) × P k x
 each_at P n [] each k low high = absurd (omega (arith, low, high))
 each_at P n (x ∷ xs) each k low high = elim (cases_eq n k) [
   | inl same ↦ (x, subst (λ i. P i x) same each.0)
@@ -74,7 +74,7 @@ each_mapped : {X Y : Type 0} (f : X → Y) (P : ℕ → Y → Type 0) (n : ℕ) 
 each_mapped f P n [] each = tt
 each_mapped f P n (x ∷ xs) each = (each.0, each_mapped f P (n + 1) xs each.1)
 
-is_some : {X : Type 0} (P : X → Type 0) (o : Option X) → IsSomeAnd o P → (x : X) × (o ≡ Some x) × P x
+pub is_some : {X : Type 0} (P : X → Type 0) (o : Option X) → IsSomeAnd o P → (x : X) × (o ≡ Some x) × P x
 is_some P None holds = absurd holds
 is_some P (Some x) holds = (x, refl, holds)
 

@@ -13,3 +13,4 @@ pub mod Configured
 pub mod Gone
 pub mod Deserting
 pub mod History
+pub mod Behind

@@ -33,6 +33,7 @@ use Rattle.xa_desk.specs.declared.desk.Desk.{Desk}
 use Rattle.xa_desk.specs.Whole.{IsKnown}
 use Rattle.xa_desk.specs.Desks.{GoesOn}
 use Rattle.xa_joined.specs.Joined.{Back, whole_of, kept_of, noted_of, HasLeft, AllLeft}
+use Rattle.xa_joined.specs.Told.{AreTold}
 use Rattle.xa_joined.specs.Served.{HoldAll, IsOwn, EachOwn, IsRecorded, is_made_at}
 use Rattle.xa_joined.proofs.Listed.{all_mapped, all_both}
 use Rattle.xa_joined.proofs.Left.{each_left}
@@ -218,8 +219,8 @@ module _ (d : Domain) (b : Back) (domain : Working) (desks : List Desk) (all : A
   pub names_are : (homes : List Notes) → HoldAll d b homes → AreHomes names (kept_of b) homes
   names_are homes hold = are_homes d.setup d.clients (made_in b.board.notes) [] (map (λ (kept : Kept Filling). kept.queue.entries) b.queues) b.own homes hold
 
-pub recorded : (d : Domain) (b : Back) (domain : Working) (desks : List Desk) (homes : List Notes) → AllLeft d b domain desks → HoldAll d b homes → IsRecorded d.setup d.clients homes
-recorded d b domain desks homes all hold =
+pub recorded : (d : Domain) (b : Back) (domain : Working) (desks : List Desk) (homes : List Notes) → AllLeft d b domain desks → HoldAll d b homes → AreTold d.setup d.clients homes → IsRecorded d.setup d.clients homes
+recorded d b domain desks homes all hold told =
     let are = names_are d b domain desks all homes hold in
     record {
       each = each_own d b domain desks all homes (names d b domain desks all) are.are;
@@ -227,6 +228,7 @@ recorded d b domain desks homes all hold =
           let home = at_one_home d b domain desks all worker stamp some in
           let most = over_homes d.setup d.clients worker stamp (held d b domain desks all) home.0 home.1 homes (names d b domain desks all) are.are in
           omega (arith, most, are.once home.0);
+      told = told;
     }
 
 pub dense : (d : Domain) (b : Back) (domain : Working) (desks : List Desk) (homes : List Notes) → AllLeft d b domain desks → HoldAll d b homes → IsDense no_stamp homes

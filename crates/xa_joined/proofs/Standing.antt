@@ -106,7 +106,7 @@ module _ (d : Domain) (b : Back) (domain : Working) (desks : List Desk) (all : A
   ]
 
   -- each worker's part of a home
-  at_makers : (Q : ℕ → Stamped → Type 0) (home : Home) → ((worker : ℕ) → worker < workers → All (Q worker) (noted_of domain desks worker)) → All (λ (entry : Made). Q (maker_of entry) entry.noted) (kept_of b home)
+  pub at_makers : (Q : ℕ → Stamped → Type 0) (home : Home) → ((worker : ℕ) → worker < workers → All (Q worker) (noted_of domain desks worker)) → All (λ (entry : Made). Q (maker_of entry) entry.noted) (kept_of b home)
   at_makers Q home each =
       All-makers workers Q (kept_of b home)
       (λ worker low. subst (All (Q worker)) (sym ((each_left d b domain desks all worker low).theirs home)) (All-filter (stands_at d.setup d.clients home) (Q worker) (noted_of domain desks worker) (each worker low))) (makers_at home)

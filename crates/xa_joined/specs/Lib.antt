@@ -1,3 +1,4 @@
 pub mod Joined
 pub mod Ended
+pub mod Told
 pub mod Served

@@ -30,6 +30,7 @@ use Rattle.xa_desk.specs.declared.domain.Domain.{Domain}
 use Rattle.xa_desk.specs.Made.{IsMade}
 use Rattle.xa_links.specs.Lives.{lives_in, failed_starts, HasStarted, HasStartedSoFar}
 use Rattle.xa_joined.specs.Joined.{Back}
+use Rattle.xa_joined.specs.Told.{AreTold}
 
 -- ---- the homes
 
@@ -53,10 +54,12 @@ abbrev pub is_made_at : ℕ → ℕ → ℕ → Stamped → Bool
 is_made_at clients worker stamp noted = of_worker clients worker noted.event && (noted.stamp.0 == stamp)
 
 -- each event stands at its own home, stamps rise along each home, and no two events of a client or a server have the same stamp: so they rise along each of
--- these, in the order of the merge. The domain's own events, which servers may note too, rise along each home
+-- these, in the order of the merge. The domain's own events, which servers may note too, rise along each home. Each answer tells what befell its request,
+-- behind the end of a life that was lost by that
 pub record IsRecorded (setup : Setup) (clients : ℕ) (homes : List Notes) : Type 0 where
   pub each : EachOwn setup clients (all_homes setup clients) homes
   pub workers : (worker stamp : ℕ) → 0 < worker → count (is_made_at clients worker stamp) (flat_map (λ (notes : Notes). notes.entries) homes) ≤ 1
+  pub told : AreTold setup clients homes
 
 -- stamps came to their end, where that is why the run halted: an event has the last one
 abbrev pub IsWorn : Halt → List Notes → Type 0

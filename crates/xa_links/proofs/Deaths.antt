@@ -1,6 +1,6 @@
 -- A life of a server ends.
 use Rattle.std.proofs.Common.{◌≡◌, ◌<◌, ℕ, ◌+◌, ◌==◌, ◌&&◌, true, false, List, [], ◌∷◌, ◌++◌, map, Option, Some, None, inl, inr, refl, sym, ◌∙◌, ap, subst, append-nil, arith, eq-eqb}
-use Rattle.std.specs.Prelude.{IfSome}
+use Rattle.std.specs.Prelude.{IfSome, ⊤}
 use Rattle.std.specs.List.{All}
 use Rattle.std.proofs.lemmas.List.{map_push, append_assoc}
 use Rattle.std.proofs.lemmas.List.Elements.{All-nil, All-cons}
@@ -54,6 +54,7 @@ use Rattle.xa_links.specs.Lives.{lives_in, IsHanded}
 use Rattle.xa_links.specs.Working.{cut_in}
 use Rattle.xa_links.specs.Steps.{Steps, Serves, IsToldOf, stop_by}
 use Rattle.xa_links.specs.Standing.{brought_at, SettlesBy, IsLast, IsAtWork, IsOff, HasEnded}
+use Rattle.xa_links.proofs.Behind.{leads_behind}
 use Rattle.xa_links.proofs.Stepping.{still_steps, noted_steps}
 use Rattle.xa_links.proofs.Keeping.{OfLife, lives_same, handed_led}
 use Rattle.xa_links.proofs.Lasting.{number_of, at_kept, started_on, failed_on, ends_shut, ends_lived, ends_work, halts}
@@ -96,7 +97,7 @@ is_its server g s h is its = ap (λ b. b && (h == g)) (eq-eqb s server is) ∙ e
 
 module _ {L T : Type 0} {d : Domain} {named : T → List ℕ} {shows : T → StarterShows} (w : ServerWorker L T) (over : Ending) (at : IsAtWork d named shows w (over.life.generation ∷ [])) (last : IsLast w.name w.served.slot over.life) (ended : IsOver over)
     (handed : AtEach (IsHanded over.life.server.0 over.life.generation.0 over.life.asked (brought_at w.queue.0 w.desk)) (theirs w.desk.caller.work))
-    (kept : Served L T) (lives : kept.lives.items ≡ w.served.lives.items ++ over ∷ []) (starter : kept.starter ≡ w.served.starter) (slot' : ServerSlot) (desk' : Desk) (leads : Leads d w.desk desk') (serving : IsServing d w.queue.0 slot' desk') where
+    (kept : Served L T) (lives : kept.lives.items ≡ w.served.lives.items ++ over ∷ []) (starter : kept.starter ≡ w.served.starter) (slot' : ServerSlot) (desk' : Desk) (leads : Leads d w.desk desk') (seat : desk'.caller.seat ≡ w.desk.caller.seat) (serving : IsServing d w.queue.0 slot' desk') where
   abbrev slot : ServerSlot
   slot = w.served.slot
 
@@ -121,10 +122,10 @@ module _ {L T : Type 0} {d : Domain} {named : T → List ℕ} {shows : T → Sta
       let all : All (OfLife slot.made) (Stop x ∷ more) = All-cons (OfLife slot.made) (Stop x) more (ap (λ g. g.0) generation ∙ last.number) its in
       let serves : Serves d w.queue.0 (Stop x ∷ more) slot slot' w.desk desk' = record { steps = steps; serving = serving; server = server'; made = made'; gone = gone' } in
       let ours : is_of_life over.life.server.0 over.life.generation.0 x.server.0 x.generation.0 ≡ true = is_its over.life.server.0 over.life.generation.0 x.server.0 x.generation.0 (ap (λ s. s.0) server ∙ server_of_life) (ap (λ g. g.0) generation) in
-      ends_work w over at last ended kept lives starter slot' desk' (Stop x ∷ more) serves all
-      (ends_lived w over at last ended kept lives starter slot' desk' (Stop x ∷ more) serves all
+      ends_work w over at last ended kept lives starter slot' desk' (Stop x ∷ more) serves seat all
+      (ends_lived w over at last ended kept lives starter slot' desk' (Stop x ∷ more) serves seat all
       (subst (HasStopped d.setup over) (sym {A = List Event} steps.own) (stops d.setup over (more ++ own) x ours why settled))
-      (λ turn. ends_shut w over at last ended kept lives starter slot' desk' (Stop x ∷ more) serves all rest grew later alive (saw turn))
+      (λ turn. ends_shut w over at last ended kept lives starter slot' desk' (Stop x ∷ more) serves seat all rest grew later alive (saw turn))
       (subst (AtEach (IsHanded over.life.server.0 over.life.generation.0 over.life.asked (brought_at w.queue.0 desk'))) (sym {A = List Event} steps.own) (tt, still)))
 
   handed_still : AtEach (IsHanded over.life.server.0 over.life.generation.0 over.life.asked (brought_at w.queue.0 desk')) own
@@ -202,7 +203,7 @@ module _ {L T : Type 0} {d : Domain} {named : T → List ℕ} {shows : T → Sta
       halts (at_kept w kept slot' desk') stopped leads.desk serving (ap named starter ∙ at.named_so)
       (ap (λ (l : List Ending). map (λ (y : Ending). y.life.generation) l ++ cut_in w.cut) lives ∙ ap (λ (gs : List Generation). gs ++ cut_in w.cut) (map_push (λ (y : Ending). y.life.generation) w.served.lives.items over)
       ∙ ap (λ (gs : List Generation). (map (λ (y : Ending). y.life.generation) w.served.lives.items ++ over.life.generation ∷ []) ++ gs) (ap cut_in at.cut) ∙ append-nil _ ∙ at.lived.are ∙ sym same)
-      (inl (started_on made (failed_on steps slot.made slot slot' server its) (ap shows starter) at.started))
+      (inl (started_on made (failed_on steps slot.made slot slot' server its) (ap shows starter) at.started)) (leads_behind w.desk desk' ⊤ leads seat at.told.0)
       (subst (IsStopAt desk') (sym by) (full.tells, full.at_end))
 
   pub worn_still : (worn : Worn) (stopped : Stopped) → stopped ≡ stop_by worn → IsWorn worn old → slot' ≡ slot → new ≡ old → HasEnded d named shows (Some stopped) (at_kept w kept slot' desk')

@@ -1,5 +1,5 @@
 -- A life of a server goes on by a request.
-use Rattle.std.proofs.Common.{◌≡◌, ◌⊎◌, ℕ, ◌+◌, ◌%◌, ◌^◌, Bool, true, false, cond, ℤ, List, [], ◌∷◌, ◌++◌, length, Some, None, inl, inr, refl, sym, ◌∙◌, ap, subst, append-nil, arith, if◌then◌else◌}
+use Rattle.std.proofs.Common.{◌≡◌, ◌⊎◌, ℕ, ◌+◌, ◌%◌, ◌^◌, ◌||◌, Bool, true, false, cond, ℤ, List, [], ◌∷◌, ◌++◌, length, Some, None, inl, inr, refl, sym, ◌∙◌, ap, subst, append-nil, arith, if◌then◌else◌}
 use Rattle.std.specs.Prelude.{take, drop, IfSome, ◌&&◌}
 use Rattle.std.proofs.lemmas.List.{length-append}
 use Rattle.std.proofs.Math.Seq.{drop-append_seam}
@@ -29,7 +29,7 @@ use Rattle.xa_lock.specs.declared.makers.Made.{Made}
 use Rattle.xa_queue.specs.declared.entry.Entry.{Entry}
 use Rattle.xa_held.specs.declared.cargo.Invocation.{Invocation}
 use Rattle.xa_held.specs.Kept.{Brings}
-use Rattle.xa_work.specs.Work.{theirs}
+use Rattle.xa_work.specs.Work.{Standing as Working, theirs}
 use Rattle.xa_caller.specs.Drafts.{Cargo}
 use Rattle.xa_pipe.specs.declared.hearing.Return.{Return}
 use Rattle.xa_pipe.specs.declared.turn.Turn.{Turn}
@@ -62,6 +62,8 @@ use Rattle.xa_links.specs.declared.working.ServerWorker.{ServerWorker}
 use Rattle.xa_links.specs.Lives.{IsHanded}
 use Rattle.xa_links.specs.Steps.{Serves, Takes, is_exit, stop_by}
 use Rattle.xa_links.specs.Standing.{brought_at, SettlesBy, IsLast, IsAtWork, IsOff, IsIn, IsFree, HasTaken, MayDie, HasEnded}
+use Rattle.xa_links.specs.Behind.{is_lost}
+use Rattle.xa_links.proofs.Behind.{calm_push}
 use Rattle.xa_links.proofs.Stepping.{noted_steps}
 use Rattle.xa_links.proofs.Keeping.{OfLife, handed_wider, handed_led, going_on}
 use Rattle.xa_desk.proofs.Staying.{queue_stays}
@@ -96,6 +98,16 @@ pub return_is : (setup : Setup) (conns : List RequestId) (value : Rval) (code : 
 return_is setup conns value code payload none = ap (λ (l : List RequestId). return_by setup l value code payload) none ∙ by value (is_sound setup payload)
   where
     by : (v : Rval) (b : Bool) → (if b && true then outcome_by_value v code payload else outcomes.BadReturn) ≡ (if b then outcome_of v code payload else outcomes.BadReturn)
+    by rvals.Success true = refl
+    by rvals.Fail true = refl
+    by rvals.Exit true = refl
+    by v false = refl
+
+-- its server lives on
+keeps_life : (setup : Setup) (conns : List RequestId) (value : Rval) (code : ℤ) (payload : Data) → (is_lost (return_by setup conns value code payload) || false) ≡ false
+keeps_life setup conns value code payload = by value (is_sound setup payload && is_empty conns)
+  where
+    by : (v : Rval) (b : Bool) → (is_lost (if b then outcome_by_value v code payload else outcomes.BadReturn) || false) ≡ false
     by rvals.Success true = refl
     by rvals.Fail true = refl
     by rvals.Exit true = refl
@@ -160,8 +172,9 @@ invoke_is life before t what its taken even =
     ∙ ap (λ (b : Bool). invoke_frame what.service what.routine (cond b (count (is_take_in life.server.0 life.generation.0) before + 1) (count (is_take_in life.server.0 life.generation.0) before) % 2 ^ 32) what.payload ∷ []) (sym its)
 
 -- the request in hand ended
-pub finish_serves : {L T : Type 0} {d : Domain} (w : ServerWorker L T) (outcome : Outcome) (closing : Closing) (slot' : ServerSlot) (desk' : Desk) → Leads d w.desk desk' → IsServing d w.queue.0 w.served.slot w.desk → IsServing d w.queue.0 slot' desk' → Finishes outcome closing slot' w.served.slot desk'.caller.work w.desk.caller.work
+pub finish_serves : {L T : Type 0} {d : Domain} (w : ServerWorker L T) (outcome : Outcome) (closing : Closing) (slot' : ServerSlot) (desk' : Desk) → Leads d w.desk desk' → IsServing d w.queue.0 w.served.slot w.desk → IsServing d w.queue.0 slot' desk' → (finishes : Finishes outcome closing slot' w.served.slot desk'.caller.work w.desk.caller.work)
     → (e : Ended) × Serves d w.queue.0 (End e ∷ []) w.served.slot slot' w.desk desk' × (e.server ≡ w.served.slot.server) × (e.generation ≡ life_in w.served.slot.doing) × (e.outcome ≡ outcome)
+    × (desk'.caller.work.own ≡ w.desk.caller.work.own ++ record { stamp = finishes.stamp; event = End e } ∷ [])
 finish_serves w outcome closing slot' desk' leads was serving finishes =
     let ends = finishes.ends in
     let e : Ended = record { request = ends.entry.request; server = w.served.slot.server; generation = life_in w.served.slot.doing; outcome = outcome } in (
@@ -176,6 +189,7 @@ finish_serves w outcome closing slot' desk' leads was serving finishes =
       refl,
       refl,
       refl,
+      ap (λ (v : Working). v.own) ends.noted.made,
     )
 
 module _ {L T : Type 0} {d : Domain} {named : T → List ℕ} {shows : T → StarterShows} (w : ServerWorker L T) where
@@ -234,7 +248,8 @@ module _ {L T : Type 0} {d : Domain} {named : T → List ℕ} {shows : T → Sta
       let g : t.generation ≡ life.generation = takes.generation ∙ ap life_in is.does in
       let number : t.generation.0 ≡ w.served.slot.made = ap (λ h. h.0) g ∙ is.last.number in
       record {
-        at = work_on w slot' desk' (Take t ∷ []) life.generation takes.serves (All-cons (OfLife w.served.slot.made) (Take t) [] number (All-nil (OfLife w.served.slot.made))) is.at;
+        at = work_on w slot' desk' (Take t ∷ []) life.generation takes.serves (All-cons (OfLife w.served.slot.made) (Take t) [] number (All-nil (OfLife w.served.slot.made)))
+            (calm_push w.desk desk' (record { stamp = takes.stamp; event = Take t }) takes.serves.steps.leads takes.noted takes.seat refl) is.at;
         last = last_on w.name w.served.slot slot' life takes.serves.server takes.serves.made is.last;
         t = t;
         before = (own_of w);
@@ -355,9 +370,9 @@ module _ {L T : Type 0} {d : Domain} {named : T → List ℕ} {shows : T → Sta
   -- ---- it returns
 
   pub returned_in : (new old : Life) (request : RequestId) (value : Rval) (code : ℤ) (payload : Data) (conns : List RequestId) (closing : Closing) (slot' : ServerSlot) (desk' : Desk) → Heard (return_frame (tag_of old) value code payload) new old → IsIn d named shows (Busy old.generation request) Serving 1 old w
-      → conns ≡ [] → Leads d w.desk desk' → IsServing d w.queue.0 slot' desk' → Finishes (return_by d.setup conns value code payload) closing slot' w.served.slot desk'.caller.work w.desk.caller.work
+      → conns ≡ [] → Leads d w.desk desk' → desk'.caller.seat ≡ w.desk.caller.seat → IsServing d w.queue.0 slot' desk' → Finishes (return_by d.setup conns value code payload) closing slot' w.served.slot desk'.caller.work w.desk.caller.work
       → IsIn d named shows (Idle new.generation) (turn_behind value) 0 new (at_desk w slot' desk') × (is_exit value ≡ true → slot'.last ≡ lasts.Badly)
-  returned_in new old request value code payload conns closing slot' desk' heard is none leads serving finishes =
+  returned_in new old request value code payload conns closing slot' desk' heard is none leads seat serving finishes =
       let ended = finish_serves w (return_by d.setup conns value code payload) closing slot' desk' leads is.at.serving serving finishes in
       let e : Ended = ended.0 in
       let serves = ended.1 in
@@ -367,7 +382,8 @@ module _ {L T : Type 0} {d : Domain} {named : T → List ℕ} {shows : T → Sta
       let gen : e.generation ≡ old.generation = ended.3 ∙ lived in
       let its = is_its old.server.0 old.generation.0 e.server.0 e.generation.0 (ap (λ s. s.0) ended.2 ∙ ap (λ s. s.0) (sym is.last.server)) (ap (λ h. h.0) gen) in
       let becomes : Becomes old.asked new old = record { link = new.link; said = _; turn = _; made = heard.made } in
-      let at = work_on w slot' desk' (End e ∷ []) old.generation serves (All-cons (OfLife slot.made) (End e) [] (ap (λ h. h.0) gen ∙ is.last.number) (All-nil (OfLife slot.made))) is.at in
+      let at = work_on w slot' desk' (End e ∷ []) old.generation serves (All-cons (OfLife slot.made) (End e) [] (ap (λ h. h.0) gen ∙ is.last.number) (All-nil (OfLife slot.made)))
+      (calm_push w.desk desk' (record { stamp = finishes.stamp; event = End e }) leads ended.5 seat (ap (λ (o : Outcome). is_lost o || false) ended.4 ∙ keeps_life d.setup conns value code payload)) is.at in
       let last = last_on w.name slot slot' old serves.server serves.made is.last in (
         record {
           at = at_still old.asked becomes at;
@@ -394,36 +410,36 @@ module _ {L T : Type 0} {d : Domain} {named : T → List ℕ} {shows : T → Sta
   -- its life ends by that
 
   pub exits_off : (life : Life) (over : Ending) (kept : Served L T) (slot' : ServerSlot) (desk' : Desk) (stamp : Stamp) → IsIn d named shows (Idle life.generation) Exited 0 life w → Exits over life → IsOver over → kept.lives.items ≡ w.served.lives.items ++ over ∷ [] → kept.starter ≡ w.served.starter
-      → Leads d w.desk desk' → IsServing d w.queue.0 slot' desk' → Stops causes.Exit stamp slot' w.served.slot desk'.caller.work w.desk.caller.work → IsOff d named shows (at_kept w kept slot' desk')
-  exits_off life over kept slot' desk' stamp is exits ended lives starter leads serving stopped =
+      → Leads d w.desk desk' → desk'.caller.seat ≡ w.desk.caller.seat → IsServing d w.queue.0 slot' desk' → Stops causes.Exit stamp slot' w.served.slot desk'.caller.work w.desk.caller.work → IsOff d named shows (at_kept w kept slot' desk')
+  exits_off life over kept slot' desk' stamp is exits ended lives starter leads seat serving stopped =
       let turn : over.life.turn ≡ Exited = ap (λ (l : Life). l.turn) exits.life ∙ is.turns in
       record {
         at = stops_idle w over (subst (λ (l : Life). IsAtWork d named shows w (l.generation ∷ [])) (sym exits.life) is.at) (subst (IsLast w.name w.served.slot) (sym exits.life) is.last) ended
-            (subst (λ (l : Life). AtEach (IsHanded l.server.0 l.generation.0 l.asked (brought_of w)) (own_of w)) (sym exits.life) is.going.handed) kept lives starter slot' desk' leads serving causes.Exit stamp (sym exits.cause) (ap life_in is.does ∙ ap (λ (l : Life). l.generation) (sym exits.life))
+            (subst (λ (l : Life). AtEach (IsHanded l.server.0 l.generation.0 l.asked (brought_of w)) (own_of w)) (sym exits.life) is.going.handed) kept lives starter slot' desk' leads seat serving causes.Exit stamp (sym exits.cause) (ap life_in is.does ∙ ap (λ (l : Life). l.generation) (sym exits.life))
             (settles_exited d.setup life over (own_of w) exits is.turns is.going.follows) (λ idle. cc (idle, turn)) stopped;
         off = ap (λ (s : ServerSlot). s.doing) stopped.left;
         up = ap (λ (s : ServerSlot). s.shut) stopped.left;
       }
 
   pub exits_worn : (life : Life) (over : Ending) (kept : Served L T) (slot' : ServerSlot) (desk' : Desk) → IsIn d named shows (Idle life.generation) Exited 0 life w → Exits over life → IsOver over → kept.lives.items ≡ w.served.lives.items ++ over ∷ [] → kept.starter ≡ w.served.starter
-      → Leads d w.desk desk' → IsServing d w.queue.0 slot' desk' → (worn : Worn) (stopped : Stopped) → stopped ≡ stop_by worn → IsWorn worn w.desk.caller.work → slot' ≡ w.served.slot → desk'.caller.work ≡ w.desk.caller.work → HasEnded d named shows (Some stopped) (at_kept w kept slot' desk')
-  exits_worn life over kept slot' desk' is exits ended lives starter leads serving worn stopped by full same work =
+      → Leads d w.desk desk' → desk'.caller.seat ≡ w.desk.caller.seat → IsServing d w.queue.0 slot' desk' → (worn : Worn) (stopped : Stopped) → stopped ≡ stop_by worn → IsWorn worn w.desk.caller.work → slot' ≡ w.served.slot → desk'.caller.work ≡ w.desk.caller.work → HasEnded d named shows (Some stopped) (at_kept w kept slot' desk')
+  exits_worn life over kept slot' desk' is exits ended lives starter leads seat serving worn stopped by full same work =
       worn_still w over (subst (λ (l : Life). IsAtWork d named shows w (l.generation ∷ [])) (sym exits.life) is.at) (subst (IsLast w.name w.served.slot) (sym exits.life) is.last) ended
-      (subst (λ (l : Life). AtEach (IsHanded l.server.0 l.generation.0 l.asked (brought_of w)) (own_of w)) (sym exits.life) is.going.handed) kept lives starter slot' desk' leads serving worn stopped by full same work
+      (subst (λ (l : Life). AtEach (IsHanded l.server.0 l.generation.0 l.asked (brought_of w)) (own_of w)) (sym exits.life) is.going.handed) kept lives starter slot' desk' leads seat serving worn stopped by full same work
 
   pub shuts_worn : (life : Life) (over : Ending) (kept : Served L T) (slot' : ServerSlot) (desk' : Desk) → IsFree d named shows life w → ShutDown over life → IsOver over → kept.lives.items ≡ w.served.lives.items ++ over ∷ [] → kept.starter ≡ w.served.starter
-      → Leads d w.desk desk' → IsServing d w.queue.0 slot' desk' → (worn : Worn) (stopped : Stopped) → stopped ≡ stop_by worn → IsWorn worn w.desk.caller.work → slot' ≡ w.served.slot → desk'.caller.work ≡ w.desk.caller.work → HasEnded d named shows (Some stopped) (at_kept w kept slot' desk')
-  shuts_worn life over kept slot' desk' is shut ended lives starter leads serving worn stopped by full same work =
+      → Leads d w.desk desk' → desk'.caller.seat ≡ w.desk.caller.seat → IsServing d w.queue.0 slot' desk' → (worn : Worn) (stopped : Stopped) → stopped ≡ stop_by worn → IsWorn worn w.desk.caller.work → slot' ≡ w.served.slot → desk'.caller.work ≡ w.desk.caller.work → HasEnded d named shows (Some stopped) (at_kept w kept slot' desk')
+  shuts_worn life over kept slot' desk' is shut ended lives starter leads seat serving worn stopped by full same work =
       let becomes : Becomes life.asked over.life life = record { link = over.life.link; said = life.said; turn = life.turn; made = shut.life } in
-      worn_still w over (at_still life.asked becomes is.at) (last_still life.asked becomes is.last) ended (handed_still life.asked becomes (brought_of w) (own_of w) is.going.handed) kept lives starter slot' desk' leads serving worn stopped by full same work
+      worn_still w over (at_still life.asked becomes is.at) (last_still life.asked becomes is.last) ended (handed_still life.asked becomes (brought_of w) (own_of w) is.going.handed) kept lives starter slot' desk' leads seat serving worn stopped by full same work
 
   -- or it was told to end
 
   pub shuts_down : (life : Life) (over : Ending) (kept : Served L T) (slot' : ServerSlot) (desk' : Desk) (stamp : Stamp) → IsFree d named shows life w → ShutDown over life → IsOver over → causes.Shutdown ≡ over.cause → kept.lives.items ≡ w.served.lives.items ++ over ∷ [] → kept.starter ≡ w.served.starter
-      → Leads d w.desk desk' → IsServing d w.queue.0 slot' desk' → SawAtQueue d w.queue.0 w.desk (IsShut d.setup w.queue.0) → Stops causes.Shutdown stamp slot' w.served.slot desk'.caller.work w.desk.caller.work → HasEnded d named shows None (at_kept w kept slot' desk')
-  shuts_down life over kept slot' desk' stamp is shut ended why lives starter leads serving saw stopped =
+      → Leads d w.desk desk' → desk'.caller.seat ≡ w.desk.caller.seat → IsServing d w.queue.0 slot' desk' → SawAtQueue d w.queue.0 w.desk (IsShut d.setup w.queue.0) → Stops causes.Shutdown stamp slot' w.served.slot desk'.caller.work w.desk.caller.work → HasEnded d named shows None (at_kept w kept slot' desk')
+  shuts_down life over kept slot' desk' stamp is shut ended why lives starter leads seat serving saw stopped =
       let becomes : Becomes life.asked over.life life = record { link = over.life.link; said = life.said; turn = life.turn; made = shut.life } in
-      let at = stops_idle w over (at_still life.asked becomes is.at) (last_still life.asked becomes is.last) ended (handed_still life.asked becomes (brought_of w) (own_of w) is.going.handed) kept lives starter slot' desk' leads serving causes.Shutdown stamp why
+      let at = stops_idle w over (at_still life.asked becomes is.at) (last_still life.asked becomes is.last) ended (handed_still life.asked becomes (brought_of w) (own_of w) is.going.handed) kept lives starter slot' desk' leads seat serving causes.Shutdown stamp why
       (ap life_in is.does ∙ ap (λ (l : Life). l.generation) (sym shut.life)) (settles_shut d.setup life over (own_of w) shut is.turns is.going.follows) (λ idle. saw) stopped in
       let server = ap (λ (s : ServerSlot). s.server) stopped.left in
       let off : slot'.doing ≡ Off = ap (λ (s : ServerSlot). s.doing) stopped.left in

@@ -1,6 +1,6 @@
 -- Where a server's worker stands, as its desk and its slot go on.
 use Rattle.std.proofs.Common.{◌≡◌, ◌<◌, ◌⊎◌, ℕ, ◌+◌, Bool, false, true, List, [], ◌∷◌, ◌++◌, map, length, Option, Some, None, inl, inr, refl, sym, ◌∙◌, ap, subst, arith}
-use Rattle.std.specs.Prelude.{IfSome}
+use Rattle.std.specs.Prelude.{IfSome, ⊤}
 use Rattle.std.specs.List.{All, Contains}
 use Rattle.std.proofs.lemmas.Bool.{false≢true}
 use Rattle.std.proofs.lemmas.List.Elements.{All-nil, All-append, All-weaker}
@@ -41,6 +41,9 @@ use Rattle.xa_server.specs.Doings.{life_in}
 use Rattle.xa_server.proofs.Reading.{last_by_floor}
 use Rattle.xa_restart.specs.Rule.{IsLast as IsLastTick, may_start_by}
 use Rattle.xa_desk.proofs.Leading.{leads_trans}
+use Rattle.xa_links.specs.declared.telling.Told.{Told}
+use Rattle.xa_links.specs.Behind.{TellsLast, IsCalm}
+use Rattle.xa_links.proofs.Behind.{leads_behind, tells_last, tells_calm, by_told}
 use Rattle.xa_links.proofs.Stepping.{told_steps, serving_told}
 use Rattle.xa_links.specs.declared.working.CutLife.{CutLife}
 use Rattle.xa_links.specs.declared.working.ServerWorker.{ServerWorker}
@@ -105,9 +108,9 @@ at_kept w kept slot desk = record w { desk = desk; served = record kept { slot =
 module _ {L T : Type 0} {d : Domain} {named : T → List ℕ} {shows : T → StarterShows} where
   -- ---- in a life
 
-  pub work_on : (w : ServerWorker L T) (slot' : ServerSlot) (desk' : Desk) (more : List Event) (g : Generation) → Serves d w.queue.0 more w.served.slot slot' w.desk desk' → All (OfLife w.served.slot.made) more → IsAtWork d named shows w (g ∷ [])
+  pub work_on : (w : ServerWorker L T) (slot' : ServerSlot) (desk' : Desk) (more : List Event) (g : Generation) → Serves d w.queue.0 more w.served.slot slot' w.desk desk' → All (OfLife w.served.slot.made) more → (IsCalm w.desk → IsCalm desk') → IsAtWork d named shows w (g ∷ [])
       → IsAtWork d named shows (at_desk w slot' desk') (g ∷ [])
-  work_on w slot' desk' more g serves its at = record {
+  work_on w slot' desk' more g serves its calm at = record {
     is = serves.steps.leads.desk;
     serving = serves.serving;
     named_so = at.named_so;
@@ -116,13 +119,14 @@ module _ {L T : Type 0} {d : Domain} {named : T → List ℕ} {shows : T → Sta
     floor = floor_on serves.steps w.served.slot.made its ∙ at.floor;
     left = serves.gone ∙ at.left;
     cut = at.cut;
+    told = calm at.told;
   }
 
   -- where nothing was noted it is in it still
-  pub in_on : (w : ServerWorker L T) (slot' : ServerSlot) (desk' : Desk) (doing : Doing) (turn : Turn) (n : ℕ) (life : Life) → Serves d w.queue.0 [] w.served.slot slot' w.desk desk' → slot' ≡ w.served.slot → IsIn d named shows doing turn n life w
+  pub in_on : (w : ServerWorker L T) (slot' : ServerSlot) (desk' : Desk) (doing : Doing) (turn : Turn) (n : ℕ) (life : Life) → Serves d w.queue.0 [] w.served.slot slot' w.desk desk' → slot' ≡ w.served.slot → (IsCalm w.desk → IsCalm desk') → IsIn d named shows doing turn n life w
       → IsIn d named shows doing turn n life (at_desk w slot' desk')
-  in_on w slot' desk' doing turn n life serves same is = record {
-    at = work_on w slot' desk' [] life.generation serves (All-none w.served.slot.made) is.at;
+  in_on w slot' desk' doing turn n life serves same calm is = record {
+    at = work_on w slot' desk' [] life.generation serves (All-none w.served.slot.made) calm is.at;
     last = last_on w.name w.served.slot slot' life serves.server serves.made is.last;
     going = subst (λ (own : List Event). IsGoing d w.queue.0 desk' own life) (sym {A = List Event} serves.steps.own) (going_on serves.steps w.queue.0 (theirs w.desk.caller.work) life is.going);
     does = ap (λ (s : ServerSlot). s.doing) same ∙ is.does;
@@ -137,7 +141,7 @@ module _ {L T : Type 0} {d : Domain} {named : T → List ℕ} {shows : T → Sta
   -- ---- as a life ended, and is kept
 
   module _ (w : ServerWorker L T) (over : Ending) (at : IsAtWork d named shows w (over.life.generation ∷ [])) (last : IsLast w.name w.served.slot over.life) (ended : IsOver over) (kept : Served L T) (lives : kept.lives.items ≡ w.served.lives.items ++ over ∷ []) (starter : kept.starter ≡ w.served.starter)
-      (slot' : ServerSlot) (desk' : Desk) (more : List Event) (serves : Serves d w.queue.0 more w.served.slot slot' w.desk desk') (its : All (OfLife w.served.slot.made) more) where
+      (slot' : ServerSlot) (desk' : Desk) (more : List Event) (serves : Serves d w.queue.0 more w.served.slot slot' w.desk desk') (seat : desk'.caller.seat ≡ w.desk.caller.seat) (its : All (OfLife w.served.slot.made) more) where
     -- its queue was shut, where its end came behind that
     pub ends_shut : (rest : List Stamped) → desk'.caller.work.own ≡ w.desk.caller.work.own ++ rest → All (λ (x : Stamped). w.desk.caller.work.stamp.0 < x.stamp.0) rest → count (stops_life over.life.server.0 over.life.generation.0) (theirs w.desk.caller.work) ≡ 0
         → SawAtQueue d w.queue.0 w.desk (IsShut d.setup w.queue.0) → EndsShut d w.queue.0 desk' over
@@ -176,14 +180,15 @@ module _ {L T : Type 0} {d : Domain} {named : T → List ℕ} {shows : T → Sta
       floor = floor_on serves.steps w.served.slot.made its ∙ at.floor;
       left = serves.gone ∙ at.left;
       cut = at.cut;
+      told = leads_behind w.desk desk' ⊤ serves.steps.leads seat at.told.0;
     }
 
   -- ---- where the worker's work is over
 
   -- at a halt
   pub halts : (w : ServerWorker L T) (stopped : Stopped) → IsDesk d w.desk → IsServing d w.queue.0 w.served.slot w.desk → named w.served.starter ≡ w.name → map (λ (over : Ending). over.life.generation) w.served.lives.items ++ cut_in w.cut ≡ lives_in w.served.slot.server.0 (theirs w.desk.caller.work)
-      → HasStartedSoFar w.name w.served.slot.made (failed_starts w.served.slot.server.0 (theirs w.desk.caller.work)) (shows w.served.starter) → IsStopAt w.desk stopped → HasEnded d named shows (Some stopped) w
-  halts w stopped is serving named_so are so_far at_end = record {
+      → HasStartedSoFar w.name w.served.slot.made (failed_starts w.served.slot.server.0 (theirs w.desk.caller.work)) (shows w.served.starter) → TellsLast w.desk → IsStopAt w.desk stopped → HasEnded d named shows (Some stopped) w
+  halts w stopped is serving named_so are so_far told at_end = record {
     is = is;
     number = number_of serving;
     named_so = named_so;
@@ -192,6 +197,7 @@ module _ {L T : Type 0} {d : Domain} {named : T → List ℕ} {shows : T → Sta
     shown = record {
       lives_are = are;
       so_far = subst (λ (n : ℕ). HasStartedSoFar w.name n (failed_starts w.served.slot.server.0 (theirs w.desk.caller.work)) (shows w.served.starter)) (sym (starts_count serving)) so_far;
+      told = told;
       none_cut = λ whole. absurd (cc whole);
       lived = λ whole. absurd (cc whole);
       started = λ whole. absurd (cc whole);
@@ -203,7 +209,7 @@ module _ {L T : Type 0} {d : Domain} {named : T → List ℕ} {shows : T → Sta
   -- in a life, which is cut off
   pub halts_at : (w : ServerWorker L T) (cut : Option (CutLife L)) (going : List Generation) (stopped : Stopped) → IsAtWork d named shows w going → cut_in cut ≡ going → IsStopAt w.desk stopped → HasEnded d named shows (Some stopped) (record w { cut = cut })
   halts_at w cut going stopped at is at_end =
-      halts (record w { cut = cut }) stopped at.is at.serving at.named_so (ap (λ (l : List Generation). map (λ (over : Ending). over.life.generation) w.served.lives.items ++ l) is ∙ at.lived.are) (inl at.started) at_end
+      halts (record w { cut = cut }) stopped at.is at.serving at.named_so (ap (λ (l : List Generation). map (λ (over : Ending). over.life.generation) w.served.lives.items ++ l) is ∙ at.lived.are) (inl at.started) (by_told going w.desk at.told) at_end
 
   -- at its end
   pub ends_done : (w : ServerWorker L T) → IsAtWork d named shows w [] → w.served.slot.hand ≡ None → IsDone d w.queue.0 w.served.slot.server.0 w.desk → HasEnded d named shows None w
@@ -219,6 +225,7 @@ module _ {L T : Type 0} {d : Domain} {named : T → List ℕ} {shows : T → Sta
         shown = record {
           lives_are = ap (λ (l : List Generation). map (λ (over : Ending). over.life.generation) w.served.lives.items ++ l) (ap cut_in at.cut) ∙ at.lived.are;
           so_far = inl started;
+          told = at.told;
           none_cut = λ whole. ap cut_in at.cut;
           lived = λ whole. at.lived.each;
           started = λ whole. started;
@@ -228,14 +235,15 @@ module _ {L T : Type 0} {d : Domain} {named : T → List ℕ} {shows : T → Sta
       }
 
   -- and behind that, as somebody is told, with nothing or no more in hand
-  pub ended_tells : (w : ServerWorker L T) (slot' : ServerSlot) (desk' : Desk) (why : Option Stopped) → slot'.server ≡ w.served.slot.server → (slot'.hand ≡ None) ⊎ (slot' ≡ w.served.slot) → Tells d w.desk desk' → HasEnded d named shows why w → HasEnded d named shows why (at_desk w slot' desk')
-  ended_tells w slot' desk' why server hand tells ended =
+  pub ended_tells : (w : ServerWorker L T) (slot' : ServerSlot) (desk' : Desk) (why : Option Stopped) → slot'.server ≡ w.served.slot.server → (slot'.hand ≡ None) ⊎ (slot' ≡ w.served.slot) → {told : Option Told} → Tells d told w.desk desk' → HasEnded d named shows why w → HasEnded d named shows why (at_desk w slot' desk')
+  ended_tells w slot' desk' why server hand {told} tells ended =
       let steps = told_steps tells in
       let s : ℕ = w.served.slot.server.0 in
       let shown = ended.shown in
       let shows_same : ServerShows d w.name w.queue.0 s desk' w.served.lives.items (cut_in w.cut) (shows w.served.starter) (why ≡ None) = record {
         lives_are = shown.lives_are ∙ ap (lives_in s) (sym steps.own);
         so_far = subst (λ (own : List Event). HasStartedSoFar w.name (length (starts s own)) (failed_starts s own) (shows w.served.starter)) (sym {A = List Event} steps.own) shown.so_far;
+        told = tells_last w.desk desk' tells shown.told;
         none_cut = shown.none_cut;
         lived = λ whole. All-weaker (IsLived d w.name w.queue.0 s w.desk) (IsLived d w.name w.queue.0 s desk') (λ over is. lived_one steps w.name w.queue.0 s over ended.number (All-nil (λ (e : Event). is_of s over.life.generation.0 e ≡ false)) is) w.served.lives.items (shown.lived whole);
         started = λ whole. subst (λ (own : List Event). HasStarted w.name (length (starts s own)) (failed_starts s own) (shows w.served.starter)) (sym {A = List Event} steps.own) (shown.started whole);
@@ -275,11 +283,11 @@ module _ {L T : Type 0} {d : Domain} {named : T → List ℕ} {shows : T → Sta
   cut_ends w other g stopped at rest cut does stop = subst (HasEnded d named shows (Some stopped)) (sym rest) (halts_at w other.cut (g ∷ []) stopped at (cut ∙ ap (λ h. h ∷ []) does) stop)
 
   -- somebody is told
-  pub in_told : (w : ServerWorker L T) (desk' : Desk) (doing : Doing) (turn : Turn) (n : ℕ) (life : Life) → Tells d w.desk desk' → IsIn d named shows doing turn n life w → IsIn d named shows doing turn n life (at_desk w w.served.slot desk')
-  in_told w desk' doing turn n life tells is = in_on w w.served.slot desk' doing turn n life (record { steps = told_steps tells; serving = serving_told tells is.at.serving; server = refl; made = refl; gone = refl }) refl is
+  pub in_told : (w : ServerWorker L T) (desk' : Desk) (doing : Doing) (turn : Turn) (n : ℕ) (life : Life) {told : Option Told} → Tells d told w.desk desk' → IsIn d named shows doing turn n life w → IsIn d named shows doing turn n life (at_desk w w.served.slot desk')
+  in_told w desk' doing turn n life {told} tells is = in_on w w.served.slot desk' doing turn n life (record { steps = told_steps tells; serving = serving_told tells is.at.serving; server = refl; made = refl; gone = refl }) refl (tells_calm w.desk desk' tells) is
 
-  pub off_told : (w : ServerWorker L T) (desk' : Desk) → Tells d w.desk desk' → IsOff d named shows w → IsOff d named shows (at_desk w w.served.slot desk')
-  off_told w desk' tells off =
+  pub off_told : (w : ServerWorker L T) (desk' : Desk) {told : Option Told} → Tells d told w.desk desk' → IsOff d named shows w → IsOff d named shows (at_desk w w.served.slot desk')
+  off_told w desk' {told} tells off =
       let at = off.at in
       let steps = told_steps tells in
       let none : (g : ℕ) → All (OfLife g) [] = λ g. All-nil (OfLife g) in
@@ -293,6 +301,7 @@ module _ {L T : Type 0} {d : Domain} {named : T → List ℕ} {shows : T → Sta
           floor = floor_on steps 0 (none 0) ∙ at.floor;
           left = at.left;
           cut = at.cut;
+          told = tells_last w.desk desk' tells at.told;
         };
         off = off.off;
         up = off.up;
@@ -305,7 +314,7 @@ module _ {L T : Type 0} {d : Domain} {named : T → List ℕ} {shows : T → Sta
   -- its first start is counted
   pub in_counted : {doing : Doing} {turn : Turn} {n : ℕ} {life : Life} (w other : ServerWorker L T) → other ≡ record w { counted = other.counted } → IsIn d named shows doing turn n life w → IsIn d named shows doing turn n life other
   in_counted {doing} {turn} {n} {life} w other rest is = subst (IsIn d named shows doing turn n life) (sym rest) (record {
-    at = record { is = is.at.is; serving = is.at.serving; named_so = is.at.named_so; started = is.at.started; lived = is.at.lived; floor = is.at.floor; left = is.at.left; cut = is.at.cut };
+    at = record { is = is.at.is; serving = is.at.serving; named_so = is.at.named_so; started = is.at.started; lived = is.at.lived; floor = is.at.floor; left = is.at.left; cut = is.at.cut; told = is.at.told };
     last = is.last;
     going = is.going;
     does = is.does;

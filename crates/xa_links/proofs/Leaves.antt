@@ -1,13 +1,13 @@
 -- A server is given up.
 use Rattle.std.proofs.Common.{◌≡◌, ◌<◌, ℕ, zero, suc, ◌+◌, ◌||◌, Bool, true, List, [], ◌∷◌, ◌++◌, map, length, Result, Ok, Err, None, inl, inr, refl, sym, ◌∙◌, ap, subst, arith, eq-eqb}
-use Rattle.std.specs.Prelude.{OnOk, IfErr, IsSomeAnd, IfSome}
+use Rattle.std.specs.Prelude.{OnOk, IfErr, IsSomeAnd, IfSome, ⊤}
 use Rattle.std.specs.List.{All, Contains}
 use Rattle.std.proofs.lemmas.List.Elements.{All-nil, All-cons, All-weaker, Contains-push}
 use Rattle.xa_types.specs.declared.stamp.Worn.{Worn}
 use Rattle.xa_types.specs.declared.setup.ServerSetup.{ServerSetup}
 use Rattle.xa_types.specs.Setup.{numbered}
 use Rattle.xa_events.specs.declared.event.Event.{Event}
-use Rattle.xa_events.specs.declared.event.Event.TheVariants.{Gone}
+use Rattle.xa_events.specs.declared.event.Event.TheVariants.{Gone, Sweep}
 use Rattle.xa_events.specs.declared.event.Doing.{Doing}
 use Rattle.xa_events.specs.declared.event.Doing.TheVariants.{Off}
 use Rattle.xa_events.specs.Server.{start_in, starts, is_gone}
@@ -24,13 +24,17 @@ use Rattle.xa_desk.specs.declared.desk.Desk.{Desk}
 use Rattle.xa_desk.specs.declared.stopped.Stopped.{Stopped}
 use Rattle.xa_desk.specs.Desks.{Leads}
 use Rattle.xa_desk.specs.Found.{SawAtQueue}
-use Rattle.xa_desk.specs.Serving.{IsServing, IsTaken, LeavesAs, OfDomain, IsSwept}
+use Rattle.xa_desk.specs.declared.serving.SweptOut.{SweptOut}
+use Rattle.xa_desk.specs.Serving.{IsServing, IsTaken, Sees, LeavesAs, OfDomain, Sweeps, IsSwept}
 use Rattle.xa_links.specs.declared.working.ServerWorker.{ServerWorker}
 use Rattle.xa_desk.specs.Halting.{IsStopAt}
 use Rattle.xa_links.specs.Lives.{failed_starts, HasStarted, IsDone, ServerShows}
 use Rattle.xa_links.specs.Working.{cut_in}
 use Rattle.xa_links.specs.Steps.{Retires, RetiresAs, OfDomainAt}
 use Rattle.xa_links.specs.Standing.{IsOff, HasEnded, why_of}
+use Rattle.xa_desk.proofs.Leading.{leads_trans}
+use Rattle.xa_links.specs.Behind.{TellsLast, ToldAll}
+use Rattle.xa_links.proofs.Behind.{still_behind, leads_behind, push_behind, told_last}
 use Rattle.xa_links.proofs.Stepping.{off_steps, seen_steps, steps_trans, domain_steps}
 use Rattle.xa_links.proofs.Keeping.{OfLife, lives_off, failed_same, skip_map}
 use Rattle.xa_links.proofs.Lasting.{at_desk, number_of, starts_count, started_on}
@@ -46,12 +50,26 @@ server_some {d} {queue} {slot} {desk} serving =
     let some = some_number slot.server.0 desk.caller.work.setup.servers (λ configured. IsRuleOf configured slot.restarts.restart slot.restarts.maxgen slot.restarts.grace) serving.stands.tables.worker.rule in
     omega (arith, number, some)
 
+-- ---- whoever was told was told behind an end
+
+pub swept_last : {out : SweptOut} {old new : Desk} → Sweeps out old new → TellsLast old → TellsLast new
+swept_last {out} {old} {new} sweeps = push_behind old new ⊤ (record { stamp = sweeps.stamp; event = Sweep (record { request = out.request; queue = sweeps.queue }) }) (ap (λ (c : Caller). c.work.own) sweeps.noted) (ap (λ (c : Caller). c.seat) sweeps.noted) tt
+
+pub seen_last : (old new : Desk) → Sees old.caller new.caller → TellsLast old → TellsLast new
+seen_last old new sees = still_behind old new ⊤ (ap (λ (c : Caller). c.work.own) sees.1) (ap (λ (c : Caller). c.seat) sees.1)
+
+pub domain_seat : {old new : Desk} → OfDomain old new → new.caller.seat ≡ old.caller.seat
+domain_seat of = ap (λ (c : Caller). c.seat) of.rest
+
 -- ---- as it leaves its queue
 
 only_gone : (slot slot' : ServerSlot) (b : Bool) → slot' ≡ record slot { gone = b } → slot' ≡ record slot { gone = slot'.gone }
 only_gone slot slot' b is = is ∙ ap (λ (x : Bool). record slot { gone = x }) (sym (ap (λ (s : ServerSlot). s.gone) is))
 
 module _ {d : Domain} {queue : ℕ} {slot slot' : ServerSlot} {old new : Desk} (leads : Leads d old new) (serving : IsServing d queue slot old) where
+  pub left_seat : (last : Bool) → LeavesAs d queue (Ok last) slot slot' old new → new.caller.seat ≡ old.caller.seat
+  left_seat last leaves = ap (λ (c : Caller). c.seat) leaves.1.2
+
   pub left_retires : (last : Bool) → LeavesAs d queue (Ok last) slot slot' old new → Retires d slot slot' old new
   left_retires last leaves = record {
     more = Gone slot.server ∷ [];
@@ -59,6 +77,7 @@ module _ {d : Domain} {queue : ℕ} {slot slot' : ServerSlot} {old new : Desk} (
     steps = off_steps leaves.1.0 (Gone slot.server) leads (number_of serving) leaves.1.2;
     slot_is = only_gone slot slot' true leaves.0;
     idle = ap (λ (c : Caller). c.phase) leaves.1.2 ∙ serving.idle;
+    told = λ told. leads_behind old new ⊤ leads (left_seat last leaves) told;
   }
 
   pub worn_retires : (worn : Worn) → LeavesAs d queue (Err worn) slot slot' old new → Retires d slot slot' old new
@@ -68,6 +87,7 @@ module _ {d : Domain} {queue : ℕ} {slot slot' : ServerSlot} {old new : Desk} (
     steps = seen_steps leads leaves.1.caller;
     slot_is = only_gone slot slot' slot.gone leaves.0;
     idle = ap (λ (c : Caller). c.phase) leaves.1.caller.1 ∙ serving.idle;
+    told = λ told. leads_behind old new ⊤ leads (ap (λ (c : Caller). c.seat) leaves.1.caller.1) told;
   }
 
   pub left_latest : (last : Bool) → LeavesAs d queue (Ok last) slot slot' old new → HasStamp new.caller.work.own new.caller.work.stamp
@@ -82,11 +102,15 @@ module _ {d : Domain} {queue : ℕ} {slot slot' : ServerSlot} {old new : Desk} (
       ap (is_gone slot.server.0) steps.own ∙ ap (λ (b : Bool). b || is_gone slot.server.0 (theirs old.caller.work)) (eq-eqb slot.server.0 slot.server.0 refl)
 
 -- and what comes behind that
-pub retires_on : {d : Domain} {slot slot' : ServerSlot} {a b c : Desk} → Retires d slot slot' a b → OfDomainAt d b c → Retires d slot slot' a c
-retires_on retires goes = record { more = retires.more; gone = retires.gone; steps = steps_trans retires.more [] retires.steps goes.steps; slot_is = retires.slot_is; idle = goes.idle ∙ retires.idle }
+pub retires_on : {d : Domain} {slot slot' : ServerSlot} {a b c : Desk} → Retires d slot slot' a b → OfDomainAt d b c → (ToldAll a → TellsLast c) → Retires d slot slot' a c
+retires_on retires goes told = record { more = retires.more; gone = retires.gone; steps = steps_trans retires.more [] retires.steps goes.steps; slot_is = retires.slot_is; idle = goes.idle ∙ retires.idle; told = told }
 
-pub retires_domain : {d : Domain} {slot slot' : ServerSlot} {a b c : Desk} → 0 < a.caller.work.id.0 → Retires d slot slot' a b → Leads d b c → OfDomain b c → Retires d slot slot' a c
-retires_domain some retires leads of = let same = ap (λ i. i.0) retires.steps.id in retires_on retires (domain_steps leads (omega (arith, same, some)) of)
+-- its queue was swept behind that
+pub retires_swept : {d : Domain} {slot slot' : ServerSlot} {a b c : Desk} → Retires d slot slot' a b → b.caller.seat ≡ a.caller.seat → OfDomainAt d b c → (TellsLast b → TellsLast c) → Retires d slot slot' a c
+retires_swept {d} {slot} {slot'} {a} {b} retires seat goes told = retires_on retires goes (λ all. told (told_last b (leads_behind a b ⊥ retires.steps.leads seat all)))
+
+pub retires_domain : {d : Domain} {slot slot' : ServerSlot} {a b c : Desk} → 0 < a.caller.work.id.0 → Retires d slot slot' a b → Leads d b c → OfDomain b c → c.caller.seat ≡ a.caller.seat → Retires d slot slot' a c
+retires_domain {d} {slot} {slot'} {a} {b} {c} some retires leads of seat = let same = ap (λ i. i.0) retires.steps.id in retires_on retires (domain_steps leads (omega (arith, same, some)) of) (λ told. leads_behind a c ⊤ (leads_trans d a b c retires.steps.leads leads) seat told)
 
 -- with its queue, which was cleared, taken down and swept
 pub swept_retires : {d : Domain} (queue : ℕ) {slot slot' : ServerSlot} {a b c e f : Desk} → 0 < a.caller.work.id.0 → Retires d slot slot' a b → is_gone slot.server.0 (theirs b.caller.work) ≡ true → Leads d b c → OfDomain b c → Leads d c e → OfDomain c e → OfDomainAt d e f
@@ -112,8 +136,8 @@ unfolding starts
 no_more_starts server s more own gone = skip_map (start_in server) more own (All-weaker (λ (e : Event). e ≡ Gone s.server) (λ (e : Event). start_in server e ≡ None) (λ e is. ap (start_in server) is) more gone)
 
 module _ {L T : Type 0} {d : Domain} {named : T → List ℕ} {shows : T → StarterShows} where
-  pub retired_ended : (w : ServerWorker L T) (slot' : ServerSlot) (desk' : Desk) (r : Result Unit Stopped) → IsOff d named shows w → Retires d w.served.slot slot' w.desk desk' → RetiresAs d w.queue.0 r w.served.slot desk' → HasEnded d named shows (why_of r) (at_desk w slot' desk')
-  retired_ended w slot' desk' r off retires result =
+  pub retired_ended : (w : ServerWorker L T) (slot' : ServerSlot) (desk' : Desk) (r : Result Unit Stopped) → IsOff d named shows w → ToldAll w.desk → Retires d w.served.slot slot' w.desk desk' → RetiresAs d w.queue.0 r w.served.slot desk' → HasEnded d named shows (why_of r) (at_desk w slot' desk')
+  retired_ended w slot' desk' r off told retires result =
       let slot : ServerSlot = w.served.slot in
       let s : ℕ = slot.server.0 in
       let own : List Event = theirs w.desk.caller.work in
@@ -128,6 +152,7 @@ module _ {L T : Type 0} {d : Domain} {named : T → List ℕ} {shows : T → Sta
       let shown : ServerShows d w.name w.queue.0 s desk' w.served.lives.items (cut_in w.cut) (shows w.served.starter) (why_of r ≡ None) = record {
         lives_are = ap (λ gs. map (λ over. over.life.generation) w.served.lives.items ++ gs) (ap cut_in off.at.cut) ∙ lived.are;
         so_far = inl started;
+        told = retires.told told;
         none_cut = λ whole. ap cut_in off.at.cut;
         lived = λ whole. lived.each;
         started = λ whole. started;

@@ -1,3 +1,4 @@
+pub mod Behind
 pub mod Stepping
 pub mod Keeping
 pub mod Lasting

@@ -4,6 +4,9 @@ use Rattle.std.specs.List.{All}
 use Rattle.std.proofs.lemmas.List.Elements.{All-nil}
 use Rattle.xa_events.specs.declared.event.Event.{Event}
 use Rattle.xa_events.specs.Caller.{ticks, tick_floor}
+use Rattle.xa_events.specs.Local.{worker_events}
+use Rattle.xa_stamp.specs.declared.home.Stamped.{Stamped}
+use Rattle.xa_crew.specs.Seen.{past_in}
 use Rattle.xa_restart.specs.Rule.{Standing as Restarts, may_start_by}
 use Rattle.xa_work.specs.Work.{theirs}
 use Rattle.xa_pipe.specs.Standing.{Ending}
@@ -16,6 +19,7 @@ use Rattle.xa_links.specs.declared.working.ServerWorker.{ServerWorker}
 use Rattle.xa_links.specs.Lives.{failed_starts, lives_in, IsLived, ServerShows}
 use Rattle.xa_links.specs.Working.{MayServe, HasServed, cut_in}
 use Rattle.xa_links.specs.Standing.{Goes, HasLived, MayGoOn, HasEnded}
+use Rattle.xa_links.proofs.Behind.{first_told}
 use Rattle.xa_links.proofs.Lasting.{started_on}
 
 first_floor : (clients caller : ℕ) (own : List Event) → own ≡ [] → tick_floor clients caller own ≡ 0
@@ -24,6 +28,9 @@ first_floor clients caller own none = ap (tick_floor clients caller) none
 
 first_may : (r : Restarts) → r.starts ≡ [] → may_start_by r 0 ≡ true
 first_may r none = ap (λ (s : List ℕ). may_start_by (record r { starts = s }) 0) none
+
+none_noted : (clients caller : ℕ) (own : List Stamped) → own ≡ [] → worker_events clients caller (past_in own) ≡ []
+none_noted clients caller own none = ap (λ (l : List Stamped). worker_events clients caller (past_in l)) none
 
 -- why it stopped is noted
 pub goes_stopped : {L T : Type 0} {d : Domain} (old w : ServerWorker L T) (why : Option Stopped) → Goes d old w → Goes d old (record w { stopped = why })
@@ -34,13 +41,14 @@ module _ {L T : Type 0} {d : Domain} {named : T → List ℕ} {shows : T → Sta
   pub begins : (w : ServerWorker L T) → MayServe d named shows w → MayGoOn d named shows w
   begins w may =
       let own : List Event = theirs w.desk.caller.work in
+      let none : own ≡ [] = none_noted w.desk.caller.work.clients w.desk.caller.work.id.0 w.desk.caller.work.own may.own in
       let s : ℕ = w.served.slot.server.0 in
       let made : w.served.slot.made ≡ 0 = ap (λ (x : ServerSlot). x.made) may.fresh in
       let lived : HasLived d w.name w.queue.0 s w.served.slot.made w.desk [] [] = record {
-        are = sym (ap (lives_in s) may.own);
+        are = sym (ap (lives_in s) none);
         each = All-nil (IsLived d w.name w.queue.0 s w.desk);
         earlier = All-nil (λ (over : Ending). over.life.generation.0 + 0 ≤ w.served.slot.made);
-        unborn = λ g above. subst (All (λ (e : Event). is_of s g e ≡ false)) (sym {A = List Event} may.own) (All-nil (λ (e : Event). is_of s g e ≡ false));
+        unborn = λ g above. subst (All (λ (e : Event). is_of s g e ≡ false)) (sym {A = List Event} none) (All-nil (λ (e : Event). is_of s g e ≡ false));
       } in
       record {
         off = record {
@@ -48,11 +56,12 @@ module _ {L T : Type 0} {d : Domain} {named : T → List ℕ} {shows : T → Sta
             is = may.is;
             serving = may.serving;
             named_so = may.name_is;
-            started = started_on made (ap (failed_starts s) may.own) refl may.unasked;
+            started = started_on made (ap (failed_starts s) none) refl may.unasked;
             lived = subst (λ (l : List Ending). HasLived d w.name w.queue.0 s w.served.slot.made w.desk l []) (sym {A = List Ending} may.lives) lived;
-            floor = first_floor w.desk.caller.work.clients w.desk.caller.work.id.0 own may.own;
+            floor = first_floor w.desk.caller.work.clients w.desk.caller.work.id.0 own none;
             left = ap (λ (x : ServerSlot). x.gone) may.fresh;
             cut = may.cut;
+            told = first_told w.desk may.own may.is.filled;
           };
           off = ap (λ (x : ServerSlot). x.doing) may.fresh;
           up = ap (λ (x : ServerSlot). x.shut) may.fresh;

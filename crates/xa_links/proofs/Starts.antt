@@ -1,6 +1,6 @@
 -- A server is started.
 use Rattle.std.proofs.Common.{◌≡◌, ◌<◌, ◌≤◌, ◌⊎◌, ℕ, ◌+◌, ◌==◌, Bool, true, false, cond, List, [], ◌∷◌, ◌++◌, map, length, Option, Some, None, inl, inr, refl, sym, ◌∙◌, ap, subst, append-nil, add-one, arith, eq-eqb, if◌then◌else◌}
-use Rattle.std.specs.Prelude.{IfSome, reverse, vec_len, vec_capacity}
+use Rattle.std.specs.Prelude.{IfSome, ⊤, reverse, vec_len, vec_capacity}
 use Rattle.std.specs.List.{All, cons_option, filter_map}
 use Rattle.std.proofs.lemmas.List.{reverse-append}
 use Rattle.std.proofs.lemmas.List.Elements.{All-nil, All-cons, All-head, All-tail, All-weaker}
@@ -13,7 +13,7 @@ use Rattle.xa_events.specs.Words.{AtEach, count, greatest}
 use Rattle.xa_events.specs.Caller.{tick_in, ticks, tick_floor}
 use Rattle.xa_link.specs.Starts.{AsksFor}
 use Rattle.xa_link.specs.Told.{Rose}
-use Rattle.xa_work.specs.Work.{theirs}
+use Rattle.xa_work.specs.Work.{Standing as Working, theirs}
 use Rattle.xa_work.specs.declared.work.Halt.{Halt}
 use Rattle.xa_pipe.specs.declared.turn.Turn.TheVariants.{AwaitsReady}
 use Rattle.xa_pipe.specs.Frames.{is_take_in}
@@ -36,7 +36,9 @@ use Rattle.xa_links.specs.Lives.{generation_in, lives_in, failed_starts, starts_
 use Rattle.xa_links.specs.Working.{cut_in}
 use Rattle.xa_links.specs.Steps.{Steps}
 use Rattle.xa_links.specs.Standing.{Goes, brought_at, HasLived, IsAtWork, IsOff, IsIn, HasEnded}
-use Rattle.xa_links.proofs.Stepping.{noted_steps, halted_steps, halted_at}
+use Rattle.xa_links.specs.Behind.{ToldAll, ToldBy}
+use Rattle.xa_links.proofs.Behind.{still_behind, push_behind, start_calm, told_last}
+use Rattle.xa_links.proofs.Stepping.{noted_steps, halted_own, halted_steps, halted_at}
 use Rattle.xa_links.proofs.Keeping.{handed_more, lived_one, stops_none, skip_count}
 use Rattle.xa_links.proofs.Lasting.{number_of, lives_moved, started_on, halts, goes_by}
 
@@ -90,7 +92,7 @@ counts_none p own none = sym (ap (count p) (append-nil own)) ∙ skip_count p ow
 abbrev pub served_at : {L T : Type 0} → ServerWorker L T → Served L T → Desk → ServerWorker L T
 served_at w served desk = record w { desk = desk; served = served }
 
-module _ {L T : Type 0} {d : Domain} {named : T → List ℕ} {shows : T → StarterShows} (w : ServerWorker L T) (off : IsOff d named shows w) (served' : Served L T) (desk' : Desk) (leads : Leads d w.desk desk') (serving : IsServing d w.queue.0 served'.slot desk')
+module _ {L T : Type 0} {d : Domain} {named : T → List ℕ} {shows : T → StarterShows} (w : ServerWorker L T) (off : IsOff d named shows w) (served' : Served L T) (desk' : Desk) (leads : Leads d w.desk desk') (seat : desk'.caller.seat ≡ w.desk.caller.seat) (serving : IsServing d w.queue.0 served'.slot desk')
     (name : named served'.starter ≡ named w.served.starter) (lives : served'.lives.items ≡ w.served.lives.items) where
   -- lives that ended stay so behind an event that is of none
   ended_still : {more : List Event} → Steps d more w.desk desk' → ((g : ℕ) → All (λ (e : Event). is_of w.served.slot.server.0 g e ≡ false) more) → All (IsLived d w.name w.queue.0 w.served.slot.server.0 desk') served'.lives.items
@@ -99,8 +101,8 @@ module _ {L T : Type 0} {d : Domain} {named : T → List ℕ} {shows : T → Sta
       (All-weaker (IsLived d w.name w.queue.0 w.served.slot.server.0 w.desk) (IsLived d w.name w.queue.0 w.served.slot.server.0 desk') (λ over is. lived_one steps w.name w.queue.0 w.served.slot.server.0 over (number_of off.at.serving) (none over.life.generation.0) is) w.served.lives.items off.at.lived.each)
 
   work_behind : {more : List Event} {going : List Generation} {n f : ℕ} → Steps d more w.desk desk' → HasStarted w.name n f (shows served'.starter) → served'.slot.made ≡ n → failed_starts w.served.slot.server.0 (theirs desk'.caller.work) ≡ f → HasLived d w.name w.queue.0 w.served.slot.server.0 n desk' served'.lives.items going
-      → tick_floor w.desk.caller.work.clients w.desk.caller.work.id.0 (more ++ (theirs w.desk.caller.work)) ≡ 0 → served'.slot.server ≡ w.served.slot.server → served'.slot.gone ≡ w.served.slot.gone → IsAtWork d named shows (served_at w served' desk') going
-  work_behind steps started made failed lived floor same gone = record {
+      → tick_floor w.desk.caller.work.clients w.desk.caller.work.id.0 (more ++ (theirs w.desk.caller.work)) ≡ 0 → served'.slot.server ≡ w.served.slot.server → served'.slot.gone ≡ w.served.slot.gone → ToldBy going desk' → IsAtWork d named shows (served_at w served' desk') going
+  work_behind steps started made failed lived floor same gone told = record {
     is = leads.desk;
     serving = serving;
     named_so = name ∙ off.at.named_so;
@@ -109,6 +111,7 @@ module _ {L T : Type 0} {d : Domain} {named : T → List ℕ} {shows : T → Sta
     floor = ap (λ n. tick_floor n desk'.caller.work.id.0 (theirs desk'.caller.work)) steps.clients ∙ ap (λ i. tick_floor w.desk.caller.work.clients i.0 (theirs desk'.caller.work)) steps.id ∙ ap (tick_floor w.desk.caller.work.clients w.desk.caller.work.id.0) steps.own ∙ floor;
     left = gone ∙ off.at.left;
     cut = off.at.cut;
+    told = told;
   }
 
   -- ---- it starts
@@ -142,7 +145,8 @@ module _ {L T : Type 0} {d : Domain} {named : T → List ℕ} {shows : T → Sta
       (came_none w.served.slot.server.0 g (theirs desk'.caller.work) none)) in
       record {
         at = work_behind steps (started_more w.name w.served.slot.made (failed_starts w.served.slot.server.0 (theirs w.desk.caller.work)) (shows served'.starter) (shows w.served.starter) asks faults off.at.started) made (ap (failed_starts w.served.slot.server.0) steps.own) lived
-            (floor_start w.desk.caller.work.clients w.desk.caller.work.id.0 (Start b) (theirs w.desk.caller.work) (either _) off.at.floor) (ap (λ (s : ServerSlot). s.server) starts.left) (ap (λ (s : ServerSlot). s.gone) starts.left);
+            (floor_start w.desk.caller.work.clients w.desk.caller.work.id.0 (Start b) (theirs w.desk.caller.work) (either _) off.at.floor) (ap (λ (s : ServerSlot). s.server) starts.left) (ap (λ (s : ServerSlot). s.gone) starts.left)
+            (start_calm w.desk desk' (record { stamp = starts.stamp; event = Start b }) (ap (λ (v : Working). v.own) starts.noted.made) seat tt refl off.at.told);
         last = record {
           server = ap (λ (l : Life). l.server) begins.is ∙ ap (λ (s : ServerSlot). s.server) (sym starts.left);
           named = ap (λ (l : Life). l.name) begins.is;
@@ -167,25 +171,28 @@ module _ {L T : Type 0} {d : Domain} {named : T → List ℕ} {shows : T → Sta
   -- its start fails
 
   pub fails_off : FailsToStart 0 (next_life w.served.slot) served'.slot w.served.slot desk'.caller.work w.desk.caller.work → AsksFor (shows w.served.starter).asked (shows served'.starter).asked w.name (next_life w.served.slot) → Rose (shows w.served.starter).faults (shows served'.starter).faults
-      → IsOff d named shows (served_at w served' desk')
+      → IsOff d named shows (served_at w served' desk') × ToldAll desk'
   fails_off fails asks rose =
       let b : Started = record { server = w.served.slot.server; generation = next_life w.served.slot; tick = 0 } in
       let steps : Steps d (StartFailed b ∷ []) w.desk desk' = noted_steps fails.stamp (StartFailed b) _ leads (number_of off.at.serving) fails.noted in
       let g : ℕ = w.served.slot.made + 1 in
       let here : (b.server.0 == w.served.slot.server.0) ≡ true = eq-eqb w.served.slot.server.0 w.served.slot.server.0 refl in
-      record {
-        at = work_behind {going = []} steps (failed_more w.name w.served.slot.made (failed_starts w.served.slot.server.0 (theirs w.desk.caller.work)) (shows served'.starter) (shows w.served.starter) asks rose off.at.started) (ap (λ (s : ServerSlot). s.made) fails.left)
-            (ap (failed_starts w.served.slot.server.0) steps.own ∙ ap (λ (y : Bool). cond y (failed_starts w.served.slot.server.0 (theirs w.desk.caller.work) + 1) (failed_starts w.served.slot.server.0 (theirs w.desk.caller.work))) here)
-            (record {
-              are = ap (λ (l : List Ending). map (λ (over : Ending). over.life.generation) l ++ []) lives ∙ off.at.lived.are ∙ ap (lives_in w.served.slot.server.0) (sym steps.own);
-              each = ended_still steps (λ h. All-cons (λ (e : Event). is_of w.served.slot.server.0 h e ≡ false) (StartFailed b) [] refl (All-nil (λ (e : Event). is_of w.served.slot.server.0 h e ≡ false)));
-              earlier = subst (All (λ (over : Ending). over.life.generation.0 + 0 ≤ g)) (sym {A = List Ending} lives) (All-weaker (λ (over : Ending). over.life.generation.0 + 0 ≤ w.served.slot.made) (λ (over : Ending). over.life.generation.0 + 0 ≤ g) (λ over low. omega (arith, low)) w.served.lives.items off.at.lived.earlier);
-              unborn = λ h above. subst (All (λ (e : Event). is_of w.served.slot.server.0 h e ≡ false)) (sym {A = List Event} steps.own) (All-cons (λ (e : Event). is_of w.served.slot.server.0 h e ≡ false) (StartFailed b) (theirs w.desk.caller.work) refl (off.at.lived.unborn h (omega (arith, above))));
-            })
-            (floor_start w.desk.caller.work.clients w.desk.caller.work.id.0 (StartFailed b) (theirs w.desk.caller.work) (either _) off.at.floor) (ap (λ (s : ServerSlot). s.server) fails.left) (ap (λ (s : ServerSlot). s.gone) fails.left);
-        off = ap (λ (s : ServerSlot). s.doing) fails.left ∙ off.off;
-        up = ap (λ (s : ServerSlot). s.shut) fails.left ∙ off.up;
-      }
+      let told : ToldAll desk' = push_behind w.desk desk' ⊥ (record { stamp = fails.stamp; event = StartFailed b }) (ap (λ (v : Working). v.own) fails.noted.made) seat tt off.at.told in (
+        record {
+          at = work_behind {going = []} steps (failed_more w.name w.served.slot.made (failed_starts w.served.slot.server.0 (theirs w.desk.caller.work)) (shows served'.starter) (shows w.served.starter) asks rose off.at.started) (ap (λ (s : ServerSlot). s.made) fails.left)
+              (ap (failed_starts w.served.slot.server.0) steps.own ∙ ap (λ (y : Bool). cond y (failed_starts w.served.slot.server.0 (theirs w.desk.caller.work) + 1) (failed_starts w.served.slot.server.0 (theirs w.desk.caller.work))) here)
+              (record {
+                are = ap (λ (l : List Ending). map (λ (over : Ending). over.life.generation) l ++ []) lives ∙ off.at.lived.are ∙ ap (lives_in w.served.slot.server.0) (sym steps.own);
+                each = ended_still steps (λ h. All-cons (λ (e : Event). is_of w.served.slot.server.0 h e ≡ false) (StartFailed b) [] refl (All-nil (λ (e : Event). is_of w.served.slot.server.0 h e ≡ false)));
+                earlier = subst (All (λ (over : Ending). over.life.generation.0 + 0 ≤ g)) (sym {A = List Ending} lives) (All-weaker (λ (over : Ending). over.life.generation.0 + 0 ≤ w.served.slot.made) (λ (over : Ending). over.life.generation.0 + 0 ≤ g) (λ over low. omega (arith, low)) w.served.lives.items off.at.lived.earlier);
+                unborn = λ h above. subst (All (λ (e : Event). is_of w.served.slot.server.0 h e ≡ false)) (sym {A = List Event} steps.own) (All-cons (λ (e : Event). is_of w.served.slot.server.0 h e ≡ false) (StartFailed b) (theirs w.desk.caller.work) refl (off.at.lived.unborn h (omega (arith, above))));
+              })
+              (floor_start w.desk.caller.work.clients w.desk.caller.work.id.0 (StartFailed b) (theirs w.desk.caller.work) (either _) off.at.floor) (ap (λ (s : ServerSlot). s.server) fails.left) (ap (λ (s : ServerSlot). s.gone) fails.left) (told_last desk' told);
+          off = ap (λ (s : ServerSlot). s.doing) fails.left ∙ off.off;
+          up = ap (λ (s : ServerSlot). s.shut) fails.left ∙ off.up;
+        },
+        told,
+      )
 
   -- or the worker halts
 
@@ -196,7 +203,7 @@ module _ {L T : Type 0} {d : Domain} {named : T → List ℕ} {shows : T → Sta
       (ap (λ (l : List Ending). map (λ (over : Ending). over.life.generation) l ++ cut_in w.cut) lives ∙ ap (λ (gs : List Generation). map (λ (over : Ending). over.life.generation) w.served.lives.items ++ gs) (ap cut_in off.at.cut) ∙ off.at.lived.are
       ∙ sym (ap (λ (s : ServerSlot). lives_in s.server.0 (theirs desk'.caller.work)) same ∙ ap (lives_in w.served.slot.server.0) own_same))
       (subst (λ (s : ServerSlot). HasStartedSoFar w.name s.made (failed_starts s.server.0 (theirs desk'.caller.work)) (shows served'.starter)) (sym same) (subst (λ (l : List Event). HasStartedSoFar w.name w.served.slot.made (failed_starts w.served.slot.server.0 l) (shows served'.starter)) (sym {A = List Event} own_same) so_far))
-      (halted_at w.desk desk' n halt noted)
+      (still_behind w.desk desk' ⊤ (halted_own w.desk desk' n halt noted) seat off.at.told) (halted_at w.desk desk' n halt noted)
 
   pub start_halts : (halt : Halt) → served'.slot ≡ w.served.slot → Halts w.name (next_life w.served.slot) (shows served'.starter) (shows w.served.starter) desk'.caller.work w.desk.caller.work halt → HasEnded d named shows (Some (Here halt)) (served_at w served' desk')
   start_halts halt same (inl unasked) = halts_with 3 halt same (subst (HaltsWith 3 desk'.caller.work w.desk.caller.work) (sym unasked.starved) unasked.noted) (inl (started_on refl refl unasked.starter off.at.started))

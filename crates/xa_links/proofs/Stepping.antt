@@ -64,6 +64,11 @@ pub halted_at : (old new : Desk) (n : ℕ) (halt : Halt) → HaltsWith n new.cal
 halted_at old new n NoMemory same = tt
 halted_at old new n (WornOut last) worn = (worn.2, ap (λ (w : Working). w.stamp.0) worn.0 ∙ worn.1)
 
+-- nothing was noted then
+pub halted_own : (old new : Desk) (n : ℕ) (halt : Halt) → HaltsWith n new.caller.work old.caller.work halt → new.caller.work.own ≡ old.caller.work.own
+halted_own old new n NoMemory same = ap (λ (w : Working). w.own) same
+halted_own old new n (WornOut last) worn = ap (λ (w : Working). w.own) worn.0
+
 module _ {d : Domain} where
   -- ---- the worker's own events
 
@@ -114,20 +119,20 @@ module _ {d : Domain} where
         idle = ap (λ (c : Caller). c.phase) of.rest;
       }
 
-  pub told_steps : {old new : Desk} → Tells d old new → Steps d [] old new
-  told_steps {old} tells = still_steps tells.leads (ap (λ (desk : Desk). desk.caller.work.id) tells.rest) (ap (λ (desk : Desk). desk.caller.work.clients) tells.rest) (ap (λ (desk : Desk). desk.caller.work.own) tells.rest)
+  pub told_steps : {told : Option Told} {old new : Desk} → Tells d told old new → Steps d [] old new
+  told_steps {told} {old} tells = still_steps tells.leads (ap (λ (desk : Desk). desk.caller.work.id) tells.rest) (ap (λ (desk : Desk). desk.caller.work.clients) tells.rest) (ap (λ (desk : Desk). desk.caller.work.own) tells.rest)
 
   -- nothing was noted at a halt
   pub halted_steps : {old new : Desk} (n : ℕ) (halt : Halt) → Leads d old new → HaltsWith n new.caller.work old.caller.work halt → Steps d [] old new
-  halted_steps n NoMemory leads same = still_steps leads (ap (λ (w : Working). w.id) same) (ap (λ (w : Working). w.clients) same) (ap (λ (w : Working). w.own) same)
-  halted_steps n (WornOut last) leads worn = still_steps leads (ap (λ (w : Working). w.id) worn.0) (ap (λ (w : Working). w.clients) worn.0) (ap (λ (w : Working). w.own) worn.0)
+  halted_steps {old} {new} n NoMemory leads same = still_steps leads (ap (λ (w : Working). w.id) same) (ap (λ (w : Working). w.clients) same) (halted_own old new n NoMemory same)
+  halted_steps {old} {new} n (WornOut last) leads worn = still_steps leads (ap (λ (w : Working). w.id) worn.0) (ap (λ (w : Working). w.clients) worn.0) (halted_own old new n (WornOut last) worn)
 
   pub still_serves : {queue : ℕ} {slot slot' : ServerSlot} {old new : Desk} → Steps d [] old new → IsServing d queue slot' new → slot' ≡ slot → Serves d queue [] slot slot' old new
   still_serves steps serving same = record { steps = steps; serving = serving; server = ap (λ (s : ServerSlot). s.server) same; made = ap (λ (s : ServerSlot). s.made) same; gone = ap (λ (s : ServerSlot). s.gone) same }
 
   -- what the worker of a server has goes on as somebody is told
-  pub serving_told : {queue : ℕ} {slot : ServerSlot} {old new : Desk} → Tells d old new → IsServing d queue slot old → IsServing d queue slot new
-  serving_told {queue} {slot} {old} {new} tells is = subst (IsServing d queue slot) (sym tells.rest) (record { stands = is.stands; idle = is.idle; its = is.its; some = is.some; least = is.least; left = is.left; hand = taken slot.hand is.hand })
+  pub serving_told : {queue : ℕ} {slot : ServerSlot} {told : Option Told} {old new : Desk} → Tells d told old new → IsServing d queue slot old → IsServing d queue slot new
+  serving_told {queue} {slot} {told} {old} {new} tells is = subst (IsServing d queue slot) (sym tells.rest) (record { stands = is.stands; idle = is.idle; its = is.its; some = is.some; least = is.least; left = is.left; hand = taken slot.hand is.hand })
     where
       taken : (hand : Option (Entry Cargo)) → IfSome hand (IsTaken d queue old) → IfSome hand (IsTaken d queue (record old { caller = record old.caller { seat = new.caller.seat } }))
       taken None has = tt
@@ -166,7 +171,7 @@ module _ {d : Domain} where
   pub domain_trans : {a b c : Desk} → OfDomainAt d a b → OfDomainAt d b c → OfDomainAt d a c
   domain_trans ab bc = record { steps = steps_trans [] [] ab.steps bc.steps; idle = bc.idle ∙ ab.idle }
 
-  pub domain_tells : {a b : Desk} → Tells d a b → OfDomainAt d a b
+  pub domain_tells : {told : Option Told} {a b : Desk} → Tells d told a b → OfDomainAt d a b
   domain_tells tells = record { steps = told_steps tells; idle = ap (λ (desk : Desk). desk.caller.phase) tells.rest }
 
   pub domain_none : {desk : Desk} → Leads d desk desk → OfDomainAt d desk desk
@@ -178,22 +183,22 @@ module _ {d : Domain} where
   pub id_kept : {a b : Desk} → OfDomainAt d a b → 0 < a.caller.work.id.0 → 0 < b.caller.work.id.0
   id_kept goes some = let same = ap (λ i. i.0) goes.steps.id in omega (arith, same, some)
 
-  pub fallen_told : (queue : ℕ) {a b : Desk} → Tells d a b → IsFallen queue a → IsFallen queue b
-  fallen_told queue {a} {b} tells is = let same : queue_page b queue ≡ queue_page a queue = ap (λ (desk : Desk). queue_page desk queue) tells.rest in subst (λ page. is_down_in queue page.seen ≡ true) (sym same) is
+  pub fallen_told : (queue : ℕ) {told : Option Told} {a b : Desk} → Tells d told a b → IsFallen queue a → IsFallen queue b
+  fallen_told queue {told} {a} {b} tells is = let same : queue_page b queue ≡ queue_page a queue = ap (λ (desk : Desk). queue_page desk queue) tells.rest in subst (λ page. is_down_in queue page.seen ≡ true) (sym same) is
 
   -- ---- taking
 
   module _ {queue : ℕ} where
     pub waits_none : {slot : ServerSlot} {desk : Desk} → Leads d desk desk → IsServing d queue slot desk → Waits d queue slot slot desk desk
-    waits_none leads serving = record { serves = record { steps = record { leads = leads; id = refl; clients = refl; own = refl }; serving = serving; server = refl; made = refl; gone = refl }; same = refl }
+    waits_none leads serving = record { serves = record { steps = record { leads = leads; id = refl; clients = refl; own = refl }; serving = serving; server = refl; made = refl; gone = refl }; same = refl; noted = refl; seat = refl }
 
-    waits_same : {slot slot' : ServerSlot} {old new : Desk} → slot' ≡ slot → Steps d [] old new → IsServing d queue slot' new → Waits d queue slot slot' old new
-    waits_same same steps serving = record { serves = still_serves steps serving same; same = same }
+    waits_same : {slot slot' : ServerSlot} {old new : Desk} → slot' ≡ slot → Leads d old new → Sees old.caller new.caller → IsServing d queue slot' new → Waits d queue slot slot' old new
+    waits_same same leads sees serving = record { serves = still_serves (seen_steps leads sees) serving same; same = same; noted = ap (λ (c : Caller). c.work.own) sees.1; seat = ap (λ (c : Caller). c.seat) sees.1 }
 
     -- what a take comes to
     took_from : {slot slot' : ServerSlot} {old new : Desk} (took : Took) → Leads d old new → IsServing d queue slot old → IsServing d queue slot' new → TakesAs d queue (Ok took) slot slot' old new → TakesFrom d queue (Ok took) slot slot' old new
-    took_from takes.Nothing leads was serving (same, sees) = waits_same same (seen_steps leads sees) serving
-    took_from takes.Closed leads was serving (same, sees, shut) = (waits_same same (seen_steps leads sees) serving, shut)
+    took_from takes.Nothing leads was serving (same, sees) = waits_same same leads sees serving
+    took_from takes.Closed leads was serving (same, sees, shut) = (waits_same same leads sees serving, shut)
     took_from {slot} {slot'} {old} takes.Request leads was serving (entry, stamp, k, is, later, caller) =
         let t : Taken = record { request = entry.request; server = slot.server; generation = life_in slot.doing; k = k } in
         record {
@@ -211,6 +216,9 @@ module _ {d : Domain} where
           request = refl;
           server = refl;
           generation = refl;
+          stamp = stamp;
+          noted = ap (λ (c : Caller). c.work.own) caller;
+          seat = ap (λ (c : Caller). c.seat) caller;
         }
 
     pub takes_from : {slot slot' : ServerSlot} {old new : Desk} (r : Result Took Worn) (took : Took) → r ≡ Ok took → Leads d old new → IsServing d queue slot old → IsServing d queue slot' new → TakesAs d queue r slot slot' old new → TakesFrom d queue (Ok took) slot slot' old new
@@ -219,11 +227,11 @@ module _ {d : Domain} where
     pub takes_worn : {slot slot' : ServerSlot} {old new : Desk} (r : Result Took Worn) (worn : Worn) (stopped : Stopped) → r ≡ Err worn → stopped ≡ stop_by worn → Leads d old new → IsServing d queue slot' new → TakesAs d queue r slot slot' old new → TakesFrom d queue (Err stopped) slot slot' old new
     takes_worn {slot} {slot'} {old} {new} r worn stopped is by leads serving taken =
         let end = subst (λ x. TakesAs d queue x slot slot' old new) is taken in
-        (waits_same end.0 (seen_steps leads end.1.caller) serving, subst (IsStopAt new) (sym by) (end.1.last, end.1.at))
+        (waits_same end.0 leads end.1.caller serving, subst (IsStopAt new) (sym by) (end.1.last, end.1.at))
 
     -- what comes behind a wait
     waits_trans : {p q r : ServerSlot} {a b c : Desk} → Waits d queue p q a b → Waits d queue q r b c → Waits d queue p r a c
-    waits_trans ab bc = record { serves = serves_trans [] [] ab.serves bc.serves; same = bc.same ∙ ab.same }
+    waits_trans ab bc = record { serves = serves_trans [] [] ab.serves bc.serves; same = bc.same ∙ ab.same; noted = bc.noted ∙ ab.noted; seat = bc.seat ∙ ab.seat }
 
     pub waits_takes : {p q : ServerSlot} (r : ServerSlot) {a b : Desk} (c : Desk) (took : Result Took Stopped) → Waits d queue p q a b → TakesFrom d queue took q r b c → TakesFrom d queue took p r a c
     waits_takes r c (Ok takes.Request) ab bc = record {
@@ -235,6 +243,9 @@ module _ {d : Domain} where
       request = bc.request;
       server = bc.server ∙ ab.serves.server;
       generation = bc.generation ∙ ap (λ (s : ServerSlot). life_in s.doing) ab.same;
+      stamp = bc.stamp;
+      noted = bc.noted ∙ ap (λ (l : List Stamped). l ++ record { stamp = bc.stamp; event = Take bc.t } ∷ []) ab.noted;
+      seat = bc.seat ∙ ab.seat;
     }
     waits_takes r c (Ok takes.Nothing) ab bc = waits_trans ab bc
     waits_takes r c (Ok takes.Closed) ab bc = (waits_trans ab bc.0, bc.1)

@@ -1,3 +1,4 @@
+pub mod Behind
 pub mod Lives
 pub mod Working
 pub mod Steps

@@ -30,6 +30,7 @@ use Rattle.xa_desk.specs.Whole.{Whole, entries_of}
 use Rattle.xa_desk.specs.Desks.{GoesOn, queue_page}
 use Rattle.xa_desk.specs.Found.{SawAtQueue}
 use Rattle.xa_desk.specs.Serving.{LeftOthers, IsSwept}
+use Rattle.xa_links.specs.Behind.{TellsLast}
 
 -- ---- its starts
 
@@ -96,11 +97,12 @@ abbrev pub IsDone : Domain → ℕ → ℕ → Desk → Type 0
 IsDone d queue server desk = ((was_shut_down server (theirs desk.caller.work) ≡ true) × SawAtQueue d queue desk (IsShut d.setup queue))
     ⊎ ((is_gone server (theirs desk.caller.work) ≡ true) × (SawAtQueue d queue desk (LeftOthers d queue server) ⊎ SawAtQueue d queue desk (IsSwept d queue)))
 
--- all that the worker shows of its server in the end: which lives there were, and how often its starter was asked; where it came to its end, also how
--- each life went, and how the server was done
+-- all that the worker shows of its server in the end: which lives there were, how often its starter was asked, and that whoever was told was told
+-- behind the end of a life; where it came to its end, also how each life went, and how the server was done
 pub record ServerShows (d : Domain) (name : List ℕ) (queue server : ℕ) (desk : Desk) (lives : List Ending) (cut : List Generation) (shown : StarterShows) (Whole : Type 0) : Type 0 where
   pub lives_are : map (λ (over : Ending). over.life.generation) lives ++ cut ≡ lives_in server (theirs desk.caller.work)
   pub so_far : HasStartedSoFar name (length (starts server (theirs desk.caller.work))) (failed_starts server (theirs desk.caller.work)) shown
+  pub told : TellsLast desk
   pub none_cut : Whole → cut ≡ []
   pub lived : Whole → All (IsLived d name queue server desk) lives
   pub started : Whole → HasStarted name (length (starts server (theirs desk.caller.work))) (failed_starts server (theirs desk.caller.work)) shown

@@ -42,6 +42,7 @@ use Rattle.xa_links.specs.declared.working.ServerWorker.{ServerWorker}
 use Rattle.xa_desk.specs.Halting.{IsStopAt}
 use Rattle.xa_links.specs.Lives.{lives_in, failed_starts, HasStarted, IsHanded, IsLived, ServerShows}
 use Rattle.xa_links.specs.Steps.{IsToldOf}
+use Rattle.xa_links.specs.Behind.{ToldAll, ToldBy}
 use Rattle.xa_links.specs.Working.{cut_in}
 
 -- ---- lives
@@ -100,6 +101,7 @@ module _ {L T : Type 0} (d : Domain) (named : T → List ℕ) (shows : T → Sta
     pub floor : tick_floor w.desk.caller.work.clients w.desk.caller.work.id.0 (theirs w.desk.caller.work) ≡ 0
     pub left : w.served.slot.gone ≡ false
     pub cut : w.cut ≡ None
+    pub told : ToldBy going w.desk
 
   -- the server is off, and wasn't shut down
   pub record IsOff (w : ServerWorker L T) : Type 0 where
@@ -165,9 +167,9 @@ module _ {L T : Type 0} (d : Domain) (named : T → List ℕ) (shows : T → Sta
 
   -- ---- what steps of it leave
 
-  -- the life is over, and somebody may be to be told
+  -- the life is over, and somebody may be to be told; nobody was told of its end yet
   abbrev pub OverWith : Option Told → ServerWorker L T → Type 0
-  OverWith told w = IsOff w × IfSome told (IsToldOf d w.desk)
+  OverWith told w = IsOff w × IfSome told (IsToldOf d w.desk) × ToldAll w.desk
 
   abbrev pub ExchangedAs : Exchanged L → ServerWorker L T → Type 0
   ExchangedAs (exchanges.Going life) w = IsFree life w

@@ -4,6 +4,7 @@ use Rattle.std.specs.List.{All}
 use Rattle.xa_types.specs.declared.call.Rval.{Rval}
 use Rattle.xa_types.specs.declared.call.Rval.TheVariants.{Exit}
 use Rattle.xa_types.specs.declared.ids.RequestId.{RequestId}
+use Rattle.xa_types.specs.declared.stamp.Stamp.{Stamp}
 use Rattle.xa_types.specs.declared.stamp.Worn.{Worn}
 use Rattle.xa_events.specs.declared.event.Event.{Event}
 use Rattle.xa_events.specs.declared.event.Event.TheVariants.{Take, Gone}
@@ -18,7 +19,14 @@ use Rattle.xa_caller.specs.declared.phase.Phase.TheVariants.{Idle}
 use Rattle.xa_caller.specs.Drafts.{Cargo}
 use Rattle.xa_server.specs.declared.slot.ServerSlot.{ServerSlot}
 use Rattle.xa_server.specs.declared.closing.Closing.{Closing}
+use Rattle.xa_stamp.specs.Home.{last_stamp}
+use Rattle.xa_crew.specs.Crew.{no_stamp}
+use Rattle.xa_cell.specs.declared.view.View.{View}
+use Rattle.xa_cell.specs.Known.{known}
+use Rattle.xa_caller.specs.declared.cargo.Filling.{Filling}
+use Rattle.xa_server.specs.declared.closing.Given.{Given}
 use Rattle.xa_server.specs.Doings.{life_in}
+use Rattle.xa_server.specs.Told.{GivenAs}
 use Rattle.xa_desk.specs.declared.domain.Domain.{Domain}
 use Rattle.xa_desk.specs.declared.desk.Desk.{Desk}
 use Rattle.xa_desk.specs.declared.serving.Took.{Took}
@@ -30,6 +38,7 @@ use Rattle.xa_desk.specs.Found.{SawAtQueue}
 use Rattle.xa_desk.specs.Serving.{IsServing, IsToTell, LeftOthers, IsSwept}
 use Rattle.xa_links.specs.declared.telling.Told.{Told}
 use Rattle.xa_desk.specs.Halting.{IsStopAt}
+use Rattle.xa_links.specs.Behind.{TellsLast, ToldAll}
 
 -- the worker went on, and noted these events of its own
 pub record Steps (d : Domain) (more : List Event) (old new : Desk) : Type 0 where
@@ -51,10 +60,16 @@ pub record Serves (d : Domain) (queue : ℕ) (more : List Event) (slot slot' : S
 abbrev pub IsToldOf : Domain → Desk → Told → Type 0
 IsToldOf d desk told = IsToTell d desk told.closing
 
+-- the answer went where it may, with the stamp of the worker's last event; where nobody is to be told the seat made no filling
+abbrev pub GivenBy : Option Told → Desk → View Filling → Type 0
+GivenBy (Some told) old after = (became : Given) × GivenAs told.closing (record { 0 = last_stamp no_stamp old.caller.work.own }) (known old.caller.seat) after became
+GivenBy None old after = after ≡ known old.caller.seat
+
 -- a caller was told, or none
-pub record Tells (d : Domain) (old new : Desk) : Type 0 where
+pub record Tells (d : Domain) (told : Option Told) (old new : Desk) : Type 0 where
   pub leads : Leads d old new
   pub rest : new ≡ record old { caller = record old.caller { seat = new.caller.seat } }
+  pub given : GivenBy told old (known new.caller.seat)
 
 -- where there is a ticket, somebody is to be told
 abbrev pub HasAsker : Option RequestId → Closing → Type 0
@@ -73,11 +88,16 @@ pub record Takes (d : Domain) (queue : ℕ) (slot slot' : ServerSlot) (old new :
   pub request : t.request ≡ entry.request
   pub server : t.server ≡ slot.server
   pub generation : t.generation ≡ life_in slot.doing
+  pub stamp : Stamp
+  pub noted : new.caller.work.own ≡ old.caller.work.own ++ record { stamp = stamp; event = Take t } ∷ []
+  pub seat : new.caller.seat ≡ old.caller.seat
 
 -- none was
 pub record Waits (d : Domain) (queue : ℕ) (slot slot' : ServerSlot) (old new : Desk) : Type 0 where
   pub serves : Serves d queue [] slot slot' old new
   pub same : slot' ≡ slot
+  pub noted : new.caller.work.own ≡ old.caller.work.own
+  pub seat : new.caller.seat ≡ old.caller.seat
 
 abbrev pub TakesFrom : Domain → ℕ → Result Took Stopped → ServerSlot → ServerSlot → Desk → Desk → Type 0
 TakesFrom d queue (Ok takes.Request) slot slot' old new = Takes d queue slot slot' old new
@@ -110,6 +130,7 @@ pub record Retires (d : Domain) (slot slot' : ServerSlot) (old new : Desk) : Typ
   pub steps : Steps d more old new
   pub slot_is : slot' ≡ record slot { gone = slot'.gone }
   pub idle : new.caller.phase ≡ Idle
+  pub told : ToldAll old → TellsLast new
 
 abbrev pub RetiresAs : Domain → ℕ → Result Unit Stopped → ServerSlot → Desk → Type 0
 RetiresAs d queue (Ok none) slot new = (is_gone slot.server.0 (theirs new.caller.work) ≡ true) × (SawAtQueue d queue new (LeftOthers d queue slot.server.0) ⊎ SawAtQueue d queue new (IsSwept d queue))

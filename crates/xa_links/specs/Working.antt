@@ -2,7 +2,6 @@
 use Rattle.std.specs.Prelude.{◌≡◌, ℕ, List, [], ◌∷◌, Option, Some, None, IfSome}
 use Rattle.xa_types.specs.declared.ids.Generation.{Generation}
 use Rattle.xa_restart.specs.Rule.{Standing as Restarts}
-use Rattle.xa_work.specs.Work.{theirs}
 use Rattle.xa_caller.specs.declared.phase.Phase.TheVariants.{Idle}
 use Rattle.xa_server.specs.Changes.{new_slot}
 use Rattle.xa_server.specs.Served.{StarterShows}
@@ -26,7 +25,7 @@ module _ {L T : Type 0} (d : Domain) (named : T → List ℕ) (shows : T → Sta
     pub restarts : Restarts
     pub fresh : worker.served.slot ≡ new_slot worker.served.slot.server restarts
     pub none : restarts.starts ≡ []
-    pub own : theirs worker.desk.caller.work ≡ []
+    pub own : worker.desk.caller.work.own ≡ []
     pub lives : worker.served.lives.items ≡ []
     pub cut : worker.cut ≡ None
     pub stopped : worker.stopped ≡ None

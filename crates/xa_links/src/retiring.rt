@@ -5,6 +5,7 @@ ghost use Rattle.xa_desk.specs.Desks.{IsDomain, IsDesk};
 ghost use Rattle.xa_desk.specs.Found.{SawAtQueue};
 ghost use Rattle.xa_desk.specs.Serving.{IsServing, IsFallen, IsSwept};
 ghost use Rattle.xa_desk.specs.Halting.{IsStopAt};
+ghost use Rattle.xa_links.specs.Behind.{TellsLast};
 ghost use Rattle.xa_links.specs.Steps.{Steps, Retires, RetiresAs, OfDomainAt};
 
 use crate::taking::stop_by;
@@ -34,6 +35,7 @@ fn sweep<W: Wait, G: Gate>(
     ensures goes { OfDomainAt domain.now desk.old desk.new }
     ensures swept { OnOk result (SawAtQueue domain.now queue.0 desk.new (IsSwept domain.now queue.0)) }
     ensures stopped { IfErr result (IsStopAt desk.new) }
+    ensures told { TellsLast desk.old → TellsLast desk.new }
 {
     for _ in rt.forever() {
         match desk.sweep(rt, domain, slot, queue) {

@@ -1,5 +1,5 @@
 // A request that ended, and its caller.
-ghost use Rattle.std.specs.Prelude.{◌≡◌, IfSome};
+ghost use Rattle.std.specs.Prelude.{◌≡◌, Some, IfSome};
 ghost use Rattle.xa_desk.specs.Desks.{IsDomain, IsDesk};
 ghost use Rattle.xa_links.specs.Steps.{IsToldOf, Tells, HasAsker};
 
@@ -40,7 +40,7 @@ pub(crate) fn tell<G: Gate>(domain: &Domain, desk: &mut Desk, gate: &G, told: To
     requires domain { IsDomain domain.now }
     requires desk { IsDesk domain.now desk.old }
     requires told { IsToldOf domain.now desk.old told }
-    ensures { Tells domain.now desk.old desk.new }
+    ensures { Tells domain.now (Some told) desk.old desk.new }
 {
     let Told { request, closing } = told;
     let _given = desk.give(domain, closing);
@@ -53,7 +53,7 @@ pub(crate) fn tell_if<G: Gate>(domain: &Domain, desk: &mut Desk, gate: &G, told:
     requires domain { IsDomain domain.now }
     requires desk { IsDesk domain.now desk.old }
     requires told { IfSome told (IsToldOf domain.now desk.old) }
-    ensures { Tells domain.now desk.old desk.new }
+    ensures { Tells domain.now told desk.old desk.new }
 {
     match told {
         Some(told) => tell(domain, desk, gate, told),

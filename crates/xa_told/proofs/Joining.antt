@@ -34,7 +34,7 @@ taken_in : Seat Filling → ℕ → List (Fill Filling)
 taken_in seat k = (at k (known seat)).taken
 
 -- what holds of what all seats have, each has
-each_seat : (f : Part Filling → List (Fill Filling)) (Q : Fill Filling → Type 0) (k : ℕ) (seats : List (Seat Filling)) (fill : Fill Filling) (seat : Seat Filling)
+pub each_seat : (f : Part Filling → List (Fill Filling)) (Q : Fill Filling → Type 0) (k : ℕ) (seats : List (Seat Filling)) (fill : Fill Filling) (seat : Seat Filling)
     → All Q (flat_map f (parts_of k seats)) → Contains seats seat → Contains (f (at k (known seat))) fill → Q fill
 each_seat f Q k seats fill seat all among here = All-contains Q (f (at k (known seat))) fill (All-contains (λ s. All Q (f (at k (known s)))) seats seat (split seats all) among) here
   where
@@ -47,7 +47,7 @@ each_seat f Q k seats fill seat all among here = All-contains Q (f (at k (known 
     split (s ∷ ss) all = let both = front (f (at k (known s))) (flat_map f (parts_of k ss)) all in All-cons (λ s. All Q (f (at k (known s)))) s ss both.0 (split ss both.1)
 
 -- what holds of what each seat has, holds of what all have
-all_seats : (f : Part Filling → List (Fill Filling)) (Q : Fill Filling → Type 0) (k : ℕ) (seats : List (Seat Filling)) → All (λ s. All Q (f (at k (known s)))) seats → All Q (flat_map f (parts_of k seats))
+pub all_seats : (f : Part Filling → List (Fill Filling)) (Q : Fill Filling → Type 0) (k : ℕ) (seats : List (Seat Filling)) → All (λ s. All Q (f (at k (known s)))) seats → All Q (flat_map f (parts_of k seats))
 all_seats f Q k [] each = All-nil Q
 all_seats f Q k (s ∷ ss) each = All-append Q (f (at k (known s))) (flat_map f (parts_of k ss)) (All-head (λ s. All Q (f (at k (known s)))) s ss each) (all_seats f Q k ss (All-tail (λ s. All Q (f (at k (known s)))) s ss each))
 

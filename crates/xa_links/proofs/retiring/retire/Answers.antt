@@ -1,5 +1,5 @@
-use Rattle.std.proofs.Common.{inl}
-use Rattle.xa_links.proofs.Leaves.{server_some, left_retires, worn_retires, left_latest, left_gone, retires_on, retires_domain, swept_retires}
+use Rattle.std.proofs.Common.{inl, ◌∙◌}
+use Rattle.xa_links.proofs.Leaves.{server_some, domain_seat, left_seat, left_retires, worn_retires, left_latest, left_gone, retires_swept, retires_domain, swept_retires}
 use Rattle.xa_links.proofs.retiring.retire.Goals as goal
 
 pub returns-in-Ok-false-clause-retires : goal.returns-in-Ok-false-clause-retires
@@ -20,19 +20,22 @@ clear-requires-clause-latest g c = left_latest c.leave_queue.ensures.leads c.req
 pub returns-in-Err-clear-clause-retires : goal.returns-in-Err-clear-clause-retires
 returns-in-Err-clear-clause-retires g c =
     let left = left_retires c.leave_queue.ensures.leads c.requires.serving c.in-Ok-true.field-0 c.in-Ok-true.ensures.gone in
-    retires_domain (server_some c.requires.serving) left c.clear.ensures.leads c.clear.ensures.noted
+    retires_domain (server_some c.requires.serving) left c.clear.ensures.leads c.clear.ensures.noted (domain_seat c.clear.ensures.noted ∙ left_seat c.leave_queue.ensures.leads c.requires.serving c.in-Ok-true.field-0 c.in-Ok-true.ensures.gone)
 
 pub returns-in-Err-take_down-clause-retires : goal.returns-in-Err-take_down-clause-retires
 returns-in-Err-take_down-clause-retires g c =
     let some = server_some c.requires.serving in
     let left = left_retires c.leave_queue.ensures.leads c.requires.serving c.in-Ok-true.field-0 c.in-Ok-true.ensures.gone in
-    retires_domain some (retires_domain some left c.clear.ensures.leads c.clear.ensures.noted) c.take_down.ensures.leads c.take_down.ensures.noted
+    let cleared = domain_seat c.clear.ensures.noted ∙ left_seat c.leave_queue.ensures.leads c.requires.serving c.in-Ok-true.field-0 c.in-Ok-true.ensures.gone in
+    retires_domain some (retires_domain some left c.clear.ensures.leads c.clear.ensures.noted cleared) c.take_down.ensures.leads c.take_down.ensures.noted (domain_seat c.take_down.ensures.noted ∙ cleared)
 
 pub returns-clause-retires : goal.returns-clause-retires
 returns-clause-retires g c =
     let some = server_some c.requires.serving in
     let left = left_retires c.leave_queue.ensures.leads c.requires.serving c.in-Ok-true.field-0 c.in-Ok-true.ensures.gone in
-    retires_on (retires_domain some (retires_domain some left c.clear.ensures.leads c.clear.ensures.noted) c.take_down.ensures.leads c.take_down.ensures.noted) c.sweep.ensures.goes
+    let cleared = domain_seat c.clear.ensures.noted ∙ left_seat c.leave_queue.ensures.leads c.requires.serving c.in-Ok-true.field-0 c.in-Ok-true.ensures.gone in
+    let fell = domain_seat c.take_down.ensures.noted ∙ cleared in
+    retires_swept (retires_domain some (retires_domain some left c.clear.ensures.leads c.clear.ensures.noted cleared) c.take_down.ensures.leads c.take_down.ensures.noted fell) fell c.sweep.ensures.goes c.sweep.ensures.told
 
 pub returns-clause-result : goal.returns-clause-result
 returns-clause-result g c =

@@ -1,4 +1,5 @@
 use Rattle.xa_desk.specs.Serving.{IsFallen}
+use Rattle.xa_links.specs.Behind.{TellsLast}
 use Rattle.xa_links.specs.Steps.{OfDomainAt}
 use Rattle.xa_links.proofs.retiring.sweep.Given as goal
 
@@ -7,4 +8,5 @@ abbrev pub invariant-loop : goal.invariant-loop
 invariant-loop g l = record {
   goes : OfDomainAt l.domain l.fn.desk l.desk;
   fallen : IsFallen l.queue.0 l.desk;
+  told : TellsLast l.fn.desk → TellsLast l.desk;
 }

@@ -1,4 +1,4 @@
-use Rattle.std.proofs.Common.{refl, sym, subst}
+use Rattle.std.proofs.Common.{refl, sym, ap, subst}
 use Rattle.std.specs.Prelude.{IfOk}
 use Rattle.xa_caller.specs.Caller.{Standing}
 use Rattle.xa_desk.specs.Desks.{Leads}
@@ -20,6 +20,6 @@ returns c =
           (died_serving d queue desk slot c.args.cause ask.2 serving c.requires.death c.died.new.self work c.died.result died.stands died.ok died.worn);
       ok = died.ok;
       told = subst (λ (caller : Standing). IfOk c.died.result (IsToTell d (record desk { caller = caller }))) (sym died.rest) (died_told d ask.0 desk slot c.args.cause ask.2 ask.3 c.requires.death c.died.new.self work c.died.result died.ok);
-      rest = refl;
+      rest = (refl, ap (λ (caller : Standing). caller.seat) died.rest);
       worn = died.worn;
     }

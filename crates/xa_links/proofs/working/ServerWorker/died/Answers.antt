@@ -3,6 +3,7 @@ use Rattle.xa_server.specs.declared.slot.ServerSlot.{ServerSlot}
 use Rattle.xa_server.specs.Doings.{is_death}
 use Rattle.xa_server.specs.Changes.{Dies, DiesWorn}
 use Rattle.xa_desk.specs.Serving.{IsServing}
+use Rattle.xa_links.proofs.Behind.{leads_behind}
 use Rattle.xa_links.proofs.Deaths.{dies_off, dies_worn, told_of, settles_its}
 use Rattle.xa_links.proofs.working.ServerWorker.died.Goals as goal
 
@@ -18,8 +19,9 @@ returns-in-Ok-clause-over g c =
     let dies = subst (λ (s : ServerSlot). Dies c.cause-cause.result c.in-Ok.closing slot' s desk'.caller.work w.desk.caller.work) c.keep.ensures.slot c.in-Ok.ensures.ok in
     let why = c.cause-cause.ensures.value in
     let death = ap is_death why ∙ may.dies c.cause-cause.ensures.over.may in (
-      dies_off w c.args.over may.at may.last c.cause-cause.ensures.over may.handed kept c.keep.ensures.lives c.keep.ensures.starter slot' desk' c.die.ensures.leads serving c.cause-cause.result why death may.shut c.in-Ok.closing w.served.slot.doing refl may.settles dies,
+      dies_off w c.args.over may.at may.last c.cause-cause.ensures.over may.handed kept c.keep.ensures.lives c.keep.ensures.starter slot' desk' c.die.ensures.leads c.die.ensures.rest.1 serving c.cause-cause.result why death may.shut c.in-Ok.closing w.served.slot.doing refl may.settles dies,
       told_of d desk' c.in-Ok.closing c.told_by.result c.told_by.ensures c.in-Ok.ensures.told,
+      leads_behind w.desk desk' ⊥ c.die.ensures.leads c.die.ensures.rest.1 may.at.told.0,
     )
 
 pub returns-in-Err-clause-halted : goal.returns-in-Err-clause-halted
@@ -32,4 +34,4 @@ returns-in-Err-clause-halted g c =
     let desk' = c.die.new.self in
     let serving = c.die.ensures.serving w.queue.0 (subst (λ (s : ServerSlot). IsServing d w.queue.0 s w.desk) (sym c.keep.ensures.slot) may.at.serving) in
     let worn = subst (λ (s : ServerSlot). DiesWorn c.cause-cause.result c.in-Err.worn slot' s desk'.caller.work w.desk.caller.work) c.keep.ensures.slot c.in-Err.ensures.worn in
-    dies_worn w c.args.over may.at may.last c.cause-cause.ensures.over may.handed kept c.keep.ensures.lives c.keep.ensures.starter slot' desk' c.die.ensures.leads serving c.cause-cause.result c.in-Err.worn c.stop_by.result c.stop_by.ensures (settles_its d c.args.over _ w.served.slot.doing may.settles) worn
+    dies_worn w c.args.over may.at may.last c.cause-cause.ensures.over may.handed kept c.keep.ensures.lives c.keep.ensures.starter slot' desk' c.die.ensures.leads c.die.ensures.rest.1 serving c.cause-cause.result c.in-Err.worn c.stop_by.result c.stop_by.ensures (settles_its d c.args.over _ w.served.slot.doing may.settles) worn

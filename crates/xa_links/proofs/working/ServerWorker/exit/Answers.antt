@@ -3,6 +3,7 @@ use Rattle.xa_work.specs.Work.{Standing as Working}
 use Rattle.xa_server.specs.declared.slot.ServerSlot.{ServerSlot}
 use Rattle.xa_server.specs.Changes.{Stops}
 use Rattle.xa_desk.specs.Serving.{IsServing}
+use Rattle.xa_links.proofs.Behind.{leads_behind}
 use Rattle.xa_links.proofs.Stepping.{still_steps, steps_trans, told_steps, told_on}
 use Rattle.xa_links.proofs.Lasting.{at_kept, goes_by, ended_tells}
 use Rattle.xa_links.proofs.Exchanges.{exits_off, exits_worn}
@@ -16,8 +17,9 @@ returns-in-Ok-clause-over g c =
     let is = c.requires.life in
     let serving = c.stop.ensures.serving w.queue.0 (subst (λ (s : ServerSlot). IsServing d w.queue.0 s w.desk) (sym c.keep.ensures.slot) is.at.serving) in
     let stops = subst (λ (s : ServerSlot). Stops _ c.in-Ok.field-0 c.stop.new.slot s c.stop.new.self.caller.work w.desk.caller.work) c.keep.ensures.slot c.in-Ok.ensures.ok in (
-      exits_off w c.args.life c.exit-over.result kept c.stop.new.slot c.stop.new.self c.in-Ok.field-0 is c.exit-over.ensures c.cause-cause.ensures.over c.keep.ensures.lives c.keep.ensures.starter c.stop.ensures.leads serving stops,
+      exits_off w c.args.life c.exit-over.result kept c.stop.new.slot c.stop.new.self c.in-Ok.field-0 is c.exit-over.ensures c.cause-cause.ensures.over c.keep.ensures.lives c.keep.ensures.starter c.stop.ensures.leads c.stop.ensures.rest.1 serving stops,
       told_on c.stop.ensures.leads c.latest-rises.ensures.rises c.args.told c.requires.told,
+      leads_behind w.desk c.stop.new.self ⊥ c.stop.ensures.leads c.stop.ensures.rest.1 is.at.told.0,
     )
 
 pub returns-in-Err-clause-goes : goal.returns-in-Err-clause-goes
@@ -33,6 +35,6 @@ returns-in-Err-clause-halted g c =
     let is = c.requires.life in
     let kept = c.in-Err.ensures.kept in
     let serving = c.stop.ensures.serving w.queue.0 (subst (λ (s : ServerSlot). IsServing d w.queue.0 s w.desk) (sym c.keep.ensures.slot) is.at.serving) in
-    let ended = exits_worn w c.args.life c.exit-over.result c.keep.new.self c.stop.new.slot c.stop.new.self is c.exit-over.ensures c.cause-cause.ensures.over c.keep.ensures.lives c.keep.ensures.starter c.stop.ensures.leads serving c.in-Err.worn c.stop_by.result c.stop_by.ensures c.in-Err.ensures.worn
+    let ended = exits_worn w c.args.life c.exit-over.result c.keep.new.self c.stop.new.slot c.stop.new.self is c.exit-over.ensures c.cause-cause.ensures.over c.keep.ensures.lives c.keep.ensures.starter c.stop.ensures.leads c.stop.ensures.rest.1 serving c.in-Err.worn c.stop_by.result c.stop_by.ensures c.in-Err.ensures.worn
     (kept.0 ∙ c.keep.ensures.slot) kept.1 in
     ended_tells (at_kept w c.keep.new.self c.stop.new.slot c.stop.new.self) c.stop.new.slot c.tell_if.new.desk _ refl (inr refl) c.tell_if.ensures ended

@@ -22,7 +22,8 @@ returns-in-Ok-None-clause-off g c =
     let s = c.start-started.ensures in
     let fails = subst (λ o. Tries w.name 0 o served'.slot w.served.slot desk'.caller.work w.desk.caller.work) c.in-Ok-None.field-0-is c.in-Ok-None.ensures.tried in
     let rose = subst (λ o. Counts o (g.T.Starter.start_faults w.served.starter) (g.T.Starter.start_faults served'.starter)) c.in-Ok-None.field-0-is c.in-Ok-None.ensures.counted in
-    (fails_off w off served' desk' s.leads (s.serving w.queue.0 off.at.serving) s.same s.rest.1 fails c.in-Ok-None.ensures.asked rose, tt)
+    let dead = fails_off w off served' desk' s.leads s.rest.2 (s.serving w.queue.0 off.at.serving) s.same s.rest.1 fails c.in-Ok-None.ensures.asked rose in
+    (dead.0, tt, dead.1)
 
 pub returns-in-Err-clause-halted : goal.returns-in-Err-clause-halted
 returns-in-Err-clause-halted g c =
@@ -31,7 +32,7 @@ returns-in-Err-clause-halted g c =
     let served' = c.start-started.new.served in
     let desk' = c.start-started.new.self in
     let s = c.start-started.ensures in
-    start_halts w off served' desk' s.leads (s.serving w.queue.0 off.at.serving) s.same s.rest.1 c.in-Err.halt c.in-Err.ensures.kept c.in-Err.ensures.halted
+    start_halts w off served' desk' s.leads s.rest.2 (s.serving w.queue.0 off.at.serving) s.same s.rest.1 c.in-Err.halt c.in-Err.ensures.kept c.in-Err.ensures.halted
 
 pub serve-requires-clause-free : goal.serve-requires-clause-free
 serve-requires-clause-free g c κs within =
@@ -42,7 +43,7 @@ serve-requires-clause-free g c κs within =
     let s = c.start-started.ensures in
     let begins = subst (λ o. Tries w.name 0 o served'.slot w.served.slot desk'.caller.work w.desk.caller.work) c.in-Ok-Some.field-0-is c.in-Ok-Some.ensures.tried in
     let faults = subst (λ o. Counts o (g.T.Starter.start_faults w.served.starter) (g.T.Starter.start_faults served'.starter)) c.in-Ok-Some.field-0-is c.in-Ok-Some.ensures.counted in
-    let is = starts_in w off served' desk' s.leads (s.serving w.queue.0 off.at.serving) s.same s.rest.1 c.in-Ok-Some.life begins c.in-Ok-Some.ensures.asked faults c.in-Ok-Some.ensures.room in
+    let is = starts_in w off served' desk' s.leads s.rest.2 (s.serving w.queue.0 off.at.serving) s.same s.rest.1 c.in-Ok-Some.life begins c.in-Ok-Some.ensures.asked faults c.in-Ok-Some.ensures.room in
     in_counted (served_at w served' desk') c.count_up.new.self c.count_up.ensures (greeted_in (served_at w served' desk') c.in-Ok.life c.in-Ok-Some.life c.in-Ok.ensures.greeted is)
 
 pub died-requires-clause-may : goal.died-requires-clause-may
@@ -54,7 +55,7 @@ died-requires-clause-may g c =
     let s = c.start-started.ensures in
     let begins = subst (λ o. Tries w.name 0 o served'.slot w.served.slot desk'.caller.work w.desk.caller.work) c.in-Ok-Some.field-0-is c.in-Ok-Some.ensures.tried in
     let faults = subst (λ o. Counts o (g.T.Starter.start_faults w.served.starter) (g.T.Starter.start_faults served'.starter)) c.in-Ok-Some.field-0-is c.in-Ok-Some.ensures.counted in
-    let is = starts_in w off served' desk' s.leads (s.serving w.queue.0 off.at.serving) s.same s.rest.1 c.in-Ok-Some.life begins c.in-Ok-Some.ensures.asked faults c.in-Ok-Some.ensures.room in
+    let is = starts_in w off served' desk' s.leads s.rest.2 (s.serving w.queue.0 off.at.serving) s.same s.rest.1 c.in-Ok-Some.life begins c.in-Ok-Some.ensures.asked faults c.in-Ok-Some.ensures.room in
     falls_greeting (served_at w served' desk') c.in-Ok-Some.life c.in-Err-greet.over c.in-Err-greet.ensures.over is
 
 pub returns-in_err-died-in-Err-greet-clause-goes : goal.returns-in_err-died-in-Err-greet-clause-goes
@@ -65,7 +66,7 @@ returns-in_err-died-in-Err-greet-clause-goes g c =
     let desk' = c.start-started.new.self in
     let s = c.start-started.ensures in
     let begins = subst (λ o. Tries w.name 0 o served'.slot w.served.slot desk'.caller.work w.desk.caller.work) c.in-Ok-Some.field-0-is c.in-Ok-Some.ensures.tried in
-    let goes = starts_goes w off served' desk' s.leads (s.serving w.queue.0 off.at.serving) s.same s.rest.1 c.in-Ok-Some.life begins in
+    let goes = starts_goes w off served' desk' s.leads s.rest.2 (s.serving w.queue.0 off.at.serving) s.same s.rest.1 c.in-Ok-Some.life begins in
     goes_trans w (served_at w served' desk') c.died.new.self goes c.in_err-died-in-Err-greet.ensures.goes
 
 pub returns-in-Ok-clause-goes : goal.returns-in-Ok-clause-goes
@@ -76,7 +77,7 @@ returns-in-Ok-clause-goes g c =
     let desk' = c.start-started.new.self in
     let s = c.start-started.ensures in
     let begins = subst (λ o. Tries w.name 0 o served'.slot w.served.slot desk'.caller.work w.desk.caller.work) c.in-Ok-Some.field-0-is c.in-Ok-Some.ensures.tried in
-    let goes = starts_goes w off served' desk' s.leads (s.serving w.queue.0 off.at.serving) s.same s.rest.1 c.in-Ok-Some.life begins in
+    let goes = starts_goes w off served' desk' s.leads s.rest.2 (s.serving w.queue.0 off.at.serving) s.same s.rest.1 c.in-Ok-Some.life begins in
     goes_trans w c.count_up.new.self c.serve.new.self (goes_counted (served_at w served' desk') w c.count_up.new.self c.count_up.ensures goes) c.serve.ensures.goes
 
 pub returns-in_ok-died-in-Err-greet-clause-goes : goal.returns-in_ok-died-in-Err-greet-clause-goes
@@ -87,5 +88,5 @@ returns-in_ok-died-in-Err-greet-clause-goes g c =
     let desk' = c.start-started.new.self in
     let s = c.start-started.ensures in
     let begins = subst (λ o. Tries w.name 0 o served'.slot w.served.slot desk'.caller.work w.desk.caller.work) c.in-Ok-Some.field-0-is c.in-Ok-Some.ensures.tried in
-    let goes = starts_goes w off served' desk' s.leads (s.serving w.queue.0 off.at.serving) s.same s.rest.1 c.in-Ok-Some.life begins in
+    let goes = starts_goes w off served' desk' s.leads s.rest.2 (s.serving w.queue.0 off.at.serving) s.same s.rest.1 c.in-Ok-Some.life begins in
     goes_trans w (served_at w served' desk') c.died.new.self goes c.in_ok-died-in-Err-greet.ensures.goes

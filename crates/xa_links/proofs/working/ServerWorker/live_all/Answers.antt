@@ -57,4 +57,4 @@ returns-in-loop-clause-ended g c =
     let over = subst (λ o. OffAs d g.T.Starter.server_name (λ s. record { asked = g.T.Starter.asked s; faults = g.T.Starter.start_faults s }) o l) c.in-Dead.is c.in_ok-live.ensures.off in
     let retired = at_desk l c.retire-retired.new.slot c.retire-retired.new.desk in
     ended_tells retired c.retire-retired.new.slot c.tell_if-in-loop.new.desk _ refl (inr refl) c.tell_if-in-loop.ensures
-    (retired_ended l c.retire-retired.new.slot c.retire-retired.new.desk c.retire-retired.result over.0 c.retire-retired.ensures.retires c.retire-retired.ensures.result)
+    (retired_ended l c.retire-retired.new.slot c.retire-retired.new.desk c.retire-retired.result over.0 over.2 c.retire-retired.ensures.retires c.retire-retired.ensures.result)

@@ -3,7 +3,8 @@ use Rattle.std.proofs.lemmas.List.Elements.{All-nil}
 use Rattle.xa_events.specs.declared.event.Event.TheVariants.{End}
 use Rattle.xa_server.specs.declared.slot.ServerSlot.{ServerSlot}
 use Rattle.xa_server.specs.Doings.{life_in}
-use Rattle.xa_links.proofs.Stepping.{halted_steps, halted_at, still_serves, told_steps}
+use Rattle.xa_links.proofs.Behind.{still_calm}
+use Rattle.xa_links.proofs.Stepping.{halted_own, halted_steps, halted_at, still_serves, told_steps}
 use Rattle.xa_links.proofs.Keeping.{OfLife}
 use Rattle.xa_links.proofs.Lasting.{at_desk, cut_ends, work_on, in_told, goes_by, goes_trans}
 use Rattle.xa_links.proofs.Exchanges.{finish_serves, returned_in, in_turn, exits_turn, stays_turn, next_in, falls_idle}
@@ -19,7 +20,7 @@ returns-in-Err-clause-halted g c =
     let serving = c.finish-finished.ensures.serving w.queue.0 b.2.at.serving in
     let kept = c.in-Err.ensures.kept in
     let still = halted_steps 3 c.in-Err.halt leads c.in-Err.ensures.halted in
-    let at = work_on w slot' desk' [] b.0.generation (still_serves still serving kept) (All-nil (OfLife w.served.slot.made)) b.2.at in
+    let at = work_on w slot' desk' [] b.0.generation (still_serves still serving kept) (All-nil (OfLife w.served.slot.made)) (still_calm w.desk desk' (halted_own w.desk desk' 3 c.in-Err.halt c.in-Err.ensures.halted) c.finish-finished.ensures.rest.1) b.2.at in
     cut_ends (at_desk w slot' desk') c.cut.new.self b.0.generation _ at c.cut.ensures.rest c.cut.ensures.cut (ap (λ (s : ServerSlot). life_in s.doing) kept ∙ ap life_in b.2.does) (halted_at w.desk desk' 3 c.in-Err.halt c.in-Err.ensures.halted)
 
 pub exit-requires-clause-life : goal.exit-requires-clause-life
@@ -31,7 +32,7 @@ exit-requires-clause-life g c =
     let leads = c.finish-finished.ensures.leads in
     let serving = c.finish-finished.ensures.serving w.queue.0 b.2.at.serving in
     let unconnected = b.2.at.serving.stands.tables.worker.unconnected in
-    let is = returned_in w c.args.life b.0 b.1 c.args.back.value c.args.back.code c.args.back.payload _ c.in-Ok.closing slot' desk' b.3 b.2 unconnected leads serving c.in-Ok.ensures.ok in
+    let is = returned_in w c.args.life b.0 b.1 c.args.back.value c.args.back.code c.args.back.payload _ c.in-Ok.closing slot' desk' b.3 b.2 unconnected leads c.finish-finished.ensures.rest.1 serving c.in-Ok.ensures.ok in
     λ κs within. in_turn (at_desk w slot' desk') (exits_turn c.args.back.value (sym c.is_exit-exits.ensures ∙ c.if-exits.true)) is.0
 
 pub exit-requires-clause-last : goal.exit-requires-clause-last
@@ -43,7 +44,7 @@ exit-requires-clause-last g c =
     let leads = c.finish-finished.ensures.leads in
     let serving = c.finish-finished.ensures.serving w.queue.0 b.2.at.serving in
     let unconnected = b.2.at.serving.stands.tables.worker.unconnected in
-    let is = returned_in w c.args.life b.0 b.1 c.args.back.value c.args.back.code c.args.back.payload _ c.in-Ok.closing slot' desk' b.3 b.2 unconnected leads serving c.in-Ok.ensures.ok in
+    let is = returned_in w c.args.life b.0 b.1 c.args.back.value c.args.back.code c.args.back.payload _ c.in-Ok.closing slot' desk' b.3 b.2 unconnected leads c.finish-finished.ensures.rest.1 serving c.in-Ok.ensures.ok in
     λ κs within. is.1 (sym c.is_exit-exits.ensures ∙ c.if-exits.true)
 
 pub returns-in_err-exit-clause-goes : goal.returns-in_err-exit-clause-goes
@@ -79,7 +80,7 @@ died-requires-clause-may g c =
     let leads = c.finish-finished.ensures.leads in
     let serving = c.finish-finished.ensures.serving w.queue.0 b.2.at.serving in
     let unconnected = b.2.at.serving.stands.tables.worker.unconnected in
-    let is = returned_in w c.args.life b.0 b.1 c.args.back.value c.args.back.code c.args.back.payload _ c.in-Ok.closing slot' desk' b.3 b.2 unconnected leads serving c.in-Ok.ensures.ok in
+    let is = returned_in w c.args.life b.0 b.1 c.args.back.value c.args.back.code c.args.back.payload _ c.in-Ok.closing slot' desk' b.3 b.2 unconnected leads c.finish-finished.ensures.rest.1 serving c.in-Ok.ensures.ok in
     let waits = in_turn (at_desk w slot' desk') (stays_turn c.args.back.value (sym c.is_exit-exits.ensures ∙ c.if-exits.false)) is.0 in
     let free = in_told (at_desk w slot' desk') c.tell_if.new.desk _ _ 0 c.args.life c.tell_if.ensures waits in
     falls_idle (at_desk w slot' c.tell_if.new.desk) c.args.life c.in-Err-read_next.over _ (inr refl) c.in-Err-read_next.ensures.over free
@@ -119,7 +120,7 @@ returns-in-Ok-read_next-clause-exchanged g c =
     let leads = c.finish-finished.ensures.leads in
     let serving = c.finish-finished.ensures.serving w.queue.0 b.2.at.serving in
     let unconnected = b.2.at.serving.stands.tables.worker.unconnected in
-    let is = returned_in w c.args.life b.0 b.1 c.args.back.value c.args.back.code c.args.back.payload _ c.in-Ok.closing slot' desk' b.3 b.2 unconnected leads serving c.in-Ok.ensures.ok in
+    let is = returned_in w c.args.life b.0 b.1 c.args.back.value c.args.back.code c.args.back.payload _ c.in-Ok.closing slot' desk' b.3 b.2 unconnected leads c.finish-finished.ensures.rest.1 serving c.in-Ok.ensures.ok in
     let waits = in_turn (at_desk w slot' desk') (stays_turn c.args.back.value (sym c.is_exit-exits.ensures ∙ c.if-exits.false)) is.0 in
     let free = in_told (at_desk w slot' desk') c.tell_if.new.desk _ _ 0 c.args.life c.tell_if.ensures waits in
     next_in (at_desk w slot' c.tell_if.new.desk) c.in-Ok-read_next.life c.args.life c.in-Ok-read_next.ensures.next free

@@ -3,6 +3,7 @@ use Rattle.xa_events.specs.declared.event.Event.TheVariants.{Take}
 use Rattle.xa_server.specs.Doings.{life_in}
 use Rattle.xa_links.specs.Steps.{NextFrom}
 use Rattle.xa_links.specs.Standing.{ExchangedAs}
+use Rattle.xa_links.proofs.Behind.{still_calm}
 use Rattle.xa_links.proofs.Lasting.{at_desk, in_on, cut_ends, goes_by, goes_trans, goes_cut}
 use Rattle.xa_links.proofs.Exchanges.{taken_in}
 use Rattle.xa_links.proofs.working.ServerWorker.serve.Goals as goal
@@ -11,7 +12,7 @@ pub shut_down-requires-clause-free : goal.shut_down-requires-clause-free
 shut_down-requires-clause-free g c =
     let l = c.loop.self in
     let shut = subst (λ b. NextFrom c.args.domain.now l.queue.0 (Ok b) l.served.slot c.next-in-loop.new.slot l.desk c.next-in-loop.new.desk) c.in-Ok-false.field-0-test c.in-Ok-false.ensures in
-    in_on l c.next-in-loop.new.slot c.next-in-loop.new.desk _ _ 0 c.loop.life shut.0.serves shut.0.same c.loop.invariant.free
+    in_on l c.next-in-loop.new.slot c.next-in-loop.new.desk _ _ 0 c.loop.life shut.0.serves shut.0.same (still_calm l.desk c.next-in-loop.new.desk shut.0.noted shut.0.seat) c.loop.invariant.free
 
 pub returns-in-Ok-false-clause-goes : goal.returns-in-Ok-false-clause-goes
 returns-in-Ok-false-clause-goes g c =
@@ -31,7 +32,7 @@ pub returns-in-Err-clause-halted : goal.returns-in-Err-clause-halted
 returns-in-Err-clause-halted g c =
     let l = c.loop.self in
     let waits = c.in-Err.ensures.0 in
-    let is = in_on l c.next-in-loop.new.slot c.next-in-loop.new.desk _ _ 0 c.loop.life waits.serves waits.same c.loop.invariant.free in
+    let is = in_on l c.next-in-loop.new.slot c.next-in-loop.new.desk _ _ 0 c.loop.life waits.serves waits.same (still_calm l.desk c.next-in-loop.new.desk waits.noted waits.seat) c.loop.invariant.free in
     cut_ends (at_desk l c.next-in-loop.new.slot c.next-in-loop.new.desk) c.cut.new.self c.loop.life.generation c.in-Err.stopped is.at c.cut.ensures.rest c.cut.ensures.cut (ap life_in is.does) c.in-Err.ensures.1
 
 pub exchange-requires-clause-taken : goal.exchange-requires-clause-taken

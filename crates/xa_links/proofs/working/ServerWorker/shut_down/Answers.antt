@@ -18,7 +18,7 @@ returns-in-Ok-clause-off g c =
     let serving = c.stop.ensures.serving w.queue.0 (subst (λ (s : ServerSlot). IsServing d w.queue.0 s w.desk) (sym c.keep.ensures.slot) is.at.serving) in
     let stops = subst (λ (s : ServerSlot). Stops _ c.in-Ok.field-0 c.stop.new.slot s c.stop.new.self.caller.work w.desk.caller.work) c.keep.ensures.slot c.in-Ok.ensures.ok in
     let why = sym (shutdown_is c.cause.result (sym c.is_shutdown.ensures ∙ c.if-not-is_shutdown.false)) ∙ c.cause.ensures.value in
-    shuts_down w c.args.life c.shut_down-over.result c.keep.new.self c.stop.new.slot c.stop.new.self c.in-Ok.field-0 is c.shut_down-over.ensures c.cause.ensures.over why c.keep.ensures.lives c.keep.ensures.starter c.stop.ensures.leads serving c.requires.shut stops
+    shuts_down w c.args.life c.shut_down-over.result c.keep.new.self c.stop.new.slot c.stop.new.self c.in-Ok.field-0 is c.shut_down-over.ensures c.cause.ensures.over why c.keep.ensures.lives c.keep.ensures.starter c.stop.ensures.leads c.stop.ensures.rest.1 serving c.requires.shut stops
 
 pub returns-in-Err-clause-halted : goal.returns-in-Err-clause-halted
 returns-in-Err-clause-halted g c =
@@ -27,4 +27,4 @@ returns-in-Err-clause-halted g c =
     let is = c.requires.free in
     let kept = c.in-Err.ensures.kept in
     let serving = c.stop.ensures.serving w.queue.0 (subst (λ (s : ServerSlot). IsServing d w.queue.0 s w.desk) (sym c.keep.ensures.slot) is.at.serving) in
-    shuts_worn w c.args.life c.shut_down-over.result c.keep.new.self c.stop.new.slot c.stop.new.self is c.shut_down-over.ensures c.cause.ensures.over c.keep.ensures.lives c.keep.ensures.starter c.stop.ensures.leads serving c.in-Err.worn c.stop_by.result c.stop_by.ensures c.in-Err.ensures.worn (kept.0 ∙ c.keep.ensures.slot) kept.1
+    shuts_worn w c.args.life c.shut_down-over.result c.keep.new.self c.stop.new.slot c.stop.new.self is c.shut_down-over.ensures c.cause.ensures.over c.keep.ensures.lives c.keep.ensures.starter c.stop.ensures.leads c.stop.ensures.rest.1 serving c.in-Err.worn c.stop_by.result c.stop_by.ensures c.in-Err.ensures.worn (kept.0 ∙ c.keep.ensures.slot) kept.1

@@ -1,0 +1,188 @@
+-- Who was told was told behind the end of a life.
+use Rattle.std.proofs.Common.{◌≡◌, ℕ, zero, suc, true, false, List, [], ◌∷◌, ◌++◌, Option, Some, None, refl, sym, ◌∙◌, ap, subst, arith}
+use Rattle.std.specs.Prelude.{IfSome, slice_set, ⊤}
+use Rattle.std.specs.List.{All, Contains}
+use Rattle.std.proofs.lemmas.Bool.{false≢true}
+use Rattle.std.proofs.lemmas.List.{append_assoc, append-nil}
+use Rattle.std.proofs.lemmas.List.Elements.{All-push, All-weaker}
+use Rattle.xa_types.specs.declared.stamp.Stamp.{Stamp}
+use Rattle.xa_types.specs.declared.reply.Answer.{Answer}
+use Rattle.xa_types.specs.declared.ids.Generation.{Generation}
+use Rattle.xa_types.specs.declared.ids.RequestId.{RequestId}
+use Rattle.xa_events.specs.declared.event.Event.{Event}
+use Rattle.xa_events.specs.declared.event.Event.TheVariants.{Sweep, Start, StartFailed}
+use Rattle.xa_stamp.specs.declared.home.Stamped.{Stamped}
+use Rattle.xa_stamp.specs.Home.{last_stamp}
+use Rattle.xa_crew.specs.Crew.{no_stamp}
+use Rattle.xa_crew.specs.Seen.{past_in}
+use Rattle.xa_crew.proofs.Lists.{past_in-append}
+use Rattle.xa_cell.specs.declared.tokens.Seat.{Seat}
+use Rattle.xa_cell.specs.declared.tokens.Ticket.{Ticket}
+use Rattle.xa_cell.specs.declared.view.Fill.{Fill}
+use Rattle.xa_cell.specs.declared.view.Opening.{Opening}
+use Rattle.xa_cell.specs.declared.view.Part.{Part}
+use Rattle.xa_cell.specs.declared.view.View.{View}
+use Rattle.xa_cell.specs.declared.filler.Filled.{Filled}
+use Rattle.xa_cell.specs.declared.filler.Filled.TheVariants as fills
+use Rattle.xa_cell.specs.Calls.{Settles}
+use Rattle.xa_cell.specs.Known.{known}
+use Rattle.xa_cell.specs.Views.{nth, at, fill}
+use Rattle.xa_caller.specs.declared.cargo.Filling.{Filling}
+use Rattle.xa_server.specs.declared.closing.Given.{Given}
+use Rattle.xa_server.specs.Told.{GivenTo, IsEnded, EndedFor, FilledByEnds}
+use Rattle.xa_desk.specs.declared.domain.Domain.{Domain}
+use Rattle.xa_desk.specs.declared.desk.Desk.{Desk}
+use Rattle.xa_desk.specs.Desks.{Leads}
+use Rattle.xa_links.specs.declared.telling.Told.{Told}
+use Rattle.xa_links.specs.Behind.{ends_by, is_ending, SweepsOr, OnlySweeps, IsBehindEnd, FilledBehind, AllBehind, TellsLast, ToldAll, IsCalm, ToldBy}
+use Rattle.xa_links.specs.Steps.{GivenBy, Tells}
+
+-- ---- what comes behind the end of a life
+
+or_more : {X Y : Type 0} (e : Event) → (X → Y) → SweepsOr e X → SweepsOr e Y
+or_more (Start s) f is = tt
+or_more (StartFailed s) f is = tt
+or_more (Sweep x) f is = f is
+or_more _ f is = absurd is
+
+only_more : (Rest : Type 0) (after rest : List Stamped) → OnlySweeps ⊥ after → OnlySweeps Rest (after ++ rest)
+only_more Rest [] rest is = absurd is
+only_more Rest (x ∷ after) rest is = or_more x.event (only_more Rest after rest) is
+
+only_push : (Rest : Type 0) (after : List Stamped) (x : Stamped) → SweepsOr x.event Rest → OnlySweeps ⊤ after → OnlySweeps Rest (after ++ x ∷ [])
+only_push Rest [] x here is = here
+only_push Rest (y ∷ after) x here is = or_more y.event (only_push Rest after x here) is
+
+-- ---- who was told with a stamp
+
+behind_more : {Rest : Type 0} (own rest : List Stamped) (stamp : Stamp) → IsBehindEnd ⊥ own stamp → IsBehindEnd Rest (own ++ rest) stamp
+behind_more {Rest} own rest stamp is = record {
+  before = is.before;
+  after = is.after ++ rest;
+  parts = ap (λ (l : List Stamped). l ++ rest) is.parts ∙ append_assoc is.before is.after rest;
+  last = is.last;
+  quiet = λ ending. only_more Rest is.after rest (is.quiet ending);
+}
+
+behind_push : {Rest : Type 0} (own : List Stamped) (x : Stamped) (stamp : Stamp) → SweepsOr x.event Rest → IsBehindEnd ⊤ own stamp → IsBehindEnd Rest (own ++ x ∷ []) stamp
+behind_push {Rest} own x stamp here is = record {
+  before = is.before;
+  after = is.after ++ x ∷ [];
+  parts = ap (λ (l : List Stamped). l ++ x ∷ []) is.parts ∙ append_assoc is.before is.after (x ∷ []);
+  last = is.last;
+  quiet = λ ending. only_push Rest is.after x here (is.quiet ending);
+}
+
+behind_here : {Rest : Type 0} (own : List Stamped) (stamp : Stamp) → last_stamp no_stamp own ≡ stamp.0 → (is_ending (past_in own) ≡ true → Rest) → IsBehindEnd Rest own stamp
+behind_here own stamp last quiet = record { before = own; after = []; parts = sym (append-nil own); last = last; quiet = quiet }
+
+-- ---- each filling of a seat
+
+all_behind : {R Q : Type 0} (own own' : List Stamped) (view : View Filling) → ((stamp : Stamp) → IsBehindEnd R own stamp → IsBehindEnd Q own' stamp) → AllBehind R own view → AllBehind Q own' view
+all_behind {R} {Q} own own' view more all k = All-weaker (FilledBehind R own) (FilledBehind Q own') (λ fill is. by fill.answer.stamp fill.answer.answer is) (at k view).filled (all k)
+  where
+    by : (stamp : Stamp) (o : Option Answer) → IfSome o (λ answer. IsBehindEnd R own stamp) → IfSome o (λ answer. IsBehindEnd Q own' stamp)
+    by stamp None is = tt
+    by stamp (Some answer) is = more stamp is
+
+-- a part is set, and what holds of it and of all others holds of each
+set_each : (P : Part Filling → Type 0) (ps : List (Part Filling)) (k : ℕ) (p : Part Filling) → ((j : ℕ) → P (nth ps j)) → P p → (j : ℕ) → P (nth (slice_set ps k p) j)
+set_each P [] k p each is j = each j
+set_each P (q ∷ ps) zero p each is zero = is
+set_each P (q ∷ ps) zero p each is (suc j) = each (suc j)
+set_each P (q ∷ ps) (suc k) p each is zero = each zero
+set_each P (q ∷ ps) (suc k) p each is (suc j) = set_each P ps k p (λ i. each (suc i)) is j
+
+module _ (P : Fill Filling → Type 0) where
+  abbrev each_filled : Part Filling → Type 0
+  each_filled p = All P p.filled
+
+  settled_so : (k : ℕ) (o : Opening) (filling : Filling) (v w : View Filling) (outcome : Filled Filling) → Settles k o filling v w outcome → P (fill o filling) → ((j : ℕ) → All P (at j v).filled) → (j : ℕ) → All P (at j w).filled
+  settled_so k o filling v w fills.Delivered is new each j =
+      subst (λ (u : View Filling). each_filled (at j u)) (sym is)
+      (set_each each_filled v.parts k (record (at k v) { filled = (at k v).filled ++ fill o filling ∷ [] }) each (All-push P (at k v).filled (fill o filling) (each k) new) j)
+  settled_so k o filling v w (fills.Dropped back) is new each j =
+      subst (λ (u : View Filling). each_filled (at j u)) (sym is.1) (set_each each_filled v.parts k (record (at k v) { dropped = (at k v).dropped ++ o.number ∷ [] }) each (each k) j)
+
+given_so : {R : Type 0} (own : List Stamped) (ticket : Option (Ticket Filling)) (answer : Option Answer) (stamp : Stamp) (v w : View Filling) (became : Given) → GivenTo ticket answer stamp v w became → IsBehindEnd R own stamp → AllBehind R own v → AllBehind R own w
+given_so {R} own None answer stamp v w became is new all = subst (AllBehind R own) (sym is.1) all
+given_so {R} own (Some ticket) answer stamp v w became spent new all =
+    settled_so (FilledBehind R own) ticket.cell spent.filled.0 spent.filling v w spent.outcome spent.filled.2 (by spent.filling.answer) all
+  where
+    by : (o : Option Answer) → IfSome o (λ (a : Answer). IsBehindEnd R own spent.filling.stamp)
+    by None = tt
+    by (Some a) = subst (IsBehindEnd R own) (sym spent.stamped) new
+
+given_by : {R : Type 0} (told : Option Told) (old : Desk) (after : View Filling) → GivenBy told old after → (is_ending (past_in old.caller.work.own) ≡ true → R) → AllBehind R old.caller.work.own (known old.caller.seat) → AllBehind R old.caller.work.own after
+given_by {R} None old after same quiet all = subst (AllBehind R old.caller.work.own) (sym same) all
+given_by {R} (Some told) old after (became, given) quiet all =
+    let own : List Stamped = old.caller.work.own in
+    given_so own told.closing.ticket told.closing.answer (record { 0 = last_stamp no_stamp own }) (known old.caller.seat) after became given (behind_here own (record { 0 = last_stamp no_stamp own }) refl quiet) all
+
+-- ---- at a desk
+
+module _ (old new : Desk) where
+  abbrev own : List Stamped
+  own = old.caller.work.own
+
+  abbrev own' : List Stamped
+  own' = new.caller.work.own
+
+  at_seat : {R Q : Type 0} (more : List Stamped) → own' ≡ more → new.caller.seat ≡ old.caller.seat → ((stamp : Stamp) → IsBehindEnd R own stamp → IsBehindEnd Q more stamp) → AllBehind R own (known old.caller.seat) → AllBehind Q own' (known new.caller.seat)
+  at_seat {R} {Q} more is seat goes all =
+      subst (λ (l : List Stamped). AllBehind Q l (known new.caller.seat)) (sym {A = List Stamped} is)
+      (subst (λ (s : Seat Filling). AllBehind Q more (known s)) (sym seat) (all_behind own more (known old.caller.seat) goes all))
+
+  -- nothing was noted, and nobody told
+  pub still_behind : (R : Type 0) → own' ≡ own → new.caller.seat ≡ old.caller.seat → AllBehind R own (known old.caller.seat) → AllBehind R own' (known new.caller.seat)
+  still_behind R is seat = at_seat own is seat (λ stamp behind. behind)
+
+  -- whatever was noted, where each that was told was told behind a start
+  pub leads_behind : {d : Domain} (R : Type 0) → Leads d old new → new.caller.seat ≡ old.caller.seat → ToldAll old → AllBehind R own' (known new.caller.seat)
+  leads_behind R leads seat = at_seat (own ++ leads.own.0) leads.own.1 seat (λ stamp behind. behind_more own leads.own.0 stamp behind)
+
+  -- a start, or a sweep
+  pub push_behind : (R : Type 0) (x : Stamped) → own' ≡ own ++ x ∷ [] → new.caller.seat ≡ old.caller.seat → SweepsOr x.event R → TellsLast old → AllBehind R own' (known new.caller.seat)
+  push_behind R x is seat here = at_seat (own ++ x ∷ []) is seat (λ stamp behind. behind_push own x stamp here behind)
+
+  ending_push : (x : Stamped) → own' ≡ own ++ x ∷ [] → is_ending (past_in own') ≡ ends_by x.event (is_ending (past_in own))
+  ending_push x is = ap (λ (l : List Stamped). is_ending (past_in l)) is ∙ ap is_ending (past_in-append own (x ∷ []))
+
+  -- an event that ends no life
+  pub calm_push : {d : Domain} (x : Stamped) → Leads d old new → own' ≡ own ++ x ∷ [] → new.caller.seat ≡ old.caller.seat → ends_by x.event false ≡ false → IsCalm old → IsCalm new
+  calm_push x leads is seat ends calm = (leads_behind ⊥ leads seat calm.0, ending_push x is ∙ ap (ends_by x.event) calm.1 ∙ ends)
+
+  pub still_calm : own' ≡ own → new.caller.seat ≡ old.caller.seat → IsCalm old → IsCalm new
+  still_calm is seat calm = (still_behind ⊥ is seat calm.0, ap (λ (l : List Stamped). is_ending (past_in l)) is ∙ calm.1)
+
+  -- its server was started
+  pub start_calm : (x : Stamped) → own' ≡ own ++ x ∷ [] → new.caller.seat ≡ old.caller.seat → SweepsOr x.event ⊥ → ends_by x.event (is_ending (past_in own)) ≡ false → TellsLast old → IsCalm new
+  start_calm x is seat starts ends told = (push_behind ⊥ x is seat starts told, ending_push x is ∙ ends)
+
+  -- somebody is told
+  tells_behind : (R : Type 0) {d : Domain} {told : Option Told} → Tells d told old new → (is_ending (past_in own) ≡ true → R) → AllBehind R own (known old.caller.seat) → AllBehind R own' (known new.caller.seat)
+  tells_behind R {d} {told} tells quiet all =
+      subst (λ (l : List Stamped). AllBehind R l (known new.caller.seat)) (sym {A = List Stamped} (ap (λ (desk : Desk). desk.caller.work.own) tells.rest)) (given_by told old (known new.caller.seat) tells.given quiet all)
+
+  pub tells_last : {d : Domain} {told : Option Told} → Tells d told old new → TellsLast old → TellsLast new
+  tells_last tells all = tells_behind ⊤ tells (λ ending. tt) all
+
+  pub tells_calm : {d : Domain} {told : Option Told} → Tells d told old new → IsCalm old → IsCalm new
+  tells_calm tells calm = (tells_behind ⊥ tells (λ ending. absurd (false≢true (sym calm.1 ∙ ending))) calm.0, ap (λ (desk : Desk). is_ending (past_in desk.caller.work.own)) tells.rest ∙ calm.1)
+
+-- ---- where less is asked
+
+pub told_last : (desk : Desk) → ToldAll desk → TellsLast desk
+told_last desk all = all_behind desk.caller.work.own desk.caller.work.own (known desk.caller.seat) (λ stamp behind. subst (λ (l : List Stamped). IsBehindEnd ⊤ l stamp) (append-nil desk.caller.work.own) (behind_more desk.caller.work.own [] stamp behind)) all
+
+pub by_told : (going : List Generation) (desk : Desk) → ToldBy going desk → TellsLast desk
+by_told [] desk told = told
+by_told (g ∷ more) desk calm = told_last desk calm.0
+
+-- a worker that noted nothing told nobody
+pub first_told : (desk : Desk) → desk.caller.work.own ≡ [] → FilledByEnds desk.caller.work.own (known desk.caller.seat) → TellsLast desk
+first_told desk none filled k = All-weaker (EndedFor desk.caller.work.own) (FilledBehind ⊤ desk.caller.work.own) (λ fill is. by fill.opening.request fill.answer.stamp fill.answer.answer is) (at k (known desk.caller.seat)).filled (filled k)
+  where
+    by : (request : RequestId) (stamp : Stamp) (o : Option Answer) → IfSome o (IsEnded desk.caller.work.own request stamp) → IfSome o (λ answer. IsBehindEnd ⊤ desk.caller.work.own stamp)
+    by request stamp None is = tt
+    by request stamp (Some answer) is = let empty : Contains [] is.entry = subst (λ (l : List Stamped). Contains l is.entry) none is.stands in absurd (omega (arith, empty.1))
