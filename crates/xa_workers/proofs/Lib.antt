@@ -5,3 +5,4 @@ mod Working
 mod Sending
 mod Sharing
 mod Serving
+mod Groups

@@ -1,5 +1,5 @@
 -- What a closure does with workers beside each other (this project's own).
-use Rattle.std.specs.Prelude.{◌≡◌, ◌<◌, ℕ, List, length, slice_index_or}
+use Rattle.std.specs.Prelude.{◌≡◌, ◌+◌, ◌<◌, ℕ, List, length, slice_index_or}
 use denote.Ref.{Bor, MutBor}
 use denote.Param.Members.{Shared}
 
@@ -16,6 +16,14 @@ module _ {F S W : Type 0} (g : Shared F (Bor S × (ℕ × (MutBor W × Unit {0})
     pub left : MutBor W
     pub called : g.post work (shared, (place, (lent, tt))) (tt, (left, tt))
     pub after : left.now ≡ new
+
+  -- it may be called with each of these workers, of which the first has that place
+  abbrev pub EachMayWorkFrom : ℕ → List W → Type 0
+  EachMayWorkFrom from workers = (place : ℕ) (w : W) → place < length workers → MayWorkAt (from + place) (slice_index_or workers place w)
+
+  -- it was called once with each of these and its place
+  pub record EachWorkedFrom (from : ℕ) (old new : List W) : Type 0 where
+    pub each : (place : ℕ) (w : W) → place < length old → WorkedAt (from + place) (slice_index_or old place w) (slice_index_or new place w)
 
   abbrev pub EachMayWork : List W → Type 0
   EachMayWork workers = (place : ℕ) (w : W) → place < length workers → MayWorkAt place (slice_index_or workers place w)

@@ -12,6 +12,7 @@ ghost use Rattle.xa_workers.specs.Closing.{HasClosed};
 
 use crate::beside::{all_at_work, both_at_work};
 use crate::closing::close_behind;
+use crate::forks::Halting;
 use std::alloc::Global;
 use std::sync::Wait;
 use std::thread::Threads;
@@ -21,6 +22,7 @@ use xa_desk::Domain;
 use xa_link::{Gate, Link, Starter};
 use xa_links::ServerWorker;
 use xa_script::Client;
+use xa_work::Halt;
 
 // What all workers share.
 #[derive(Drop)]
@@ -30,6 +32,12 @@ struct Shared<'a, R, G> {
     domain: &'a Domain,
     scripts: &'a [Client],
     gate: &'a G,
+}
+
+impl<'a, R, G> Halting for Shared<'a, R, G> {
+    fn halt(&self) {
+        self.domain.stop(Halt::NoMemory);
+    }
 }
 
 // The workers of the clients, and what closes the domain behind them.
@@ -101,6 +109,7 @@ fn clients_then_closing<R: Threads + Wait + Sync, G: Gate>(
 }
 
 /// Runs each client and each server of the domain on a thread of its own, and closes the queues once all clients have left.
+/// Where a thread can't be made the run halts, and the worker that it was for is run on the thread that wanted to make it.
 pub fn run_all<R: Threads + Wait + Sync, L: Link + Send, T: Starter<L> + Send, G: Gate>(
     rt: &R,
     alloc: Global,

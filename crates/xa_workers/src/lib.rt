@@ -5,5 +5,6 @@
 mod beside;
 mod closing;
 mod crew;
+mod forks;
 
 pub use crew::run_all;
