@@ -7,15 +7,15 @@ ghost use Rattle.xa_clients.specs.Going.{IsReady, IsWaiting, IsStopped, GoesBy, 
 
 use crate::sending::{refused_by, send};
 use std::alloc::Global;
-use std::hint;
 use std::sync::Wait;
+use std::thread;
 use xa_caller::Step;
 use xa_desk::{Desk, Domain, Stopped};
 use xa_link::{Gate, Point, stay};
 use xa_types::{Ask, Op};
 
-// How often it looks for an answer before it sleeps.
-const LOOKS: u32 = 200;
+// How often it looks for an answer before it sleeps. Others run between two looks.
+const LOOKS: u32 = 100;
 
 fn told_by(step: Step) -> Result<bool, Stopped>
     ensures { result ≡ told_by step }
@@ -50,7 +50,7 @@ fn await_reply<W: Wait>(rt: &W, domain: &Domain, desk: &mut Desk, ask: &Ask) -> 
         if is_told(domain, desk, ask)? {
             return Ok(());
         }
-        hint::spin_loop();
+        thread::yield_now();
     }
     let reply = domain.waits.replies.get(usize::from(desk.caller.id().0));
     for _ in rt.forever() {

@@ -1,5 +1,5 @@
 -- What steps of a server's worker leave at its desk.
-use Rattle.std.proofs.Common.{◌≡◌, ◌<◌, ◌≤◌, ℕ, true, false, List, [], ◌∷◌, ◌++◌, Option, Some, None, Result, Ok, Err, refl, sym, ◌∙◌, ap, subst, arith}
+use Rattle.std.proofs.Common.{◌≡◌, ◌<◌, ◌≤◌, ℕ, Bool, true, false, List, [], ◌∷◌, ◌++◌, Option, Some, None, Result, Ok, Err, refl, sym, ◌∙◌, ap, subst, arith}
 use Rattle.std.specs.Prelude.{IfSome}
 use Rattle.std.specs.List.{All, filter}
 use Rattle.std.proofs.lemmas.List.{append_assoc}
@@ -41,7 +41,7 @@ use Rattle.xa_desk.specs.Serving.{Sees, TakesAs, OfDomain, IsServing, IsTaken, I
 use Rattle.xa_desk.proofs.Leading.{leads_trans}
 use Rattle.xa_links.specs.declared.telling.Told.{Told}
 use Rattle.xa_desk.specs.Halting.{IsHaltAt, IsStopAt}
-use Rattle.xa_links.specs.Steps.{Steps, Serves, Tells, Waits, TakesFrom, stop_by, OfDomainAt, IsToldOf}
+use Rattle.xa_links.specs.Steps.{Steps, Serves, Tells, Waits, TakesFrom, NextFrom, stop_by, OfDomainAt, IsToldOf}
 
 -- what it noted for the domain isn't its own
 none_theirs : (clients worker : ℕ) → 0 < worker → (more : List Stamped) → All (λ (x : Stamped). IsOfDomain x.event) more → worker_events clients worker (past_in more) ≡ []
@@ -230,11 +230,11 @@ module _ {d : Domain} where
         (waits_same end.0 leads end.1.caller serving, subst (IsStopAt new) (sym by) (end.1.last, end.1.at))
 
     -- what comes behind a wait
-    waits_trans : {p q r : ServerSlot} {a b c : Desk} → Waits d queue p q a b → Waits d queue q r b c → Waits d queue p r a c
+    pub waits_trans : {p q r : ServerSlot} {a b c : Desk} → Waits d queue p q a b → Waits d queue q r b c → Waits d queue p r a c
     waits_trans ab bc = record { serves = serves_trans [] [] ab.serves bc.serves; same = bc.same ∙ ab.same; noted = bc.noted ∙ ab.noted; seat = bc.seat ∙ ab.seat }
 
-    pub waits_takes : {p q : ServerSlot} (r : ServerSlot) {a b : Desk} (c : Desk) (took : Result Took Stopped) → Waits d queue p q a b → TakesFrom d queue took q r b c → TakesFrom d queue took p r a c
-    waits_takes r c (Ok takes.Request) ab bc = record {
+    pub waits_next : {p q : ServerSlot} (r : ServerSlot) {a b : Desk} (c : Desk) (took : Result Bool Stopped) → Waits d queue p q a b → NextFrom d queue took q r b c → NextFrom d queue took p r a c
+    waits_next r c (Ok true) ab bc = record {
       t = bc.t;
       entry = bc.entry;
       serves = serves_trans [] (Take bc.t ∷ []) ab.serves bc.serves;
@@ -247,6 +247,5 @@ module _ {d : Domain} where
       noted = bc.noted ∙ ap (λ (l : List Stamped). l ++ record { stamp = bc.stamp; event = Take bc.t } ∷ []) ab.noted;
       seat = bc.seat ∙ ab.seat;
     }
-    waits_takes r c (Ok takes.Nothing) ab bc = waits_trans ab bc
-    waits_takes r c (Ok takes.Closed) ab bc = (waits_trans ab bc.0, bc.1)
-    waits_takes r c (Err stopped) ab bc = (waits_trans ab bc.0, bc.1)
+    waits_next r c (Ok false) ab bc = (waits_trans ab bc.0, bc.1)
+    waits_next r c (Err stopped) ab bc = (waits_trans ab bc.0, bc.1)

@@ -111,6 +111,12 @@ NextFrom d queue (Ok true) slot slot' old new = Takes d queue slot slot' old new
 NextFrom d queue (Ok false) slot slot' old new = Waits d queue slot slot' old new × SawAtQueue d queue new (IsShut d.setup queue)
 NextFrom d queue (Err stopped) slot slot' old new = Waits d queue slot slot' old new × IsStopAt new stopped
 
+-- so it is with one look, behind which it may have to wait
+abbrev pub LooksFrom : Domain → ℕ → Result (Option Bool) Stopped → ServerSlot → ServerSlot → Desk → Desk → Type 0
+LooksFrom d queue (Ok (Some took)) slot slot' old new = NextFrom d queue (Ok took) slot slot' old new
+LooksFrom d queue (Ok None) slot slot' old new = Waits d queue slot slot' old new
+LooksFrom d queue (Err stopped) slot slot' old new = NextFrom d queue (Err stopped) slot slot' old new
+
 -- ---- returning
 
 -- the service ends its server's life with its RETURN

@@ -59,7 +59,6 @@ impl<L: Link, T: Starter<L>> ServerWorker<L, T> {
     {
         let killed = life.abandon();
         self.cut = Some(CutLife {
-            server: self.served.slot.server(),
             generation: self.served.slot.life(),
             killed,
         });

@@ -3,14 +3,18 @@ ghost use Rattle.std.specs.Prelude.{◌≡◌, false};
 ghost use Rattle.xa_server.specs.Doings.{IsIdle};
 ghost use Rattle.xa_desk.specs.Desks.{IsDomain, IsDesk};
 ghost use Rattle.xa_desk.specs.Serving.{IsServing};
-ghost use Rattle.xa_links.specs.Steps.{TakesFrom, NextFrom, stop_by};
+ghost use Rattle.xa_links.specs.Steps.{TakesFrom, LooksFrom, NextFrom, stop_by};
 
 use std::sync::Wait;
+use std::thread;
 use xa_desk::{Desk, Domain, Stopped, Took};
 use xa_link::{Gate, Point, stay};
 use xa_server::ServerSlot;
 use xa_types::{QueueId, Worn};
 use xa_work::Halt;
+
+// How often it looks for a request before it sleeps. Others run between two looks.
+const LOOKS: u32 = 100;
 
 /// Why it halts where stamps came to their end.
 pub(crate) fn stop_by(worn: Worn) -> Stopped
@@ -41,6 +45,36 @@ fn take<W: Wait, G: Gate>(
     }
 }
 
+// Whether the server took a request, or its queue is closed and empty; none if it has to wait.
+fn look<W: Wait, G: Gate>(
+    rt: &W,
+    domain: &Domain,
+    gate: &G,
+    desk: &mut Desk,
+    slot: &mut ServerSlot,
+    queue: QueueId,
+) -> Result<Option<bool>, Stopped>
+    requires domain { IsDomain domain.now }
+    requires desk { IsDesk domain.now desk.old }
+    requires serving { IsServing domain.now queue.0 slot.old desk.old }
+    requires idle { IsIdle slot.old.doing }
+    requires left { slot.old.gone ≡ false }
+    ensures { LooksFrom domain.now queue.0 result slot.old slot.new desk.old desk.new }
+{
+    if domain.halt.get().is_some() {
+        return Err(Stopped::Elsewhere);
+    }
+    match take(rt, domain, gate, desk, slot, queue) {
+        Ok(Took::Request) => {
+            domain.wake_senders();
+            Ok(Some(true))
+        }
+        Ok(Took::Closed) => Ok(Some(false)),
+        Ok(Took::Nothing) => Ok(None),
+        Err(stopped) => Err(stopped),
+    }
+}
+
 /// Waits until the server took a request, or its queue is closed and empty. Answers whether it took one.
 pub(crate) fn next<W: Wait, G: Gate>(
     rt: &W,
@@ -57,26 +91,23 @@ pub(crate) fn next<W: Wait, G: Gate>(
     requires left { slot.old.gone ≡ false }
     ensures { NextFrom domain.now queue.0 result slot.old slot.new desk.old desk.new }
 {
+    for _ in 0..LOOKS {
+        match look(rt, domain, gate, desk, slot, queue) {
+            Ok(Some(took)) => return Ok(took),
+            Ok(None) => thread::yield_now(),
+            Err(stopped) => return Err(stopped),
+        }
+    }
     let work = domain.waits.work.get(usize::from(queue.0) - 1);
     for _ in rt.forever() {
         let key = match work {
             Some(work) => Some(work.prepare_wait()),
             None => None,
         };
-        if domain.halt.get().is_some() {
-            return Err(Stopped::Elsewhere);
-        }
-        let took = match take(rt, domain, gate, desk, slot, queue) {
-            Ok(took) => took,
+        match look(rt, domain, gate, desk, slot, queue) {
+            Ok(Some(took)) => return Ok(took),
+            Ok(None) => {}
             Err(stopped) => return Err(stopped),
-        };
-        match took {
-            Took::Request => {
-                domain.wake_senders();
-                return Ok(true);
-            }
-            Took::Closed => return Ok(false),
-            Took::Nothing => {}
         }
         if let Some(key) = key {
             key.wait(rt);

@@ -15,12 +15,11 @@ use xa_desk::{Desk, Domain, Stopped};
 use xa_link::{Gate, Killed, Link, Starter};
 use xa_pipe::Life;
 use xa_server::Served;
-use xa_types::{Generation, Name, QueueId, ServerId};
+use xa_types::{Generation, Name, QueueId};
 
 /// A life that the monitor didn't go on with, at a halt: its program was ended by force.
 #[derive(Drop)]
 pub struct CutLife<L> {
-    pub server: ServerId,
     pub generation: Generation,
     pub killed: Killed<L>,
 }
