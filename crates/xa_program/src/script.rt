@@ -14,12 +14,14 @@ use xa_types::Setup;
 /// How many octets a script may have.
 const LONGEST_SCRIPT: usize = 1_048_576;
 
-/// The script of at most so many clients that the input holds, to its end.
+/// The script of at most so many clients that the input holds, to its end. The octets are left with the caller: if a large
+/// vector is given back before the run, the C library's `malloc` moves later ones as they grow, and leaves holes behind.
 pub fn read_script<I: Source>(
     alloc: Global,
     setup: &Setup,
     most: u16,
     input: &mut I,
+    kept: &mut Vec<u8>,
 ) -> Result<Script, Status>
     requires configured { is_configured setup.now ≡ true }
     requires most { (1 ≤ most) × (most ≤ 64) }
@@ -35,7 +37,10 @@ pub fn read_script<I: Source>(
         Err(ShelfRefused::NoMemory) => return Err(Status::NoMemory),
     };
     match read_upto(alloc, octets.as_slice(), setup, most) {
-        Ok(script) => Ok(script),
+        Ok(script) => {
+            *kept = octets;
+            Ok(script)
+        }
         Err(ScriptRefused::BadLine { line, cause }) => Err(Status::BadLine { line, cause }),
         Err(ScriptRefused::NoMemory) => Err(Status::NoMemory),
     }

@@ -208,7 +208,8 @@ fn serve_script<R: Threads + Wait + Sync, I: Source, O: Sink, Y: Yard, G: Gate>(
     ensures yard { AsksBy setup result.status (Y.asked yard.old) (Y.asked yard.new) }
     ensures early { EndsEarly result.status (record { homes = result.homes.homes; history = result.history.items; lives = map (λ v. v.items) result.lives.items; cut = map cut_in result.cut.items; starters = result.starters.items }) }
 {
-    let script = match read_script(alloc, &setup, most, input) {
+    let mut octets = Vec::new(alloc);
+    let script = match read_script(alloc, &setup, most, input, &mut octets) {
         Ok(script) => script,
         Err(status) => return nothing(alloc, status),
     };
