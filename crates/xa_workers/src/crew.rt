@@ -152,8 +152,8 @@ pub fn run_all<R: Threads + Wait + Sync, L: Link + Send, T: Starter<L> + Send, G
     { clients_then_closing(shared, side) };
     let servers_work = |shared: &Shared<'_, R, G>, _: usize, servers: &mut Vec<ServerWorker<L, T>>|
         requires { IsDomain shared.now.domain.now × EachNumbered (IsNewServer shared.now.domain.now T.server_name (λ s. record { asked = T.asked s; faults = T.start_faults s })) 1 servers.old.items }
-        ensures over { EachNumbered (IsOver shared.now.domain.now T.server_name (λ s. record { asked = T.asked s; faults = T.start_faults s })) 1 servers.new.items }
-        ensures names { map (λ w. T.server_name w.served.starter) servers.new.items ≡ map (λ w. w.name) servers.old.items }
+        ensures { EachNumbered (IsOver shared.now.domain.now T.server_name (λ s. record { asked = T.asked s; faults = T.start_faults s })) 1 servers.new.items
+            × (map (λ w. T.server_name w.served.starter) servers.new.items ≡ map (λ w. w.name) servers.old.items) }
     { servers_at_work(shared, servers.as_mut_slice()) };
     both_at_work(
         rt,
