@@ -3,33 +3,33 @@ use Rattle.std.proofs.Common.{◌≡◌, ◌⊎◌, ℕ, suc, ◌+◌, ◌≤◌
 use Rattle.std.specs.List.{All, Contains, filter}
 use Rattle.std.proofs.lemmas.List.{reverse-append, reverse-reverse, length-reverse}
 use Rattle.std.proofs.lemmas.List.Elements.{All-nil, All-cons, All-head, All-tail, All-weaker, All-filter, Contains-push, Contains-append_left, Contains-append_right}
-use Rattle.xa_types.specs.declared.setup.Setup.{Setup}
-use Rattle.xa_types.specs.declared.stamp.Stamp.{Stamp}
-use Rattle.xa_events.specs.declared.event.Event.{Event}
-use Rattle.xa_events.specs.declared.event.Event.TheVariants.{Advertise}
-use Rattle.xa_events.specs.Cases.{HomePart, WorkerPart}
-use Rattle.xa_events.specs.Homes.{Home, home_of, same_home, of_worker}
-use Rattle.xa_events.specs.Homes.Home.{BoardHome, QueueHome}
-use Rattle.xa_events.specs.Local.{worker_events}
-use Rattle.xa_events.specs.Words.{AtEach}
-use Rattle.xa_stamp.specs.declared.home.Stamped.{Stamped}
-use Rattle.xa_stamp.specs.Home.{Rises, last_stamp}
-use Rattle.xa_stamp.proofs.Stamps.{last_stamp-push, Rises-push}
-use Rattle.xa_lock.specs.Makers.{made_by, noted_in}
-use Rattle.xa_lock.specs.Pages.{StartsWith}
-use Rattle.xa_crew.specs.Crew.{IsOfDomain, MayNote, MetAmong, TellsEach, no_stamp, stands_at}
-use Rattle.xa_crew.specs.Seen.{past_in, IsBehind, SawFronts, WasTold}
-use Rattle.xa_crew.proofs.Lists.{filter-yes, filter-none, past_in-filter, map-reverse, AtEach-later, AtEach-cut}
-use Rattle.xa_crew.proofs.Before.{All-on}
-use Rattle.xa_crew.proofs.Workers.{AtEach-from, All-at}
-use Rattle.xa_held.specs.declared.kept_board.BoardNote.TheVariants.{Opened, By}
-use Rattle.xa_held.specs.Board.{made_in}
-use Rattle.xa_held.specs.Joins.{changes_at}
-use Rattle.xa_held.proofs.Fronts.{changes_front}
-use Rattle.xa_work.specs.Work.{IsWorkOf}
-use Rattle.xa_server.specs.Told.{HasStamp}
-use Rattle.xa_desk.specs.Desks.{IsGrounded}
-use Rattle.xa_desk.specs.Whole.{Whole, entries_of, IsKnown}
+use Rattle.xa_clients.specs.xa_types.declared.setup.Setup.{Setup}
+use Rattle.xa_clients.specs.xa_types.declared.stamp.Stamp.{Stamp}
+use Rattle.xa_clients.specs.xa_events.declared.event.Event.{Event}
+use Rattle.xa_clients.specs.xa_events.declared.event.Event.TheVariants.{Advertise}
+use Rattle.xa_clients.specs.xa_events.Cases.{HomePart, WorkerPart}
+use Rattle.xa_clients.specs.xa_events.Homes.{Home, home_of, same_home, of_worker}
+use Rattle.xa_clients.specs.xa_events.Homes.Home.{BoardHome, QueueHome}
+use Rattle.xa_clients.specs.xa_events.Local.{worker_events}
+use Rattle.xa_clients.specs.xa_events.Words.{AtEach}
+use Rattle.xa_clients.specs.xa_stamp.declared.home.Stamped.{Stamped}
+use Rattle.xa_clients.specs.xa_stamp.Home.{Rises, last_stamp}
+use Rattle.xa_clients.proofs.xa_stamp.Stamps.{last_stamp-push, Rises-push}
+use Rattle.xa_clients.specs.xa_lock.Makers.{made_by, noted_in}
+use Rattle.xa_clients.specs.xa_lock.Pages.{StartsWith}
+use Rattle.xa_clients.specs.xa_crew.Crew.{IsOfDomain, MayNote, MetAmong, TellsEach, no_stamp, stands_at}
+use Rattle.xa_clients.specs.xa_crew.Seen.{past_in, IsBehind, SawFronts, WasTold}
+use Rattle.xa_clients.proofs.xa_crew.Lists.{filter-yes, filter-none, past_in-filter, map-reverse, AtEach-later, AtEach-cut}
+use Rattle.xa_clients.proofs.xa_crew.Before.{All-on}
+use Rattle.xa_clients.proofs.xa_crew.Workers.{AtEach-from, All-at}
+use Rattle.xa_clients.specs.xa_held.declared.kept_board.BoardNote.TheVariants.{Opened, By}
+use Rattle.xa_clients.specs.xa_held.Board.{made_in}
+use Rattle.xa_clients.specs.xa_held.Joins.{changes_at}
+use Rattle.xa_clients.proofs.xa_held.Fronts.{changes_front}
+use Rattle.xa_clients.specs.xa_work.Work.{IsWorkOf}
+use Rattle.xa_clients.specs.xa_server.Told.{HasStamp}
+use Rattle.xa_clients.specs.xa_desk.Desks.{IsGrounded}
+use Rattle.xa_clients.specs.xa_desk.Whole.{Whole, entries_of, IsKnown}
 use Rattle.xa_boot.specs.Booting.{IsBoots}
 use Rattle.xa_boot.specs.Opening.{IsNextNote, opening, IsBoot}
 use Rattle.xa_boot.proofs.Noting.{domain}

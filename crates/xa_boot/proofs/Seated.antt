@@ -3,38 +3,38 @@ use Rattle.std.proofs.Common.{◌≡◌, ℕ, zero, suc, ◌+◌, ◌<◌, ◌�
 use Rattle.std.specs.Prelude.{slice_index_or}
 use Rattle.std.specs.List.{All, filter}
 use Rattle.std.proofs.lemmas.List.Elements.{All-nil}
-use Rattle.xa_events.specs.Board.{boot, published}
-use Rattle.xa_events.specs.Homes.{home_of}
-use Rattle.xa_events.specs.Homes.Home.{BoardHome, QueueHome}
-use Rattle.xa_stamp.specs.declared.home.Stamped.{Stamped}
-use Rattle.xa_lock.specs.declared.pass.LockPass.{LockPass}
-use Rattle.xa_lock.specs.declared.pass.Page.{Page}
-use Rattle.xa_lock.specs.Known.{known as page_of}
-use Rattle.xa_lock.specs.Makers.{noted_in}
-use Rattle.xa_lock.specs.Pages.{StartsWith, first_own, first_page}
-use Rattle.xa_crew.specs.Crew.{MetAmong, stands_at}
-use Rattle.xa_crew.specs.Seen.{past_in}
-use Rattle.xa_cell.specs.declared.tokens.Seat.{Seat}
-use Rattle.xa_cell.specs.Known.{known}
-use Rattle.xa_cell.specs.Views.{at}
-use Rattle.xa_held.specs.declared.kept_board.BoardNote.{BoardNote}
-use Rattle.xa_held.specs.declared.kept_queue.QueueNote.{QueueNote}
-use Rattle.xa_held.specs.declared.kept_queue.QueueNote.TheVariants.{Opened}
-use Rattle.xa_held.specs.declared.kept_queue.Setting.{Setting}
-use Rattle.xa_held.specs.Joins.{changes_at, changes_page, events_at}
-use Rattle.xa_held.specs.Notes.{made_page}
-use Rattle.xa_work.specs.Work.{Standing as Working}
-use Rattle.xa_work.specs.declared.own.Own.{Own}
-use Rattle.xa_caller.specs.declared.cargo.Filling.{Filling}
-use Rattle.xa_caller.specs.Caller.{Standing as Caller}
-use Rattle.xa_caller.specs.declared.phase.Phase.TheVariants.{Idle}
-use Rattle.xa_server.specs.Told.{EndedFor}
-use Rattle.xa_told.specs.Told.{WasTaken}
-use Rattle.xa_desk.specs.declared.domain.Domain.{Domain}
-use Rattle.xa_desk.specs.declared.desk.Desk.{Desk}
-use Rattle.xa_desk.specs.Made.{IsMade}
-use Rattle.xa_desk.specs.Whole.{Whole, entries_of, IsKnown}
-use Rattle.xa_desk.specs.Desks.{IsDesk, IsBoardPass, IsQueuePass, IsGrounded, IsThere, IsAmong, Shows, page_in, queue_page}
+use Rattle.xa_clients.specs.xa_events.Board.{boot, published}
+use Rattle.xa_clients.specs.xa_events.Homes.{home_of}
+use Rattle.xa_clients.specs.xa_events.Homes.Home.{BoardHome, QueueHome}
+use Rattle.xa_clients.specs.xa_stamp.declared.home.Stamped.{Stamped}
+use Rattle.xa_clients.specs.xa_lock.declared.pass.LockPass.{LockPass}
+use Rattle.xa_clients.specs.xa_lock.declared.pass.Page.{Page}
+use Rattle.xa_clients.specs.xa_lock.Known.{known as page_of}
+use Rattle.xa_clients.specs.xa_lock.Makers.{noted_in}
+use Rattle.xa_clients.specs.xa_lock.Pages.{StartsWith, first_own, first_page}
+use Rattle.xa_clients.specs.xa_crew.Crew.{MetAmong, stands_at}
+use Rattle.xa_clients.specs.xa_crew.Seen.{past_in}
+use Rattle.xa_clients.specs.xa_cell.declared.tokens.Seat.{Seat}
+use Rattle.xa_clients.specs.xa_cell.Known.{known}
+use Rattle.xa_clients.specs.xa_cell.Views.{at}
+use Rattle.xa_clients.specs.xa_held.declared.kept_board.BoardNote.{BoardNote}
+use Rattle.xa_clients.specs.xa_held.declared.kept_queue.QueueNote.{QueueNote}
+use Rattle.xa_clients.specs.xa_held.declared.kept_queue.QueueNote.TheVariants.{Opened}
+use Rattle.xa_clients.specs.xa_held.declared.kept_queue.Setting.{Setting}
+use Rattle.xa_clients.specs.xa_held.Joins.{changes_at, changes_page, events_at}
+use Rattle.xa_clients.specs.xa_held.Notes.{made_page}
+use Rattle.xa_clients.specs.xa_work.Work.{Standing as Working}
+use Rattle.xa_clients.specs.xa_work.declared.own.Own.{Own}
+use Rattle.xa_clients.specs.xa_caller.declared.cargo.Filling.{Filling}
+use Rattle.xa_clients.specs.xa_caller.Caller.{Standing as Caller}
+use Rattle.xa_clients.specs.xa_caller.declared.phase.Phase.TheVariants.{Idle}
+use Rattle.xa_clients.specs.xa_server.Told.{EndedFor}
+use Rattle.xa_clients.specs.xa_told.Told.{WasTaken}
+use Rattle.xa_clients.specs.xa_desk.declared.domain.Domain.{Domain}
+use Rattle.xa_clients.specs.xa_desk.declared.desk.Desk.{Desk}
+use Rattle.xa_clients.specs.xa_desk.Made.{IsMade}
+use Rattle.xa_clients.specs.xa_desk.Whole.{Whole, entries_of, IsKnown}
+use Rattle.xa_clients.specs.xa_desk.Desks.{IsDesk, IsBoardPass, IsQueuePass, IsGrounded, IsThere, IsAmong, Shows, page_in, queue_page}
 use Rattle.xa_boot.specs.declared.closer.Closer.{Closer}
 use Rattle.xa_boot.specs.declared.staff.Post.{Post}
 use Rattle.xa_boot.specs.Booting.{IsNewCloser, work_of}

@@ -1,26 +1,26 @@
 -- A domain that was booted, and its workers (this project's own).
 use Rattle.std.specs.Prelude.{◌≡◌, ℕ, ◌+◌, ◌<◌, ◌≤◌, ◌^◌, List, [], length, map, None, slice_index_or}
 use Rattle.std.specs.List.{All}
-use Rattle.xa_types.specs.declared.setup.Setup.{Setup}
-use Rattle.xa_types.specs.declared.setup.ServerSetup.{ServerSetup}
-use Rattle.xa_events.specs.declared.event.Event.{Event}
-use Rattle.xa_events.specs.declared.event.Event.TheVariants.{Advertise}
-use Rattle.xa_events.specs.Words.{EachNumbered}
-use Rattle.xa_stamp.specs.declared.home.Stamped.{Stamped}
-use Rattle.xa_lock.specs.declared.guarded.Guarded.{Guarded}
-use Rattle.xa_lock.specs.Known.{passes_of}
-use Rattle.xa_lock.specs.Pages.{StartsWith}
-use Rattle.xa_crew.specs.Ending.{workers_of}
-use Rattle.xa_cell.specs.Known.{known, IsSeatOf, IsNew, callers_of}
-use Rattle.xa_held.specs.declared.kept_queue.KeptQueue.{KeptQueue}
-use Rattle.xa_held.specs.declared.kept_queue.QueueNote.{QueueNote}
-use Rattle.xa_held.specs.Board.{IsSoundBoard}
-use Rattle.xa_work.specs.Work.{Standing as Working, IsWorkOf}
-use Rattle.xa_caller.specs.declared.cargo.Filling.{Filling}
-use Rattle.xa_server.specs.Served.{StarterShows}
-use Rattle.xa_desk.specs.declared.domain.Domain.{Domain}
-use Rattle.xa_desk.specs.Whole.{Whole, IsKnown}
-use Rattle.xa_desk.specs.Desks.{IsDomain, IsBoardPass, IsQueuePass, IsThere, Shows, page_in}
+use Rattle.xa_clients.specs.xa_types.declared.setup.Setup.{Setup}
+use Rattle.xa_clients.specs.xa_types.declared.setup.ServerSetup.{ServerSetup}
+use Rattle.xa_clients.specs.xa_events.declared.event.Event.{Event}
+use Rattle.xa_clients.specs.xa_events.declared.event.Event.TheVariants.{Advertise}
+use Rattle.xa_clients.specs.xa_events.Words.{EachNumbered}
+use Rattle.xa_clients.specs.xa_stamp.declared.home.Stamped.{Stamped}
+use Rattle.xa_clients.specs.xa_lock.declared.guarded.Guarded.{Guarded}
+use Rattle.xa_clients.specs.xa_lock.Known.{passes_of}
+use Rattle.xa_clients.specs.xa_lock.Pages.{StartsWith}
+use Rattle.xa_clients.specs.xa_crew.Ending.{workers_of}
+use Rattle.xa_clients.specs.xa_cell.Known.{known, IsSeatOf, IsNew, callers_of}
+use Rattle.xa_clients.specs.xa_held.declared.kept_queue.KeptQueue.{KeptQueue}
+use Rattle.xa_clients.specs.xa_held.declared.kept_queue.QueueNote.{QueueNote}
+use Rattle.xa_clients.specs.xa_held.Board.{IsSoundBoard}
+use Rattle.xa_clients.specs.xa_work.Work.{Standing as Working, IsWorkOf}
+use Rattle.xa_clients.specs.xa_caller.declared.cargo.Filling.{Filling}
+use Rattle.xa_clients.specs.xa_server.Served.{StarterShows}
+use Rattle.xa_clients.specs.xa_desk.declared.domain.Domain.{Domain}
+use Rattle.xa_clients.specs.xa_desk.Whole.{Whole, IsKnown}
+use Rattle.xa_clients.specs.xa_desk.Desks.{IsDomain, IsBoardPass, IsQueuePass, IsThere, Shows, page_in}
 use Rattle.xa_clients.specs.declared.working.ClientWorker.{ClientWorker}
 use Rattle.xa_clients.specs.declared.working.ClientWorker.TheVariants.{Ready}
 use Rattle.xa_clients.specs.Going.{IsReady}

@@ -2,16 +2,16 @@
 ghost use Rattle.std.specs.Prelude.{◌≡◌, ◌+◌, ◌<◌, [], ◌∷◌, length, position, true, IfOk, OnOk};
 ghost use Rattle.std.specs.List.{All};
 ghost use Rattle.std.specs.Str.{bytes_eq};
-ghost use Rattle.xa_types.specs.Configured.{is_configured, is_among, queue_names};
-ghost use Rattle.xa_types.specs.Rows.{Put, changes_of, configured};
-ghost use Rattle.xa_types.specs.Setup.{queue_named};
+ghost use Rattle.xa_clients.specs.xa_types.Configured.{is_configured, is_among, queue_names};
+ghost use Rattle.xa_clients.specs.xa_types.Rows.{Put, changes_of, configured};
+ghost use Rattle.xa_clients.specs.xa_types.Setup.{queue_named};
 ghost use Rattle.xa_boot.specs.Opening.{Remain, Begin, Passed};
 
-use xa_board::Board;
-use xa_held::KeptBoard;
-use xa_route::{is_same, row_for};
-use xa_types::{CallerId, Name, NoMemory, QueueId, ServiceSetup, Setup, Stamp};
-use xa_work::Own;
+use xa_clients::board::Board;
+use xa_clients::held::KeptBoard;
+use xa_clients::route::{is_same, row_for};
+use xa_clients::types::{CallerId, Name, NoMemory, QueueId, ServiceSetup, Setup, Stamp};
+use xa_clients::work::Own;
 
 /// The board, and what the domain noted there.
 #[derive(Drop)]

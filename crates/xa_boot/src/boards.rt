@@ -1,15 +1,15 @@
 // The board under its lock, behind the boot.
 ghost use Rattle.std.specs.Prelude.{◌≡◌, ◌<◌, length, true, IfOk};
-ghost use Rattle.xa_types.specs.Configured.{is_configured};
+ghost use Rattle.xa_clients.specs.xa_types.Configured.{is_configured};
 ghost use Rattle.xa_boot.specs.Supplies.{IsOpenBoard};
 
 use crate::advertising::Opening;
 use std::alloc::Global;
-use xa_board::{Board, Reader};
-use xa_held::{BoardNote, KeptBoard};
-use xa_lock::{Guarded, LockPass};
-use xa_types::{NoMemory, Setup, Stamp};
-use xa_work::Own;
+use xa_clients::board::{Board, Reader};
+use xa_clients::held::{BoardNote, KeptBoard};
+use xa_clients::lock::{Guarded, LockPass};
+use xa_clients::types::{NoMemory, Setup, Stamp};
+use xa_clients::work::Own;
 
 /// The board, on which the configured services are advertised: a pass and a reader for each worker, what the domain noted
 /// there, the stamp of the last of that, and the board's version then.

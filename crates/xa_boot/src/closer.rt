@@ -1,10 +1,10 @@
 // What closes a domain.
-use xa_caller::Filling;
-use xa_cell::Seat;
-use xa_held::{BoardNote, QueueNote};
-use xa_lock::LockPass;
-use xa_types::Stamp;
-use xa_work::{Halt, Own};
+use xa_clients::caller::Filling;
+use xa_clients::cell::Seat;
+use xa_clients::held::{BoardNote, QueueNote};
+use xa_clients::lock::LockPass;
+use xa_clients::types::Stamp;
+use xa_clients::work::{Halt, Own};
 
 /// The domain itself, which is caller 0: its seat and its passes, what it noted, which takes no memory, the greatest stamp
 /// that it noted or saw, and why it halted, if it did.

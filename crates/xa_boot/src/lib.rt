@@ -13,3 +13,10 @@ mod staff;
 
 pub use booting::{Booted, NotBooted, boot};
 pub use closer::Closer;
+
+// What crates above name of those below.
+pub use xa_clients as clients;
+pub use xa_clients::{
+    caller, cell, desk, events, held, link, lock, pipe, queue, server, stamp, types, work,
+};
+pub use xa_links as links;

@@ -6,14 +6,14 @@ ghost use Rattle.xa_boot.specs.Staffing.{IsFull, IsStaff, AreTaken, Hires, Seats
 
 use crate::rooms::QueuePass;
 use std::alloc::Global;
-use xa_board::Reader;
-use xa_caller::{Caller, Filling};
-use xa_cell::Seat;
-use xa_desk::{Desk, Domain};
-use xa_held::BoardNote;
-use xa_lock::LockPass;
-use xa_types::CallerId;
-use xa_work::{Own, Work};
+use xa_clients::board::Reader;
+use xa_clients::caller::{Caller, Filling};
+use xa_clients::cell::Seat;
+use xa_clients::desk::{Desk, Domain};
+use xa_clients::held::BoardNote;
+use xa_clients::lock::LockPass;
+use xa_clients::types::CallerId;
+use xa_clients::work::{Own, Work};
 
 /// What is there for the workers that have no desk yet, of which `left` are left, in the order of their numbers. The domain
 /// noted `own` at the boot, and the board had that version then.

@@ -16,3 +16,15 @@ pub use cargo::{Cargo, Filling};
 pub use laws::{chosen_is_first, request_is_as_asked};
 pub use outcomes::{Aimed, Note, Prepared, Step, Stop, Why};
 pub use phase::{Draft, Open, Phase};
+
+// What crates above name of those below.
+pub use xa_buffer as buffer;
+pub use xa_cell as cell;
+pub use xa_events as events;
+pub use xa_held as held;
+pub use xa_lock as lock;
+pub use xa_queue as queue;
+pub use xa_route as route;
+pub use xa_stamp as stamp;
+pub use xa_types as types;
+pub use xa_work as work;

@@ -4,46 +4,46 @@ use Rattle.std.specs.Prelude.{take, drop}
 use Rattle.std.specs.List.{All, Contains, filter, flat_map}
 use Rattle.std.proofs.lemmas.List.{length-map}
 use Rattle.std.proofs.lemmas.List.Elements.{All-tail, All-weaker, filter-append}
-use Rattle.xa_types.specs.declared.ids.Generation.{Generation}
-use Rattle.xa_types.specs.Setup.{queue_of}
-use Rattle.xa_events.specs.Cases.{IsShut}
-use Rattle.xa_events.specs.declared.event.Event.{Event}
-use Rattle.xa_events.specs.declared.event.Event.TheVariants.{Take}
-use Rattle.xa_events.specs.declared.event.Taken.{Taken}
-use Rattle.xa_events.specs.Homes.{of_worker}
-use Rattle.xa_events.specs.Homes.Home.{QueueHome}
-use Rattle.xa_events.specs.Laws.{LawOfEnds}
-use Rattle.xa_events.specs.Local.{worker_events}
-use Rattle.xa_events.specs.Queue.{is_closed}
-use Rattle.xa_events.specs.Request.{sent_as}
-use Rattle.xa_events.specs.State.{caller_of}
-use Rattle.xa_events.specs.Words.{AtEach, EachNumbered}
-use Rattle.xa_events.proofs.Merge.{AtEach-here}
-use Rattle.xa_stamp.specs.declared.home.Stamped.{Stamped}
-use Rattle.xa_stamp.specs.Home.{Notes}
-use Rattle.xa_stamp.specs.Merge.{IsMerged}
-use Rattle.xa_lock.specs.declared.makers.Made.{Made}
-use Rattle.xa_lock.specs.Makers.{noted_in}
-use Rattle.xa_crew.specs.Seen.{SawFront}
-use Rattle.xa_crew.proofs.Lists.{AtEach-later}
-use Rattle.xa_held.specs.declared.cargo.Invocation.{Invocation}
-use Rattle.xa_held.specs.Kept.{Brings}
-use Rattle.xa_held.specs.Notes.{made_of}
-use Rattle.xa_frame.specs.declared.frame.Frame.{Frame}
-use Rattle.xa_pipe.specs.declared.turn.Turn.TheVariants.{AwaitsInvoke}
-use Rattle.xa_pipe.specs.Following.{is_of, IsSent, StandsIn}
-use Rattle.xa_pipe.specs.Frames.{is_of_life, invocation}
-use Rattle.xa_pipe.specs.Life.{IsLife, StopsClosed, stops_life}
-use Rattle.xa_pipe.specs.Standing.{Ending}
-use Rattle.xa_pipe.specs.Pipe.{invoke_frame}
-use Rattle.xa_pipe.proofs.Followed.{is_life}
-use Rattle.xa_work.specs.Work.{Standing as Working, theirs}
-use Rattle.xa_desk.specs.declared.domain.Domain.{Domain}
-use Rattle.xa_desk.specs.declared.desk.Desk.{Desk}
-use Rattle.xa_desk.specs.Whole.{entries_of}
-use Rattle.xa_desk.specs.Desks.{queue_page}
-use Rattle.xa_desk.specs.Made.{IsMade}
-use Rattle.xa_links.specs.Lives.{lives_in, HasStarted, IsHanded, IsLived}
+use Rattle.xa_joined.specs.xa_types.declared.ids.Generation.{Generation}
+use Rattle.xa_joined.specs.xa_types.Setup.{queue_of}
+use Rattle.xa_joined.specs.xa_events.Cases.{IsShut}
+use Rattle.xa_joined.specs.xa_events.declared.event.Event.{Event}
+use Rattle.xa_joined.specs.xa_events.declared.event.Event.TheVariants.{Take}
+use Rattle.xa_joined.specs.xa_events.declared.event.Taken.{Taken}
+use Rattle.xa_joined.specs.xa_events.Homes.{of_worker}
+use Rattle.xa_joined.specs.xa_events.Homes.Home.{QueueHome}
+use Rattle.xa_joined.specs.xa_events.Laws.{LawOfEnds}
+use Rattle.xa_joined.specs.xa_events.Local.{worker_events}
+use Rattle.xa_joined.specs.xa_events.Queue.{is_closed}
+use Rattle.xa_joined.specs.xa_events.Request.{sent_as}
+use Rattle.xa_joined.specs.xa_events.State.{caller_of}
+use Rattle.xa_joined.specs.xa_events.Words.{AtEach, EachNumbered}
+use Rattle.xa_joined.proofs.xa_events.Merge.{AtEach-here}
+use Rattle.xa_joined.specs.xa_stamp.declared.home.Stamped.{Stamped}
+use Rattle.xa_joined.specs.xa_stamp.Home.{Notes}
+use Rattle.xa_joined.specs.xa_stamp.Merge.{IsMerged}
+use Rattle.xa_joined.specs.xa_lock.declared.makers.Made.{Made}
+use Rattle.xa_joined.specs.xa_lock.Makers.{noted_in}
+use Rattle.xa_joined.specs.xa_crew.Seen.{SawFront}
+use Rattle.xa_joined.proofs.xa_crew.Lists.{AtEach-later}
+use Rattle.xa_joined.specs.xa_held.declared.cargo.Invocation.{Invocation}
+use Rattle.xa_joined.specs.xa_held.Kept.{Brings}
+use Rattle.xa_joined.specs.xa_held.Notes.{made_of}
+use Rattle.xa_joined.specs.xa_frame.declared.frame.Frame.{Frame}
+use Rattle.xa_joined.specs.xa_pipe.declared.turn.Turn.TheVariants.{AwaitsInvoke}
+use Rattle.xa_joined.specs.xa_pipe.Following.{is_of, IsSent, StandsIn}
+use Rattle.xa_joined.specs.xa_pipe.Frames.{is_of_life, invocation}
+use Rattle.xa_joined.specs.xa_pipe.Life.{IsLife, StopsClosed, stops_life}
+use Rattle.xa_joined.specs.xa_pipe.Standing.{Ending}
+use Rattle.xa_joined.specs.xa_pipe.Pipe.{invoke_frame}
+use Rattle.xa_joined.proofs.xa_pipe.Followed.{is_life}
+use Rattle.xa_joined.specs.xa_work.Work.{Standing as Working, theirs}
+use Rattle.xa_joined.specs.xa_desk.declared.domain.Domain.{Domain}
+use Rattle.xa_joined.specs.xa_desk.declared.desk.Desk.{Desk}
+use Rattle.xa_joined.specs.xa_desk.Whole.{entries_of}
+use Rattle.xa_joined.specs.xa_desk.Desks.{queue_page}
+use Rattle.xa_joined.specs.xa_desk.Made.{IsMade}
+use Rattle.xa_joined.specs.xa_links.Lives.{lives_in, HasStarted, IsHanded, IsLived}
 use Rattle.xa_joined.specs.Joined.{Back, whole_of, kept_of, noted_of}
 use Rattle.xa_joined.specs.Ended.{ServerEnd, Ends}
 use Rattle.xa_joined.specs.Served.{generations_of, IsLifeOf, IsStarterOf, IsCarried}

@@ -3,38 +3,38 @@ use Rattle.std.proofs.Common.{◌≡◌, ℕ, ◌<◌, Bool, true, List, [], ◌
 use Rattle.std.specs.List.{All, Contains, filter, flat_map}
 use Rattle.std.proofs.lemmas.Grind.{flat_map-append}
 use Rattle.std.proofs.lemmas.List.Elements.{All-nil, All-cons, All-head, All-tail, All-contains, All-filter, filter-append}
-use Rattle.xa_types.specs.Setup.{numbered}
-use Rattle.xa_events.specs.declared.event.Event.{Event}
-use Rattle.xa_events.specs.Homes.{at_home, of_worker}
-use Rattle.xa_events.specs.Homes.Home.{QueueHome}
-use Rattle.xa_events.specs.Laws.{LawOfEnds}
-use Rattle.xa_events.specs.Queue.{is_close_of, is_closed}
-use Rattle.xa_events.specs.State.{State, opening}
-use Rattle.xa_events.specs.Words.{AtEach}
-use Rattle.xa_events.proofs.Merge.{closed_own}
-use Rattle.xa_events.proofs.Stages.{along, Agree, agree_none, agree_more, ends_law}
-use Rattle.xa_stamp.specs.declared.home.Stamped.{Stamped}
-use Rattle.xa_stamp.specs.Home.{Notes}
-use Rattle.xa_stamp.specs.Merge.{IsMerged}
-use Rattle.xa_lock.specs.declared.makers.Made.{Made}
-use Rattle.xa_lock.specs.Makers.{noted_in}
-use Rattle.xa_crew.specs.Crew.{AreHomes, IsCrew}
-use Rattle.xa_crew.specs.Ending.{workers_of}
-use Rattle.xa_crew.specs.Seen.{past_in, SawFront}
-use Rattle.xa_crew.proofs.Before.{now}
-use Rattle.xa_crew.proofs.Joined.{own_home}
-use Rattle.xa_crew.proofs.Lists.{filter-yes}
-use Rattle.xa_crew.proofs.Placed.{IsMergeOf, merge_of}
-use Rattle.xa_crew.proofs.Workers.{AtEach-from, All-at, its_own}
+use Rattle.xa_joined.specs.xa_types.Setup.{numbered}
+use Rattle.xa_joined.specs.xa_events.declared.event.Event.{Event}
+use Rattle.xa_joined.specs.xa_events.Homes.{at_home, of_worker}
+use Rattle.xa_joined.specs.xa_events.Homes.Home.{QueueHome}
+use Rattle.xa_joined.specs.xa_events.Laws.{LawOfEnds}
+use Rattle.xa_joined.specs.xa_events.Queue.{is_close_of, is_closed}
+use Rattle.xa_joined.specs.xa_events.State.{State, opening}
+use Rattle.xa_joined.specs.xa_events.Words.{AtEach}
+use Rattle.xa_joined.proofs.xa_events.Merge.{closed_own}
+use Rattle.xa_joined.proofs.xa_events.Stages.{along, Agree, agree_none, agree_more, ends_law}
+use Rattle.xa_joined.specs.xa_stamp.declared.home.Stamped.{Stamped}
+use Rattle.xa_joined.specs.xa_stamp.Home.{Notes}
+use Rattle.xa_joined.specs.xa_stamp.Merge.{IsMerged}
+use Rattle.xa_joined.specs.xa_lock.declared.makers.Made.{Made}
+use Rattle.xa_joined.specs.xa_lock.Makers.{noted_in}
+use Rattle.xa_joined.specs.xa_crew.Crew.{AreHomes, IsCrew}
+use Rattle.xa_joined.specs.xa_crew.Ending.{workers_of}
+use Rattle.xa_joined.specs.xa_crew.Seen.{past_in, SawFront}
+use Rattle.xa_joined.proofs.xa_crew.Before.{now}
+use Rattle.xa_joined.proofs.xa_crew.Joined.{own_home}
+use Rattle.xa_joined.proofs.xa_crew.Lists.{filter-yes}
+use Rattle.xa_joined.proofs.xa_crew.Placed.{IsMergeOf, merge_of}
+use Rattle.xa_joined.proofs.xa_crew.Workers.{AtEach-from, All-at, its_own}
 use Rattle.std.proofs.lemmas.Bool.{or_right}
-use Rattle.xa_held.specs.Kept.{Kept}
-use Rattle.xa_held.specs.Notes.{made_of}
-use Rattle.xa_held.proofs.Front.{made_in-notes}
-use Rattle.xa_caller.specs.declared.cargo.Filling.{Filling}
-use Rattle.xa_work.specs.Work.{Standing as Working}
-use Rattle.xa_desk.specs.declared.domain.Domain.{Domain}
-use Rattle.xa_desk.specs.declared.desk.Desk.{Desk}
-use Rattle.xa_desk.specs.Desks.{queue_page}
+use Rattle.xa_joined.specs.xa_held.Kept.{Kept}
+use Rattle.xa_joined.specs.xa_held.Notes.{made_of}
+use Rattle.xa_joined.proofs.xa_held.Front.{made_in-notes}
+use Rattle.xa_joined.specs.xa_caller.declared.cargo.Filling.{Filling}
+use Rattle.xa_joined.specs.xa_work.Work.{Standing as Working}
+use Rattle.xa_joined.specs.xa_desk.declared.domain.Domain.{Domain}
+use Rattle.xa_joined.specs.xa_desk.declared.desk.Desk.{Desk}
+use Rattle.xa_joined.specs.xa_desk.Desks.{queue_page}
 use Rattle.xa_joined.specs.Joined.{Back, AllLeft, whole_of, kept_of, noted_of}
 use Rattle.xa_joined.proofs.Crew.{desks_are_crew}
 use Rattle.xa_joined.proofs.Going.{one_goes_on}

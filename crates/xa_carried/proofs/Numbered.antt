@@ -2,8 +2,8 @@
 use Rattle.std.proofs.Common.{◌≡◌, ℕ, zero, suc, ◌+◌, ◌<◌, List, [], ◌∷◌, length, Option, Some, None, refl, subst, arith}
 use Rattle.std.specs.Prelude.{slice_get, IsSomeAnd, map}
 use Rattle.std.proofs.lemmas.Option.{slice_get_within}
-use Rattle.xa_types.specs.Setup.{numbered}
-use Rattle.xa_events.specs.Words.{EachNumbered}
+use Rattle.xa_joined.specs.xa_types.Setup.{numbered}
+use Rattle.xa_joined.specs.xa_events.Words.{EachNumbered}
 use Rattle.xa_joined.proofs.Listed.{one_there}
 
 pub some_there : {X : Type 0} (P : X → Type 0) (o : Option X) → IsSomeAnd o P → (x : X) × (o ≡ Some x) × P x

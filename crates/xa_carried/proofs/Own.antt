@@ -2,19 +2,19 @@
 use Rattle.std.proofs.Common.{◌≡◌, ℕ, zero, suc, ◌+◌, ◌<◌, List, reverse, Option, Some, sym, ◌∙◌, ap, arith}
 use Rattle.std.specs.Prelude.{option_map, length}
 use Rattle.std.proofs.lemmas.Option.{slice_get_within}
-use Rattle.xa_types.specs.Setup.{numbered}
-use Rattle.xa_events.specs.declared.event.Event.{Event}
-use Rattle.xa_events.specs.Local.{worker_events}
-use Rattle.xa_events.specs.State.{caller_of}
-use Rattle.xa_stamp.specs.declared.home.Stamped.{Stamped}
-use Rattle.xa_stamp.specs.Home.{Notes}
-use Rattle.xa_stamp.specs.Merge.{IsMerged}
-use Rattle.xa_crew.specs.Ending.{list_in, workers_of}
-use Rattle.xa_crew.specs.Seen.{past_in}
-use Rattle.xa_crew.proofs.Joined.{own_events}
-use Rattle.xa_work.specs.Work.{Standing as Working, theirs}
-use Rattle.xa_desk.specs.declared.domain.Domain.{Domain}
-use Rattle.xa_desk.specs.declared.desk.Desk.{Desk}
+use Rattle.xa_joined.specs.xa_types.Setup.{numbered}
+use Rattle.xa_joined.specs.xa_events.declared.event.Event.{Event}
+use Rattle.xa_joined.specs.xa_events.Local.{worker_events}
+use Rattle.xa_joined.specs.xa_events.State.{caller_of}
+use Rattle.xa_joined.specs.xa_stamp.declared.home.Stamped.{Stamped}
+use Rattle.xa_joined.specs.xa_stamp.Home.{Notes}
+use Rattle.xa_joined.specs.xa_stamp.Merge.{IsMerged}
+use Rattle.xa_joined.specs.xa_crew.Ending.{list_in, workers_of}
+use Rattle.xa_joined.specs.xa_crew.Seen.{past_in}
+use Rattle.xa_joined.proofs.xa_crew.Joined.{own_events}
+use Rattle.xa_joined.specs.xa_work.Work.{Standing as Working, theirs}
+use Rattle.xa_joined.specs.xa_desk.declared.domain.Domain.{Domain}
+use Rattle.xa_joined.specs.xa_desk.declared.desk.Desk.{Desk}
 use Rattle.xa_joined.specs.Joined.{Back, AllLeft, kept_of, noted_of}
 use Rattle.xa_joined.proofs.Crew.{desks_are_crew}
 use Rattle.xa_joined.proofs.Left.{has_left}

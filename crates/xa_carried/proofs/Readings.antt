@@ -4,18 +4,18 @@ use Rattle.std.specs.Prelude.{reverse}
 use Rattle.std.specs.List.{All, filter, filter_map, cons_option}
 use Rattle.std.proofs.lemmas.Bool.{cases_Bool, and_parts}
 use Rattle.std.proofs.lemmas.List.Elements.{All-nil, All-cons}
-use Rattle.xa_events.specs.declared.event.Event.{Event}
-use Rattle.xa_events.specs.declared.event.Event.TheVariants.{Take, Forward, Start, StartFailed, End, Stop}
-use Rattle.xa_events.specs.Words.{count}
-use Rattle.xa_events.specs.Homes.{of_worker}
-use Rattle.xa_events.specs.Local.{worker_events}
-use Rattle.xa_events.specs.Server.{starts, start_in}
-use Rattle.xa_events.specs.State.{caller_of}
-use Rattle.xa_crew.proofs.Lists.{filter-yes, filter-no, filter-inside, count_part}
-use Rattle.xa_pipe.specs.Frames.{is_of_life, is_take_in}
-use Rattle.xa_pipe.specs.Life.{stops_life}
-use Rattle.xa_pipe.specs.Following.{is_of}
-use Rattle.xa_links.specs.Lives.{generation_in, lives_in, fails_start, failed_starts}
+use Rattle.xa_joined.specs.xa_events.declared.event.Event.{Event}
+use Rattle.xa_joined.specs.xa_events.declared.event.Event.TheVariants.{Take, Forward, Start, StartFailed, End, Stop}
+use Rattle.xa_joined.specs.xa_events.Words.{count}
+use Rattle.xa_joined.specs.xa_events.Homes.{of_worker}
+use Rattle.xa_joined.specs.xa_events.Local.{worker_events}
+use Rattle.xa_joined.specs.xa_events.Server.{starts, start_in}
+use Rattle.xa_joined.specs.xa_events.State.{caller_of}
+use Rattle.xa_joined.proofs.xa_crew.Lists.{filter-yes, filter-no, filter-inside, count_part}
+use Rattle.xa_joined.specs.xa_pipe.Frames.{is_of_life, is_take_in}
+use Rattle.xa_joined.specs.xa_pipe.Life.{stops_life}
+use Rattle.xa_joined.specs.xa_pipe.Following.{is_of}
+use Rattle.xa_joined.specs.xa_links.Lives.{generation_in, lives_in, fails_start, failed_starts}
 
 -- what gives nothing of those that don't pass gives the same of those that do
 filter_map_part : {X Y : Type 0} (f : X → Option Y) (q : X → Bool) → ((x : X) → q x ≡ false → f x ≡ None) → (xs : List X) → filter_map f (filter q xs) ≡ filter_map f xs

@@ -4,22 +4,22 @@ use Rattle.std.specs.Prelude.{IsSomeAnd}
 use Rattle.std.specs.List.{All}
 use Rattle.std.proofs.lemmas.Bool.{cases_Bool, or_left}
 use Rattle.std.proofs.lemmas.List.Elements.{All-nil, All-cons, All-head, All-tail, All-append, All-weaker}
-use Rattle.xa_types.specs.declared.call.Mode.TheVariants.{Reply}
-use Rattle.xa_types.specs.declared.ids.RequestId.{RequestId}
-use Rattle.xa_events.specs.declared.event.Event.{Event}
-use Rattle.xa_events.specs.declared.event.Event.TheVariants.{Accept, Take, Forward}
-use Rattle.xa_events.specs.declared.event.Taken.{Taken}
-use Rattle.xa_events.specs.Laws.{OnceInTurn, LawOfEnds}
-use Rattle.xa_events.specs.Request.{is_accept_of, is_take_of, SentAs, sent_as, sent_after}
-use Rattle.xa_events.specs.Words.{AtEach, count}
-use Rattle.xa_events.proofs.WordsLemmas.{same_request_of, count_yes, count_no, counts_earlier}
-use Rattle.xa_crew.proofs.Lists.{earlier_behind, AtEach-later}
-use Rattle.xa_frame.specs.declared.frame.Body.TheVariants.{Invoke}
-use Rattle.xa_held.specs.declared.cargo.Invocation.{Invocation}
-use Rattle.xa_held.specs.Kept.{Brings}
-use Rattle.xa_pipe.specs.Frames.{invoke_with}
-use Rattle.xa_pipe.specs.Pipe.{invoke_frame}
-use Rattle.xa_desk.specs.Made.{IsMade}
+use Rattle.xa_joined.specs.xa_types.declared.call.Mode.TheVariants.{Reply}
+use Rattle.xa_joined.specs.xa_types.declared.ids.RequestId.{RequestId}
+use Rattle.xa_joined.specs.xa_events.declared.event.Event.{Event}
+use Rattle.xa_joined.specs.xa_events.declared.event.Event.TheVariants.{Accept, Take, Forward}
+use Rattle.xa_joined.specs.xa_events.declared.event.Taken.{Taken}
+use Rattle.xa_joined.specs.xa_events.Laws.{OnceInTurn, LawOfEnds}
+use Rattle.xa_joined.specs.xa_events.Request.{is_accept_of, is_take_of, SentAs, sent_as, sent_after}
+use Rattle.xa_joined.specs.xa_events.Words.{AtEach, count}
+use Rattle.xa_joined.proofs.xa_events.WordsLemmas.{same_request_of, count_yes, count_no, counts_earlier}
+use Rattle.xa_joined.proofs.xa_crew.Lists.{earlier_behind, AtEach-later}
+use Rattle.xa_joined.specs.xa_frame.declared.frame.Body.TheVariants.{Invoke}
+use Rattle.xa_joined.specs.xa_held.declared.cargo.Invocation.{Invocation}
+use Rattle.xa_joined.specs.xa_held.Kept.{Brings}
+use Rattle.xa_joined.specs.xa_pipe.Frames.{invoke_with}
+use Rattle.xa_joined.specs.xa_pipe.Pipe.{invoke_frame}
+use Rattle.xa_joined.specs.xa_desk.Made.{IsMade}
 
 -- ---- lists
 

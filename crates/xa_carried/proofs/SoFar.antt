@@ -2,22 +2,22 @@
 use Rattle.std.proofs.Common.{◌≡◌, ℕ, ◌+◌, ◌<◌, List, ◌++◌, length, map, reverse, Option, Some, None, sym, ◌∙◌, ap, subst, arith}
 use Rattle.std.specs.Prelude.{option_map, IsSomeAnd}
 use Rattle.std.proofs.lemmas.List.{length-map}
-use Rattle.xa_types.specs.declared.ids.Generation.{Generation}
-use Rattle.xa_types.specs.declared.setup.ServerSetup.{ServerSetup}
-use Rattle.xa_types.specs.Setup.{numbered, queue_of}
-use Rattle.xa_events.specs.declared.event.Event.{Event}
-use Rattle.xa_events.specs.Local.{worker_events}
-use Rattle.xa_events.specs.Server.{starts}
-use Rattle.xa_events.specs.State.{caller_of}
-use Rattle.xa_events.specs.Words.{EachNumbered}
-use Rattle.xa_stamp.specs.Home.{Notes}
-use Rattle.xa_stamp.specs.Merge.{IsMerged}
-use Rattle.xa_crew.specs.Ending.{list_in}
-use Rattle.xa_work.specs.Work.{Standing as Working, theirs}
-use Rattle.xa_pipe.specs.Standing.{Ending}
-use Rattle.xa_desk.specs.declared.domain.Domain.{Domain}
-use Rattle.xa_desk.specs.declared.desk.Desk.{Desk}
-use Rattle.xa_links.specs.Lives.{lives_in, failed_starts, HasStartedSoFar, ServerShows}
+use Rattle.xa_joined.specs.xa_types.declared.ids.Generation.{Generation}
+use Rattle.xa_joined.specs.xa_types.declared.setup.ServerSetup.{ServerSetup}
+use Rattle.xa_joined.specs.xa_types.Setup.{numbered, queue_of}
+use Rattle.xa_joined.specs.xa_events.declared.event.Event.{Event}
+use Rattle.xa_joined.specs.xa_events.Local.{worker_events}
+use Rattle.xa_joined.specs.xa_events.Server.{starts}
+use Rattle.xa_joined.specs.xa_events.State.{caller_of}
+use Rattle.xa_joined.specs.xa_events.Words.{EachNumbered}
+use Rattle.xa_joined.specs.xa_stamp.Home.{Notes}
+use Rattle.xa_joined.specs.xa_stamp.Merge.{IsMerged}
+use Rattle.xa_joined.specs.xa_crew.Ending.{list_in}
+use Rattle.xa_joined.specs.xa_work.Work.{Standing as Working, theirs}
+use Rattle.xa_joined.specs.xa_pipe.Standing.{Ending}
+use Rattle.xa_joined.specs.xa_desk.declared.domain.Domain.{Domain}
+use Rattle.xa_joined.specs.xa_desk.declared.desk.Desk.{Desk}
+use Rattle.xa_joined.specs.xa_links.Lives.{lives_in, failed_starts, HasStartedSoFar, ServerShows}
 use Rattle.xa_joined.specs.Joined.{Back}
 use Rattle.xa_joined.specs.Ended.{ServerEnd, Ends}
 use Rattle.xa_joined.specs.Served.{server_name_in, name_of, generations_of, AreLivesSoFar, IsStarterSoFar}

@@ -1,16 +1,16 @@
 //! From what the workers of servers show to what holds of the merge of all homes. Each law is the clause of a function without
 //! arguments.
 ghost use Rattle.std.specs.Prelude.{◌≡◌, ℕ, ◌+◌, ◌<◌, List, Some, map, reverse, ⊤};
-ghost use Rattle.xa_types.specs.Setup.{numbered};
-ghost use Rattle.xa_events.specs.declared.event.Event.{Event};
-ghost use Rattle.xa_events.specs.Local.{worker_events};
-ghost use Rattle.xa_events.specs.State.{caller_of};
-ghost use Rattle.xa_events.specs.Words.{EachNumbered};
-ghost use Rattle.xa_stamp.specs.Home.{Notes};
-ghost use Rattle.xa_stamp.specs.Merge.{IsMerged};
-ghost use Rattle.xa_work.specs.Work.{Standing as Working, theirs};
-ghost use Rattle.xa_desk.specs.declared.domain.Domain.{Domain};
-ghost use Rattle.xa_desk.specs.declared.desk.Desk.{Desk};
+ghost use Rattle.xa_joined.specs.xa_types.Setup.{numbered};
+ghost use Rattle.xa_joined.specs.xa_events.declared.event.Event.{Event};
+ghost use Rattle.xa_joined.specs.xa_events.Local.{worker_events};
+ghost use Rattle.xa_joined.specs.xa_events.State.{caller_of};
+ghost use Rattle.xa_joined.specs.xa_events.Words.{EachNumbered};
+ghost use Rattle.xa_joined.specs.xa_stamp.Home.{Notes};
+ghost use Rattle.xa_joined.specs.xa_stamp.Merge.{IsMerged};
+ghost use Rattle.xa_joined.specs.xa_work.Work.{Standing as Working, theirs};
+ghost use Rattle.xa_joined.specs.xa_desk.declared.domain.Domain.{Domain};
+ghost use Rattle.xa_joined.specs.xa_desk.declared.desk.Desk.{Desk};
 ghost use Rattle.xa_joined.specs.Joined.{Back, AllLeft};
 ghost use Rattle.xa_joined.specs.Ended.{ServerEnd, Ends};
 ghost use Rattle.xa_joined.specs.Served.{HoldAll, IsCarried, AreLivesSoFar, IsStarterSoFar};

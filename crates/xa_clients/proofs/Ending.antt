@@ -4,22 +4,22 @@ use Rattle.std.specs.Prelude.{get_or, IfErr, IfSome}
 use Rattle.std.specs.List.{All, find}
 use Rattle.std.proofs.lemmas.List.Elements.{All-get_or, Contains-push}
 use Rattle.std.proofs.lemmas.Option.{slice_get_read}
-use Rattle.xa_types.specs.declared.call.Ask.{Ask}
-use Rattle.xa_types.specs.declared.call.Op.{Op}
-use Rattle.xa_types.specs.declared.call.Op.TheVariants.{Call}
-use Rattle.xa_types.specs.declared.stamp.Stamp.{Stamp}
-use Rattle.xa_types.specs.Setup.{numbered}
-use Rattle.xa_events.specs.declared.event.Event.TheVariants.{Leave}
-use Rattle.xa_events.specs.Caller.{is_call_of, newest_call, op_of, accepted_in}
-use Rattle.xa_stamp.specs.declared.home.Stamped.{Stamped}
-use Rattle.xa_work.specs.declared.work.Halt.{Halt}
-use Rattle.xa_work.specs.declared.work.Halt.TheVariants.{NoMemory, Worn}
-use Rattle.xa_work.specs.Work.{Standing as Working, theirs, noted, HaltsAt}
-use Rattle.xa_work.specs.Going.{FitEach}
-use Rattle.xa_work.proofs.Noting.{theirs-more}
-use Rattle.xa_caller.specs.Caller.{IsSound}
-use Rattle.xa_caller.specs.Changes.{LeavesAs}
-use Rattle.xa_caller.specs.Phases.{just_in}
+use Rattle.xa_desk.specs.xa_types.declared.call.Ask.{Ask}
+use Rattle.xa_desk.specs.xa_types.declared.call.Op.{Op}
+use Rattle.xa_desk.specs.xa_types.declared.call.Op.TheVariants.{Call}
+use Rattle.xa_desk.specs.xa_types.declared.stamp.Stamp.{Stamp}
+use Rattle.xa_desk.specs.xa_types.Setup.{numbered}
+use Rattle.xa_desk.specs.xa_events.declared.event.Event.TheVariants.{Leave}
+use Rattle.xa_desk.specs.xa_events.Caller.{is_call_of, newest_call, op_of, accepted_in}
+use Rattle.xa_desk.specs.xa_stamp.declared.home.Stamped.{Stamped}
+use Rattle.xa_desk.specs.xa_work.declared.work.Halt.{Halt}
+use Rattle.xa_desk.specs.xa_work.declared.work.Halt.TheVariants.{NoMemory, Worn}
+use Rattle.xa_desk.specs.xa_work.Work.{Standing as Working, theirs, noted, HaltsAt}
+use Rattle.xa_desk.specs.xa_work.Going.{FitEach}
+use Rattle.xa_desk.proofs.xa_work.Noting.{theirs-more}
+use Rattle.xa_desk.specs.xa_caller.Caller.{IsSound}
+use Rattle.xa_desk.specs.xa_caller.Changes.{LeavesAs}
+use Rattle.xa_desk.specs.xa_caller.Phases.{just_in}
 use Rattle.xa_desk.specs.declared.domain.Domain.{Domain}
 use Rattle.xa_desk.specs.declared.desk.Desk.{Desk}
 use Rattle.xa_desk.specs.declared.stopped.Stopped.{Stopped}

@@ -1,20 +1,20 @@
 -- A client's desk as it goes on.
 use Rattle.std.proofs.Common.{◌≡◌, ℕ, ◌+◌, Bool, false, List, Ok, max, inl, inr, refl, sym, ◌∙◌, ap, subst, append-nil, arith}
-use Rattle.xa_types.specs.declared.call.Ask.{Ask}
-use Rattle.xa_types.specs.declared.data.Data.{Data}
-use Rattle.xa_types.specs.declared.fault.Fault.{Fault}
-use Rattle.xa_types.specs.declared.fault.Fault.TheVariants.{NoEnt, IType, Limit}
-use Rattle.xa_types.specs.declared.stamp.Stamp.{Stamp}
-use Rattle.xa_types.specs.Found.{FoundRows}
-use Rattle.xa_types.specs.Kind.{kind_of}
-use Rattle.xa_events.specs.declared.event.Evidence.{Evidence}
-use Rattle.xa_events.specs.declared.event.Evidence.TheVariants.{Version, Cells}
-use Rattle.xa_caller.specs.declared.outcomes.Prepared.{Prepared}
-use Rattle.xa_caller.specs.declared.outcomes.Stop.{Stop}
-use Rattle.xa_caller.specs.declared.outcomes.Stop.TheVariants as stops
-use Rattle.xa_caller.specs.Caller.{Standing as Caller}
-use Rattle.xa_caller.specs.Changes.{Prepares, Refuses, StopsAs}
-use Rattle.xa_caller.proofs.Next.{first_found}
+use Rattle.xa_desk.specs.xa_types.declared.call.Ask.{Ask}
+use Rattle.xa_desk.specs.xa_types.declared.data.Data.{Data}
+use Rattle.xa_desk.specs.xa_types.declared.fault.Fault.{Fault}
+use Rattle.xa_desk.specs.xa_types.declared.fault.Fault.TheVariants.{NoEnt, IType, Limit}
+use Rattle.xa_desk.specs.xa_types.declared.stamp.Stamp.{Stamp}
+use Rattle.xa_desk.specs.xa_types.Found.{FoundRows}
+use Rattle.xa_desk.specs.xa_types.Kind.{kind_of}
+use Rattle.xa_desk.specs.xa_events.declared.event.Evidence.{Evidence}
+use Rattle.xa_desk.specs.xa_events.declared.event.Evidence.TheVariants.{Version, Cells}
+use Rattle.xa_desk.specs.xa_caller.declared.outcomes.Prepared.{Prepared}
+use Rattle.xa_desk.specs.xa_caller.declared.outcomes.Stop.{Stop}
+use Rattle.xa_desk.specs.xa_caller.declared.outcomes.Stop.TheVariants as stops
+use Rattle.xa_desk.specs.xa_caller.Caller.{Standing as Caller}
+use Rattle.xa_desk.specs.xa_caller.Changes.{Prepares, Refuses, StopsAs}
+use Rattle.xa_desk.proofs.xa_caller.Next.{first_found}
 use Rattle.xa_desk.specs.declared.domain.Domain.{Domain}
 use Rattle.xa_desk.specs.declared.desk.Desk.{Desk}
 use Rattle.xa_desk.specs.Desks.{IsDesk, Leads}

@@ -5,31 +5,31 @@ use Rattle.std.specs.List.{All, Contains}
 use Rattle.std.proofs.lemmas.List.{take_all, take-take}
 use Rattle.std.proofs.lemmas.List.Elements.{All-take, All-more, All-weaker, Contains-get_or}
 use Rattle.std.proofs.lemmas.Option.{slice_get_cases, slice_get_within, get_or_from_slice_get}
-use Rattle.xa_types.specs.declared.call.Ask.{Ask}
-use Rattle.xa_types.specs.declared.fault.Fault.{Fault}
-use Rattle.xa_types.specs.declared.ids.QueueId.{QueueId}
-use Rattle.xa_types.specs.declared.row.Row.{Row}
-use Rattle.xa_types.specs.declared.stamp.Stamp.{Stamp}
-use Rattle.xa_types.specs.Found.{FoundRows}
-use Rattle.xa_types.specs.Setup.{capacity_of}
-use Rattle.xa_events.specs.declared.event.Event.{Event}
-use Rattle.xa_events.specs.declared.event.Evidence.{Evidence}
-use Rattle.xa_events.specs.Calls.{IsShutOut}
-use Rattle.xa_events.specs.Homes.Home.{QueueHome}
-use Rattle.xa_events.specs.Queue.{is_down, is_closed, waiting}
-use Rattle.xa_queue.specs.declared.entry.Entry.{Entry}
-use Rattle.xa_queue.specs.declared.queue.Refusal.{Refusal}
-use Rattle.xa_queue.specs.declared.queue.Refusal.TheVariants as refusals
-use Rattle.xa_work.specs.declared.work.Halt.{Halt}
-use Rattle.xa_caller.specs.declared.outcomes.Aimed.{Aimed}
-use Rattle.xa_caller.specs.declared.outcomes.Aimed.TheVariants as aims
-use Rattle.xa_caller.specs.declared.outcomes.Step.{Step}
-use Rattle.xa_caller.specs.declared.outcomes.Step.TheVariants as steps
-use Rattle.xa_caller.specs.declared.outcomes.Why.{Why}
-use Rattle.xa_caller.specs.Caller.{Standing as Caller}
-use Rattle.xa_caller.specs.Changes.{Sends}
-use Rattle.xa_caller.specs.Drafts.{Cargo}
-use Rattle.xa_caller.specs.Unsent.{AimsAs, EndsAs, UnsentAs, refused_for, other_step}
+use Rattle.xa_desk.specs.xa_types.declared.call.Ask.{Ask}
+use Rattle.xa_desk.specs.xa_types.declared.fault.Fault.{Fault}
+use Rattle.xa_desk.specs.xa_types.declared.ids.QueueId.{QueueId}
+use Rattle.xa_desk.specs.xa_types.declared.row.Row.{Row}
+use Rattle.xa_desk.specs.xa_types.declared.stamp.Stamp.{Stamp}
+use Rattle.xa_desk.specs.xa_types.Found.{FoundRows}
+use Rattle.xa_desk.specs.xa_types.Setup.{capacity_of}
+use Rattle.xa_desk.specs.xa_events.declared.event.Event.{Event}
+use Rattle.xa_desk.specs.xa_events.declared.event.Evidence.{Evidence}
+use Rattle.xa_desk.specs.xa_events.Calls.{IsShutOut}
+use Rattle.xa_desk.specs.xa_events.Homes.Home.{QueueHome}
+use Rattle.xa_desk.specs.xa_events.Queue.{is_down, is_closed, waiting}
+use Rattle.xa_desk.specs.xa_queue.declared.entry.Entry.{Entry}
+use Rattle.xa_desk.specs.xa_queue.declared.queue.Refusal.{Refusal}
+use Rattle.xa_desk.specs.xa_queue.declared.queue.Refusal.TheVariants as refusals
+use Rattle.xa_desk.specs.xa_work.declared.work.Halt.{Halt}
+use Rattle.xa_desk.specs.xa_caller.declared.outcomes.Aimed.{Aimed}
+use Rattle.xa_desk.specs.xa_caller.declared.outcomes.Aimed.TheVariants as aims
+use Rattle.xa_desk.specs.xa_caller.declared.outcomes.Step.{Step}
+use Rattle.xa_desk.specs.xa_caller.declared.outcomes.Step.TheVariants as steps
+use Rattle.xa_desk.specs.xa_caller.declared.outcomes.Why.{Why}
+use Rattle.xa_desk.specs.xa_caller.Caller.{Standing as Caller}
+use Rattle.xa_desk.specs.xa_caller.Changes.{Sends}
+use Rattle.xa_desk.specs.xa_caller.Drafts.{Cargo}
+use Rattle.xa_desk.specs.xa_caller.Unsent.{AimsAs, EndsAs, UnsentAs, refused_for, other_step}
 use Rattle.xa_desk.specs.declared.domain.Domain.{Domain}
 use Rattle.xa_desk.specs.declared.desk.Desk.{Desk}
 use Rattle.xa_desk.specs.Whole.{entries_of}

@@ -1,12 +1,12 @@
 -- What a client's worker leaves behind (this project's own).
 use Rattle.std.specs.Prelude.{◌≡◌, ℕ, List, Option, Some, None, IfSome}
 use Rattle.std.specs.List.{Contains}
-use Rattle.xa_types.specs.declared.call.Op.{Op}
-use Rattle.xa_types.specs.declared.stamp.Stamp.{Stamp}
-use Rattle.xa_events.specs.declared.event.Event.TheVariants.{Leave}
-use Rattle.xa_events.specs.Caller.{last_op, just_accepted}
-use Rattle.xa_work.specs.declared.work.Halt.{Halt}
-use Rattle.xa_work.specs.Work.{Standing as Working, theirs}
+use Rattle.xa_desk.specs.xa_types.declared.call.Op.{Op}
+use Rattle.xa_desk.specs.xa_types.declared.stamp.Stamp.{Stamp}
+use Rattle.xa_desk.specs.xa_events.declared.event.Event.TheVariants.{Leave}
+use Rattle.xa_desk.specs.xa_events.Caller.{last_op, just_accepted}
+use Rattle.xa_desk.specs.xa_work.declared.work.Halt.{Halt}
+use Rattle.xa_desk.specs.xa_work.Work.{Standing as Working, theirs}
 use Rattle.xa_desk.specs.declared.domain.Domain.{Domain}
 use Rattle.xa_desk.specs.declared.desk.Desk.{Desk}
 use Rattle.xa_desk.specs.declared.stopped.Stopped.{Stopped}

@@ -1,16 +1,16 @@
 -- What a client's calls leave at its desk (this project's own).
 use Rattle.std.specs.Prelude.{◌≡◌, ℕ, ◌+◌, Bool, true, false, List, Result, Ok, Err}
 use Rattle.std.specs.List.{All}
-use Rattle.xa_types.specs.declared.call.Ask.{Ask}
-use Rattle.xa_types.specs.declared.call.Op.{Op}
-use Rattle.xa_types.specs.declared.call.Op.TheVariants.{Call}
-use Rattle.xa_events.specs.Caller.{is_client}
-use Rattle.xa_caller.specs.declared.outcomes.Step.{Step}
-use Rattle.xa_caller.specs.declared.outcomes.Step.TheVariants as steps
-use Rattle.xa_caller.specs.declared.outcomes.Stop.{Stop}
-use Rattle.xa_caller.specs.declared.outcomes.Stop.TheVariants as stops
-use Rattle.xa_caller.specs.declared.phase.Phase.TheVariants.{Idle}
-use Rattle.xa_caller.specs.Phases.{IsSent, IsPrepared}
+use Rattle.xa_desk.specs.xa_types.declared.call.Ask.{Ask}
+use Rattle.xa_desk.specs.xa_types.declared.call.Op.{Op}
+use Rattle.xa_desk.specs.xa_types.declared.call.Op.TheVariants.{Call}
+use Rattle.xa_desk.specs.xa_events.Caller.{is_client}
+use Rattle.xa_desk.specs.xa_caller.declared.outcomes.Step.{Step}
+use Rattle.xa_desk.specs.xa_caller.declared.outcomes.Step.TheVariants as steps
+use Rattle.xa_desk.specs.xa_caller.declared.outcomes.Stop.{Stop}
+use Rattle.xa_desk.specs.xa_caller.declared.outcomes.Stop.TheVariants as stops
+use Rattle.xa_desk.specs.xa_caller.declared.phase.Phase.TheVariants.{Idle}
+use Rattle.xa_desk.specs.xa_caller.Phases.{IsSent, IsPrepared}
 use Rattle.xa_desk.specs.declared.domain.Domain.{Domain}
 use Rattle.xa_desk.specs.declared.desk.Desk.{Desk}
 use Rattle.xa_desk.specs.declared.stopped.Stopped.{Stopped}

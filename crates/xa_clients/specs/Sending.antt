@@ -1,22 +1,22 @@
 -- How a client's request goes from queue to queue (XATMI, TPESYSTEM and TPEBLOCK of tpcall; their order is this project's own).
 use Rattle.std.specs.Prelude.{◌≡◌, ◌⊎◌, ℕ, ◌+◌, ◌<◌, true, List, take, length, Option, Some, None, IfSome, Result, Ok, Err, slice_get}
 use Rattle.std.specs.List.{All, Contains}
-use Rattle.xa_types.specs.declared.call.Ask.{Ask}
-use Rattle.xa_types.specs.declared.ids.QueueId.{QueueId}
-use Rattle.xa_types.specs.declared.row.Row.{Row}
-use Rattle.xa_types.specs.Found.{FoundRows}
-use Rattle.xa_types.specs.Setup.{capacity_of}
-use Rattle.xa_events.specs.declared.event.Event.{Event}
-use Rattle.xa_events.specs.Calls.{IsShutOut}
-use Rattle.xa_events.specs.Queue.{is_down, is_closed, waiting}
-use Rattle.xa_queue.specs.declared.entry.Entry.{Entry}
-use Rattle.xa_queue.specs.declared.queue.Refusal.{Refusal}
-use Rattle.xa_queue.specs.declared.queue.Refusal.TheVariants as refusals
-use Rattle.xa_work.specs.declared.work.Halt.{Halt}
-use Rattle.xa_work.specs.declared.work.Halt.TheVariants as halts
-use Rattle.xa_caller.specs.Drafts.{Cargo}
-use Rattle.xa_caller.specs.declared.outcomes.Why.{Why}
-use Rattle.xa_caller.specs.declared.outcomes.Why.TheVariants as reasons
+use Rattle.xa_desk.specs.xa_types.declared.call.Ask.{Ask}
+use Rattle.xa_desk.specs.xa_types.declared.ids.QueueId.{QueueId}
+use Rattle.xa_desk.specs.xa_types.declared.row.Row.{Row}
+use Rattle.xa_desk.specs.xa_types.Found.{FoundRows}
+use Rattle.xa_desk.specs.xa_types.Setup.{capacity_of}
+use Rattle.xa_desk.specs.xa_events.declared.event.Event.{Event}
+use Rattle.xa_desk.specs.xa_events.Calls.{IsShutOut}
+use Rattle.xa_desk.specs.xa_events.Queue.{is_down, is_closed, waiting}
+use Rattle.xa_desk.specs.xa_queue.declared.entry.Entry.{Entry}
+use Rattle.xa_desk.specs.xa_queue.declared.queue.Refusal.{Refusal}
+use Rattle.xa_desk.specs.xa_queue.declared.queue.Refusal.TheVariants as refusals
+use Rattle.xa_desk.specs.xa_work.declared.work.Halt.{Halt}
+use Rattle.xa_desk.specs.xa_work.declared.work.Halt.TheVariants as halts
+use Rattle.xa_desk.specs.xa_caller.Drafts.{Cargo}
+use Rattle.xa_desk.specs.xa_caller.declared.outcomes.Why.{Why}
+use Rattle.xa_desk.specs.xa_caller.declared.outcomes.Why.TheVariants as reasons
 use Rattle.xa_desk.specs.declared.domain.Domain.{Domain}
 use Rattle.xa_desk.specs.declared.desk.Desk.{Desk}
 use Rattle.xa_desk.specs.Found.{SawAtQueue, SawItsOwnAt, HasFound, IsAimed, queue_in}

@@ -1,7 +1,7 @@
 // A client makes a call.
 ghost use Rattle.std.specs.Prelude.{◌≡◌, ◌+◌, OnOk, IfErr};
-ghost use Rattle.xa_types.specs.declared.call.Ask.{Ask as Asked};
-ghost use Rattle.xa_types.specs.declared.call.Op.TheVariants.{Call};
+ghost use Rattle.xa_desk.specs.xa_types.declared.call.Ask.{Ask as Asked};
+ghost use Rattle.xa_desk.specs.xa_types.declared.call.Op.TheVariants.{Call};
 ghost use Rattle.xa_desk.specs.Desks.{IsDomain};
 ghost use Rattle.xa_clients.specs.Going.{IsReady, IsWaiting, IsStopped, GoesBy, ToldAs, IsCall, told_by};
 
@@ -9,10 +9,10 @@ use crate::sending::{refused_by, send};
 use std::alloc::Global;
 use std::sync::Wait;
 use std::thread;
-use xa_caller::Step;
+use xa_desk::caller::Step;
+use xa_desk::link::{Gate, Point, stay};
+use xa_desk::types::{Ask, Op};
 use xa_desk::{Desk, Domain, Stopped};
-use xa_link::{Gate, Point, stay};
-use xa_types::{Ask, Op};
 
 // How often it looks for an answer before it sleeps. Others run between two looks.
 const LOOKS: u32 = 100;

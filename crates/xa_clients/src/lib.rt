@@ -7,3 +7,10 @@ mod working;
 
 pub use calling::perform;
 pub use working::{ClientWorker, Ended, client_work};
+
+// What crates above name of those below.
+pub use xa_desk as desk;
+pub use xa_desk::{
+    board, buffer, caller, cell, events, held, link, lock, pipe, queue, restart, route, server,
+    stamp, types, work,
+};

@@ -1,7 +1,7 @@
 // A client sends a request.
 ghost use Rattle.std.specs.Prelude.{◌≡◌, ◌+◌, false};
-ghost use Rattle.xa_events.specs.Calls.{is_invalid_call};
-ghost use Rattle.xa_events.specs.declared.event.Event.{Event as Accepting};
+ghost use Rattle.xa_desk.specs.xa_events.Calls.{is_invalid_call};
+ghost use Rattle.xa_desk.specs.xa_events.declared.event.Event.{Event as Accepting};
 ghost use Rattle.xa_desk.specs.Desks.{IsDomain, IsDesk};
 ghost use Rattle.xa_desk.specs.Found.{HasFound, IsAimed};
 ghost use Rattle.xa_desk.specs.Steps.{IsWhy};
@@ -10,11 +10,11 @@ ghost use Rattle.xa_clients.specs.Sending.{IsBy, why_of, full_by};
 
 use std::alloc::Global;
 use std::sync::Wait;
-use xa_caller::{Aimed, Cargo, Note, Prepared, Step, Stop, Why};
+use xa_desk::caller::{Aimed, Cargo, Note, Prepared, Step, Stop, Why};
+use xa_desk::queue::{Entry, Refusal};
+use xa_desk::types::{Ask, Name, QueueId};
+use xa_desk::work::Halt;
 use xa_desk::{Desk, Domain, Stopped, Unsent};
-use xa_queue::{Entry, Refusal};
-use xa_types::{Ask, Name, QueueId};
-use xa_work::Halt;
 
 // What an attempt to send comes to.
 #[derive(Clone, Copy)]

@@ -9,10 +9,10 @@ use crate::calling::perform;
 use std::alloc::Global;
 use std::mem;
 use std::sync::Wait;
+use xa_desk::link::Gate;
+use xa_desk::types::{Op, Stamp};
+use xa_desk::work::Halt;
 use xa_desk::{Desk, Domain, Done, Stopped};
-use xa_link::Gate;
-use xa_types::{Op, Stamp};
-use xa_work::Halt;
 
 /// What a client leaves behind, and why it ended before its work was done, if it did.
 pub struct Ended {

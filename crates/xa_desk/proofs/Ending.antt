@@ -1,36 +1,36 @@
 -- The end of a request that a server has in hand, and what its caller is told.
 use Rattle.std.proofs.Common.{◌-◌, ◌≡◌, ℕ, ℤ, max, Bool, true, false, List, [], ◌∷◌, ◌++◌, Result, Ok, Err, Option, Some, None, if◌then◌else◌, refl, sym, ◌∙◌, ap, subst, arith}
 use Rattle.std.specs.Prelude.{IfOk, IfErr, IfSome}
-use Rattle.xa_types.specs.declared.call.Rval.{Rval}
-use Rattle.xa_types.specs.declared.call.Rval.TheVariants.{Success, Fail, Exit}
-use Rattle.xa_types.specs.declared.data.Data.{Data}
-use Rattle.xa_types.specs.declared.reply.Answer.{Answer}
-use Rattle.xa_types.specs.declared.stamp.Stamp.{Stamp}
-use Rattle.xa_events.specs.declared.event.Event.TheVariants.{End}
-use Rattle.xa_events.specs.declared.event.Outcome.{Outcome}
-use Rattle.xa_events.specs.declared.event.Outcome.TheVariants.{BadReturn}
-use Rattle.xa_events.specs.Answers.{reply_of}
-use Rattle.xa_events.specs.Caller.{version_of}
-use Rattle.xa_events.specs.Conversation.{connections}
-use Rattle.xa_events.specs.Finishing.{returned, return_by}
-use Rattle.xa_events.specs.Homes.Home.{CallerHome}
-use Rattle.xa_events.specs.Request.Settlement.{EndedBy}
-use Rattle.xa_events.specs.State.{caller_of}
-use Rattle.xa_stamp.specs.declared.home.Stamped.{Stamped}
-use Rattle.xa_queue.specs.declared.entry.Entry.{Entry}
-use Rattle.xa_cell.specs.declared.view.Opening.{Opening}
-use Rattle.xa_cell.specs.Known.{IsTicketOf, known}
-use Rattle.xa_work.specs.declared.work.Halt.{Halt}
-use Rattle.xa_work.specs.declared.work.Halt.TheVariants.{NoMemory, Worn}
-use Rattle.xa_work.specs.Work.{Standing as Working, theirs}
-use Rattle.xa_caller.specs.Drafts.{Cargo}
-use Rattle.xa_server.specs.declared.closing.Closing.{Closing}
-use Rattle.xa_server.specs.declared.slot.ServerSlot.{ServerSlot}
-use Rattle.xa_server.specs.Changes.{Ends, Closes, Finishes}
-use Rattle.xa_server.specs.Doings.{life_in}
-use Rattle.xa_server.specs.Noting.{HaltsWith, with_room}
-use Rattle.xa_server.specs.Told.{NamesIts}
-use Rattle.xa_server.proofs.Telling.{finish_backed}
+use Rattle.xa_told.specs.xa_types.declared.call.Rval.{Rval}
+use Rattle.xa_told.specs.xa_types.declared.call.Rval.TheVariants.{Success, Fail, Exit}
+use Rattle.xa_told.specs.xa_types.declared.data.Data.{Data}
+use Rattle.xa_told.specs.xa_types.declared.reply.Answer.{Answer}
+use Rattle.xa_told.specs.xa_types.declared.stamp.Stamp.{Stamp}
+use Rattle.xa_told.specs.xa_events.declared.event.Event.TheVariants.{End}
+use Rattle.xa_told.specs.xa_events.declared.event.Outcome.{Outcome}
+use Rattle.xa_told.specs.xa_events.declared.event.Outcome.TheVariants.{BadReturn}
+use Rattle.xa_told.specs.xa_events.Answers.{reply_of}
+use Rattle.xa_told.specs.xa_events.Caller.{version_of}
+use Rattle.xa_told.specs.xa_events.Conversation.{connections}
+use Rattle.xa_told.specs.xa_events.Finishing.{returned, return_by}
+use Rattle.xa_told.specs.xa_events.Homes.Home.{CallerHome}
+use Rattle.xa_told.specs.xa_events.Request.Settlement.{EndedBy}
+use Rattle.xa_told.specs.xa_events.State.{caller_of}
+use Rattle.xa_told.specs.xa_stamp.declared.home.Stamped.{Stamped}
+use Rattle.xa_told.specs.xa_queue.declared.entry.Entry.{Entry}
+use Rattle.xa_told.specs.xa_cell.declared.view.Opening.{Opening}
+use Rattle.xa_told.specs.xa_cell.Known.{IsTicketOf, known}
+use Rattle.xa_told.specs.xa_work.declared.work.Halt.{Halt}
+use Rattle.xa_told.specs.xa_work.declared.work.Halt.TheVariants.{NoMemory, Worn}
+use Rattle.xa_told.specs.xa_work.Work.{Standing as Working, theirs}
+use Rattle.xa_told.specs.xa_caller.Drafts.{Cargo}
+use Rattle.xa_told.specs.xa_server.declared.closing.Closing.{Closing}
+use Rattle.xa_told.specs.xa_server.declared.slot.ServerSlot.{ServerSlot}
+use Rattle.xa_told.specs.xa_server.Changes.{Ends, Closes, Finishes}
+use Rattle.xa_told.specs.xa_server.Doings.{life_in}
+use Rattle.xa_told.specs.xa_server.Noting.{HaltsWith, with_room}
+use Rattle.xa_told.specs.xa_server.Told.{NamesIts}
+use Rattle.xa_told.proofs.xa_server.Telling.{finish_backed}
 use Rattle.xa_desk.specs.Made.{IsEnded}
 use Rattle.xa_desk.specs.declared.domain.Domain.{Domain}
 use Rattle.xa_desk.specs.declared.desk.Desk.{Desk}

@@ -4,34 +4,34 @@ use Rattle.std.specs.Prelude.{slice_index_or}
 use Rattle.std.proofs.lemmas.List.{append_assoc}
 use Rattle.std.specs.List.{All, Contains, filter}
 use Rattle.std.proofs.lemmas.List.Elements.{All-nil, All-cons, All-push, All-append, All-weaker, filter-append, Contains-push, Contains-append_left}
-use Rattle.xa_types.specs.declared.stamp.Stamp.{Stamp}
-use Rattle.xa_events.specs.declared.event.Event.{Event}
-use Rattle.xa_types.specs.declared.ids.CallerId.{CallerId}
-use Rattle.xa_events.specs.Words.{AtEach}
-use Rattle.xa_events.specs.Homes.{Home, home_of, same_home}
-use Rattle.xa_events.specs.Homes.Home.{BoardHome, QueueHome, CallerHome}
-use Rattle.xa_events.specs.Local.{worker_events}
-use Rattle.xa_events.specs.Board.{published}
-use Rattle.xa_stamp.specs.declared.home.Stamped.{Stamped}
-use Rattle.xa_lock.specs.declared.pass.LockPass.{LockPass}
-use Rattle.xa_crew.specs.Seen.{past_in, IsBehind, SawFronts, WasTold}
-use Rattle.xa_crew.specs.Crew.{MetAmong, stands_at, TellsEach}
-use Rattle.xa_crew.proofs.Growing.{page_stays}
-use Rattle.xa_cell.specs.declared.view.View.{View}
-use Rattle.xa_cell.specs.Known.{known, IsSeatOf}
-use Rattle.xa_held.specs.declared.kept_board.BoardNote.{BoardNote}
-use Rattle.xa_held.specs.declared.kept_board.BoardNote.TheVariants.{Opened, By, Looked}
-use Rattle.xa_held.specs.declared.kept_queue.QueueNote.{QueueNote}
-use Rattle.xa_held.specs.Joins.{changes_at, events_at}
-use Rattle.xa_held.specs.Kept.{notes_of}
-use Rattle.xa_lock.specs.Known.{known as page_of}
-use Rattle.xa_lock.specs.Pages.{StartsWith}
-use Rattle.xa_work.specs.Work.{Standing as Working}
-use Rattle.xa_work.proofs.Noting.{each-more}
-use Rattle.xa_caller.specs.declared.cargo.Filling.{Filling}
-use Rattle.xa_caller.specs.Caller.{Standing as Caller}
-use Rattle.xa_server.specs.Told.{HasStamp, FilledByEnds}
-use Rattle.xa_server.proofs.Telling.{fillings_stay}
+use Rattle.xa_told.specs.xa_types.declared.stamp.Stamp.{Stamp}
+use Rattle.xa_told.specs.xa_events.declared.event.Event.{Event}
+use Rattle.xa_told.specs.xa_types.declared.ids.CallerId.{CallerId}
+use Rattle.xa_told.specs.xa_events.Words.{AtEach}
+use Rattle.xa_told.specs.xa_events.Homes.{Home, home_of, same_home}
+use Rattle.xa_told.specs.xa_events.Homes.Home.{BoardHome, QueueHome, CallerHome}
+use Rattle.xa_told.specs.xa_events.Local.{worker_events}
+use Rattle.xa_told.specs.xa_events.Board.{published}
+use Rattle.xa_told.specs.xa_stamp.declared.home.Stamped.{Stamped}
+use Rattle.xa_told.specs.xa_lock.declared.pass.LockPass.{LockPass}
+use Rattle.xa_told.specs.xa_crew.Seen.{past_in, IsBehind, SawFronts, WasTold}
+use Rattle.xa_told.specs.xa_crew.Crew.{MetAmong, stands_at, TellsEach}
+use Rattle.xa_told.proofs.xa_crew.Growing.{page_stays}
+use Rattle.xa_told.specs.xa_cell.declared.view.View.{View}
+use Rattle.xa_told.specs.xa_cell.Known.{known, IsSeatOf}
+use Rattle.xa_told.specs.xa_held.declared.kept_board.BoardNote.{BoardNote}
+use Rattle.xa_told.specs.xa_held.declared.kept_board.BoardNote.TheVariants.{Opened, By, Looked}
+use Rattle.xa_told.specs.xa_held.declared.kept_queue.QueueNote.{QueueNote}
+use Rattle.xa_told.specs.xa_held.Joins.{changes_at, events_at}
+use Rattle.xa_told.specs.xa_held.Kept.{notes_of}
+use Rattle.xa_told.specs.xa_lock.Known.{known as page_of}
+use Rattle.xa_told.specs.xa_lock.Pages.{StartsWith}
+use Rattle.xa_told.specs.xa_work.Work.{Standing as Working}
+use Rattle.xa_told.proofs.xa_work.Noting.{each-more}
+use Rattle.xa_told.specs.xa_caller.declared.cargo.Filling.{Filling}
+use Rattle.xa_told.specs.xa_caller.Caller.{Standing as Caller}
+use Rattle.xa_told.specs.xa_server.Told.{HasStamp, FilledByEnds}
+use Rattle.xa_told.proofs.xa_server.Telling.{fillings_stay}
 use Rattle.xa_desk.specs.declared.domain.Domain.{Domain}
 use Rattle.xa_desk.specs.declared.desk.Desk.{Desk}
 use Rattle.xa_desk.specs.Whole.{Whole, entries_of, IsKnown}

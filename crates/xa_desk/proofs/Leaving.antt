@@ -1,23 +1,23 @@
 -- A server that is given up at its queue.
 use Rattle.std.proofs.Common.{◌≡◌, ℕ, true, false, Ok, sym, ◌∙◌, ap, subst, arith}
 use Rattle.std.specs.Prelude.{IfSome}
-use Rattle.xa_types.specs.declared.ids.CallerId.{CallerId}
-use Rattle.xa_types.specs.declared.ids.ServerId.{ServerId}
-use Rattle.xa_types.specs.declared.stamp.Stamp.{Stamp}
-use Rattle.xa_events.specs.declared.event.Event.{Event}
-use Rattle.xa_events.specs.declared.event.Event.TheVariants.{Gone}
-use Rattle.xa_events.specs.Homes.Home.{QueueHome}
-use Rattle.xa_lock.specs.Known.{known as page_of}
-use Rattle.xa_crew.specs.Seen.{past_in}
-use Rattle.xa_queue.specs.declared.told.GivenUp.{GivenUp}
-use Rattle.xa_queue.specs.Changes.{next_stamp}
-use Rattle.xa_held.specs.Joins.{SawLeft, events_at}
-use Rattle.xa_held.specs.Steps.{GaveUpAs}
-use Rattle.xa_held.specs.Visits.{Visits}
-use Rattle.xa_held.proofs.Lefts.{saw_left, saw_others}
-use Rattle.xa_caller.specs.Serving.{noted_off}
-use Rattle.xa_server.specs.declared.slot.ServerSlot.{ServerSlot}
-use Rattle.xa_server.specs.Slot.{Stands}
+use Rattle.xa_told.specs.xa_types.declared.ids.CallerId.{CallerId}
+use Rattle.xa_told.specs.xa_types.declared.ids.ServerId.{ServerId}
+use Rattle.xa_told.specs.xa_types.declared.stamp.Stamp.{Stamp}
+use Rattle.xa_told.specs.xa_events.declared.event.Event.{Event}
+use Rattle.xa_told.specs.xa_events.declared.event.Event.TheVariants.{Gone}
+use Rattle.xa_told.specs.xa_events.Homes.Home.{QueueHome}
+use Rattle.xa_told.specs.xa_lock.Known.{known as page_of}
+use Rattle.xa_told.specs.xa_crew.Seen.{past_in}
+use Rattle.xa_told.specs.xa_queue.declared.told.GivenUp.{GivenUp}
+use Rattle.xa_told.specs.xa_queue.Changes.{next_stamp}
+use Rattle.xa_told.specs.xa_held.Joins.{SawLeft, events_at}
+use Rattle.xa_told.specs.xa_held.Steps.{GaveUpAs}
+use Rattle.xa_told.specs.xa_held.Visits.{Visits}
+use Rattle.xa_told.proofs.xa_held.Lefts.{saw_left, saw_others}
+use Rattle.xa_told.specs.xa_caller.Serving.{noted_off}
+use Rattle.xa_told.specs.xa_server.declared.slot.ServerSlot.{ServerSlot}
+use Rattle.xa_told.specs.xa_server.Slot.{Stands}
 use Rattle.xa_desk.specs.declared.domain.Domain.{Domain}
 use Rattle.xa_desk.specs.declared.desk.Desk.{Desk}
 use Rattle.xa_desk.specs.Desks.{Leads}

@@ -2,25 +2,25 @@
 use Rattle.std.proofs.Common.{◌≡◌, ◌≤◌, ◌<◌, ℕ, ◌+◌, true, false, List, [], length, Option, refl, sym, ◌∙◌, ap, subst, arith}
 use Rattle.std.specs.List.{Contains}
 use Rattle.std.proofs.lemmas.List.Elements.{All-nil, All-weaker, All-contains, All-contains_itself}
-use Rattle.xa_types.specs.declared.row.Row.{Row}
-use Rattle.xa_types.specs.declared.stamp.Stamp.{Stamp}
-use Rattle.xa_types.specs.Found.{FoundRows}
-use Rattle.xa_types.specs.Kind.{is_accepted, kind_of}
-use Rattle.xa_events.specs.Board.{published}
-use Rattle.xa_events.specs.Cases.{RowStands, RowAdmits}
-use Rattle.xa_lock.specs.declared.pass.LockPass.{LockPass}
-use Rattle.xa_lock.specs.declared.pass.Page.{Page}
-use Rattle.xa_lock.specs.Known.{known as page_of}
-use Rattle.xa_crew.specs.Seen.{past_in, SawFront}
+use Rattle.xa_told.specs.xa_types.declared.row.Row.{Row}
+use Rattle.xa_told.specs.xa_types.declared.stamp.Stamp.{Stamp}
+use Rattle.xa_told.specs.xa_types.Found.{FoundRows}
+use Rattle.xa_told.specs.xa_types.Kind.{is_accepted, kind_of}
+use Rattle.xa_told.specs.xa_events.Board.{published}
+use Rattle.xa_told.specs.xa_events.Cases.{RowStands, RowAdmits}
+use Rattle.xa_told.specs.xa_lock.declared.pass.LockPass.{LockPass}
+use Rattle.xa_told.specs.xa_lock.declared.pass.Page.{Page}
+use Rattle.xa_told.specs.xa_lock.Known.{known as page_of}
+use Rattle.xa_told.specs.xa_crew.Seen.{past_in, SawFront}
 use Rattle.xa_board.specs.Board.{version_of}
 use Rattle.xa_board.specs.Reader.{Finds}
-use Rattle.xa_held.specs.declared.kept_board.BoardNote.{BoardNote}
-use Rattle.xa_held.specs.Board.{IsPlaced}
-use Rattle.xa_held.specs.BoardVisits.{BoardVisits, ReachesBoard}
-use Rattle.xa_held.specs.Joins.{changes_at}
-use Rattle.xa_held.proofs.Standing.{found_grows, found_configured, found_placed, found_listed, found_later, found_seen, found_admits}
-use Rattle.xa_work.specs.Work.{seeing}
-use Rattle.xa_caller.specs.Caller.{Standing as Caller}
+use Rattle.xa_told.specs.xa_held.declared.kept_board.BoardNote.{BoardNote}
+use Rattle.xa_told.specs.xa_held.Board.{IsPlaced}
+use Rattle.xa_told.specs.xa_held.BoardVisits.{BoardVisits, ReachesBoard}
+use Rattle.xa_told.specs.xa_held.Joins.{changes_at}
+use Rattle.xa_told.proofs.xa_held.Standing.{found_grows, found_configured, found_placed, found_listed, found_later, found_seen, found_admits}
+use Rattle.xa_told.specs.xa_work.Work.{seeing}
+use Rattle.xa_told.specs.xa_caller.Caller.{Standing as Caller}
 use Rattle.xa_desk.specs.declared.domain.Domain.{Domain}
 use Rattle.xa_desk.specs.declared.desk.Desk.{Desk}
 use Rattle.xa_desk.specs.Desks.{IsGrounded, IsDomain, Leads, page_in}

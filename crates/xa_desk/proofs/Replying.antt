@@ -3,33 +3,33 @@ use Rattle.std.proofs.Common.{◌≡◌, ◌≤◌, ℕ, max, List, Option, Some
 use Rattle.std.specs.Prelude.{IfSome, IsSomeAnd}
 use Rattle.std.specs.List.{Contains}
 use Rattle.std.proofs.lemmas.List.Elements.{All-contains, Contains-push}
-use Rattle.xa_types.specs.declared.call.Ask.{Ask}
-use Rattle.xa_types.specs.declared.data.Kind.{Kind}
-use Rattle.xa_types.specs.declared.ids.RequestId.{RequestId}
-use Rattle.xa_types.specs.declared.reply.Answer.{Answer as Reply}
-use Rattle.xa_types.specs.declared.stamp.Stamp.{Stamp}
-use Rattle.xa_events.specs.declared.event.Event.{Event}
-use Rattle.xa_events.specs.declared.event.Event.TheVariants.{Answer}
-use Rattle.xa_events.specs.Answers.{reply_of, answer_to, IsAnswerTo}
-use Rattle.xa_events.specs.Homes.{Home}
-use Rattle.xa_events.specs.Request.{Settlement, settlement_in}
-use Rattle.xa_stamp.specs.declared.home.Stamped.{Stamped}
-use Rattle.xa_crew.specs.Seen.{SawEntry}
-use Rattle.xa_cell.specs.declared.view.Fill.{Fill}
-use Rattle.xa_cell.specs.declared.view.View.{View}
-use Rattle.xa_cell.specs.Calls.{TookAs}
-use Rattle.xa_cell.specs.Changes.{looked}
-use Rattle.xa_cell.specs.Growing.{Keeps, TakesMore}
-use Rattle.xa_cell.specs.Known.{known, IsSeatOf}
-use Rattle.xa_cell.specs.Views.{at, fill}
-use Rattle.xa_cell.proofs.Growing.{looked_keeps, more_behind}
-use Rattle.xa_work.specs.Work.{seeing, Standing as Working}
-use Rattle.xa_caller.specs.declared.cargo.Filling.{Filling}
-use Rattle.xa_caller.specs.declared.outcomes.Step.{Step}
-use Rattle.xa_caller.specs.declared.outcomes.Step.TheVariants as steps
-use Rattle.xa_caller.specs.Caller.{Standing as Caller}
-use Rattle.xa_caller.specs.Changes.{Answers, StepsAs}
-use Rattle.xa_caller.specs.Phases.{just_in}
+use Rattle.xa_told.specs.xa_types.declared.call.Ask.{Ask}
+use Rattle.xa_told.specs.xa_types.declared.data.Kind.{Kind}
+use Rattle.xa_told.specs.xa_types.declared.ids.RequestId.{RequestId}
+use Rattle.xa_told.specs.xa_types.declared.reply.Answer.{Answer as Reply}
+use Rattle.xa_told.specs.xa_types.declared.stamp.Stamp.{Stamp}
+use Rattle.xa_told.specs.xa_events.declared.event.Event.{Event}
+use Rattle.xa_told.specs.xa_events.declared.event.Event.TheVariants.{Answer}
+use Rattle.xa_told.specs.xa_events.Answers.{reply_of, answer_to, IsAnswerTo}
+use Rattle.xa_told.specs.xa_events.Homes.{Home}
+use Rattle.xa_told.specs.xa_events.Request.{Settlement, settlement_in}
+use Rattle.xa_told.specs.xa_stamp.declared.home.Stamped.{Stamped}
+use Rattle.xa_told.specs.xa_crew.Seen.{SawEntry}
+use Rattle.xa_told.specs.xa_cell.declared.view.Fill.{Fill}
+use Rattle.xa_told.specs.xa_cell.declared.view.View.{View}
+use Rattle.xa_told.specs.xa_cell.Calls.{TookAs}
+use Rattle.xa_told.specs.xa_cell.Changes.{looked}
+use Rattle.xa_told.specs.xa_cell.Growing.{Keeps, TakesMore}
+use Rattle.xa_told.specs.xa_cell.Known.{known, IsSeatOf}
+use Rattle.xa_told.specs.xa_cell.Views.{at, fill}
+use Rattle.xa_told.proofs.xa_cell.Growing.{looked_keeps, more_behind}
+use Rattle.xa_told.specs.xa_work.Work.{seeing, Standing as Working}
+use Rattle.xa_told.specs.xa_caller.declared.cargo.Filling.{Filling}
+use Rattle.xa_told.specs.xa_caller.declared.outcomes.Step.{Step}
+use Rattle.xa_told.specs.xa_caller.declared.outcomes.Step.TheVariants as steps
+use Rattle.xa_told.specs.xa_caller.Caller.{Standing as Caller}
+use Rattle.xa_told.specs.xa_caller.Changes.{Answers, StepsAs}
+use Rattle.xa_told.specs.xa_caller.Phases.{just_in}
 use Rattle.xa_told.specs.Told.{WasTaken, EndsAt, HasEnd}
 use Rattle.xa_told.proofs.Calls.{asked_looked, took_is_more}
 use Rattle.xa_told.proofs.Growth.{only_at, takes_grows}

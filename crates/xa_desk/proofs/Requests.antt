@@ -1,29 +1,29 @@
 -- A request that a server took.
 use Rattle.std.proofs.Common.{◌≡◌, ℕ, Some, Ok, refl, sym, ◌∙◌, ap, subst, arith, ◌+◌}
-use Rattle.xa_server.specs.Doings.{life_in}
-use Rattle.xa_server.specs.declared.slot.Last.TheVariants.{Nothing as NoLast}
-use Rattle.xa_events.specs.declared.event.Doing.TheVariants.{Busy}
-use Rattle.xa_held.proofs.Seen.{stood_seen}
+use Rattle.xa_told.specs.xa_server.Doings.{life_in}
+use Rattle.xa_told.specs.xa_server.declared.slot.Last.TheVariants.{Nothing as NoLast}
+use Rattle.xa_told.specs.xa_events.declared.event.Doing.TheVariants.{Busy}
+use Rattle.xa_told.proofs.xa_held.Seen.{stood_seen}
 use Rattle.std.specs.Prelude.{IfSome}
 use Rattle.std.specs.List.{Contains, flat_map}
-use Rattle.xa_types.specs.declared.ids.CallerId.{CallerId}
-use Rattle.xa_types.specs.declared.ids.Generation.{Generation}
-use Rattle.xa_types.specs.declared.ids.ServerId.{ServerId}
-use Rattle.xa_types.specs.declared.stamp.Stamp.{Stamp}
-use Rattle.xa_events.specs.declared.event.Event.{Event}
-use Rattle.xa_events.specs.Homes.Home.{QueueHome}
-use Rattle.xa_lock.specs.Known.{known as page_of}
-use Rattle.xa_queue.specs.declared.told.Outgoing.{Outgoing}
-use Rattle.xa_queue.specs.declared.queue.Taken.TheVariants as takes
-use Rattle.xa_queue.specs.Changes.{taken, next_stamp}
-use Rattle.xa_held.specs.Kept.{IsRight}
-use Rattle.xa_held.specs.Notes.{made_of}
-use Rattle.xa_held.specs.Steps.{TookAs}
-use Rattle.xa_held.specs.Visits.{Visits}
-use Rattle.xa_caller.specs.Drafts.{Cargo}
-use Rattle.xa_caller.specs.Serving.{noted_off}
-use Rattle.xa_server.specs.declared.slot.ServerSlot.{ServerSlot}
-use Rattle.xa_server.specs.Slot.{Stands}
+use Rattle.xa_told.specs.xa_types.declared.ids.CallerId.{CallerId}
+use Rattle.xa_told.specs.xa_types.declared.ids.Generation.{Generation}
+use Rattle.xa_told.specs.xa_types.declared.ids.ServerId.{ServerId}
+use Rattle.xa_told.specs.xa_types.declared.stamp.Stamp.{Stamp}
+use Rattle.xa_told.specs.xa_events.declared.event.Event.{Event}
+use Rattle.xa_told.specs.xa_events.Homes.Home.{QueueHome}
+use Rattle.xa_told.specs.xa_lock.Known.{known as page_of}
+use Rattle.xa_told.specs.xa_queue.declared.told.Outgoing.{Outgoing}
+use Rattle.xa_told.specs.xa_queue.declared.queue.Taken.TheVariants as takes
+use Rattle.xa_told.specs.xa_queue.Changes.{taken, next_stamp}
+use Rattle.xa_told.specs.xa_held.Kept.{IsRight}
+use Rattle.xa_told.specs.xa_held.Notes.{made_of}
+use Rattle.xa_told.specs.xa_held.Steps.{TookAs}
+use Rattle.xa_told.specs.xa_held.Visits.{Visits}
+use Rattle.xa_told.specs.xa_caller.Drafts.{Cargo}
+use Rattle.xa_told.specs.xa_caller.Serving.{noted_off}
+use Rattle.xa_told.specs.xa_server.declared.slot.ServerSlot.{ServerSlot}
+use Rattle.xa_told.specs.xa_server.Slot.{Stands}
 use Rattle.xa_desk.specs.declared.domain.Domain.{Domain}
 use Rattle.xa_desk.specs.declared.desk.Desk.{Desk}
 use Rattle.xa_desk.specs.Desks.{Leads}

@@ -1,17 +1,17 @@
 -- What a worker found and saw stands as it goes on.
 use Rattle.std.proofs.Common.{◌≡◌, ◌≤◌, ℕ, ◌+◌, true, false, List, sym, ◌∙◌, ap, subst, arith}
 use Rattle.std.proofs.lemmas.List.Elements.{All-weaker}
-use Rattle.xa_types.specs.declared.data.Data.{Data}
-use Rattle.xa_types.specs.declared.row.Row.{Row}
-use Rattle.xa_types.specs.Found.{FoundRows}
-use Rattle.xa_types.specs.Kind.{is_accepted, kind_of}
-use Rattle.xa_events.specs.declared.event.Event.{Event}
-use Rattle.xa_events.specs.Board.{published}
-use Rattle.xa_events.specs.Cases.{RowStands, RowAdmits}
-use Rattle.xa_crew.specs.Seen.{past_in, SawSince}
-use Rattle.xa_held.specs.Joins.{changes_at}
-use Rattle.xa_queue.specs.declared.entry.Entry.{Entry}
-use Rattle.xa_caller.specs.Drafts.{Cargo}
+use Rattle.xa_told.specs.xa_types.declared.data.Data.{Data}
+use Rattle.xa_told.specs.xa_types.declared.row.Row.{Row}
+use Rattle.xa_told.specs.xa_types.Found.{FoundRows}
+use Rattle.xa_told.specs.xa_types.Kind.{is_accepted, kind_of}
+use Rattle.xa_told.specs.xa_events.declared.event.Event.{Event}
+use Rattle.xa_told.specs.xa_events.Board.{published}
+use Rattle.xa_told.specs.xa_events.Cases.{RowStands, RowAdmits}
+use Rattle.xa_told.specs.xa_crew.Seen.{past_in, SawSince}
+use Rattle.xa_told.specs.xa_held.Joins.{changes_at}
+use Rattle.xa_told.specs.xa_queue.declared.entry.Entry.{Entry}
+use Rattle.xa_told.specs.xa_caller.Drafts.{Cargo}
 use Rattle.xa_desk.specs.declared.domain.Domain.{Domain}
 use Rattle.xa_desk.specs.declared.desk.Desk.{Desk}
 use Rattle.xa_desk.specs.Whole.{entries_of}

@@ -1,25 +1,25 @@
 -- An event of a server that its worker noted at its own home.
 use Rattle.std.proofs.Common.{◌≡◌, ℕ, [], Result, Ok, Err, sym, ◌∙◌, ap, subst, append-nil, arith, ◌-◌, ◌+◌, ◌++◌, ◌∷◌}
-use Rattle.xa_cell.specs.Known.{known}
+use Rattle.xa_told.specs.xa_cell.Known.{known}
 use Rattle.std.specs.Prelude.{OnErr, IfOk}
-use Rattle.xa_types.specs.declared.stamp.Stamp.{Stamp}
-use Rattle.xa_types.specs.Setup.{queue_of}
-use Rattle.xa_events.specs.declared.event.Event.{Event}
-use Rattle.xa_types.specs.declared.stamp.Worn.{Worn}
-use Rattle.xa_events.specs.declared.event.Event.TheVariants.{Stop}
-use Rattle.xa_events.specs.declared.event.StopCause.{StopCause}
-use Rattle.xa_events.specs.declared.event.StopCause.TheVariants.{Shutdown}
-use Rattle.xa_events.specs.Cases.{IsShut}
-use Rattle.xa_events.specs.Homes.{home_of}
-use Rattle.xa_events.specs.Homes.Home.{CallerHome, QueueHome}
-use Rattle.xa_events.specs.Local.{worker_events}
-use Rattle.xa_events.specs.State.{caller_of}
-use Rattle.xa_stamp.specs.declared.home.Stamped.{Stamped}
-use Rattle.xa_crew.specs.Seen.{past_in, SawFront, SawFronts, WasTold, IsBehind}
-use Rattle.xa_work.specs.Work.{Standing as Working}
-use Rattle.xa_server.specs.declared.slot.ServerSlot.{ServerSlot}
-use Rattle.xa_server.specs.Changes.{Stops}
-use Rattle.xa_server.specs.Doings.{life_in}
+use Rattle.xa_told.specs.xa_types.declared.stamp.Stamp.{Stamp}
+use Rattle.xa_told.specs.xa_types.Setup.{queue_of}
+use Rattle.xa_told.specs.xa_events.declared.event.Event.{Event}
+use Rattle.xa_told.specs.xa_types.declared.stamp.Worn.{Worn}
+use Rattle.xa_told.specs.xa_events.declared.event.Event.TheVariants.{Stop}
+use Rattle.xa_told.specs.xa_events.declared.event.StopCause.{StopCause}
+use Rattle.xa_told.specs.xa_events.declared.event.StopCause.TheVariants.{Shutdown}
+use Rattle.xa_told.specs.xa_events.Cases.{IsShut}
+use Rattle.xa_told.specs.xa_events.Homes.{home_of}
+use Rattle.xa_told.specs.xa_events.Homes.Home.{CallerHome, QueueHome}
+use Rattle.xa_told.specs.xa_events.Local.{worker_events}
+use Rattle.xa_told.specs.xa_events.State.{caller_of}
+use Rattle.xa_told.specs.xa_stamp.declared.home.Stamped.{Stamped}
+use Rattle.xa_told.specs.xa_crew.Seen.{past_in, SawFront, SawFronts, WasTold, IsBehind}
+use Rattle.xa_told.specs.xa_work.Work.{Standing as Working}
+use Rattle.xa_told.specs.xa_server.declared.slot.ServerSlot.{ServerSlot}
+use Rattle.xa_told.specs.xa_server.Changes.{Stops}
+use Rattle.xa_told.specs.xa_server.Doings.{life_in}
 use Rattle.xa_desk.specs.Made.{IsMade}
 use Rattle.xa_desk.specs.declared.domain.Domain.{Domain}
 use Rattle.xa_desk.specs.declared.desk.Desk.{Desk}

@@ -1,37 +1,37 @@
 -- A server's worker at its queue: what its pass gives, and what goes on as it visits.
 use Rattle.std.proofs.Common.{◌≡◌, ℕ, ◌+◌, true, false, List, [], map, Option, Some, None, refl, sym, ◌∙◌, ap, subst, arith, eq-eqb}
-use Rattle.xa_lock.specs.Pages.{StartsWith}
-use Rattle.xa_held.proofs.Seen.{sees_more}
+use Rattle.xa_told.specs.xa_lock.Pages.{StartsWith}
+use Rattle.xa_told.proofs.xa_held.Seen.{sees_more}
 use Rattle.std.specs.Prelude.{IfSome}
 use Rattle.std.specs.List.{All, Contains, flat_map}
 use Rattle.std.proofs.lemmas.Grind.{flat_map-append}
 use Rattle.std.proofs.lemmas.List.Elements.{All-nil, All-cons, All-append, Contains-append_left}
-use Rattle.xa_types.specs.declared.ids.CallerId.{CallerId}
-use Rattle.xa_types.specs.declared.ids.ServerId.{ServerId}
-use Rattle.xa_types.specs.declared.stamp.Stamp.{Stamp}
-use Rattle.xa_types.specs.Setup.{queue_of}
-use Rattle.xa_events.specs.declared.event.Event.{Event}
-use Rattle.xa_events.specs.Cases.{IsShut}
-use Rattle.xa_events.specs.State.{caller_of}
-use Rattle.xa_stamp.specs.declared.told.Noted.{Noted}
-use Rattle.xa_lock.specs.declared.makers.Made.{Made}
-use Rattle.xa_lock.specs.Known.{known as page_of}
-use Rattle.xa_queue.specs.declared.entry.Entry.{Entry}
-use Rattle.xa_queue.specs.Queue.{has_server, gives_up}
-use Rattle.xa_held.specs.declared.kept_queue.QueueNote.{QueueNote}
-use Rattle.xa_held.specs.declared.kept_queue.QueueNote.TheVariants.{By}
-use Rattle.xa_held.specs.declared.kept_queue.Setting.{Setting}
-use Rattle.xa_held.specs.Notes.{made_of, IsOther, told}
-use Rattle.xa_held.specs.Kept.{Kept}
-use Rattle.xa_held.specs.Visits.{Sees, Visits}
-use Rattle.xa_held.proofs.Front.{note}
-use Rattle.xa_work.specs.Work.{Standing as Working, seeing}
-use Rattle.xa_caller.specs.Caller.{Standing as Caller}
-use Rattle.xa_caller.specs.declared.cargo.Filling.{Filling}
-use Rattle.xa_caller.specs.Drafts.{Cargo}
-use Rattle.xa_caller.specs.Serving.{noted_off}
-use Rattle.xa_server.specs.declared.slot.ServerSlot.{ServerSlot}
-use Rattle.xa_server.specs.Slot.{Stands}
+use Rattle.xa_told.specs.xa_types.declared.ids.CallerId.{CallerId}
+use Rattle.xa_told.specs.xa_types.declared.ids.ServerId.{ServerId}
+use Rattle.xa_told.specs.xa_types.declared.stamp.Stamp.{Stamp}
+use Rattle.xa_told.specs.xa_types.Setup.{queue_of}
+use Rattle.xa_told.specs.xa_events.declared.event.Event.{Event}
+use Rattle.xa_told.specs.xa_events.Cases.{IsShut}
+use Rattle.xa_told.specs.xa_events.State.{caller_of}
+use Rattle.xa_told.specs.xa_stamp.declared.told.Noted.{Noted}
+use Rattle.xa_told.specs.xa_lock.declared.makers.Made.{Made}
+use Rattle.xa_told.specs.xa_lock.Known.{known as page_of}
+use Rattle.xa_told.specs.xa_queue.declared.entry.Entry.{Entry}
+use Rattle.xa_told.specs.xa_queue.Queue.{has_server, gives_up}
+use Rattle.xa_told.specs.xa_held.declared.kept_queue.QueueNote.{QueueNote}
+use Rattle.xa_told.specs.xa_held.declared.kept_queue.QueueNote.TheVariants.{By}
+use Rattle.xa_told.specs.xa_held.declared.kept_queue.Setting.{Setting}
+use Rattle.xa_told.specs.xa_held.Notes.{made_of, IsOther, told}
+use Rattle.xa_told.specs.xa_held.Kept.{Kept}
+use Rattle.xa_told.specs.xa_held.Visits.{Sees, Visits}
+use Rattle.xa_told.proofs.xa_held.Front.{note}
+use Rattle.xa_told.specs.xa_work.Work.{Standing as Working, seeing}
+use Rattle.xa_told.specs.xa_caller.Caller.{Standing as Caller}
+use Rattle.xa_told.specs.xa_caller.declared.cargo.Filling.{Filling}
+use Rattle.xa_told.specs.xa_caller.Drafts.{Cargo}
+use Rattle.xa_told.specs.xa_caller.Serving.{noted_off}
+use Rattle.xa_told.specs.xa_server.declared.slot.ServerSlot.{ServerSlot}
+use Rattle.xa_told.specs.xa_server.Slot.{Stands}
 use Rattle.xa_desk.specs.declared.domain.Domain.{Domain}
 use Rattle.xa_desk.specs.declared.desk.Desk.{Desk}
 use Rattle.xa_desk.specs.Desks.{IsDesk, queue_page}

@@ -1,42 +1,42 @@
 -- A worker's desk: what its passes know of the homes, and what it has shown of all that it noted (this project's own).
 use Rattle.std.specs.Prelude.{◌≡◌, ◌⊎◌, ℕ, zero, suc, ◌+◌, ◌<◌, ◌≤◌, true, List, [], map, reverse, length, Option, Some, None, slice_index_or}
 use Rattle.std.specs.List.{All, filter}
-use Rattle.xa_types.specs.Configured.{is_configured}
-use Rattle.xa_types.specs.Setup.{capacity_of}
-use Rattle.xa_types.specs.declared.call.Op.{Op}
-use Rattle.xa_types.specs.declared.stamp.Stamp.{Stamp}
-use Rattle.xa_events.specs.Board.{boot, published}
-use Rattle.xa_events.specs.Homes.{Home, home_of}
-use Rattle.xa_events.specs.Homes.Home.{BoardHome, QueueHome}
-use Rattle.xa_events.specs.Words.{AtEach}
-use Rattle.xa_stamp.specs.declared.home.Stamped.{Stamped}
-use Rattle.xa_lock.specs.declared.makers.Made.{Made}
-use Rattle.xa_lock.specs.declared.guarded.Guarded.{Guarded}
-use Rattle.xa_lock.specs.declared.pass.LockPass.{LockPass}
-use Rattle.xa_lock.specs.declared.pass.Page.{Page}
-use Rattle.xa_lock.specs.Known.{known as page_of, IsPassOf}
-use Rattle.xa_lock.specs.Pages.{StartsWith, page}
-use Rattle.xa_lock.specs.Makers.{noted_in}
-use Rattle.xa_crew.specs.Crew.{MayNote, MetAmong, TellsEach, stands_at}
-use Rattle.xa_crew.specs.Seen.{past_in, IsBehind, SawFronts}
-use Rattle.xa_cell.specs.Known.{known, IsSeatOf}
-use Rattle.xa_cell.specs.Views.{at}
-use Rattle.xa_queue.specs.Reading.{AllNew}
-use Rattle.xa_held.specs.declared.kept_board.BoardNote.{BoardNote}
-use Rattle.xa_held.specs.declared.kept_board.BoardNote.TheVariants.{Looked}
-use Rattle.xa_held.specs.declared.kept_queue.KeptQueue.{KeptQueue}
-use Rattle.xa_held.specs.declared.kept_queue.QueueNote.{QueueNote}
-use Rattle.xa_held.specs.declared.kept_queue.Setting.{Setting}
-use Rattle.xa_held.specs.Board.{IsSoundBoard}
-use Rattle.xa_held.specs.BoardVisits.{SeesBoard}
-use Rattle.xa_held.specs.Joins.{HasServers, changes_page, changes_at, events_at}
-use Rattle.xa_held.specs.Kept.{notes_of}
-use Rattle.xa_held.specs.Notes.{made_page}
-use Rattle.xa_held.specs.Visits.{Sees}
-use Rattle.xa_work.specs.Work.{Standing as Working}
-use Rattle.xa_work.specs.Going.{FitEach}
-use Rattle.xa_caller.specs.declared.cargo.Filling.{Filling}
-use Rattle.xa_server.specs.Told.{HasStamp, FilledByEnds}
+use Rattle.xa_told.specs.xa_types.Configured.{is_configured}
+use Rattle.xa_told.specs.xa_types.Setup.{capacity_of}
+use Rattle.xa_told.specs.xa_types.declared.call.Op.{Op}
+use Rattle.xa_told.specs.xa_types.declared.stamp.Stamp.{Stamp}
+use Rattle.xa_told.specs.xa_events.Board.{boot, published}
+use Rattle.xa_told.specs.xa_events.Homes.{Home, home_of}
+use Rattle.xa_told.specs.xa_events.Homes.Home.{BoardHome, QueueHome}
+use Rattle.xa_told.specs.xa_events.Words.{AtEach}
+use Rattle.xa_told.specs.xa_stamp.declared.home.Stamped.{Stamped}
+use Rattle.xa_told.specs.xa_lock.declared.makers.Made.{Made}
+use Rattle.xa_told.specs.xa_lock.declared.guarded.Guarded.{Guarded}
+use Rattle.xa_told.specs.xa_lock.declared.pass.LockPass.{LockPass}
+use Rattle.xa_told.specs.xa_lock.declared.pass.Page.{Page}
+use Rattle.xa_told.specs.xa_lock.Known.{known as page_of, IsPassOf}
+use Rattle.xa_told.specs.xa_lock.Pages.{StartsWith, page}
+use Rattle.xa_told.specs.xa_lock.Makers.{noted_in}
+use Rattle.xa_told.specs.xa_crew.Crew.{MayNote, MetAmong, TellsEach, stands_at}
+use Rattle.xa_told.specs.xa_crew.Seen.{past_in, IsBehind, SawFronts}
+use Rattle.xa_told.specs.xa_cell.Known.{known, IsSeatOf}
+use Rattle.xa_told.specs.xa_cell.Views.{at}
+use Rattle.xa_told.specs.xa_queue.Reading.{AllNew}
+use Rattle.xa_told.specs.xa_held.declared.kept_board.BoardNote.{BoardNote}
+use Rattle.xa_told.specs.xa_held.declared.kept_board.BoardNote.TheVariants.{Looked}
+use Rattle.xa_told.specs.xa_held.declared.kept_queue.KeptQueue.{KeptQueue}
+use Rattle.xa_told.specs.xa_held.declared.kept_queue.QueueNote.{QueueNote}
+use Rattle.xa_told.specs.xa_held.declared.kept_queue.Setting.{Setting}
+use Rattle.xa_told.specs.xa_held.Board.{IsSoundBoard}
+use Rattle.xa_told.specs.xa_held.BoardVisits.{SeesBoard}
+use Rattle.xa_told.specs.xa_held.Joins.{HasServers, changes_page, changes_at, events_at}
+use Rattle.xa_told.specs.xa_held.Kept.{notes_of}
+use Rattle.xa_told.specs.xa_held.Notes.{made_page}
+use Rattle.xa_told.specs.xa_held.Visits.{Sees}
+use Rattle.xa_told.specs.xa_work.Work.{Standing as Working}
+use Rattle.xa_told.specs.xa_work.Going.{FitEach}
+use Rattle.xa_told.specs.xa_caller.declared.cargo.Filling.{Filling}
+use Rattle.xa_told.specs.xa_server.Told.{HasStamp, FilledByEnds}
 use Rattle.xa_told.specs.Told.{AnswersTaken, HasEnd, StandAt}
 use Rattle.xa_desk.specs.declared.domain.Domain.{Domain}
 use Rattle.xa_desk.specs.declared.desk.Desk.{Desk}

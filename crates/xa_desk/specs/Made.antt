@@ -1,15 +1,15 @@
 -- The events that the workers of a domain make: those of tpcall, and of servers' lives. The machine has others, of which none is made here (this
 -- project's own).
 use Rattle.std.specs.Prelude.{◌≡◌}
-use Rattle.xa_types.specs.declared.call.Mode.TheVariants.{Reply}
-use Rattle.xa_types.specs.declared.fault.Fault.{Fault}
-use Rattle.xa_types.specs.declared.fault.Fault.TheVariants.{Inval, NoEnt, IType, Limit, System, Block}
-use Rattle.xa_events.specs.declared.event.Event.{Event}
-use Rattle.xa_events.specs.declared.event.Event.TheVariants.{Advertise, Withdraw, Accept, Take, Sweep, Gone, Down, Close, Start, StartFailed, End, Stop, Answer, Refuse, Leave}
-use Rattle.xa_events.specs.declared.event.Evidence.{Evidence}
-use Rattle.xa_events.specs.declared.event.Evidence.TheVariants.{Argument, Version, Cells, AllDown, Queue}
-use Rattle.xa_events.specs.declared.event.Outcome.{Outcome}
-use Rattle.xa_events.specs.declared.event.Outcome.TheVariants.{BadForward}
+use Rattle.xa_told.specs.xa_types.declared.call.Mode.TheVariants.{Reply}
+use Rattle.xa_told.specs.xa_types.declared.fault.Fault.{Fault}
+use Rattle.xa_told.specs.xa_types.declared.fault.Fault.TheVariants.{Inval, NoEnt, IType, Limit, System, Block}
+use Rattle.xa_told.specs.xa_events.declared.event.Event.{Event}
+use Rattle.xa_told.specs.xa_events.declared.event.Event.TheVariants.{Advertise, Withdraw, Accept, Take, Sweep, Gone, Down, Close, Start, StartFailed, End, Stop, Answer, Refuse, Leave}
+use Rattle.xa_told.specs.xa_events.declared.event.Evidence.{Evidence}
+use Rattle.xa_told.specs.xa_events.declared.event.Evidence.TheVariants.{Argument, Version, Cells, AllDown, Queue}
+use Rattle.xa_told.specs.xa_events.declared.event.Outcome.{Outcome}
+use Rattle.xa_told.specs.xa_events.declared.event.Outcome.TheVariants.{BadForward}
 
 -- a tpcall is refused by itself, by a version of the board, for want of a cell, or by queues that are down, closed or full
 abbrev pub IsRefusal : Fault → Evidence → Type 0

@@ -1,42 +1,42 @@
 -- A server's worker at its desk, and what its steps leave (this project's own).
 use Rattle.std.specs.Prelude.{◌≡◌, ℕ, ◌+◌, ◌<◌, ◌≤◌, ◌^◌, Bool, true, false, List, [], ◌++◌, length, Option, Some, None, IfSome, IsSome, Result, Ok, Err}
 use Rattle.std.specs.List.{All, Contains, flat_map}
-use Rattle.xa_types.specs.declared.stamp.Stamp.{Stamp}
-use Rattle.xa_types.specs.declared.stamp.Worn.{Worn}
-use Rattle.xa_types.specs.Setup.{queue_of}
-use Rattle.xa_events.specs.declared.event.Event.{Event}
-use Rattle.xa_types.specs.declared.ids.QueueId.{QueueId}
-use Rattle.xa_events.specs.declared.event.Event.TheVariants.{Take, Gone, Sweep}
-use Rattle.xa_events.specs.declared.event.Doing.TheVariants.{Busy}
-use Rattle.xa_events.specs.Cases.{IsShut}
-use Rattle.xa_events.specs.Queue.{is_down, waiting}
-use Rattle.xa_events.specs.Server.{is_gone, AllGone}
-use Rattle.xa_events.specs.Homes.Home.{BoardHome, QueueHome}
-use Rattle.xa_stamp.specs.Home.{last_stamp}
-use Rattle.xa_crew.specs.Crew.{IsOfDomain, no_stamp}
-use Rattle.xa_crew.specs.Seen.{SawDeserted}
-use Rattle.xa_cell.specs.Known.{IsTicketOf}
+use Rattle.xa_told.specs.xa_types.declared.stamp.Stamp.{Stamp}
+use Rattle.xa_told.specs.xa_types.declared.stamp.Worn.{Worn}
+use Rattle.xa_told.specs.xa_types.Setup.{queue_of}
+use Rattle.xa_told.specs.xa_events.declared.event.Event.{Event}
+use Rattle.xa_told.specs.xa_types.declared.ids.QueueId.{QueueId}
+use Rattle.xa_told.specs.xa_events.declared.event.Event.TheVariants.{Take, Gone, Sweep}
+use Rattle.xa_told.specs.xa_events.declared.event.Doing.TheVariants.{Busy}
+use Rattle.xa_told.specs.xa_events.Cases.{IsShut}
+use Rattle.xa_told.specs.xa_events.Queue.{is_down, waiting}
+use Rattle.xa_told.specs.xa_events.Server.{is_gone, AllGone}
+use Rattle.xa_told.specs.xa_events.Homes.Home.{BoardHome, QueueHome}
+use Rattle.xa_told.specs.xa_stamp.Home.{last_stamp}
+use Rattle.xa_told.specs.xa_crew.Crew.{IsOfDomain, no_stamp}
+use Rattle.xa_told.specs.xa_crew.Seen.{SawDeserted}
+use Rattle.xa_told.specs.xa_cell.Known.{IsTicketOf}
 use Rattle.xa_board.specs.declared.board.BoardRefused.{BoardRefused}
 use Rattle.xa_board.specs.declared.board.BoardRefused.TheVariants as refusals
-use Rattle.xa_held.specs.Joins.{SawLeft}
-use Rattle.xa_stamp.specs.declared.home.Stamped.{Stamped}
-use Rattle.xa_lock.specs.declared.makers.Made.{Made}
-use Rattle.xa_queue.specs.declared.entry.Entry.{Entry}
-use Rattle.xa_held.specs.Kept.{IsRight, Brings}
-use Rattle.xa_held.specs.Notes.{made_of, IsOther, is_down_in}
-use Rattle.xa_work.specs.Work.{seeing}
-use Rattle.xa_work.specs.declared.work.Halt.{Halt}
-use Rattle.xa_work.specs.declared.work.Halt.TheVariants as halts
-use Rattle.xa_caller.specs.declared.phase.Phase.TheVariants.{Idle}
-use Rattle.xa_caller.specs.Caller.{Standing as Caller}
-use Rattle.xa_caller.specs.Drafts.{Cargo}
-use Rattle.xa_caller.specs.Serving.{noted_off}
-use Rattle.xa_server.specs.declared.closing.Closing.{Closing}
-use Rattle.xa_server.specs.declared.slot.ServerSlot.{ServerSlot}
-use Rattle.xa_server.specs.declared.slot.Last.TheVariants.{Nothing as NoLast}
-use Rattle.xa_server.specs.Doings.{life_in}
-use Rattle.xa_server.specs.Slot.{Stands}
-use Rattle.xa_server.specs.Told.{IsBacked}
+use Rattle.xa_told.specs.xa_held.Joins.{SawLeft}
+use Rattle.xa_told.specs.xa_stamp.declared.home.Stamped.{Stamped}
+use Rattle.xa_told.specs.xa_lock.declared.makers.Made.{Made}
+use Rattle.xa_told.specs.xa_queue.declared.entry.Entry.{Entry}
+use Rattle.xa_told.specs.xa_held.Kept.{IsRight, Brings}
+use Rattle.xa_told.specs.xa_held.Notes.{made_of, IsOther, is_down_in}
+use Rattle.xa_told.specs.xa_work.Work.{seeing}
+use Rattle.xa_told.specs.xa_work.declared.work.Halt.{Halt}
+use Rattle.xa_told.specs.xa_work.declared.work.Halt.TheVariants as halts
+use Rattle.xa_told.specs.xa_caller.declared.phase.Phase.TheVariants.{Idle}
+use Rattle.xa_told.specs.xa_caller.Caller.{Standing as Caller}
+use Rattle.xa_told.specs.xa_caller.Drafts.{Cargo}
+use Rattle.xa_told.specs.xa_caller.Serving.{noted_off}
+use Rattle.xa_told.specs.xa_server.declared.closing.Closing.{Closing}
+use Rattle.xa_told.specs.xa_server.declared.slot.ServerSlot.{ServerSlot}
+use Rattle.xa_told.specs.xa_server.declared.slot.Last.TheVariants.{Nothing as NoLast}
+use Rattle.xa_told.specs.xa_server.Doings.{life_in}
+use Rattle.xa_told.specs.xa_server.Slot.{Stands}
+use Rattle.xa_told.specs.xa_server.Told.{IsBacked}
 use Rattle.xa_desk.specs.declared.domain.Domain.{Domain}
 use Rattle.xa_desk.specs.declared.desk.Desk.{Desk}
 use Rattle.xa_desk.specs.declared.serving.Took.{Took}

@@ -6,13 +6,13 @@ use crossbeam_utils::sync::EventCount;
 use std::sync::Wait;
 use std::sync::atomic::AtomicU64;
 use std::sync::atomic::Ordering::SeqCst;
-use xa_buffer::Shapes;
-use xa_caller::Filling;
-use xa_cell::Cells;
-use xa_held::{KeptBoard, KeptQueue};
-use xa_lock::Guarded;
-use xa_types::{CallerId, QueueId, Setup, Stamp};
-use xa_work::Halt;
+use xa_told::buffer::Shapes;
+use xa_told::caller::Filling;
+use xa_told::cell::Cells;
+use xa_told::held::{KeptBoard, KeptQueue};
+use xa_told::lock::Guarded;
+use xa_told::types::{CallerId, QueueId, Setup, Stamp};
+use xa_told::work::Halt;
 
 /// Where workers sleep: the servers of each queue, until something waits there or it is closed; callers, until a queue has
 /// room or isn't up any more; each caller, until it is answered; and clients before their first call, until each server's

@@ -6,31 +6,31 @@ use Rattle.std.specs.declared.vec.Vec.{Vec}
 use Rattle.std.specs.declared.alloc.Global.{Global}
 use Rattle.std.proofs.lemmas.List.{length-map}
 use Rattle.std.proofs.lemmas.List.Elements.{All-nil, All-cons}
-use Rattle.xa_types.specs.declared.ids.Generation.{Generation}
-use Rattle.xa_types.specs.Setup.{numbered, queue_of}
-use Rattle.xa_events.specs.declared.event.Event.{Event}
-use Rattle.xa_events.specs.Run.{Run}
-use Rattle.xa_events.specs.State.{opening}
-use Rattle.xa_events.specs.Words.{EachNumbered}
-use Rattle.xa_stamp.specs.Home.{Notes}
-use Rattle.xa_stamp.specs.Merge.{IsMerged, stamps_of}
-use Rattle.xa_work.specs.declared.work.Halt.{Halt}
-use Rattle.xa_work.specs.declared.work.Halt.TheVariants as halts
-use Rattle.xa_pipe.specs.Standing.{Ending}
-use Rattle.xa_script.specs.declared.script.Client.{Client}
-use Rattle.xa_server.specs.Served.{StarterShows}
-use Rattle.xa_links.specs.Lives.{ServerShows}
-use Rattle.xa_links.specs.Working.{cut_in}
-use Rattle.xa_links.specs.declared.working.ServerWorker.{ServerWorker}
-use Rattle.xa_desk.specs.declared.domain.Domain.{Domain}
-use Rattle.xa_desk.specs.declared.desk.Desk.{Desk}
-use Rattle.xa_boot.specs.declared.booting.Booted.{Booted}
-use Rattle.xa_joined.specs.Ended.{ServerEnd, Ends, EndsWhole}
-use Rattle.xa_joined.specs.Served.{IsRecorded, IsWorn, IsLifeOf, AreLives, AreLivesSoFar, IsStarterOf, IsStarterSoFar, HasStarters}
-use Rattle.xa_joined.proofs.Behind.{ends_recorded}
-use Rattle.xa_joined.proofs.Recorded.{dense, known_noted, worn_noted}
-use Rattle.xa_joined.proofs.Merged.{merged_run, merged_made}
-use Rattle.xa_joined.proofs.History.{ends_history}
+use Rattle.xa_ending.specs.xa_types.declared.ids.Generation.{Generation}
+use Rattle.xa_ending.specs.xa_types.Setup.{numbered, queue_of}
+use Rattle.xa_ending.specs.xa_events.declared.event.Event.{Event}
+use Rattle.xa_ending.specs.xa_events.Run.{Run}
+use Rattle.xa_ending.specs.xa_events.State.{opening}
+use Rattle.xa_ending.specs.xa_events.Words.{EachNumbered}
+use Rattle.xa_ending.specs.xa_stamp.Home.{Notes}
+use Rattle.xa_ending.specs.xa_stamp.Merge.{IsMerged, stamps_of}
+use Rattle.xa_ending.specs.xa_work.declared.work.Halt.{Halt}
+use Rattle.xa_ending.specs.xa_work.declared.work.Halt.TheVariants as halts
+use Rattle.xa_ending.specs.xa_pipe.Standing.{Ending}
+use Rattle.xa_ending.specs.xa_script.declared.script.Client.{Client}
+use Rattle.xa_ending.specs.xa_server.Served.{StarterShows}
+use Rattle.xa_ending.specs.xa_links.Lives.{ServerShows}
+use Rattle.xa_ending.specs.xa_links.Working.{cut_in}
+use Rattle.xa_ending.specs.xa_links.declared.working.ServerWorker.{ServerWorker}
+use Rattle.xa_ending.specs.xa_desk.declared.domain.Domain.{Domain}
+use Rattle.xa_ending.specs.xa_desk.declared.desk.Desk.{Desk}
+use Rattle.xa_ending.specs.xa_boot.declared.booting.Booted.{Booted}
+use Rattle.xa_ending.specs.xa_joined.Ended.{ServerEnd, Ends, EndsWhole}
+use Rattle.xa_ending.specs.xa_joined.Served.{IsRecorded, IsWorn, IsLifeOf, AreLives, AreLivesSoFar, IsStarterOf, IsStarterSoFar, HasStarters}
+use Rattle.xa_ending.proofs.xa_joined.Behind.{ends_recorded}
+use Rattle.xa_ending.proofs.xa_joined.Recorded.{dense, known_noted, worn_noted}
+use Rattle.xa_ending.proofs.xa_joined.Merged.{merged_run, merged_made}
+use Rattle.xa_ending.proofs.xa_joined.History.{ends_history}
 use Rattle.xa_carried.proofs.SoFar.{lives_so_far, starters_so_far}
 use Rattle.xa_carried.proofs.Lives.{carried}
 use Rattle.xa_ending.specs.declared.handing.Handed.{Handed}

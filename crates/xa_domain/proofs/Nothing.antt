@@ -5,26 +5,26 @@ use Rattle.std.specs.List.{All}
 use Rattle.std.proofs.lemmas.List.{length-map}
 use Rattle.std.proofs.lemmas.List.Elements.{All-nil, All-head, All-tail}
 use Rattle.std.proofs.lemmas.List.Sorted.{IsPermutation-refl}
-use Rattle.xa_types.specs.declared.ids.Generation.{Generation}
-use Rattle.xa_types.specs.declared.setup.Setup.{Setup}
-use Rattle.xa_types.specs.declared.setup.ServerSetup.{ServerSetup}
-use Rattle.xa_types.specs.Setup.{numbered}
-use Rattle.xa_events.specs.declared.event.Event.{Event}
-use Rattle.xa_events.specs.Server.{starts}
-use Rattle.xa_events.specs.Words.{EachNumbered}
-use Rattle.xa_stamp.specs.Home.{Notes}
-use Rattle.xa_stamp.specs.Merge.{IsDense, IsMerged}
-use Rattle.xa_stamp.proofs.Places.{one_merge}
-use Rattle.xa_crew.specs.Ending.{list_in}
-use Rattle.xa_work.specs.declared.work.Halt.{Halt}
-use Rattle.xa_work.specs.declared.work.Halt.TheVariants.{NoMemory}
-use Rattle.xa_script.specs.declared.script.Client.{Client}
-use Rattle.xa_pipe.specs.Standing.{Ending}
-use Rattle.xa_server.specs.Served.{StarterShows}
-use Rattle.xa_desk.specs.Made.{IsMade}
-use Rattle.xa_links.specs.Lives.{lives_in, HasStarted}
-use Rattle.xa_joined.specs.Served.{server_name_in, name_of, generations_of, HasStarters, IsStarterSoFar, IsServedSoFar}
-use Rattle.xa_joined.proofs.Listed.{numbered_map}
+use Rattle.xa_ending.specs.xa_types.declared.ids.Generation.{Generation}
+use Rattle.xa_ending.specs.xa_types.declared.setup.Setup.{Setup}
+use Rattle.xa_ending.specs.xa_types.declared.setup.ServerSetup.{ServerSetup}
+use Rattle.xa_ending.specs.xa_types.Setup.{numbered}
+use Rattle.xa_ending.specs.xa_events.declared.event.Event.{Event}
+use Rattle.xa_ending.specs.xa_events.Server.{starts}
+use Rattle.xa_ending.specs.xa_events.Words.{EachNumbered}
+use Rattle.xa_ending.specs.xa_stamp.Home.{Notes}
+use Rattle.xa_ending.specs.xa_stamp.Merge.{IsDense, IsMerged}
+use Rattle.xa_ending.proofs.xa_stamp.Places.{one_merge}
+use Rattle.xa_ending.specs.xa_crew.Ending.{list_in}
+use Rattle.xa_ending.specs.xa_work.declared.work.Halt.{Halt}
+use Rattle.xa_ending.specs.xa_work.declared.work.Halt.TheVariants.{NoMemory}
+use Rattle.xa_ending.specs.xa_script.declared.script.Client.{Client}
+use Rattle.xa_ending.specs.xa_pipe.Standing.{Ending}
+use Rattle.xa_ending.specs.xa_server.Served.{StarterShows}
+use Rattle.xa_ending.specs.xa_desk.Made.{IsMade}
+use Rattle.xa_ending.specs.xa_links.Lives.{lives_in, HasStarted}
+use Rattle.xa_ending.specs.xa_joined.Served.{server_name_in, name_of, generations_of, HasStarters, IsStarterSoFar, IsServedSoFar}
+use Rattle.xa_ending.proofs.xa_joined.Listed.{numbered_map}
 use Rattle.xa_carried.proofs.Numbered.{each_at, each_from}
 use Rattle.xa_domain.specs.Serving.{ServeEnds}
 

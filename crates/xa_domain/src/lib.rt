@@ -5,6 +5,9 @@
 mod serving;
 
 pub use serving::{Served, serve};
-pub use xa_links::CutLife;
-pub use xa_pipe::EndedLife;
-pub use xa_work::Halt;
+pub use xa_ending::links::CutLife;
+pub use xa_ending::pipe::EndedLife;
+pub use xa_ending::work::Halt;
+
+// What crates above name of those below.
+pub use xa_ending::{events, link, pipe, script, stamp, types};

@@ -4,38 +4,38 @@ use Rattle.std.specs.Prelude.{IfSome, IsSomeAnd, option_map}
 use Rattle.std.specs.List.{All, Contains}
 use Rattle.std.proofs.lemmas.List.{length-map}
 use Rattle.std.proofs.lemmas.List.Elements.{All-nil, All-cons, All-map, All-contains_itself}
-use Rattle.xa_types.specs.declared.call.Op.{Op}
-use Rattle.xa_types.specs.declared.setup.ServerSetup.{ServerSetup}
-use Rattle.xa_types.specs.Setup.{numbered, queue_of}
-use Rattle.xa_events.specs.Words.{EachNumbered}
-use Rattle.xa_stamp.specs.declared.home.Stamped.{Stamped}
-use Rattle.xa_stamp.specs.Home.{Notes}
-use Rattle.xa_cell.specs.declared.tokens.Seat.{Seat}
-use Rattle.xa_cell.specs.declared.view.Part.{Part}
-use Rattle.xa_crew.specs.Ending.{list_in}
-use Rattle.xa_work.specs.Work.{Standing as Working}
-use Rattle.xa_script.specs.declared.script.Client.{Client}
-use Rattle.xa_server.specs.Served.{StarterShows}
-use Rattle.xa_links.specs.Lives.{ServerShows}
-use Rattle.xa_links.specs.declared.working.ServerWorker.{ServerWorker}
-use Rattle.xa_caller.specs.declared.cargo.Filling.{Filling}
-use Rattle.xa_clients.specs.declared.working.ClientWorker.{ClientWorker}
-use Rattle.xa_desk.specs.declared.domain.Domain.{Domain}
-use Rattle.xa_desk.specs.declared.desk.Desk.{Desk}
-use Rattle.xa_desk.specs.declared.stopped.Stopped.{Stopped}
-use Rattle.xa_desk.specs.declared.stopped.Stopped.TheVariants.{Here, Elsewhere}
-use Rattle.xa_desk.specs.Desks.{Shows}
-use Rattle.xa_desk.specs.Whole.{IsKnown}
-use Rattle.xa_joined.specs.Served.{HoldAll}
-use Rattle.xa_links.specs.Working.{cut_in}
-use Rattle.xa_pipe.specs.Standing.{Ending}
+use Rattle.xa_workers.specs.xa_types.declared.call.Op.{Op}
+use Rattle.xa_workers.specs.xa_types.declared.setup.ServerSetup.{ServerSetup}
+use Rattle.xa_workers.specs.xa_types.Setup.{numbered, queue_of}
+use Rattle.xa_workers.specs.xa_events.Words.{EachNumbered}
+use Rattle.xa_workers.specs.xa_stamp.declared.home.Stamped.{Stamped}
+use Rattle.xa_workers.specs.xa_stamp.Home.{Notes}
+use Rattle.xa_workers.specs.xa_cell.declared.tokens.Seat.{Seat}
+use Rattle.xa_workers.specs.xa_cell.declared.view.Part.{Part}
+use Rattle.xa_workers.specs.xa_crew.Ending.{list_in}
+use Rattle.xa_workers.specs.xa_work.Work.{Standing as Working}
+use Rattle.xa_workers.specs.xa_script.declared.script.Client.{Client}
+use Rattle.xa_workers.specs.xa_server.Served.{StarterShows}
+use Rattle.xa_workers.specs.xa_links.Lives.{ServerShows}
+use Rattle.xa_workers.specs.xa_links.declared.working.ServerWorker.{ServerWorker}
+use Rattle.xa_workers.specs.xa_caller.declared.cargo.Filling.{Filling}
+use Rattle.xa_workers.specs.xa_clients.declared.working.ClientWorker.{ClientWorker}
+use Rattle.xa_workers.specs.xa_desk.declared.domain.Domain.{Domain}
+use Rattle.xa_workers.specs.xa_desk.declared.desk.Desk.{Desk}
+use Rattle.xa_workers.specs.xa_desk.declared.stopped.Stopped.{Stopped}
+use Rattle.xa_workers.specs.xa_desk.declared.stopped.Stopped.TheVariants.{Here, Elsewhere}
+use Rattle.xa_workers.specs.xa_desk.Desks.{Shows}
+use Rattle.xa_workers.specs.xa_desk.Whole.{IsKnown}
+use Rattle.xa_workers.specs.xa_joined.Served.{HoldAll}
+use Rattle.xa_workers.specs.xa_links.Working.{cut_in}
+use Rattle.xa_workers.specs.xa_pipe.Standing.{Ending}
 use Rattle.std.specs.declared.vec.Vec.{Vec}
 use Rattle.std.specs.declared.alloc.Global.{Global}
-use Rattle.xa_boot.specs.declared.booting.Booted.{Booted}
-use Rattle.xa_boot.specs.Booting.{work_of}
-use Rattle.xa_joined.specs.Joined.{Back, AllLeft, HasLeft, whole_of}
-use Rattle.xa_joined.specs.Ended.{ServerEnd, HasMadeAll}
-use Rattle.xa_joined.proofs.Listed.{all_mapped, all_numbered, numbered_map}
+use Rattle.xa_workers.specs.xa_boot.declared.booting.Booted.{Booted}
+use Rattle.xa_workers.specs.xa_boot.Booting.{work_of}
+use Rattle.xa_workers.specs.xa_joined.Joined.{Back, AllLeft, HasLeft, whole_of}
+use Rattle.xa_workers.specs.xa_joined.Ended.{ServerEnd, HasMadeAll}
+use Rattle.xa_workers.proofs.xa_joined.Listed.{all_mapped, all_numbered, numbered_map}
 use Rattle.xa_workers.specs.Working.{EachDone}
 use Rattle.xa_ending.specs.declared.gathering.Gathered.{Gathered}
 use Rattle.xa_ending.specs.declared.handing.Handed.{Handed}

@@ -5,29 +5,29 @@ use Rattle.std.specs.declared.vec.Vec.{Vec}
 use Rattle.std.specs.declared.alloc.Global.{Global}
 use Rattle.std.proofs.lemmas.List.{length-map, map-append}
 use Rattle.std.proofs.lemmas.List.Elements.{All-nil, All-same, All-cons, All-head, All-tail, All-weaker, All-contains, All-map}
-use Rattle.xa_types.specs.Setup.{numbered}
-use Rattle.xa_stamp.specs.declared.home.Stamped.{Stamped}
-use Rattle.xa_stamp.specs.Home.{Notes}
-use Rattle.xa_lock.specs.declared.pass.LockPass.{LockPass}
-use Rattle.xa_lock.specs.Known.{known as page_of, IsPassOf, passes_of}
-use Rattle.xa_lock.specs.Makers.{noted_in}
-use Rattle.xa_lock.specs.Pages.{Knows}
-use Rattle.xa_crew.specs.Ending.{workers_of}
-use Rattle.xa_cell.specs.declared.tokens.Seat.{Seat}
-use Rattle.xa_cell.specs.Known.{known, IsSeatOf, callers_of}
-use Rattle.xa_cell.specs.Views.{at}
-use Rattle.xa_cell.specs.Law.{Answered}
-use Rattle.xa_cell.specs.Places.{IsShut}
-use Rattle.xa_board.specs.Board.{ReadsAsNoted as BoardReads}
-use Rattle.xa_held.specs.declared.kept_queue.QueueNote.{QueueNote}
-use Rattle.xa_held.specs.Board.{Held, IsSoundBoard, made_in, maker_of as change_maker}
-use Rattle.xa_held.specs.Kept.{Kept, setting_of, notes_of}
-use Rattle.xa_held.specs.Notes.{maker_of}
-use Rattle.xa_caller.specs.declared.cargo.Filling.{Filling}
-use Rattle.xa_desk.specs.declared.domain.Domain.{Domain}
-use Rattle.xa_desk.specs.Desks.{IsDomain, IsBoardPass, IsQueuePass, IsSettingOf, IsThere}
-use Rattle.xa_boot.specs.Booting.{IsDealt}
-use Rattle.xa_joined.specs.Joined.{Back, IsQueueOf, whole_of, no_queue, kept_or}
+use Rattle.xa_workers.specs.xa_types.Setup.{numbered}
+use Rattle.xa_workers.specs.xa_stamp.declared.home.Stamped.{Stamped}
+use Rattle.xa_workers.specs.xa_stamp.Home.{Notes}
+use Rattle.xa_workers.specs.xa_lock.declared.pass.LockPass.{LockPass}
+use Rattle.xa_workers.specs.xa_lock.Known.{known as page_of, IsPassOf, passes_of}
+use Rattle.xa_workers.specs.xa_lock.Makers.{noted_in}
+use Rattle.xa_workers.specs.xa_lock.Pages.{Knows}
+use Rattle.xa_workers.specs.xa_crew.Ending.{workers_of}
+use Rattle.xa_workers.specs.xa_cell.declared.tokens.Seat.{Seat}
+use Rattle.xa_workers.specs.xa_cell.Known.{known, IsSeatOf, callers_of}
+use Rattle.xa_workers.specs.xa_cell.Views.{at}
+use Rattle.xa_workers.specs.xa_cell.Law.{Answered}
+use Rattle.xa_workers.specs.xa_cell.Places.{IsShut}
+use Rattle.xa_workers.specs.xa_board.Board.{ReadsAsNoted as BoardReads}
+use Rattle.xa_workers.specs.xa_held.declared.kept_queue.QueueNote.{QueueNote}
+use Rattle.xa_workers.specs.xa_held.Board.{Held, IsSoundBoard, made_in, maker_of as change_maker}
+use Rattle.xa_workers.specs.xa_held.Kept.{Kept, setting_of, notes_of}
+use Rattle.xa_workers.specs.xa_held.Notes.{maker_of}
+use Rattle.xa_workers.specs.xa_caller.declared.cargo.Filling.{Filling}
+use Rattle.xa_workers.specs.xa_desk.declared.domain.Domain.{Domain}
+use Rattle.xa_workers.specs.xa_desk.Desks.{IsDomain, IsBoardPass, IsQueuePass, IsSettingOf, IsThere}
+use Rattle.xa_workers.specs.xa_boot.Booting.{IsDealt}
+use Rattle.xa_workers.specs.xa_joined.Joined.{Back, IsQueueOf, whole_of, no_queue, kept_or}
 use Rattle.xa_ending.specs.declared.tokens.Tokens.{Tokens}
 use Rattle.xa_ending.specs.Leaving.{Leaving, IsLeaving, AreAllTokens}
 use Rattle.xa_ending.specs.Closed.{KnowsHomes, GivesBack}

@@ -5,41 +5,41 @@ use Rattle.std.specs.List.{All, filter}
 use Rattle.std.proofs.Common.{◌⊎◌, ⊎_elim}
 use Rattle.std.proofs.lemmas.Bool.{cases_Bool}
 use Rattle.std.proofs.lemmas.Option.{slice_get_past, slice_get_within}
-use Rattle.xa_events.specs.Board.{boot, published}
+use Rattle.xa_workers.specs.xa_events.Board.{boot, published}
 use Rattle.std.proofs.lemmas.List.Elements.{All-weaker}
-use Rattle.xa_types.specs.Setup.{numbered}
-use Rattle.xa_events.specs.declared.event.Event.{Event}
-use Rattle.xa_events.specs.Homes.{home_of}
-use Rattle.xa_events.specs.Homes.Home.{BoardHome, QueueHome}
-use Rattle.xa_events.specs.Queue.{is_closed, is_close_of}
-use Rattle.xa_stamp.specs.declared.home.Stamped.{Stamped}
-use Rattle.xa_lock.specs.declared.pass.LockPass.{LockPass}
-use Rattle.xa_lock.specs.declared.pass.Page.{Page}
-use Rattle.xa_lock.specs.Known.{known as page_of}
-use Rattle.xa_lock.specs.Makers.{noted_in}
-use Rattle.xa_lock.specs.Pages.{Knows, StartsWith, first_page}
-use Rattle.xa_crew.specs.Crew.{IsBooted, stands_at}
-use Rattle.xa_crew.specs.Seen.{past_in}
-use Rattle.xa_crew.proofs.Lists.{past_in-append, filter-none, same_home-is}
-use Rattle.xa_held.specs.declared.kept_board.BoardNote.{BoardNote}
-use Rattle.xa_held.specs.declared.kept_queue.QueueNote.{QueueNote}
-use Rattle.xa_held.specs.declared.kept_queue.QueueNote.TheVariants.{Opened}
-use Rattle.xa_held.specs.Board.{IsSoundBoard, maker_of as change_maker}
-use Rattle.xa_held.specs.Joins.{changes_at, changes_page, events_at}
-use Rattle.xa_held.specs.Kept.{Kept, notes_of, setting_of}
-use Rattle.xa_held.specs.Notes.{maker_of, made_page}
-use Rattle.xa_held.proofs.Fronts.{changes_front}
-use Rattle.xa_held.proofs.Lefts.{events_front}
-use Rattle.xa_held.proofs.Seen.{events_kept}
-use Rattle.xa_caller.specs.declared.cargo.Filling.{Filling}
-use Rattle.xa_desk.specs.declared.domain.Domain.{Domain}
-use Rattle.xa_desk.specs.Desks.{IsAmong, IsBoardPass, IsGrounded, IsQueuePass, IsThere, Shows, page_in, page_at}
-use Rattle.xa_clients.specs.declared.working.ClientWorker.{ClientWorker}
-use Rattle.xa_boot.specs.declared.closer.Closer.{Closer}
-use Rattle.xa_boot.specs.Booting.{work_of}
-use Rattle.xa_joined.specs.Joined.{Back, whole_of, kept_or, no_queue, IsDomainOf, IsQueueOf}
-use Rattle.xa_joined.proofs.Listed.{none_past}
-use Rattle.xa_cell.proofs.Lists.{below}
+use Rattle.xa_workers.specs.xa_types.Setup.{numbered}
+use Rattle.xa_workers.specs.xa_events.declared.event.Event.{Event}
+use Rattle.xa_workers.specs.xa_events.Homes.{home_of}
+use Rattle.xa_workers.specs.xa_events.Homes.Home.{BoardHome, QueueHome}
+use Rattle.xa_workers.specs.xa_events.Queue.{is_closed, is_close_of}
+use Rattle.xa_workers.specs.xa_stamp.declared.home.Stamped.{Stamped}
+use Rattle.xa_workers.specs.xa_lock.declared.pass.LockPass.{LockPass}
+use Rattle.xa_workers.specs.xa_lock.declared.pass.Page.{Page}
+use Rattle.xa_workers.specs.xa_lock.Known.{known as page_of}
+use Rattle.xa_workers.specs.xa_lock.Makers.{noted_in}
+use Rattle.xa_workers.specs.xa_lock.Pages.{Knows, StartsWith, first_page}
+use Rattle.xa_workers.specs.xa_crew.Crew.{IsBooted, stands_at}
+use Rattle.xa_workers.specs.xa_crew.Seen.{past_in}
+use Rattle.xa_workers.proofs.xa_crew.Lists.{past_in-append, filter-none, same_home-is}
+use Rattle.xa_workers.specs.xa_held.declared.kept_board.BoardNote.{BoardNote}
+use Rattle.xa_workers.specs.xa_held.declared.kept_queue.QueueNote.{QueueNote}
+use Rattle.xa_workers.specs.xa_held.declared.kept_queue.QueueNote.TheVariants.{Opened}
+use Rattle.xa_workers.specs.xa_held.Board.{IsSoundBoard, maker_of as change_maker}
+use Rattle.xa_workers.specs.xa_held.Joins.{changes_at, changes_page, events_at}
+use Rattle.xa_workers.specs.xa_held.Kept.{Kept, notes_of, setting_of}
+use Rattle.xa_workers.specs.xa_held.Notes.{maker_of, made_page}
+use Rattle.xa_workers.proofs.xa_held.Fronts.{changes_front}
+use Rattle.xa_workers.proofs.xa_held.Lefts.{events_front}
+use Rattle.xa_workers.proofs.xa_held.Seen.{events_kept}
+use Rattle.xa_workers.specs.xa_caller.declared.cargo.Filling.{Filling}
+use Rattle.xa_workers.specs.xa_desk.declared.domain.Domain.{Domain}
+use Rattle.xa_workers.specs.xa_desk.Desks.{IsAmong, IsBoardPass, IsGrounded, IsQueuePass, IsThere, Shows, page_in, page_at}
+use Rattle.xa_workers.specs.xa_clients.declared.working.ClientWorker.{ClientWorker}
+use Rattle.xa_workers.specs.xa_boot.declared.closer.Closer.{Closer}
+use Rattle.xa_workers.specs.xa_boot.Booting.{work_of}
+use Rattle.xa_workers.specs.xa_joined.Joined.{Back, whole_of, kept_or, no_queue, IsDomainOf, IsQueueOf}
+use Rattle.xa_workers.proofs.xa_joined.Listed.{none_past}
+use Rattle.xa_workers.proofs.xa_cell.Lists.{below}
 use Rattle.xa_workers.specs.Closing.{IsCloser, KeepsItsOwn, GoesOnFor, AreClosed}
 use Rattle.xa_ending.specs.Closed.{KnowsHomes}
 use Rattle.xa_ending.specs.Leaving.{itself_of}

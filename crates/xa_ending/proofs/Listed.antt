@@ -3,9 +3,9 @@ use Rattle.std.proofs.Common.{◌≡◌, ℕ, zero, suc, ◌+◌, ◌<◌, List,
 use Rattle.std.specs.List.{All, Contains}
 use Rattle.std.proofs.lemmas.Option.{slice_get_within, get_or_from_slice_get, slice_get-get_or}
 use Rattle.std.proofs.lemmas.List.Elements.{All-nil, All-cons, All-head, All-tail}
-use Rattle.xa_types.specs.Setup.{numbered}
-use Rattle.xa_lock.specs.declared.pass.LockPass.{LockPass}
-use Rattle.xa_desk.specs.Desks.{IsThere}
+use Rattle.xa_workers.specs.xa_types.Setup.{numbered}
+use Rattle.xa_workers.specs.xa_lock.declared.pass.LockPass.{LockPass}
+use Rattle.xa_workers.specs.xa_desk.Desks.{IsThere}
 
 -- ---- passes, and what each worker leaves
 

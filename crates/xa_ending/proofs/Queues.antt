@@ -4,19 +4,19 @@ use Rattle.std.specs.declared.vec.Vec.{Vec}
 use Rattle.std.specs.declared.alloc.Global.{Global}
 use Rattle.std.proofs.Math.Seq.{get_or-append_seam}
 use Rattle.std.proofs.lemmas.List.{get_or_append_left, length-map, map-append}
-use Rattle.xa_stamp.specs.Home.{Notes}
-use Rattle.xa_stamp.specs.declared.home.Stamped.{Stamped}
-use Rattle.xa_lock.specs.declared.pass.LockPass.{LockPass}
-use Rattle.xa_lock.specs.Known.{known as page_of}
-use Rattle.xa_lock.specs.Makers.{noted_in}
-use Rattle.xa_lock.specs.Pages.{Knows}
-use Rattle.xa_held.specs.declared.kept_queue.QueueNote.{QueueNote}
-use Rattle.xa_held.specs.declared.kept_queue.QueueNote.TheVariants.{Opened, By}
-use Rattle.xa_held.specs.declared.kept_queue.Setting.{Setting}
-use Rattle.xa_held.specs.Kept.{Kept, setting_of, notes_of}
-use Rattle.xa_held.specs.Notes.{maker_of}
-use Rattle.xa_held.specs.Visits.{Sees}
-use Rattle.xa_caller.specs.declared.cargo.Filling.{Filling}
+use Rattle.xa_workers.specs.xa_stamp.Home.{Notes}
+use Rattle.xa_workers.specs.xa_stamp.declared.home.Stamped.{Stamped}
+use Rattle.xa_workers.specs.xa_lock.declared.pass.LockPass.{LockPass}
+use Rattle.xa_workers.specs.xa_lock.Known.{known as page_of}
+use Rattle.xa_workers.specs.xa_lock.Makers.{noted_in}
+use Rattle.xa_workers.specs.xa_lock.Pages.{Knows}
+use Rattle.xa_workers.specs.xa_held.declared.kept_queue.QueueNote.{QueueNote}
+use Rattle.xa_workers.specs.xa_held.declared.kept_queue.QueueNote.TheVariants.{Opened, By}
+use Rattle.xa_workers.specs.xa_held.declared.kept_queue.Setting.{Setting}
+use Rattle.xa_workers.specs.xa_held.Kept.{Kept, setting_of, notes_of}
+use Rattle.xa_workers.specs.xa_held.Notes.{maker_of}
+use Rattle.xa_workers.specs.xa_held.Visits.{Sees}
+use Rattle.xa_workers.specs.xa_caller.declared.cargo.Filling.{Filling}
 use Rattle.xa_ending.specs.Closing.{Locked, Passes, ClosesAs, Close, notes_in, noted_at}
 use Rattle.xa_ending.proofs.Listed.{next_left}
 

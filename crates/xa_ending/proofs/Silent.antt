@@ -2,19 +2,19 @@
 use Rattle.std.proofs.Common.{◌≡◌, ◌≢◌, ℕ, [], ◌∷◌, ◌++◌, None, sym, ◌∙◌, subst, ⊎_elim}
 use Rattle.std.specs.List.{All}
 use Rattle.std.proofs.lemmas.List.Elements.{All-push, All-same}
-use Rattle.xa_cell.specs.declared.cells.Cells.{Cells}
-use Rattle.xa_cell.specs.declared.filler.Filled.{Filled}
-use Rattle.xa_cell.specs.declared.filler.Filled.TheVariants.{Delivered, Dropped}
-use Rattle.xa_cell.specs.declared.tokens.Seat.{Seat}
-use Rattle.xa_cell.specs.declared.tokens.Ticket.{Ticket}
-use Rattle.xa_cell.specs.declared.view.Fill.{Fill}
-use Rattle.xa_cell.specs.declared.view.View.{View}
-use Rattle.xa_cell.specs.Growing.{FillAdds}
-use Rattle.xa_cell.specs.Known.{known, SameSeat}
-use Rattle.xa_cell.specs.Places.{Stand}
-use Rattle.xa_cell.specs.Views.{at, fill}
-use Rattle.xa_cell.proofs.Lists.{decided}
-use Rattle.xa_caller.specs.declared.cargo.Filling.{Filling}
+use Rattle.xa_workers.specs.xa_cell.declared.cells.Cells.{Cells}
+use Rattle.xa_workers.specs.xa_cell.declared.filler.Filled.{Filled}
+use Rattle.xa_workers.specs.xa_cell.declared.filler.Filled.TheVariants.{Delivered, Dropped}
+use Rattle.xa_workers.specs.xa_cell.declared.tokens.Seat.{Seat}
+use Rattle.xa_workers.specs.xa_cell.declared.tokens.Ticket.{Ticket}
+use Rattle.xa_workers.specs.xa_cell.declared.view.Fill.{Fill}
+use Rattle.xa_workers.specs.xa_cell.declared.view.View.{View}
+use Rattle.xa_workers.specs.xa_cell.Growing.{FillAdds}
+use Rattle.xa_workers.specs.xa_cell.Known.{known, SameSeat}
+use Rattle.xa_workers.specs.xa_cell.Places.{Stand}
+use Rattle.xa_workers.specs.xa_cell.Views.{at, fill}
+use Rattle.xa_workers.proofs.xa_cell.Lists.{decided}
+use Rattle.xa_workers.specs.xa_caller.declared.cargo.Filling.{Filling}
 use Rattle.xa_ending.specs.Closing.{IsSilent}
 
 abbrev pub HasNone : Fill Filling → Type 0

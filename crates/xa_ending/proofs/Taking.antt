@@ -9,44 +9,44 @@ use Rattle.std.proofs.lemmas.List.{length-map, map-append, get_or_append_left}
 use Rattle.std.proofs.lemmas.List.Elements.{All-nil, All-push, All-pop, All-head, All-tail, Contains-push, Contains-append_left}
 use Rattle.std.specs.declared.vec.Vec.{Vec}
 use Rattle.std.specs.declared.alloc.Global.{Global}
-use Rattle.xa_types.specs.declared.ids.Generation.{Generation}
-use Rattle.xa_types.specs.Setup.{numbered, queue_of}
-use Rattle.xa_events.specs.Homes.Home.{CallerHome}
-use Rattle.xa_events.specs.Caller.{is_client}
-use Rattle.xa_events.specs.Words.{EachNumbered}
-use Rattle.xa_stamp.specs.declared.home.Stamped.{Stamped}
-use Rattle.xa_stamp.specs.Home.{Notes}
-use Rattle.xa_lock.specs.declared.pass.LockPass.{LockPass}
-use Rattle.xa_cell.specs.declared.tokens.Seat.{Seat}
-use Rattle.xa_cell.specs.Places.{IsShut}
-use Rattle.xa_crew.specs.Crew.{stands_at}
-use Rattle.xa_held.specs.declared.kept_board.BoardNote.{BoardNote}
-use Rattle.xa_held.specs.declared.kept_queue.QueueNote.{QueueNote}
-use Rattle.xa_work.specs.declared.work.Halt.{Halt}
-use Rattle.xa_work.specs.declared.work.Halt.TheVariants as halts
-use Rattle.xa_work.specs.Work.{Standing as Working, IsSound}
-use Rattle.xa_caller.specs.declared.cargo.Filling.{Filling}
-use Rattle.xa_caller.specs.Changes.{LeavesAs}
-use Rattle.xa_pipe.specs.Standing.{Ending}
-use Rattle.xa_script.specs.declared.script.Client.{Client}
-use Rattle.xa_server.specs.Served.{StarterShows}
-use Rattle.xa_desk.specs.declared.domain.Domain.{Domain}
-use Rattle.xa_desk.specs.declared.desk.Desk.{Desk}
-use Rattle.xa_desk.specs.declared.stopped.Stopped.{Stopped}
-use Rattle.xa_desk.specs.declared.stopped.Stopped.TheVariants.{Here, Elsewhere}
-use Rattle.xa_desk.specs.Desks.{IsDesk, IsBoardPass, IsQueuePass}
-use Rattle.xa_desk.specs.Halting.{IsStopAt}
-use Rattle.xa_clients.specs.declared.working.ClientWorker.{ClientWorker}
-use Rattle.xa_clients.specs.declared.working.ClientWorker.TheVariants.{Ready, Working as AtWork, Left}
-use Rattle.xa_clients.specs.declared.working.Ended.{Ended}
-use Rattle.xa_clients.specs.Ending.{MayEnd, EndsAs, here_by}
-use Rattle.xa_links.specs.Lives.{ServerShows}
-use Rattle.xa_links.specs.declared.working.CutLife.{CutLife}
-use Rattle.xa_links.specs.declared.working.ServerWorker.{ServerWorker}
-use Rattle.xa_links.specs.Working.{cut_in}
-use Rattle.xa_boot.specs.declared.closer.Closer.{Closer}
-use Rattle.xa_boot.specs.Booting.{work_of}
-use Rattle.xa_joined.specs.Ended.{HasMadeAll, ServerEnd}
+use Rattle.xa_workers.specs.xa_types.declared.ids.Generation.{Generation}
+use Rattle.xa_workers.specs.xa_types.Setup.{numbered, queue_of}
+use Rattle.xa_workers.specs.xa_events.Homes.Home.{CallerHome}
+use Rattle.xa_workers.specs.xa_events.Caller.{is_client}
+use Rattle.xa_workers.specs.xa_events.Words.{EachNumbered}
+use Rattle.xa_workers.specs.xa_stamp.declared.home.Stamped.{Stamped}
+use Rattle.xa_workers.specs.xa_stamp.Home.{Notes}
+use Rattle.xa_workers.specs.xa_lock.declared.pass.LockPass.{LockPass}
+use Rattle.xa_workers.specs.xa_cell.declared.tokens.Seat.{Seat}
+use Rattle.xa_workers.specs.xa_cell.Places.{IsShut}
+use Rattle.xa_workers.specs.xa_crew.Crew.{stands_at}
+use Rattle.xa_workers.specs.xa_held.declared.kept_board.BoardNote.{BoardNote}
+use Rattle.xa_workers.specs.xa_held.declared.kept_queue.QueueNote.{QueueNote}
+use Rattle.xa_workers.specs.xa_work.declared.work.Halt.{Halt}
+use Rattle.xa_workers.specs.xa_work.declared.work.Halt.TheVariants as halts
+use Rattle.xa_workers.specs.xa_work.Work.{Standing as Working, IsSound}
+use Rattle.xa_workers.specs.xa_caller.declared.cargo.Filling.{Filling}
+use Rattle.xa_workers.specs.xa_caller.Changes.{LeavesAs}
+use Rattle.xa_workers.specs.xa_pipe.Standing.{Ending}
+use Rattle.xa_workers.specs.xa_script.declared.script.Client.{Client}
+use Rattle.xa_workers.specs.xa_server.Served.{StarterShows}
+use Rattle.xa_workers.specs.xa_desk.declared.domain.Domain.{Domain}
+use Rattle.xa_workers.specs.xa_desk.declared.desk.Desk.{Desk}
+use Rattle.xa_workers.specs.xa_desk.declared.stopped.Stopped.{Stopped}
+use Rattle.xa_workers.specs.xa_desk.declared.stopped.Stopped.TheVariants.{Here, Elsewhere}
+use Rattle.xa_workers.specs.xa_desk.Desks.{IsDesk, IsBoardPass, IsQueuePass}
+use Rattle.xa_workers.specs.xa_desk.Halting.{IsStopAt}
+use Rattle.xa_workers.specs.xa_clients.declared.working.ClientWorker.{ClientWorker}
+use Rattle.xa_workers.specs.xa_clients.declared.working.ClientWorker.TheVariants.{Ready, Working as AtWork, Left}
+use Rattle.xa_workers.specs.xa_clients.declared.working.Ended.{Ended}
+use Rattle.xa_workers.specs.xa_clients.Ending.{MayEnd, EndsAs, here_by}
+use Rattle.xa_workers.specs.xa_links.Lives.{ServerShows}
+use Rattle.xa_workers.specs.xa_links.declared.working.CutLife.{CutLife}
+use Rattle.xa_workers.specs.xa_links.declared.working.ServerWorker.{ServerWorker}
+use Rattle.xa_workers.specs.xa_links.Working.{cut_in}
+use Rattle.xa_workers.specs.xa_boot.declared.closer.Closer.{Closer}
+use Rattle.xa_workers.specs.xa_boot.Booting.{work_of}
+use Rattle.xa_workers.specs.xa_joined.Ended.{HasMadeAll, ServerEnd}
 use Rattle.xa_workers.specs.Working.{EachDone, IsDone, IsGone, IsOver}
 use Rattle.xa_workers.specs.Closing.{KeepsItsOwn, IsHaltBy, HasClosed}
 use Rattle.xa_ending.specs.declared.gathering.Gathered.{Gathered}

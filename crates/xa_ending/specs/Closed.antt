@@ -1,24 +1,24 @@
 -- What the locks and the cells of a domain give back, once all their passes and seats are there (this project's own).
 use Rattle.std.specs.Prelude.{◌≡◌, ℕ, ◌+◌, ◌<◌, List, ◌∷◌, length, map, None, slice_index_or, Some}
 use Rattle.std.specs.List.{All}
-use Rattle.xa_types.specs.Setup.{numbered}
-use Rattle.xa_stamp.specs.Home.{Notes}
-use Rattle.xa_lock.specs.Known.{known as page_of}
-use Rattle.xa_lock.specs.Pages.{Knows}
-use Rattle.xa_crew.specs.Ending.{workers_of}
-use Rattle.xa_cell.specs.declared.tokens.Seat.{Seat}
-use Rattle.xa_cell.specs.Known.{known}
-use Rattle.xa_cell.specs.Law.{Answered}
-use Rattle.xa_cell.specs.Views.{at}
-use Rattle.xa_board.specs.Board.{ReadsAsNoted as BoardReads}
-use Rattle.xa_held.specs.Board.{IsSoundBoard, maker_of as change_maker}
-use Rattle.xa_held.specs.Kept.{Kept, notes_of}
-use Rattle.xa_held.specs.Notes.{maker_of}
-use Rattle.xa_caller.specs.declared.cargo.Filling.{Filling}
-use Rattle.xa_desk.specs.declared.domain.Domain.{Domain}
-use Rattle.xa_desk.specs.Desks.{IsThere}
-use Rattle.xa_joined.specs.Joined.{Back, IsQueueOf, whole_of}
-use Rattle.xa_joined.specs.Served.{HoldAll}
+use Rattle.xa_workers.specs.xa_types.Setup.{numbered}
+use Rattle.xa_workers.specs.xa_stamp.Home.{Notes}
+use Rattle.xa_workers.specs.xa_lock.Known.{known as page_of}
+use Rattle.xa_workers.specs.xa_lock.Pages.{Knows}
+use Rattle.xa_workers.specs.xa_crew.Ending.{workers_of}
+use Rattle.xa_workers.specs.xa_cell.declared.tokens.Seat.{Seat}
+use Rattle.xa_workers.specs.xa_cell.Known.{known}
+use Rattle.xa_workers.specs.xa_cell.Law.{Answered}
+use Rattle.xa_workers.specs.xa_cell.Views.{at}
+use Rattle.xa_workers.specs.xa_board.Board.{ReadsAsNoted as BoardReads}
+use Rattle.xa_workers.specs.xa_held.Board.{IsSoundBoard, maker_of as change_maker}
+use Rattle.xa_workers.specs.xa_held.Kept.{Kept, notes_of}
+use Rattle.xa_workers.specs.xa_held.Notes.{maker_of}
+use Rattle.xa_workers.specs.xa_caller.declared.cargo.Filling.{Filling}
+use Rattle.xa_workers.specs.xa_desk.declared.domain.Domain.{Domain}
+use Rattle.xa_workers.specs.xa_desk.Desks.{IsThere}
+use Rattle.xa_workers.specs.xa_joined.Joined.{Back, IsQueueOf, whole_of}
+use Rattle.xa_workers.specs.xa_joined.Served.{HoldAll}
 use Rattle.xa_ending.specs.Leaving.{Leaving}
 
 -- what the worker's passes know of the homes as they were given back

@@ -3,27 +3,27 @@ use Rattle.std.specs.Prelude.{◌≡◌, ℕ, ◌<◌, ◌++◌, List, length, m
 use Rattle.std.specs.List.{All, Contains}
 use Rattle.std.specs.declared.vec.Vec.{Vec}
 use Rattle.std.specs.declared.alloc.Global.{Global}
-use Rattle.xa_stamp.specs.declared.home.Stamped.{Stamped}
-use Rattle.xa_stamp.specs.Home.{Notes}
-use Rattle.xa_lock.specs.declared.guarded.Guarded.{Guarded}
-use Rattle.xa_lock.specs.declared.pass.LockPass.{LockPass}
-use Rattle.xa_lock.specs.Known.{known as page_of, IsPassOf, passes_of}
-use Rattle.xa_lock.specs.Makers.{noted_in}
-use Rattle.xa_lock.specs.Pages.{Knows}
-use Rattle.xa_cell.specs.declared.cells.Cells.{Cells}
-use Rattle.xa_cell.specs.declared.tokens.Seat.{Seat}
-use Rattle.xa_cell.specs.Known.{known, IsSeatOf}
-use Rattle.xa_cell.specs.Places.{IsShut}
-use Rattle.xa_cell.specs.Views.{at}
-use Rattle.xa_queue.specs.Queue.{IsSound as IsSoundQueue}
-use Rattle.xa_queue.specs.Reading.{ReadsAsNoted as QueueReads}
-use Rattle.xa_held.specs.declared.kept_queue.KeptQueue.{KeptQueue}
-use Rattle.xa_held.specs.declared.kept_queue.QueueNote.{QueueNote}
-use Rattle.xa_held.specs.declared.kept_queue.Setting.{Setting}
-use Rattle.xa_held.specs.Kept.{Kept, notes_of}
-use Rattle.xa_held.specs.Notes.{maker_of}
-use Rattle.xa_held.specs.Visits.{Sees}
-use Rattle.xa_caller.specs.declared.cargo.Filling.{Filling}
+use Rattle.xa_workers.specs.xa_stamp.declared.home.Stamped.{Stamped}
+use Rattle.xa_workers.specs.xa_stamp.Home.{Notes}
+use Rattle.xa_workers.specs.xa_lock.declared.guarded.Guarded.{Guarded}
+use Rattle.xa_workers.specs.xa_lock.declared.pass.LockPass.{LockPass}
+use Rattle.xa_workers.specs.xa_lock.Known.{known as page_of, IsPassOf, passes_of}
+use Rattle.xa_workers.specs.xa_lock.Makers.{noted_in}
+use Rattle.xa_workers.specs.xa_lock.Pages.{Knows}
+use Rattle.xa_workers.specs.xa_cell.declared.cells.Cells.{Cells}
+use Rattle.xa_workers.specs.xa_cell.declared.tokens.Seat.{Seat}
+use Rattle.xa_workers.specs.xa_cell.Known.{known, IsSeatOf}
+use Rattle.xa_workers.specs.xa_cell.Places.{IsShut}
+use Rattle.xa_workers.specs.xa_cell.Views.{at}
+use Rattle.xa_workers.specs.xa_queue.Queue.{IsSound as IsSoundQueue}
+use Rattle.xa_workers.specs.xa_queue.Reading.{ReadsAsNoted as QueueReads}
+use Rattle.xa_workers.specs.xa_held.declared.kept_queue.KeptQueue.{KeptQueue}
+use Rattle.xa_workers.specs.xa_held.declared.kept_queue.QueueNote.{QueueNote}
+use Rattle.xa_workers.specs.xa_held.declared.kept_queue.Setting.{Setting}
+use Rattle.xa_workers.specs.xa_held.Kept.{Kept, notes_of}
+use Rattle.xa_workers.specs.xa_held.Notes.{maker_of}
+use Rattle.xa_workers.specs.xa_held.Visits.{Sees}
+use Rattle.xa_workers.specs.xa_caller.declared.cargo.Filling.{Filling}
 
 abbrev pub Locked : Type 0
 Locked = Guarded (KeptQueue Filling) (QueueNote Filling)

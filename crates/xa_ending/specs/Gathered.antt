@@ -3,31 +3,31 @@ use Rattle.std.specs.Prelude.{◌≡◌, ◌⊎◌, ℕ, ◌+◌, ◌^◌, List,
 use Rattle.std.specs.List.{All, Contains, filter}
 use Rattle.std.specs.declared.vec.Vec.{Vec}
 use Rattle.std.specs.declared.alloc.Global.{Global}
-use Rattle.xa_types.specs.Setup.{numbered}
-use Rattle.xa_events.specs.Homes.Home.{CallerHome}
-use Rattle.xa_events.specs.Words.{EachNumbered}
-use Rattle.xa_stamp.specs.declared.home.Stamped.{Stamped}
-use Rattle.xa_stamp.specs.Home.{Notes}
-use Rattle.xa_crew.specs.Crew.{stands_at}
-use Rattle.xa_work.specs.declared.work.Halt.{Halt}
-use Rattle.xa_work.specs.declared.work.Halt.TheVariants as halts
-use Rattle.xa_work.specs.Work.{Standing as Working, IsSound}
-use Rattle.xa_pipe.specs.Standing.{Ending}
-use Rattle.xa_script.specs.declared.script.Client.{Client}
-use Rattle.xa_server.specs.Served.{StarterShows}
-use Rattle.xa_desk.specs.declared.domain.Domain.{Domain}
-use Rattle.xa_desk.specs.declared.desk.Desk.{Desk}
-use Rattle.xa_desk.specs.declared.stopped.Stopped.{Stopped}
-use Rattle.xa_desk.specs.declared.stopped.Stopped.TheVariants.{Here, Elsewhere}
-use Rattle.xa_desk.specs.Desks.{IsDesk}
-use Rattle.xa_desk.specs.Whole.{Whole}
-use Rattle.xa_cell.specs.Places.{IsShut}
-use Rattle.xa_clients.specs.declared.working.ClientWorker.{ClientWorker}
-use Rattle.xa_links.specs.declared.working.ServerWorker.{ServerWorker}
-use Rattle.xa_links.specs.Working.{cut_in}
-use Rattle.xa_boot.specs.declared.closer.Closer.{Closer}
-use Rattle.xa_boot.specs.Booting.{work_of}
-use Rattle.xa_joined.specs.Ended.{HasMadeAll, EachServer}
+use Rattle.xa_workers.specs.xa_types.Setup.{numbered}
+use Rattle.xa_workers.specs.xa_events.Homes.Home.{CallerHome}
+use Rattle.xa_workers.specs.xa_events.Words.{EachNumbered}
+use Rattle.xa_workers.specs.xa_stamp.declared.home.Stamped.{Stamped}
+use Rattle.xa_workers.specs.xa_stamp.Home.{Notes}
+use Rattle.xa_workers.specs.xa_crew.Crew.{stands_at}
+use Rattle.xa_workers.specs.xa_work.declared.work.Halt.{Halt}
+use Rattle.xa_workers.specs.xa_work.declared.work.Halt.TheVariants as halts
+use Rattle.xa_workers.specs.xa_work.Work.{Standing as Working, IsSound}
+use Rattle.xa_workers.specs.xa_pipe.Standing.{Ending}
+use Rattle.xa_workers.specs.xa_script.declared.script.Client.{Client}
+use Rattle.xa_workers.specs.xa_server.Served.{StarterShows}
+use Rattle.xa_workers.specs.xa_desk.declared.domain.Domain.{Domain}
+use Rattle.xa_workers.specs.xa_desk.declared.desk.Desk.{Desk}
+use Rattle.xa_workers.specs.xa_desk.declared.stopped.Stopped.{Stopped}
+use Rattle.xa_workers.specs.xa_desk.declared.stopped.Stopped.TheVariants.{Here, Elsewhere}
+use Rattle.xa_workers.specs.xa_desk.Desks.{IsDesk}
+use Rattle.xa_workers.specs.xa_desk.Whole.{Whole}
+use Rattle.xa_workers.specs.xa_cell.Places.{IsShut}
+use Rattle.xa_workers.specs.xa_clients.declared.working.ClientWorker.{ClientWorker}
+use Rattle.xa_workers.specs.xa_links.declared.working.ServerWorker.{ServerWorker}
+use Rattle.xa_workers.specs.xa_links.Working.{cut_in}
+use Rattle.xa_workers.specs.xa_boot.declared.closer.Closer.{Closer}
+use Rattle.xa_workers.specs.xa_boot.Booting.{work_of}
+use Rattle.xa_workers.specs.xa_joined.Ended.{HasMadeAll, EachServer}
 use Rattle.xa_workers.specs.Closing.{KeepsItsOwn}
 use Rattle.xa_ending.specs.declared.gathering.Gathered.{Gathered}
 use Rattle.xa_ending.specs.Joined.{end_of}

@@ -3,27 +3,27 @@ use Rattle.std.specs.Prelude.{◌≡◌, ℕ, ◌+◌, ◌<◌, ◌≤◌, List,
 use Rattle.std.specs.List.{All, AllZip}
 use Rattle.std.specs.declared.vec.Vec.{Vec}
 use Rattle.std.specs.declared.alloc.Global.{Global}
-use Rattle.xa_events.specs.Words.{EachNumbered}
-use Rattle.xa_stamp.specs.Home.{Notes}
-use Rattle.xa_lock.specs.declared.pass.LockPass.{LockPass}
-use Rattle.xa_cell.specs.declared.tokens.Seat.{Seat}
-use Rattle.xa_held.specs.declared.kept_board.BoardNote.{BoardNote}
-use Rattle.xa_held.specs.declared.kept_queue.QueueNote.{QueueNote}
-use Rattle.xa_work.specs.Work.{Standing as Working}
-use Rattle.xa_pipe.specs.Standing.{Ending}
-use Rattle.xa_caller.specs.declared.cargo.Filling.{Filling}
-use Rattle.xa_script.specs.declared.script.Client.{Client}
-use Rattle.xa_server.specs.Served.{StarterShows}
-use Rattle.xa_desk.specs.declared.domain.Domain.{Domain}
-use Rattle.xa_desk.specs.declared.desk.Desk.{Desk}
-use Rattle.xa_desk.specs.declared.stopped.Stopped.{Stopped}
-use Rattle.xa_desk.specs.declared.stopped.Stopped.TheVariants.{Here}
-use Rattle.xa_desk.specs.Desks.{IsThere}
-use Rattle.xa_desk.specs.Whole.{Whole}
-use Rattle.xa_clients.specs.declared.working.ClientWorker.{ClientWorker}
-use Rattle.xa_links.specs.declared.working.ServerWorker.{ServerWorker}
-use Rattle.xa_links.specs.Working.{cut_in}
-use Rattle.xa_joined.specs.Ended.{HasMadeAll}
+use Rattle.xa_workers.specs.xa_events.Words.{EachNumbered}
+use Rattle.xa_workers.specs.xa_stamp.Home.{Notes}
+use Rattle.xa_workers.specs.xa_lock.declared.pass.LockPass.{LockPass}
+use Rattle.xa_workers.specs.xa_cell.declared.tokens.Seat.{Seat}
+use Rattle.xa_workers.specs.xa_held.declared.kept_board.BoardNote.{BoardNote}
+use Rattle.xa_workers.specs.xa_held.declared.kept_queue.QueueNote.{QueueNote}
+use Rattle.xa_workers.specs.xa_work.Work.{Standing as Working}
+use Rattle.xa_workers.specs.xa_pipe.Standing.{Ending}
+use Rattle.xa_workers.specs.xa_caller.declared.cargo.Filling.{Filling}
+use Rattle.xa_workers.specs.xa_script.declared.script.Client.{Client}
+use Rattle.xa_workers.specs.xa_server.Served.{StarterShows}
+use Rattle.xa_workers.specs.xa_desk.declared.domain.Domain.{Domain}
+use Rattle.xa_workers.specs.xa_desk.declared.desk.Desk.{Desk}
+use Rattle.xa_workers.specs.xa_desk.declared.stopped.Stopped.{Stopped}
+use Rattle.xa_workers.specs.xa_desk.declared.stopped.Stopped.TheVariants.{Here}
+use Rattle.xa_workers.specs.xa_desk.Desks.{IsThere}
+use Rattle.xa_workers.specs.xa_desk.Whole.{Whole}
+use Rattle.xa_workers.specs.xa_clients.declared.working.ClientWorker.{ClientWorker}
+use Rattle.xa_workers.specs.xa_links.declared.working.ServerWorker.{ServerWorker}
+use Rattle.xa_workers.specs.xa_links.Working.{cut_in}
+use Rattle.xa_workers.specs.xa_joined.Ended.{HasMadeAll}
 use Rattle.xa_workers.specs.Working.{EachDone, IsOver}
 use Rattle.xa_workers.specs.Closing.{KeepsItsOwn}
 use Rattle.xa_ending.specs.declared.tokens.Tokens.{Tokens}

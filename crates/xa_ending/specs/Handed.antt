@@ -2,21 +2,21 @@
 use Rattle.std.specs.Prelude.{◌≡◌, ℕ, List, map, Option, Some, None, IfSome}
 use Rattle.std.specs.declared.vec.Vec.{Vec}
 use Rattle.std.specs.declared.alloc.Global.{Global}
-use Rattle.xa_work.specs.declared.work.Halt.{Halt}
-use Rattle.xa_work.specs.declared.work.Halt.TheVariants.{NoMemory}
-use Rattle.xa_work.specs.Work.{Standing as Working}
-use Rattle.xa_pipe.specs.Standing.{Ending}
-use Rattle.xa_script.specs.declared.script.Client.{Client}
-use Rattle.xa_server.specs.Served.{StarterShows}
-use Rattle.xa_links.specs.declared.working.ServerWorker.{ServerWorker}
-use Rattle.xa_links.specs.Working.{cut_in}
-use Rattle.xa_desk.specs.declared.desk.Desk.{Desk}
-use Rattle.xa_desk.specs.declared.stopped.Stopped.{Stopped}
-use Rattle.xa_desk.specs.declared.stopped.Stopped.TheVariants.{Here, Elsewhere}
-use Rattle.xa_desk.specs.Whole.{IsKnown}
-use Rattle.xa_boot.specs.declared.booting.Booted.{Booted}
-use Rattle.xa_joined.specs.Joined.{Back, whole_of}
-use Rattle.xa_joined.specs.Ended.{Ends, EndsWhole}
+use Rattle.xa_workers.specs.xa_work.declared.work.Halt.{Halt}
+use Rattle.xa_workers.specs.xa_work.declared.work.Halt.TheVariants.{NoMemory}
+use Rattle.xa_workers.specs.xa_work.Work.{Standing as Working}
+use Rattle.xa_workers.specs.xa_pipe.Standing.{Ending}
+use Rattle.xa_workers.specs.xa_script.declared.script.Client.{Client}
+use Rattle.xa_workers.specs.xa_server.Served.{StarterShows}
+use Rattle.xa_workers.specs.xa_links.declared.working.ServerWorker.{ServerWorker}
+use Rattle.xa_workers.specs.xa_links.Working.{cut_in}
+use Rattle.xa_workers.specs.xa_desk.declared.desk.Desk.{Desk}
+use Rattle.xa_workers.specs.xa_desk.declared.stopped.Stopped.{Stopped}
+use Rattle.xa_workers.specs.xa_desk.declared.stopped.Stopped.TheVariants.{Here, Elsewhere}
+use Rattle.xa_workers.specs.xa_desk.Whole.{IsKnown}
+use Rattle.xa_workers.specs.xa_boot.declared.booting.Booted.{Booted}
+use Rattle.xa_workers.specs.xa_joined.Joined.{Back, whole_of}
+use Rattle.xa_workers.specs.xa_joined.Ended.{Ends, EndsWhole}
 use Rattle.xa_ending.specs.declared.handing.Handed.{Handed}
 use Rattle.xa_ending.specs.Gathered.{IsHaltAmong}
 use Rattle.xa_ending.specs.Joined.{end_of}

@@ -1,15 +1,15 @@
 -- A domain whose workers are done (this project's own).
 use Rattle.std.specs.Prelude.{◌≡◌, ℕ, List, length, map}
-use Rattle.xa_types.specs.declared.setup.ServerSetup.{ServerSetup}
-use Rattle.xa_events.specs.Words.{EachNumbered}
-use Rattle.xa_script.specs.declared.script.Client.{Client}
-use Rattle.xa_server.specs.Served.{StarterShows}
-use Rattle.xa_links.specs.declared.working.ServerWorker.{ServerWorker}
-use Rattle.xa_links.specs.Working.{cut_in}
-use Rattle.xa_joined.specs.Ended.{ServerEnd}
-use Rattle.xa_desk.specs.Desks.{IsDomain}
-use Rattle.xa_boot.specs.declared.booting.Booted.{Booted}
-use Rattle.xa_boot.specs.Booting.{IsDealt}
+use Rattle.xa_workers.specs.xa_types.declared.setup.ServerSetup.{ServerSetup}
+use Rattle.xa_workers.specs.xa_events.Words.{EachNumbered}
+use Rattle.xa_workers.specs.xa_script.declared.script.Client.{Client}
+use Rattle.xa_workers.specs.xa_server.Served.{StarterShows}
+use Rattle.xa_workers.specs.xa_links.declared.working.ServerWorker.{ServerWorker}
+use Rattle.xa_workers.specs.xa_links.Working.{cut_in}
+use Rattle.xa_workers.specs.xa_joined.Ended.{ServerEnd}
+use Rattle.xa_workers.specs.xa_desk.Desks.{IsDomain}
+use Rattle.xa_workers.specs.xa_boot.declared.booting.Booted.{Booted}
+use Rattle.xa_workers.specs.xa_boot.Booting.{IsDealt}
 use Rattle.xa_workers.specs.Working.{EachDone, IsOver}
 use Rattle.xa_workers.specs.Closing.{HasClosed}
 

@@ -3,20 +3,20 @@ use Rattle.std.specs.Prelude.{◌≡◌, ℕ, ◌+◌, ◌<◌, List, ◌∷◌,
 use Rattle.std.specs.List.{All}
 use Rattle.std.specs.declared.vec.Vec.{Vec}
 use Rattle.std.specs.declared.alloc.Global.{Global}
-use Rattle.xa_lock.specs.declared.pass.LockPass.{LockPass}
-use Rattle.xa_cell.specs.declared.tokens.Seat.{Seat}
-use Rattle.xa_cell.specs.Known.{known, IsSeatOf, IsNew}
-use Rattle.xa_cell.specs.Places.{IsShut}
-use Rattle.xa_held.specs.declared.kept_board.BoardNote.{BoardNote}
-use Rattle.xa_held.specs.declared.kept_queue.QueueNote.{QueueNote}
-use Rattle.xa_crew.specs.Ending.{workers_of}
-use Rattle.xa_work.specs.Work.{Standing as Working}
-use Rattle.xa_caller.specs.declared.cargo.Filling.{Filling}
-use Rattle.xa_desk.specs.declared.domain.Domain.{Domain}
-use Rattle.xa_desk.specs.declared.desk.Desk.{Desk}
-use Rattle.xa_desk.specs.Desks.{IsBoardPass, IsQueuePass, IsThere}
-use Rattle.xa_boot.specs.declared.closer.Closer.{Closer}
-use Rattle.xa_boot.specs.Booting.{work_of}
+use Rattle.xa_workers.specs.xa_lock.declared.pass.LockPass.{LockPass}
+use Rattle.xa_workers.specs.xa_cell.declared.tokens.Seat.{Seat}
+use Rattle.xa_workers.specs.xa_cell.Known.{known, IsSeatOf, IsNew}
+use Rattle.xa_workers.specs.xa_cell.Places.{IsShut}
+use Rattle.xa_workers.specs.xa_held.declared.kept_board.BoardNote.{BoardNote}
+use Rattle.xa_workers.specs.xa_held.declared.kept_queue.QueueNote.{QueueNote}
+use Rattle.xa_workers.specs.xa_crew.Ending.{workers_of}
+use Rattle.xa_workers.specs.xa_work.Work.{Standing as Working}
+use Rattle.xa_workers.specs.xa_caller.declared.cargo.Filling.{Filling}
+use Rattle.xa_workers.specs.xa_desk.declared.domain.Domain.{Domain}
+use Rattle.xa_workers.specs.xa_desk.declared.desk.Desk.{Desk}
+use Rattle.xa_workers.specs.xa_desk.Desks.{IsBoardPass, IsQueuePass, IsThere}
+use Rattle.xa_workers.specs.xa_boot.declared.closer.Closer.{Closer}
+use Rattle.xa_workers.specs.xa_boot.Booting.{work_of}
 use Rattle.xa_ending.specs.declared.tokens.Tokens.{Tokens}
 
 -- a worker's work, its seat, and its passes

@@ -1,12 +1,12 @@
 // The locks and the cells are closed.
 ghost use Rattle.std.specs.Prelude.{◌≡◌, ℕ, ◌+◌, ◌<◌, ◌≤◌, ◌++◌, List, length, slice_index_or, vec_capacity};
-ghost use Rattle.xa_lock.specs.Makers.{noted_in};
-ghost use Rattle.xa_cell.specs.Known.{IsTicketOf};
-ghost use Rattle.xa_held.specs.Kept.{Kept};
-ghost use Rattle.xa_caller.specs.declared.cargo.Filling.{Filling};
-ghost use Rattle.xa_desk.specs.Desks.{IsDomain};
-ghost use Rattle.xa_boot.specs.Booting.{IsDealt};
-ghost use Rattle.xa_joined.specs.Joined.{Back};
+ghost use Rattle.xa_workers.specs.xa_lock.Makers.{noted_in};
+ghost use Rattle.xa_workers.specs.xa_cell.Known.{IsTicketOf};
+ghost use Rattle.xa_workers.specs.xa_held.Kept.{Kept};
+ghost use Rattle.xa_workers.specs.xa_caller.declared.cargo.Filling.{Filling};
+ghost use Rattle.xa_workers.specs.xa_desk.Desks.{IsDomain};
+ghost use Rattle.xa_workers.specs.xa_boot.Booting.{IsDealt};
+ghost use Rattle.xa_workers.specs.xa_joined.Joined.{Back};
 ghost use Rattle.xa_ending.specs.Leaving.{Leaving, AreAllTokens};
 ghost use Rattle.xa_ending.specs.Room.{IsEmptyFor};
 ghost use Rattle.xa_ending.specs.Closed.{GivesBack};
@@ -14,15 +14,15 @@ ghost use Rattle.xa_ending.specs.Closing.{IsSilent, AreAllOf, ClosesAs, ClosesAl
 
 use crate::tokens::{QueuePass, Tokens};
 use std::alloc::Global;
-use xa_caller::{Cargo, Filling};
-use xa_cell::{Cells, Filled, Seat};
-use xa_desk::Domain;
-use xa_held::KeptQueue;
-use xa_lock::Guarded;
-use xa_queue::Entry;
-use xa_server::{Closing, ServerSlot};
-use xa_stamp::{Home, Record};
-use xa_types::{Sequence, Stamp};
+use xa_workers::caller::{Cargo, Filling};
+use xa_workers::cell::{Cells, Filled, Seat};
+use xa_workers::desk::Domain;
+use xa_workers::held::KeptQueue;
+use xa_workers::lock::Guarded;
+use xa_workers::queue::Entry;
+use xa_workers::server::{Closing, ServerSlot};
+use xa_workers::stamp::{Home, Record};
+use xa_workers::types::{Sequence, Stamp};
 
 // Lets go of a request that still waits, as behind a halt: its cell is filled without an answer.
 fn let_go(cells: &Cells<Filling>, seat: &mut Seat<Filling>, entry: Entry<Cargo>)

@@ -1,11 +1,11 @@
 // What the workers leave is taken from them: first the domain itself, then the clients, then the servers.
 ghost use Rattle.std.specs.Prelude.{◌≡◌, ◌+◌, ℕ, List, length, None};
-ghost use Rattle.xa_events.specs.Words.{EachNumbered};
-ghost use Rattle.xa_script.specs.declared.script.Client.{Client};
-ghost use Rattle.xa_desk.specs.declared.domain.Domain.{Domain as Standing};
-ghost use Rattle.xa_desk.specs.declared.desk.Desk.{Desk as Place};
-ghost use Rattle.xa_desk.specs.Desks.{IsDomain};
-ghost use Rattle.xa_clients.specs.Ending.{here_by};
+ghost use Rattle.xa_workers.specs.xa_events.Words.{EachNumbered};
+ghost use Rattle.xa_workers.specs.xa_script.declared.script.Client.{Client};
+ghost use Rattle.xa_workers.specs.xa_desk.declared.domain.Domain.{Domain as Standing};
+ghost use Rattle.xa_workers.specs.xa_desk.declared.desk.Desk.{Desk as Place};
+ghost use Rattle.xa_workers.specs.xa_desk.Desks.{IsDomain};
+ghost use Rattle.xa_workers.specs.xa_clients.Ending.{here_by};
 ghost use Rattle.xa_workers.specs.Working.{EachDone, IsOver};
 ghost use Rattle.xa_workers.specs.Closing.{HasClosed};
 ghost use Rattle.xa_ending.specs.Leaving.{Leaving};
@@ -14,16 +14,16 @@ ghost use Rattle.xa_ending.specs.Gathered.{HasGathered};
 ghost use Rattle.xa_ending.specs.Gathering.{HasWorkerSpace, HasServerSpace, KeepsServers, IsBeforeClients, HasClients, IsBeforeServers, HasServers, first_of};
 
 use crate::tokens::Tokens;
-use xa_boot::Closer;
-use xa_caller::Left;
-use xa_clients::{ClientWorker, Ended};
-use xa_desk::{Desk, Domain, Done, Stopped};
-use xa_link::{Link, Starter};
-use xa_links::{CutLife, ServerWorker};
-use xa_pipe::EndedLife;
-use xa_server::Served;
-use xa_stamp::Home;
-use xa_work::Halt;
+use xa_workers::boot::Closer;
+use xa_workers::caller::Left;
+use xa_workers::clients::{ClientWorker, Ended};
+use xa_workers::desk::{Desk, Domain, Done, Stopped};
+use xa_workers::link::{Link, Starter};
+use xa_workers::links::{CutLife, ServerWorker};
+use xa_workers::pipe::EndedLife;
+use xa_workers::server::Served;
+use xa_workers::stamp::Home;
+use xa_workers::work::Halt;
 
 /// What the workers leave: their seats and passes, the homes of the callers, why the run stopped, if it did, and by server
 /// its lives, the one that went on at a halt, and its starter.

@@ -1,6 +1,6 @@
 // What a domain leaves is handed back.
 ghost use Rattle.std.specs.Prelude.{◌≡◌, List, length};
-ghost use Rattle.xa_script.specs.declared.script.Client.{Client};
+ghost use Rattle.xa_workers.specs.xa_script.declared.script.Client.{Client};
 ghost use Rattle.xa_ending.specs.Room.{HasRoom};
 ghost use Rattle.xa_ending.specs.Joined.{IsJoined};
 ghost use Rattle.xa_ending.specs.Handed.{HandsBack, halt_of};
@@ -9,13 +9,13 @@ use crate::closing::close_homes;
 use crate::gathering::{Gathered, gather};
 use crate::room::Room;
 use std::alloc::Global;
-use xa_boot::Booted;
-use xa_desk::Stopped;
-use xa_link::{Link, Starter};
-use xa_links::CutLife;
-use xa_pipe::EndedLife;
-use xa_stamp::Record;
-use xa_work::Halt;
+use xa_workers::boot::Booted;
+use xa_workers::desk::Stopped;
+use xa_workers::link::{Link, Starter};
+use xa_workers::links::CutLife;
+use xa_workers::pipe::EndedLife;
+use xa_workers::stamp::Record;
+use xa_workers::work::Halt;
 
 /// What is handed back: why the run halted, if it did; the homes of the board, the queues, the clock and the callers, in
 /// this order; and by server its lives, the one that went on at a halt, and its starter.

@@ -10,3 +10,7 @@ mod tokens;
 
 pub use handing::{Handed, hand_back};
 pub use room::Room;
+
+// What crates above name of those below.
+pub use xa_workers as workers;
+pub use xa_workers::{boot, events, link, links, pipe, script, stamp, types, work};

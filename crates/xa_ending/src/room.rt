@@ -5,11 +5,11 @@ ghost use Rattle.xa_ending.specs.Room.{IsEmptyFor, AreNoTokens, HasRoom};
 
 use crate::tokens::{QueuePass, Tokens};
 use std::alloc::Global;
-use xa_link::Link;
-use xa_links::CutLife;
-use xa_pipe::EndedLife;
-use xa_stamp::Home;
-use xa_types::NoMemory;
+use xa_workers::link::Link;
+use xa_workers::links::CutLife;
+use xa_workers::pipe::EndedLife;
+use xa_workers::stamp::Home;
+use xa_workers::types::NoMemory;
 
 /// Room for what the workers leave, for all homes and for those of the callers, and by server for its lives, the one that
 /// went on at a halt, and its starter.

@@ -1,13 +1,13 @@
 // Seats and passes as they come back.
 ghost use Rattle.std.specs.Prelude.{◌≡◌, ◌++◌, ◌∷◌, [], length, vec_capacity, IsSome};
 ghost use Rattle.std.specs.List.{All};
-ghost use Rattle.xa_desk.specs.Desks.{IsThere};
+ghost use Rattle.xa_workers.specs.xa_desk.Desks.{IsThere};
 ghost use Rattle.xa_ending.specs.Gathering.{HasSpace, HasTokenSpace, AreAdded, AddsTokens};
 
-use xa_caller::Filling;
-use xa_cell::Seat;
-use xa_held::{BoardNote, QueueNote};
-use xa_lock::LockPass;
+use xa_workers::caller::Filling;
+use xa_workers::cell::Seat;
+use xa_workers::held::{BoardNote, QueueNote};
+use xa_workers::lock::LockPass;
 
 /// A worker's right to enter a queue.
 pub type QueuePass = LockPass<QueueNote<Filling>>;

@@ -5,44 +5,44 @@ use Rattle.std.specs.List.{All, Contains, filter, flat_map}
 use Rattle.std.proofs.lemmas.Bool.{cases_Bool}
 use Rattle.std.proofs.lemmas.Option.{get_or_from_slice_get, slice_get_within}
 use Rattle.std.proofs.lemmas.List.Elements.{All-nil, All-cons, All-head, All-tail, All-weaker, All-map, All-contains, All-contains_itself, Contains-append_left, Contains-append_right, Contains-append_cases}
-use Rattle.xa_types.specs.declared.setup.Setup.{Setup}
-use Rattle.xa_types.specs.declared.stamp.Stamp.{Stamp}
-use Rattle.xa_types.specs.declared.ids.RequestId.{RequestId}
-use Rattle.xa_types.specs.declared.reply.Answer.{Answer as Reply}
-use Rattle.xa_types.specs.Setup.{numbered, queue_of}
-use Rattle.xa_events.specs.declared.event.Event.{Event}
-use Rattle.xa_events.specs.declared.event.Event.TheVariants.{Sweep, Start, StartFailed, End, Stop, Answer}
-use Rattle.xa_events.specs.declared.event.Ended.{Ended}
-use Rattle.xa_events.specs.declared.event.Replied.{Replied}
-use Rattle.xa_events.specs.Homes.{Home, home_of, worker_of, of_worker, same_home, all_homes}
-use Rattle.xa_events.specs.State.{caller_of}
-use Rattle.xa_events.specs.Request.{Settlement, settlement_in}
-use Rattle.xa_events.specs.Answers.{reply_of, IsAnswerTo}
-use Rattle.xa_events.specs.Words.{count}
-use Rattle.xa_events.proofs.WordsLemmas.{count_no}
-use Rattle.xa_stamp.specs.declared.home.Stamped.{Stamped}
-use Rattle.xa_stamp.specs.Home.{Notes, Rises, last_stamp}
-use Rattle.xa_lock.specs.declared.makers.Made.{Made}
-use Rattle.xa_lock.specs.Makers.{maker_of, noted_in}
-use Rattle.xa_crew.specs.Crew.{IsOfDomain, MayNote, no_stamp}
-use Rattle.xa_crew.specs.Ending.{workers_of}
-use Rattle.xa_crew.specs.Seen.{past_in}
-use Rattle.xa_crew.proofs.Lists.{past_in-append, same_home-is}
-use Rattle.xa_cell.specs.declared.tokens.Seat.{Seat}
-use Rattle.xa_cell.specs.declared.view.Fill.{Fill}
-use Rattle.xa_cell.specs.declared.view.Part.{Part}
-use Rattle.xa_cell.specs.Known.{known}
-use Rattle.xa_cell.specs.Views.{at}
-use Rattle.xa_cell.specs.Law.{parts_of}
-use Rattle.xa_work.specs.Work.{Standing as Working}
-use Rattle.xa_work.proofs.Noting.{not_theirs}
-use Rattle.xa_caller.specs.declared.cargo.Filling.{Filling}
-use Rattle.xa_server.specs.Told.{Settles, IsEnded, EndedFor}
-use Rattle.xa_told.specs.Told.{TookFor, WasTaken}
-use Rattle.xa_told.proofs.Joining.{each_seat, all_seats, shown}
-use Rattle.xa_told.proofs.Standing.{crew_stands}
-use Rattle.xa_desk.specs.declared.domain.Domain.{Domain}
-use Rattle.xa_desk.specs.declared.desk.Desk.{Desk}
+use Rattle.xa_clients.specs.xa_types.declared.setup.Setup.{Setup}
+use Rattle.xa_clients.specs.xa_types.declared.stamp.Stamp.{Stamp}
+use Rattle.xa_clients.specs.xa_types.declared.ids.RequestId.{RequestId}
+use Rattle.xa_clients.specs.xa_types.declared.reply.Answer.{Answer as Reply}
+use Rattle.xa_clients.specs.xa_types.Setup.{numbered, queue_of}
+use Rattle.xa_clients.specs.xa_events.declared.event.Event.{Event}
+use Rattle.xa_clients.specs.xa_events.declared.event.Event.TheVariants.{Sweep, Start, StartFailed, End, Stop, Answer}
+use Rattle.xa_clients.specs.xa_events.declared.event.Ended.{Ended}
+use Rattle.xa_clients.specs.xa_events.declared.event.Replied.{Replied}
+use Rattle.xa_clients.specs.xa_events.Homes.{Home, home_of, worker_of, of_worker, same_home, all_homes}
+use Rattle.xa_clients.specs.xa_events.State.{caller_of}
+use Rattle.xa_clients.specs.xa_events.Request.{Settlement, settlement_in}
+use Rattle.xa_clients.specs.xa_events.Answers.{reply_of, IsAnswerTo}
+use Rattle.xa_clients.specs.xa_events.Words.{count}
+use Rattle.xa_clients.proofs.xa_events.WordsLemmas.{count_no}
+use Rattle.xa_clients.specs.xa_stamp.declared.home.Stamped.{Stamped}
+use Rattle.xa_clients.specs.xa_stamp.Home.{Notes, Rises, last_stamp}
+use Rattle.xa_clients.specs.xa_lock.declared.makers.Made.{Made}
+use Rattle.xa_clients.specs.xa_lock.Makers.{maker_of, noted_in}
+use Rattle.xa_clients.specs.xa_crew.Crew.{IsOfDomain, MayNote, no_stamp}
+use Rattle.xa_clients.specs.xa_crew.Ending.{workers_of}
+use Rattle.xa_clients.specs.xa_crew.Seen.{past_in}
+use Rattle.xa_clients.proofs.xa_crew.Lists.{past_in-append, same_home-is}
+use Rattle.xa_clients.specs.xa_cell.declared.tokens.Seat.{Seat}
+use Rattle.xa_clients.specs.xa_cell.declared.view.Fill.{Fill}
+use Rattle.xa_clients.specs.xa_cell.declared.view.Part.{Part}
+use Rattle.xa_clients.specs.xa_cell.Known.{known}
+use Rattle.xa_clients.specs.xa_cell.Views.{at}
+use Rattle.xa_clients.specs.xa_cell.Law.{parts_of}
+use Rattle.xa_clients.specs.xa_work.Work.{Standing as Working}
+use Rattle.xa_clients.proofs.xa_work.Noting.{not_theirs}
+use Rattle.xa_clients.specs.xa_caller.declared.cargo.Filling.{Filling}
+use Rattle.xa_clients.specs.xa_server.Told.{Settles, IsEnded, EndedFor}
+use Rattle.xa_clients.specs.xa_told.Told.{TookFor, WasTaken}
+use Rattle.xa_clients.proofs.xa_told.Joining.{each_seat, all_seats, shown}
+use Rattle.xa_clients.proofs.xa_told.Standing.{crew_stands}
+use Rattle.xa_clients.specs.xa_desk.declared.domain.Domain.{Domain}
+use Rattle.xa_clients.specs.xa_desk.declared.desk.Desk.{Desk}
 use Rattle.xa_links.specs.Behind.{is_lost, ends_by, is_ending, SweepsOr, OnlySweeps, IsBehindEnd, FilledBehind, TellsLast}
 use Rattle.xa_links.specs.Lives.{ServerShows}
 use Rattle.xa_joined.specs.Joined.{Back, kept_of, noted_of, HasLeft, AllLeft}

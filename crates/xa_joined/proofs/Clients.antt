@@ -2,23 +2,23 @@
 use Rattle.std.proofs.Common.{◌≡◌, ℕ, zero, suc, false, List, length, Option, Some, sym, ap, subst}
 use Rattle.std.specs.Prelude.{option_map}
 use mathlib.Core.Path.{fun_ext}
-use Rattle.xa_types.specs.declared.call.Op.{Op}
-use Rattle.xa_types.specs.Setup.{numbered}
-use Rattle.xa_events.specs.Calls.{awaits_answer}
-use Rattle.xa_events.specs.Caller.{last_op, newest_call}
-use Rattle.xa_events.specs.Homes.{Home}
-use Rattle.xa_events.specs.Local.{worker_events}
-use Rattle.xa_stamp.specs.declared.home.Stamped.{Stamped}
-use Rattle.xa_lock.specs.Makers.{noted_in}
-use Rattle.xa_crew.specs.Calls.{MadeOwn}
-use Rattle.xa_crew.specs.Ending.{list_in}
-use Rattle.xa_crew.specs.Seen.{past_in}
-use Rattle.xa_work.specs.Going.{FitEach}
-use Rattle.xa_work.specs.Work.{Standing as Working}
-use Rattle.xa_desk.specs.declared.domain.Domain.{Domain}
-use Rattle.xa_desk.specs.declared.desk.Desk.{Desk}
-use Rattle.xa_desk.specs.Whole.{entries_of}
-use Rattle.xa_desk.specs.Desks.{FitsCalls}
+use Rattle.xa_clients.specs.xa_types.declared.call.Op.{Op}
+use Rattle.xa_clients.specs.xa_types.Setup.{numbered}
+use Rattle.xa_clients.specs.xa_events.Calls.{awaits_answer}
+use Rattle.xa_clients.specs.xa_events.Caller.{last_op, newest_call}
+use Rattle.xa_clients.specs.xa_events.Homes.{Home}
+use Rattle.xa_clients.specs.xa_events.Local.{worker_events}
+use Rattle.xa_clients.specs.xa_stamp.declared.home.Stamped.{Stamped}
+use Rattle.xa_clients.specs.xa_lock.Makers.{noted_in}
+use Rattle.xa_clients.specs.xa_crew.Calls.{MadeOwn}
+use Rattle.xa_clients.specs.xa_crew.Ending.{list_in}
+use Rattle.xa_clients.specs.xa_crew.Seen.{past_in}
+use Rattle.xa_clients.specs.xa_work.Going.{FitEach}
+use Rattle.xa_clients.specs.xa_work.Work.{Standing as Working}
+use Rattle.xa_clients.specs.xa_desk.declared.domain.Domain.{Domain}
+use Rattle.xa_clients.specs.xa_desk.declared.desk.Desk.{Desk}
+use Rattle.xa_clients.specs.xa_desk.Whole.{entries_of}
+use Rattle.xa_clients.specs.xa_desk.Desks.{FitsCalls}
 use Rattle.xa_joined.specs.Joined.{Back, whole_of, kept_of, noted_of, AllLeft}
 use Rattle.xa_joined.proofs.Left.{same_homes}
 use Rattle.xa_joined.proofs.Going.{one_goes_on}

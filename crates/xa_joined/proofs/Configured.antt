@@ -9,11 +9,11 @@ use Rattle.std.proofs.lemmas.List.{length-map}
 use Rattle.std.proofs.lemmas.List.Folds.{Any-from_list_any}
 use Rattle.std.proofs.lemmas.List.Sums.{AllPass-from_list_all}
 use Rattle.std.proofs.lemmas.Slice.Eq.{bytes_eq-Decides}
-use Rattle.xa_types.specs.declared.setup.QueueSetup.{QueueSetup}
-use Rattle.xa_types.specs.declared.setup.ServerSetup.{ServerSetup}
-use Rattle.xa_types.specs.declared.setup.Setup.{Setup}
-use Rattle.xa_types.specs.Configured.{is_configured, is_within, is_among, is_valid_queue, are_distinct, queue_names, are_valid_shapes, are_valid_queues, are_valid_servers, are_valid_services, are_served}
-use Rattle.xa_types.specs.Setup.{counted_from_1, queue_named, queue_in, queue_of}
+use Rattle.xa_clients.specs.xa_types.declared.setup.QueueSetup.{QueueSetup}
+use Rattle.xa_clients.specs.xa_types.declared.setup.ServerSetup.{ServerSetup}
+use Rattle.xa_clients.specs.xa_types.declared.setup.Setup.{Setup}
+use Rattle.xa_clients.specs.xa_types.Configured.{is_configured, is_within, is_among, is_valid_queue, are_distinct, queue_names, are_valid_shapes, are_valid_queues, are_valid_servers, are_valid_services, are_served}
+use Rattle.xa_clients.specs.xa_types.Setup.{counted_from_1, queue_named, queue_in, queue_of}
 use Rattle.xa_joined.proofs.Listed.{all_numbered, one_there}
 
 -- ---- names that differ

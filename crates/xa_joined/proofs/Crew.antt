@@ -4,30 +4,30 @@ use Rattle.std.specs.Prelude.{option_map}
 use Rattle.std.specs.List.{All, filter}
 use Rattle.std.proofs.lemmas.Bool.{cases_Bool, cases_lt}
 use mathlib.Core.Path.{fun_ext}
-use Rattle.xa_types.specs.declared.stamp.Stamp.{Stamp}
-use Rattle.xa_types.specs.Setup.{numbered}
-use Rattle.xa_events.specs.Homes.{Home}
-use Rattle.xa_events.specs.Homes.Home.{BoardHome, QueueHome, ClockHome, CallerHome}
-use Rattle.xa_events.specs.Words.{AtEach}
-use Rattle.xa_stamp.specs.declared.home.Stamped.{Stamped}
-use Rattle.xa_stamp.specs.Home.{Rises}
-use Rattle.xa_lock.specs.declared.makers.Made.{Made}
-use Rattle.xa_lock.specs.Makers.{noted_in}
-use Rattle.xa_crew.specs.Crew.{IsCrew, TellsEach, no_stamp, stands_at, MetAmong}
-use Rattle.xa_crew.specs.Ending.{list_in, workers_of}
-use Rattle.xa_crew.specs.Seen.{IsBehind, SawFronts}
-use Rattle.xa_crew.proofs.Growing.{noted_made}
-use Rattle.xa_crew.proofs.Lists.{filter-yes, filter-no}
-use Rattle.xa_held.specs.declared.kept_board.BoardNote.{BoardNote}
-use Rattle.xa_held.specs.declared.kept_board.BoardNote.TheVariants.{Opened, By, Looked}
-use Rattle.xa_held.specs.Board.{Climbs, top, made_in}
-use Rattle.xa_held.specs.Kept.{Kept}
-use Rattle.xa_work.specs.Work.{Standing as Working}
-use Rattle.xa_caller.specs.declared.cargo.Filling.{Filling}
-use Rattle.xa_desk.specs.declared.domain.Domain.{Domain}
-use Rattle.xa_desk.specs.declared.desk.Desk.{Desk}
-use Rattle.xa_desk.specs.Whole.{entries_of}
-use Rattle.xa_desk.specs.Desks.{Shows}
+use Rattle.xa_clients.specs.xa_types.declared.stamp.Stamp.{Stamp}
+use Rattle.xa_clients.specs.xa_types.Setup.{numbered}
+use Rattle.xa_clients.specs.xa_events.Homes.{Home}
+use Rattle.xa_clients.specs.xa_events.Homes.Home.{BoardHome, QueueHome, ClockHome, CallerHome}
+use Rattle.xa_clients.specs.xa_events.Words.{AtEach}
+use Rattle.xa_clients.specs.xa_stamp.declared.home.Stamped.{Stamped}
+use Rattle.xa_clients.specs.xa_stamp.Home.{Rises}
+use Rattle.xa_clients.specs.xa_lock.declared.makers.Made.{Made}
+use Rattle.xa_clients.specs.xa_lock.Makers.{noted_in}
+use Rattle.xa_clients.specs.xa_crew.Crew.{IsCrew, TellsEach, no_stamp, stands_at, MetAmong}
+use Rattle.xa_clients.specs.xa_crew.Ending.{list_in, workers_of}
+use Rattle.xa_clients.specs.xa_crew.Seen.{IsBehind, SawFronts}
+use Rattle.xa_clients.proofs.xa_crew.Growing.{noted_made}
+use Rattle.xa_clients.proofs.xa_crew.Lists.{filter-yes, filter-no}
+use Rattle.xa_clients.specs.xa_held.declared.kept_board.BoardNote.{BoardNote}
+use Rattle.xa_clients.specs.xa_held.declared.kept_board.BoardNote.TheVariants.{Opened, By, Looked}
+use Rattle.xa_clients.specs.xa_held.Board.{Climbs, top, made_in}
+use Rattle.xa_clients.specs.xa_held.Kept.{Kept}
+use Rattle.xa_clients.specs.xa_work.Work.{Standing as Working}
+use Rattle.xa_clients.specs.xa_caller.declared.cargo.Filling.{Filling}
+use Rattle.xa_clients.specs.xa_desk.declared.domain.Domain.{Domain}
+use Rattle.xa_clients.specs.xa_desk.declared.desk.Desk.{Desk}
+use Rattle.xa_clients.specs.xa_desk.Whole.{entries_of}
+use Rattle.xa_clients.specs.xa_desk.Desks.{Shows}
 use Rattle.xa_joined.specs.Joined.{Back, whole_of, kept_of, noted_of, AllLeft}
 use Rattle.xa_joined.proofs.Listed.{numbered_map, nothing_past}
 use Rattle.xa_joined.proofs.Left.{same_homes, each_worker, has_left, each_left}

@@ -1,21 +1,21 @@
 -- How a queue ends: nothing waits there once each of its servers is done, and it is down where all of them were given up.
 use Rattle.std.proofs.Common.{◌≡◌, ◌⊎◌, ℕ, zero, suc, ◌+◌, ◌<◌, ◌≤◌, ◌==◌, true, if◌then◌else◌, List, [], ◌∷◌, ◌++◌, length, Some, None, inl, inr, refl, sym, ◌∙◌, ap, subst, arith, eqb-true}
 use Rattle.std.proofs.lemmas.Bool.{cases_Bool, cases_eq, or_right}
-use Rattle.xa_types.specs.declared.ids.RequestId.{RequestId}
-use Rattle.xa_types.specs.declared.setup.Setup.{Setup}
-use Rattle.xa_types.specs.declared.stamp.Stamp.{Stamp}
-use Rattle.xa_types.specs.Setup.{queue_of}
-use Rattle.xa_events.specs.declared.event.Event.{Event}
-use Rattle.xa_events.specs.declared.event.Event.TheVariants.{Accept, Forward}
-use Rattle.xa_events.specs.Cases.{HomePart, EntryHome}
-use Rattle.xa_events.specs.Queue.{comes_in, goes_out, waiting, is_down, is_down_of}
-use Rattle.xa_events.specs.Server.{AllGone, is_gone, is_gone_of}
-use Rattle.xa_events.specs.Words.{AtEach, added, without}
-use Rattle.xa_events.proofs.Merge.{seen_now, without_none}
-use Rattle.xa_stamp.specs.declared.home.Stamped.{Stamped}
-use Rattle.xa_lock.specs.Pages.{StartsWith}
-use Rattle.xa_crew.specs.Seen.{past_in, SawFront}
-use Rattle.xa_crew.proofs.Lists.{past_in-append, earlier_behind}
+use Rattle.xa_clients.specs.xa_types.declared.ids.RequestId.{RequestId}
+use Rattle.xa_clients.specs.xa_types.declared.setup.Setup.{Setup}
+use Rattle.xa_clients.specs.xa_types.declared.stamp.Stamp.{Stamp}
+use Rattle.xa_clients.specs.xa_types.Setup.{queue_of}
+use Rattle.xa_clients.specs.xa_events.declared.event.Event.{Event}
+use Rattle.xa_clients.specs.xa_events.declared.event.Event.TheVariants.{Accept, Forward}
+use Rattle.xa_clients.specs.xa_events.Cases.{HomePart, EntryHome}
+use Rattle.xa_clients.specs.xa_events.Queue.{comes_in, goes_out, waiting, is_down, is_down_of}
+use Rattle.xa_clients.specs.xa_events.Server.{AllGone, is_gone, is_gone_of}
+use Rattle.xa_clients.specs.xa_events.Words.{AtEach, added, without}
+use Rattle.xa_clients.proofs.xa_events.Merge.{seen_now, without_none}
+use Rattle.xa_clients.specs.xa_stamp.declared.home.Stamped.{Stamped}
+use Rattle.xa_clients.specs.xa_lock.Pages.{StartsWith}
+use Rattle.xa_clients.specs.xa_crew.Seen.{past_in, SawFront}
+use Rattle.xa_clients.proofs.xa_crew.Lists.{past_in-append, earlier_behind}
 
 -- ---- a queue that is down
 

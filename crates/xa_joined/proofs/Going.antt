@@ -4,34 +4,34 @@ use Rattle.std.specs.Prelude.{slice_index_or, IfSome}
 use Rattle.std.specs.List.{All, Contains}
 use Rattle.std.proofs.lemmas.Bool.{cases_lt}
 use Rattle.std.proofs.lemmas.List.Elements.{All-cons, All-weaker, All-map, All-contains_itself, Contains-append_right}
-use Rattle.xa_types.specs.declared.reply.Answer.{Answer}
-use Rattle.xa_types.specs.Setup.{numbered}
-use Rattle.xa_events.specs.Homes.Home.{QueueHome}
-use Rattle.xa_lock.specs.declared.makers.Made.{Made}
-use Rattle.xa_lock.specs.declared.pass.LockPass.{LockPass}
-use Rattle.xa_lock.specs.Known.{known as page_of}
-use Rattle.xa_lock.specs.Pages.{StartsWith, Knows}
-use Rattle.xa_lock.specs.Makers.{noted_in}
-use Rattle.xa_crew.specs.Crew.{MayNote}
-use Rattle.xa_crew.specs.Seen.{past_in}
-use Rattle.xa_cell.specs.declared.tokens.Seat.{Seat}
-use Rattle.xa_cell.specs.declared.view.Fill.{Fill}
-use Rattle.xa_cell.specs.Known.{known}
-use Rattle.xa_cell.specs.Views.{at}
-use Rattle.xa_queue.specs.Reading.{AllNew}
-use Rattle.xa_held.specs.declared.kept_queue.QueueNote.{QueueNote}
-use Rattle.xa_held.specs.Board.{maker_of as change_maker}
-use Rattle.xa_held.specs.Kept.{notes_of}
-use Rattle.xa_held.specs.Notes.{maker_of}
-use Rattle.xa_work.specs.Work.{Standing as Working}
-use Rattle.xa_caller.specs.declared.cargo.Filling.{Filling}
-use Rattle.xa_told.specs.Told.{EndsAt, HasEnd, AllEnded}
-use Rattle.xa_told.proofs.Joining.{taken_ended}
-use Rattle.xa_told.proofs.Standing.{own_ended}
-use Rattle.xa_desk.specs.declared.domain.Domain.{Domain}
-use Rattle.xa_desk.specs.declared.desk.Desk.{Desk}
-use Rattle.xa_desk.specs.Whole.{Whole, entries_of}
-use Rattle.xa_desk.specs.Desks.{IsThere, GoesOn, page_in, queue_page}
+use Rattle.xa_clients.specs.xa_types.declared.reply.Answer.{Answer}
+use Rattle.xa_clients.specs.xa_types.Setup.{numbered}
+use Rattle.xa_clients.specs.xa_events.Homes.Home.{QueueHome}
+use Rattle.xa_clients.specs.xa_lock.declared.makers.Made.{Made}
+use Rattle.xa_clients.specs.xa_lock.declared.pass.LockPass.{LockPass}
+use Rattle.xa_clients.specs.xa_lock.Known.{known as page_of}
+use Rattle.xa_clients.specs.xa_lock.Pages.{StartsWith, Knows}
+use Rattle.xa_clients.specs.xa_lock.Makers.{noted_in}
+use Rattle.xa_clients.specs.xa_crew.Crew.{MayNote}
+use Rattle.xa_clients.specs.xa_crew.Seen.{past_in}
+use Rattle.xa_clients.specs.xa_cell.declared.tokens.Seat.{Seat}
+use Rattle.xa_clients.specs.xa_cell.declared.view.Fill.{Fill}
+use Rattle.xa_clients.specs.xa_cell.Known.{known}
+use Rattle.xa_clients.specs.xa_cell.Views.{at}
+use Rattle.xa_clients.specs.xa_queue.Reading.{AllNew}
+use Rattle.xa_clients.specs.xa_held.declared.kept_queue.QueueNote.{QueueNote}
+use Rattle.xa_clients.specs.xa_held.Board.{maker_of as change_maker}
+use Rattle.xa_clients.specs.xa_held.Kept.{notes_of}
+use Rattle.xa_clients.specs.xa_held.Notes.{maker_of}
+use Rattle.xa_clients.specs.xa_work.Work.{Standing as Working}
+use Rattle.xa_clients.specs.xa_caller.declared.cargo.Filling.{Filling}
+use Rattle.xa_clients.specs.xa_told.Told.{EndsAt, HasEnd, AllEnded}
+use Rattle.xa_clients.proofs.xa_told.Joining.{taken_ended}
+use Rattle.xa_clients.proofs.xa_told.Standing.{own_ended}
+use Rattle.xa_clients.specs.xa_desk.declared.domain.Domain.{Domain}
+use Rattle.xa_clients.specs.xa_desk.declared.desk.Desk.{Desk}
+use Rattle.xa_clients.specs.xa_desk.Whole.{Whole, entries_of}
+use Rattle.xa_clients.specs.xa_desk.Desks.{IsThere, GoesOn, page_in, queue_page}
 use Rattle.xa_joined.specs.Joined.{Back, whole_of, HasLeft, AllLeft}
 use Rattle.xa_joined.proofs.Listed.{all_mapped, all_both, all_numbered, none_past}
 use Rattle.xa_joined.proofs.Left.{same_queue, queues_count, desk_left}

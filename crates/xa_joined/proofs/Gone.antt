@@ -1,14 +1,14 @@
 -- A server that was given up was not shut down, by its worker's own events.
 use Rattle.std.proofs.Common.{◌≡◌, ℕ, ◌==◌, true, false, List, [], ◌∷◌, inl, inr, refl, ◌∙◌, ap, subst, eqb-true}
 use Rattle.std.proofs.lemmas.Bool.{cases_Bool, or_cases}
-use Rattle.xa_types.specs.declared.setup.Setup.{Setup}
-use Rattle.xa_events.specs.declared.event.Doing.TheVariants.{Off}
-use Rattle.xa_events.specs.declared.event.Event.{Event}
-use Rattle.xa_events.specs.declared.event.Event.TheVariants.{Take, Forward, Gone, Start, StartFailed, End, Stop}
-use Rattle.xa_events.specs.Cases.{WorkerPart}
-use Rattle.xa_events.specs.Server.{doing, doing_after, moves_server, stops_server, is_shutdown_stop, is_gone, is_gone_of, was_shut_down}
-use Rattle.xa_events.specs.Words.{AtEach}
-use Rattle.xa_events.proofs.WordsLemmas.{latest_no}
+use Rattle.xa_clients.specs.xa_types.declared.setup.Setup.{Setup}
+use Rattle.xa_clients.specs.xa_events.declared.event.Doing.TheVariants.{Off}
+use Rattle.xa_clients.specs.xa_events.declared.event.Event.{Event}
+use Rattle.xa_clients.specs.xa_events.declared.event.Event.TheVariants.{Take, Forward, Gone, Start, StartFailed, End, Stop}
+use Rattle.xa_clients.specs.xa_events.Cases.{WorkerPart}
+use Rattle.xa_clients.specs.xa_events.Server.{doing, doing_after, moves_server, stops_server, is_shutdown_stop, is_gone, is_gone_of, was_shut_down}
+use Rattle.xa_clients.specs.xa_events.Words.{AtEach}
+use Rattle.xa_clients.proofs.xa_events.WordsLemmas.{latest_no}
 
 module _ (setup : Setup) (clients server : ℕ) where
   -- it is off, and wasn't shut down

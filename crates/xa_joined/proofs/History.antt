@@ -5,41 +5,41 @@ use Rattle.std.specs.List.{Contains}
 use Rattle.std.proofs.lemmas.Bool.{cases_eq}
 use Rattle.std.proofs.lemmas.List.{length-map}
 use Rattle.std.proofs.lemmas.List.Folds.{list_any-from_Any}
-use Rattle.xa_types.specs.declared.call.Op.{Op}
-use Rattle.xa_types.specs.declared.stamp.Stamp.{Stamp}
-use Rattle.xa_types.specs.Setup.{numbered, queue_of}
-use Rattle.xa_events.specs.declared.event.Event.{Event}
-use Rattle.xa_events.specs.declared.event.Event.TheVariants.{Accept}
-use Rattle.xa_events.specs.Caller.{accepted_in, has_left, is_leave_of, last_op, newest_call}
-use Rattle.xa_events.specs.Calls.{MadeCalls, awaits_answer}
-use Rattle.xa_events.specs.Cases.{HomePart, IsShut}
-use Rattle.xa_events.specs.Homes.{Home}
-use Rattle.xa_events.specs.Homes.Home.{QueueHome}
-use Rattle.xa_events.specs.Local.{home_events, worker_events}
-use Rattle.xa_events.specs.Queue.{waiting, is_closed, is_down}
-use Rattle.xa_events.specs.Run.{Run, IsFinal}
-use Rattle.xa_events.specs.Server.{AllGone, is_gone, was_shut_down}
-use Rattle.xa_events.specs.State.{opening, caller_of}
-use Rattle.xa_events.specs.Words.{AtEach, EachNumbered}
-use Rattle.xa_events.proofs.Merge.{gone_here, gone_own, left_own, shut_more}
-use Rattle.xa_queue.proofs.Waiting.{list_any-map, list_any-reverse}
-use Rattle.xa_stamp.specs.declared.home.Stamped.{Stamped}
-use Rattle.xa_stamp.specs.Home.{Notes}
-use Rattle.xa_stamp.specs.Merge.{IsMerged}
-use Rattle.xa_lock.specs.Makers.{noted_in}
-use Rattle.xa_crew.specs.Crew.{AllOver}
-use Rattle.xa_crew.specs.Ending.{list_in, workers_of}
-use Rattle.xa_crew.specs.Seen.{past_in, SawFront}
-use Rattle.xa_crew.proofs.Joined.{client_made_calls, own_events, own_home, takes_in_order}
-use Rattle.xa_crew.proofs.Over.{crew_is_final}
-use Rattle.xa_held.specs.Kept.{Kept}
-use Rattle.xa_work.specs.Work.{Standing as Working, theirs}
-use Rattle.xa_caller.specs.declared.cargo.Filling.{Filling}
+use Rattle.xa_clients.specs.xa_types.declared.call.Op.{Op}
+use Rattle.xa_clients.specs.xa_types.declared.stamp.Stamp.{Stamp}
+use Rattle.xa_clients.specs.xa_types.Setup.{numbered, queue_of}
+use Rattle.xa_clients.specs.xa_events.declared.event.Event.{Event}
+use Rattle.xa_clients.specs.xa_events.declared.event.Event.TheVariants.{Accept}
+use Rattle.xa_clients.specs.xa_events.Caller.{accepted_in, has_left, is_leave_of, last_op, newest_call}
+use Rattle.xa_clients.specs.xa_events.Calls.{MadeCalls, awaits_answer}
+use Rattle.xa_clients.specs.xa_events.Cases.{HomePart, IsShut}
+use Rattle.xa_clients.specs.xa_events.Homes.{Home}
+use Rattle.xa_clients.specs.xa_events.Homes.Home.{QueueHome}
+use Rattle.xa_clients.specs.xa_events.Local.{home_events, worker_events}
+use Rattle.xa_clients.specs.xa_events.Queue.{waiting, is_closed, is_down}
+use Rattle.xa_clients.specs.xa_events.Run.{Run, IsFinal}
+use Rattle.xa_clients.specs.xa_events.Server.{AllGone, is_gone, was_shut_down}
+use Rattle.xa_clients.specs.xa_events.State.{opening, caller_of}
+use Rattle.xa_clients.specs.xa_events.Words.{AtEach, EachNumbered}
+use Rattle.xa_clients.proofs.xa_events.Merge.{gone_here, gone_own, left_own, shut_more}
+use Rattle.xa_clients.proofs.xa_queue.Waiting.{list_any-map, list_any-reverse}
+use Rattle.xa_clients.specs.xa_stamp.declared.home.Stamped.{Stamped}
+use Rattle.xa_clients.specs.xa_stamp.Home.{Notes}
+use Rattle.xa_clients.specs.xa_stamp.Merge.{IsMerged}
+use Rattle.xa_clients.specs.xa_lock.Makers.{noted_in}
+use Rattle.xa_clients.specs.xa_crew.Crew.{AllOver}
+use Rattle.xa_clients.specs.xa_crew.Ending.{list_in, workers_of}
+use Rattle.xa_clients.specs.xa_crew.Seen.{past_in, SawFront}
+use Rattle.xa_clients.proofs.xa_crew.Joined.{client_made_calls, own_events, own_home, takes_in_order}
+use Rattle.xa_clients.proofs.xa_crew.Over.{crew_is_final}
+use Rattle.xa_clients.specs.xa_held.Kept.{Kept}
+use Rattle.xa_clients.specs.xa_work.Work.{Standing as Working, theirs}
+use Rattle.xa_clients.specs.xa_caller.declared.cargo.Filling.{Filling}
 use Rattle.xa_script.specs.declared.script.Client.{Client}
-use Rattle.xa_desk.specs.declared.domain.Domain.{Domain}
-use Rattle.xa_desk.specs.declared.desk.Desk.{Desk}
-use Rattle.xa_desk.specs.Found.{SawAtQueue}
-use Rattle.xa_desk.specs.Serving.{LeftOthers, IsSwept}
+use Rattle.xa_clients.specs.xa_desk.declared.domain.Domain.{Domain}
+use Rattle.xa_clients.specs.xa_desk.declared.desk.Desk.{Desk}
+use Rattle.xa_clients.specs.xa_desk.Found.{SawAtQueue}
+use Rattle.xa_clients.specs.xa_desk.Serving.{LeftOthers, IsSwept}
 use Rattle.xa_clients.specs.Ending.{HasMade}
 use Rattle.xa_links.specs.Lives.{IsDone, ServerShows}
 use Rattle.xa_joined.specs.Joined.{Back, whole_of, kept_of, noted_of, AllLeft}

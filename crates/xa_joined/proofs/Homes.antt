@@ -2,25 +2,25 @@
 use Rattle.std.proofs.Common.{◌≡◌, ℕ, ◌<◌, ◌==◌, List, Option, Some, None, refl, sym, ◌∙◌, ap, subst}
 use Rattle.std.specs.Prelude.{option_map}
 use Rattle.std.specs.List.{All, filter}
-use Rattle.xa_types.specs.Setup.{numbered, queue_of, capacity_of}
-use Rattle.xa_events.specs.declared.event.Event.{Event}
-use Rattle.xa_events.specs.Cases.{HomePart}
-use Rattle.xa_events.specs.Homes.Home.{BoardHome, QueueHome}
-use Rattle.xa_events.specs.Order.{TakesNext}
-use Rattle.xa_events.specs.Words.{AtEach}
-use Rattle.xa_lock.specs.declared.makers.Made.{Made}
-use Rattle.xa_lock.specs.Makers.{noted_in}
-use Rattle.xa_crew.specs.Crew.{AllMet, MetAmong, stands_at}
-use Rattle.xa_crew.specs.Ending.{list_in, workers_of}
-use Rattle.xa_crew.specs.Orders.{AllNext}
-use Rattle.xa_crew.specs.Seen.{past_in}
-use Rattle.xa_crew.proofs.Over.{met_by_workers}
-use Rattle.xa_queue.specs.Reading.{AllNew, Fits, IsRead}
-use Rattle.xa_held.specs.Kept.{Kept}
-use Rattle.xa_work.specs.Work.{Standing as Working}
-use Rattle.xa_caller.specs.declared.cargo.Filling.{Filling}
-use Rattle.xa_desk.specs.declared.domain.Domain.{Domain}
-use Rattle.xa_desk.specs.declared.desk.Desk.{Desk}
+use Rattle.xa_clients.specs.xa_types.Setup.{numbered, queue_of, capacity_of}
+use Rattle.xa_clients.specs.xa_events.declared.event.Event.{Event}
+use Rattle.xa_clients.specs.xa_events.Cases.{HomePart}
+use Rattle.xa_clients.specs.xa_events.Homes.Home.{BoardHome, QueueHome}
+use Rattle.xa_clients.specs.xa_events.Order.{TakesNext}
+use Rattle.xa_clients.specs.xa_events.Words.{AtEach}
+use Rattle.xa_clients.specs.xa_lock.declared.makers.Made.{Made}
+use Rattle.xa_clients.specs.xa_lock.Makers.{noted_in}
+use Rattle.xa_clients.specs.xa_crew.Crew.{AllMet, MetAmong, stands_at}
+use Rattle.xa_clients.specs.xa_crew.Ending.{list_in, workers_of}
+use Rattle.xa_clients.specs.xa_crew.Orders.{AllNext}
+use Rattle.xa_clients.specs.xa_crew.Seen.{past_in}
+use Rattle.xa_clients.proofs.xa_crew.Over.{met_by_workers}
+use Rattle.xa_clients.specs.xa_queue.Reading.{AllNew, Fits, IsRead}
+use Rattle.xa_clients.specs.xa_held.Kept.{Kept}
+use Rattle.xa_clients.specs.xa_work.Work.{Standing as Working}
+use Rattle.xa_clients.specs.xa_caller.declared.cargo.Filling.{Filling}
+use Rattle.xa_clients.specs.xa_desk.declared.domain.Domain.{Domain}
+use Rattle.xa_clients.specs.xa_desk.declared.desk.Desk.{Desk}
 use Rattle.xa_joined.specs.Joined.{Back, kept_of, noted_of, AllLeft}
 use Rattle.xa_joined.proofs.Listed.{numbered_map}
 use Rattle.xa_joined.proofs.Standing.{new_at}

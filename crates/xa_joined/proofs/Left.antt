@@ -5,37 +5,37 @@ use Rattle.std.specs.List.{All, filter}
 use Rattle.std.proofs.lemmas.Bool.{cases_Bool, cases_lt}
 use Rattle.std.proofs.lemmas.Option.{slice_get_past}
 use Rattle.std.proofs.lemmas.List.Elements.{All-weaker}
-use Rattle.xa_types.specs.declared.setup.Setup.{Setup}
-use Rattle.xa_types.specs.Setup.{numbered}
-use Rattle.xa_events.specs.declared.event.Event.{Event}
-use Rattle.xa_events.specs.declared.event.Event.TheVariants.{Advertise, Withdraw, Sweep, Down, Close, Tick}
-use Rattle.xa_events.specs.Homes.{Home, home_of, at_home, same_home}
-use Rattle.xa_events.specs.Homes.Home.{BoardHome, QueueHome, ClockHome, CallerHome}
-use Rattle.xa_stamp.specs.declared.home.Stamped.{Stamped}
-use Rattle.xa_lock.specs.declared.makers.Made.{Made}
-use Rattle.xa_lock.specs.declared.pass.LockPass.{LockPass}
-use Rattle.xa_lock.specs.declared.pass.Page.{Page}
-use Rattle.xa_lock.specs.Known.{known as page_of}
-use Rattle.xa_lock.specs.Makers.{maker_of, noted_in}
-use Rattle.xa_lock.specs.Pages.{Knows, entries_by}
-use Rattle.xa_crew.specs.Crew.{MayNote, stands_at}
-use Rattle.xa_crew.specs.Ending.{list_in, workers_of}
-use Rattle.xa_crew.proofs.Lists.{filter-none, same_home-is}
-use Rattle.xa_crew.proofs.Ending.{own_theirs}
-use Rattle.xa_crew.proofs.Growing.{noted_made}
-use Rattle.xa_held.specs.Board.{made_in, maker_of as change_maker}
-use Rattle.xa_held.specs.Joins.{changes_page}
-use Rattle.xa_held.specs.Kept.{Kept, notes_of}
-use Rattle.xa_held.specs.Notes.{maker_of as note_maker, made_page}
-use Rattle.xa_held.proofs.Front.{knows_events}
-use Rattle.xa_held.proofs.Fronts.{knows_changes}
-use Rattle.xa_work.specs.Work.{Standing as Working, IsWorkOf}
-use Rattle.xa_caller.specs.declared.cargo.Filling.{Filling}
-use Rattle.xa_desk.specs.declared.domain.Domain.{Domain}
-use Rattle.xa_desk.specs.declared.desk.Desk.{Desk}
-use Rattle.xa_desk.specs.Whole.{entries_of}
-use Rattle.xa_desk.specs.Made.{IsMade}
-use Rattle.xa_desk.specs.Desks.{IsAmong, IsThere, IsGrounded, IsBoardPass, IsQueuePass}
+use Rattle.xa_clients.specs.xa_types.declared.setup.Setup.{Setup}
+use Rattle.xa_clients.specs.xa_types.Setup.{numbered}
+use Rattle.xa_clients.specs.xa_events.declared.event.Event.{Event}
+use Rattle.xa_clients.specs.xa_events.declared.event.Event.TheVariants.{Advertise, Withdraw, Sweep, Down, Close, Tick}
+use Rattle.xa_clients.specs.xa_events.Homes.{Home, home_of, at_home, same_home}
+use Rattle.xa_clients.specs.xa_events.Homes.Home.{BoardHome, QueueHome, ClockHome, CallerHome}
+use Rattle.xa_clients.specs.xa_stamp.declared.home.Stamped.{Stamped}
+use Rattle.xa_clients.specs.xa_lock.declared.makers.Made.{Made}
+use Rattle.xa_clients.specs.xa_lock.declared.pass.LockPass.{LockPass}
+use Rattle.xa_clients.specs.xa_lock.declared.pass.Page.{Page}
+use Rattle.xa_clients.specs.xa_lock.Known.{known as page_of}
+use Rattle.xa_clients.specs.xa_lock.Makers.{maker_of, noted_in}
+use Rattle.xa_clients.specs.xa_lock.Pages.{Knows, entries_by}
+use Rattle.xa_clients.specs.xa_crew.Crew.{MayNote, stands_at}
+use Rattle.xa_clients.specs.xa_crew.Ending.{list_in, workers_of}
+use Rattle.xa_clients.proofs.xa_crew.Lists.{filter-none, same_home-is}
+use Rattle.xa_clients.proofs.xa_crew.Ending.{own_theirs}
+use Rattle.xa_clients.proofs.xa_crew.Growing.{noted_made}
+use Rattle.xa_clients.specs.xa_held.Board.{made_in, maker_of as change_maker}
+use Rattle.xa_clients.specs.xa_held.Joins.{changes_page}
+use Rattle.xa_clients.specs.xa_held.Kept.{Kept, notes_of}
+use Rattle.xa_clients.specs.xa_held.Notes.{maker_of as note_maker, made_page}
+use Rattle.xa_clients.proofs.xa_held.Front.{knows_events}
+use Rattle.xa_clients.proofs.xa_held.Fronts.{knows_changes}
+use Rattle.xa_clients.specs.xa_work.Work.{Standing as Working, IsWorkOf}
+use Rattle.xa_clients.specs.xa_caller.declared.cargo.Filling.{Filling}
+use Rattle.xa_clients.specs.xa_desk.declared.domain.Domain.{Domain}
+use Rattle.xa_clients.specs.xa_desk.declared.desk.Desk.{Desk}
+use Rattle.xa_clients.specs.xa_desk.Whole.{entries_of}
+use Rattle.xa_clients.specs.xa_desk.Made.{IsMade}
+use Rattle.xa_clients.specs.xa_desk.Desks.{IsAmong, IsThere, IsGrounded, IsBoardPass, IsQueuePass}
 use Rattle.xa_joined.specs.Joined.{Back, no_queue, kept_or, whole_of, kept_of, noted_of, HasLeft, IsDomainOf, AllLeft}
 use Rattle.xa_joined.proofs.Listed.{all_numbered, numbered_map, one_there}
 

@@ -14,3 +14,10 @@ pub mod Gone
 pub mod Deserting
 pub mod History
 pub mod Behind
+
+-- what crates above cite of the lemmas of those below
+pub use Rattle.xa_clients.proofs.xa_events
+pub use Rattle.xa_clients.proofs.xa_crew
+pub use Rattle.xa_clients.proofs.xa_held
+pub use Rattle.xa_script.proofs as xa_script
+pub use Rattle.xa_clients.proofs.xa_pipe

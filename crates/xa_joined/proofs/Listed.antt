@@ -6,13 +6,13 @@ use Rattle.std.proofs.lemmas.Bool.{cases_Bool}
 use Rattle.std.proofs.lemmas.Option.{slice_get-map, slice_get_past, slice_get_within, get_or_from_slice_get}
 use Rattle.std.proofs.lemmas.List.{reverse-append, reverse-reverse}
 use Rattle.std.proofs.lemmas.List.Elements.{All-nil, All-cons, All-head, All-tail, All-push, All-map}
-use Rattle.xa_types.specs.Setup.{numbered}
-use Rattle.xa_events.specs.declared.event.Event.{Event}
-use Rattle.xa_stamp.specs.declared.home.Stamped.{Stamped}
-use Rattle.xa_lock.specs.Pages.{entries_by}
-use Rattle.xa_crew.specs.Ending.{list_in}
-use Rattle.xa_crew.specs.Seen.{past_in}
-use Rattle.xa_crew.proofs.Lists.{filter-yes, filter-no}
+use Rattle.xa_clients.specs.xa_types.Setup.{numbered}
+use Rattle.xa_clients.specs.xa_events.declared.event.Event.{Event}
+use Rattle.xa_clients.specs.xa_stamp.declared.home.Stamped.{Stamped}
+use Rattle.xa_clients.specs.xa_lock.Pages.{entries_by}
+use Rattle.xa_clients.specs.xa_crew.Ending.{list_in}
+use Rattle.xa_clients.specs.xa_crew.Seen.{past_in}
+use Rattle.xa_clients.proofs.xa_crew.Lists.{filter-yes, filter-no}
 
 module _ {X : Type 0} (P : X → Type 0) where
   pub all_reversed : (xs : List X) → All P xs → All P (reverse xs)

@@ -2,24 +2,24 @@
 use Rattle.std.proofs.Common.{List, [], map, reverse, ap, subst}
 use Rattle.std.specs.List.{All}
 use Rattle.std.proofs.lemmas.List.Elements.{All-map}
-use Rattle.xa_events.specs.declared.event.Event.{Event}
-use Rattle.xa_events.specs.Run.{Run}
-use Rattle.xa_events.specs.State.{opening}
-use Rattle.xa_stamp.specs.declared.home.Stamped.{Stamped}
-use Rattle.xa_stamp.specs.Home.{Notes}
-use Rattle.xa_stamp.specs.Merge.{IsMerged}
-use Rattle.xa_lock.specs.Makers.{noted_in}
-use Rattle.xa_crew.specs.Ending.{workers_of}
-use Rattle.xa_crew.proofs.Ending.{crew_is_run}
-use Rattle.xa_crew.proofs.Placed.{merge_of}
-use Rattle.xa_crew.proofs.Workers.{each_merged}
-use Rattle.xa_held.specs.Board.{made_in}
-use Rattle.xa_held.specs.Kept.{Kept}
-use Rattle.xa_work.specs.Work.{Standing as Working}
-use Rattle.xa_caller.specs.declared.cargo.Filling.{Filling}
-use Rattle.xa_desk.specs.declared.domain.Domain.{Domain}
-use Rattle.xa_desk.specs.declared.desk.Desk.{Desk}
-use Rattle.xa_desk.specs.Made.{IsMade}
+use Rattle.xa_clients.specs.xa_events.declared.event.Event.{Event}
+use Rattle.xa_clients.specs.xa_events.Run.{Run}
+use Rattle.xa_clients.specs.xa_events.State.{opening}
+use Rattle.xa_clients.specs.xa_stamp.declared.home.Stamped.{Stamped}
+use Rattle.xa_clients.specs.xa_stamp.Home.{Notes}
+use Rattle.xa_clients.specs.xa_stamp.Merge.{IsMerged}
+use Rattle.xa_clients.specs.xa_lock.Makers.{noted_in}
+use Rattle.xa_clients.specs.xa_crew.Ending.{workers_of}
+use Rattle.xa_clients.proofs.xa_crew.Ending.{crew_is_run}
+use Rattle.xa_clients.proofs.xa_crew.Placed.{merge_of}
+use Rattle.xa_clients.proofs.xa_crew.Workers.{each_merged}
+use Rattle.xa_clients.specs.xa_held.Board.{made_in}
+use Rattle.xa_clients.specs.xa_held.Kept.{Kept}
+use Rattle.xa_clients.specs.xa_work.Work.{Standing as Working}
+use Rattle.xa_clients.specs.xa_caller.declared.cargo.Filling.{Filling}
+use Rattle.xa_clients.specs.xa_desk.declared.domain.Domain.{Domain}
+use Rattle.xa_clients.specs.xa_desk.declared.desk.Desk.{Desk}
+use Rattle.xa_clients.specs.xa_desk.Made.{IsMade}
 use Rattle.xa_joined.specs.Joined.{Back, kept_of, noted_of, AllLeft}
 use Rattle.xa_joined.specs.Served.{HoldAll}
 use Rattle.xa_joined.proofs.Listed.{all_reversed}

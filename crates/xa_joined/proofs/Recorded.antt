@@ -3,35 +3,35 @@ use Rattle.std.proofs.Common.{◌≡◌, ℕ, ◌+◌, ◌<◌, ◌≤◌, ◌^�
 use Rattle.std.specs.List.{All, Contains, filter, flat_map}
 use Rattle.std.proofs.lemmas.Bool.{cases_Bool, cases_lt, and_parts}
 use Rattle.std.proofs.lemmas.List.Elements.{All-head, All-tail, All-weaker, All-map, All-filter, All-contains, All-contains_itself, filter_passes, Contains-append_left, Contains-append_right}
-use Rattle.xa_types.specs.declared.setup.Setup.{Setup}
-use Rattle.xa_types.specs.declared.stamp.Stamp.{Stamp}
-use Rattle.xa_events.specs.declared.event.Event.{Event}
-use Rattle.xa_events.specs.declared.event.Event.TheVariants.{Advertise, Withdraw, Sweep, Down, Close}
-use Rattle.xa_events.specs.Homes.{Home, home_of, worker_of, of_worker, same_home, all_homes}
-use Rattle.xa_events.specs.Homes.Home.{ClockHome}
-use Rattle.xa_events.specs.Words.{count}
-use Rattle.xa_events.proofs.WordsLemmas.{count_yes, count_no}
-use Rattle.xa_stamp.specs.declared.home.Stamped.{Stamped}
-use Rattle.xa_stamp.specs.Home.{Notes, Rises}
-use Rattle.xa_stamp.specs.Merge.{IsDense, stamps_of}
-use Rattle.xa_lock.specs.declared.makers.Made.{Made}
-use Rattle.xa_lock.specs.Makers.{maker_of, noted_in}
-use Rattle.xa_lock.specs.Pages.{entries_by}
-use Rattle.xa_crew.specs.Crew.{AreHomes, IsOfDomain, MayNote, no_stamp, stands_at}
-use Rattle.xa_crew.specs.Ending.{workers_of}
-use Rattle.xa_crew.proofs.Dense.{crew_is_dense}
-use Rattle.xa_crew.proofs.Ending.{are_homes}
-use Rattle.xa_crew.proofs.Lists.{All-makers, filter-yes, filter-no, same_home-is}
-use Rattle.xa_crew.proofs.Placed.{IsHeld}
-use Rattle.xa_crew.proofs.Workers.{Mounts, mounts, mounts-above}
-use Rattle.xa_held.specs.Board.{made_in}
-use Rattle.xa_held.specs.Kept.{Kept}
-use Rattle.xa_caller.specs.declared.cargo.Filling.{Filling}
-use Rattle.xa_work.specs.Work.{Standing as Working}
-use Rattle.xa_desk.specs.declared.domain.Domain.{Domain}
-use Rattle.xa_desk.specs.declared.desk.Desk.{Desk}
-use Rattle.xa_desk.specs.Whole.{IsKnown}
-use Rattle.xa_desk.specs.Desks.{GoesOn}
+use Rattle.xa_clients.specs.xa_types.declared.setup.Setup.{Setup}
+use Rattle.xa_clients.specs.xa_types.declared.stamp.Stamp.{Stamp}
+use Rattle.xa_clients.specs.xa_events.declared.event.Event.{Event}
+use Rattle.xa_clients.specs.xa_events.declared.event.Event.TheVariants.{Advertise, Withdraw, Sweep, Down, Close}
+use Rattle.xa_clients.specs.xa_events.Homes.{Home, home_of, worker_of, of_worker, same_home, all_homes}
+use Rattle.xa_clients.specs.xa_events.Homes.Home.{ClockHome}
+use Rattle.xa_clients.specs.xa_events.Words.{count}
+use Rattle.xa_clients.proofs.xa_events.WordsLemmas.{count_yes, count_no}
+use Rattle.xa_clients.specs.xa_stamp.declared.home.Stamped.{Stamped}
+use Rattle.xa_clients.specs.xa_stamp.Home.{Notes, Rises}
+use Rattle.xa_clients.specs.xa_stamp.Merge.{IsDense, stamps_of}
+use Rattle.xa_clients.specs.xa_lock.declared.makers.Made.{Made}
+use Rattle.xa_clients.specs.xa_lock.Makers.{maker_of, noted_in}
+use Rattle.xa_clients.specs.xa_lock.Pages.{entries_by}
+use Rattle.xa_clients.specs.xa_crew.Crew.{AreHomes, IsOfDomain, MayNote, no_stamp, stands_at}
+use Rattle.xa_clients.specs.xa_crew.Ending.{workers_of}
+use Rattle.xa_clients.proofs.xa_crew.Dense.{crew_is_dense}
+use Rattle.xa_clients.proofs.xa_crew.Ending.{are_homes}
+use Rattle.xa_clients.proofs.xa_crew.Lists.{All-makers, filter-yes, filter-no, same_home-is}
+use Rattle.xa_clients.proofs.xa_crew.Placed.{IsHeld}
+use Rattle.xa_clients.proofs.xa_crew.Workers.{Mounts, mounts, mounts-above}
+use Rattle.xa_clients.specs.xa_held.Board.{made_in}
+use Rattle.xa_clients.specs.xa_held.Kept.{Kept}
+use Rattle.xa_clients.specs.xa_caller.declared.cargo.Filling.{Filling}
+use Rattle.xa_clients.specs.xa_work.Work.{Standing as Working}
+use Rattle.xa_clients.specs.xa_desk.declared.domain.Domain.{Domain}
+use Rattle.xa_clients.specs.xa_desk.declared.desk.Desk.{Desk}
+use Rattle.xa_clients.specs.xa_desk.Whole.{IsKnown}
+use Rattle.xa_clients.specs.xa_desk.Desks.{GoesOn}
 use Rattle.xa_joined.specs.Joined.{Back, whole_of, kept_of, noted_of, HasLeft, AllLeft}
 use Rattle.xa_joined.specs.Told.{AreTold}
 use Rattle.xa_joined.specs.Served.{HoldAll, IsOwn, EachOwn, IsRecorded, is_made_at}

@@ -4,28 +4,28 @@ use Rattle.std.specs.Prelude.{IfSome}
 use Rattle.std.specs.List.{All, filter}
 use Rattle.std.proofs.lemmas.Bool.{cases_Bool}
 use Rattle.std.proofs.lemmas.List.Elements.{All-nil, All-cons, All-head, All-tail, All-weaker, All-filter}
-use Rattle.xa_types.specs.declared.ids.CallerId.{CallerId}
-use Rattle.xa_types.specs.declared.ids.RequestId.{RequestId}
-use Rattle.xa_types.specs.declared.setup.Setup.{Setup}
-use Rattle.xa_events.specs.declared.event.Event.{Event}
-use Rattle.xa_events.specs.declared.event.Event.TheVariants.{Accept, Forward}
-use Rattle.xa_events.specs.Caller.{accepts_for, accepted}
-use Rattle.xa_events.specs.Cases.{WorkerPart}
-use Rattle.xa_events.specs.Homes.{of_worker}
-use Rattle.xa_events.specs.Local.{worker_events}
-use Rattle.xa_events.specs.Queue.{comes_in, goes_out, waiting}
-use Rattle.xa_events.specs.Words.{AtEach, has, same_request}
-use Rattle.xa_events.proofs.Merge.{AtEach-rest}
-use Rattle.xa_events.proofs.WordsLemmas.{same_request_of, if_some, count_yes, count_grows, kept_before}
-use Rattle.xa_stamp.specs.declared.home.Stamped.{Stamped}
-use Rattle.xa_lock.specs.declared.makers.Made.{Made}
-use Rattle.xa_lock.specs.Makers.{maker_of, noted_in}
-use Rattle.xa_lock.specs.Pages.{entries_by}
-use Rattle.xa_crew.specs.Crew.{MayNote}
-use Rattle.xa_crew.specs.Seen.{past_in}
-use Rattle.xa_crew.proofs.Lists.{filter-yes, filter-no, filter-reverse, map-reverse}
-use Rattle.xa_queue.specs.Reading.{IsNew, AllNew}
-use Rattle.xa_desk.specs.Made.{IsMade}
+use Rattle.xa_clients.specs.xa_types.declared.ids.CallerId.{CallerId}
+use Rattle.xa_clients.specs.xa_types.declared.ids.RequestId.{RequestId}
+use Rattle.xa_clients.specs.xa_types.declared.setup.Setup.{Setup}
+use Rattle.xa_clients.specs.xa_events.declared.event.Event.{Event}
+use Rattle.xa_clients.specs.xa_events.declared.event.Event.TheVariants.{Accept, Forward}
+use Rattle.xa_clients.specs.xa_events.Caller.{accepts_for, accepted}
+use Rattle.xa_clients.specs.xa_events.Cases.{WorkerPart}
+use Rattle.xa_clients.specs.xa_events.Homes.{of_worker}
+use Rattle.xa_clients.specs.xa_events.Local.{worker_events}
+use Rattle.xa_clients.specs.xa_events.Queue.{comes_in, goes_out, waiting}
+use Rattle.xa_clients.specs.xa_events.Words.{AtEach, has, same_request}
+use Rattle.xa_clients.proofs.xa_events.Merge.{AtEach-rest}
+use Rattle.xa_clients.proofs.xa_events.WordsLemmas.{same_request_of, if_some, count_yes, count_grows, kept_before}
+use Rattle.xa_clients.specs.xa_stamp.declared.home.Stamped.{Stamped}
+use Rattle.xa_clients.specs.xa_lock.declared.makers.Made.{Made}
+use Rattle.xa_clients.specs.xa_lock.Makers.{maker_of, noted_in}
+use Rattle.xa_clients.specs.xa_lock.Pages.{entries_by}
+use Rattle.xa_clients.specs.xa_crew.Crew.{MayNote}
+use Rattle.xa_clients.specs.xa_crew.Seen.{past_in}
+use Rattle.xa_clients.proofs.xa_crew.Lists.{filter-yes, filter-no, filter-reverse, map-reverse}
+use Rattle.xa_clients.specs.xa_queue.Reading.{IsNew, AllNew}
+use Rattle.xa_clients.specs.xa_desk.Made.{IsMade}
 use Rattle.xa_joined.proofs.Listed.{all_reversed}
 
 -- ---- of one worker

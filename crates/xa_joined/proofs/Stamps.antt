@@ -2,24 +2,24 @@
 use Rattle.std.proofs.Common.{◌≡◌, ◌⊎◌, ℕ, ◌+◌, ◌<◌, List, [], ◌∷◌, inl, inr, refl, sym, ◌∙◌, ap, subst}
 use Rattle.std.specs.List.{All, Contains}
 use Rattle.std.proofs.lemmas.List.Elements.{All-nil, All-cons, All-head, All-tail, All-weaker, All-contains, All-contains_itself}
-use Rattle.xa_types.specs.declared.stamp.Stamp.{Stamp}
-use Rattle.xa_events.specs.Homes.{Home, home_of}
-use Rattle.xa_events.specs.Homes.Home.{BoardHome}
-use Rattle.xa_stamp.specs.declared.home.Stamped.{Stamped}
-use Rattle.xa_lock.specs.Makers.{noted_in}
-use Rattle.xa_lock.specs.Pages.{entries_by}
-use Rattle.xa_crew.specs.Crew.{IsNextStamp}
-use Rattle.xa_crew.specs.Ending.{workers_of}
-use Rattle.xa_held.specs.declared.kept_board.BoardNote.{BoardNote}
-use Rattle.xa_held.specs.declared.kept_board.BoardNote.TheVariants.{Opened, By, Looked}
-use Rattle.xa_held.specs.Board.{Climbs, maker_of as change_maker}
-use Rattle.xa_held.specs.Joins.{changes_at}
-use Rattle.xa_work.specs.Work.{Standing as Working}
-use Rattle.xa_server.specs.Told.{HasStamp}
-use Rattle.xa_desk.specs.declared.domain.Domain.{Domain}
-use Rattle.xa_desk.specs.declared.desk.Desk.{Desk}
-use Rattle.xa_desk.specs.Whole.{IsKnown}
-use Rattle.xa_desk.specs.Desks.{IsGrounded}
+use Rattle.xa_clients.specs.xa_types.declared.stamp.Stamp.{Stamp}
+use Rattle.xa_clients.specs.xa_events.Homes.{Home, home_of}
+use Rattle.xa_clients.specs.xa_events.Homes.Home.{BoardHome}
+use Rattle.xa_clients.specs.xa_stamp.declared.home.Stamped.{Stamped}
+use Rattle.xa_clients.specs.xa_lock.Makers.{noted_in}
+use Rattle.xa_clients.specs.xa_lock.Pages.{entries_by}
+use Rattle.xa_clients.specs.xa_crew.Crew.{IsNextStamp}
+use Rattle.xa_clients.specs.xa_crew.Ending.{workers_of}
+use Rattle.xa_clients.specs.xa_held.declared.kept_board.BoardNote.{BoardNote}
+use Rattle.xa_clients.specs.xa_held.declared.kept_board.BoardNote.TheVariants.{Opened, By, Looked}
+use Rattle.xa_clients.specs.xa_held.Board.{Climbs, maker_of as change_maker}
+use Rattle.xa_clients.specs.xa_held.Joins.{changes_at}
+use Rattle.xa_clients.specs.xa_work.Work.{Standing as Working}
+use Rattle.xa_clients.specs.xa_server.Told.{HasStamp}
+use Rattle.xa_clients.specs.xa_desk.declared.domain.Domain.{Domain}
+use Rattle.xa_clients.specs.xa_desk.declared.desk.Desk.{Desk}
+use Rattle.xa_clients.specs.xa_desk.Whole.{IsKnown}
+use Rattle.xa_clients.specs.xa_desk.Desks.{IsGrounded}
 use Rattle.xa_joined.specs.Joined.{Back, whole_of, kept_of, noted_of, AllLeft}
 use Rattle.xa_joined.proofs.Listed.{all_makers}
 use Rattle.xa_joined.proofs.Left.{same_homes, each_worker, each_left}

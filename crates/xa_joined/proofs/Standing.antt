@@ -4,36 +4,36 @@ use Rattle.std.specs.Prelude.{option_map}
 use Rattle.std.specs.List.{All, Contains, filter}
 use Rattle.std.proofs.lemmas.Bool.{cases_Bool, cases_lt}
 use Rattle.std.proofs.lemmas.List.Elements.{All-nil, All-cons, All-head, All-tail, All-weaker, All-contains, All-contains_itself, All-filter, filter_passes}
-use Rattle.xa_types.specs.Setup.{numbered}
-use Rattle.xa_events.specs.declared.event.Event.{Event}
-use Rattle.xa_events.specs.Homes.{Home, home_of, at_home}
-use Rattle.xa_events.specs.Homes.Home.{BoardHome, QueueHome, ClockHome, CallerHome}
-use Rattle.xa_events.specs.Words.{AtEach}
-use Rattle.xa_stamp.specs.declared.home.Stamped.{Stamped}
-use Rattle.xa_lock.specs.declared.makers.Made.{Made}
-use Rattle.xa_lock.specs.Makers.{maker_of, noted_in, made_by}
-use Rattle.xa_lock.specs.Pages.{entries_by}
-use Rattle.xa_crew.specs.Crew.{MayNote, stands_at}
-use Rattle.xa_crew.specs.Ending.{list_in, workers_of}
-use Rattle.xa_crew.specs.Seen.{past_in}
-use Rattle.xa_crew.proofs.Growing.{all_of_maker}
-use Rattle.xa_crew.proofs.Lists.{filter-yes, filter-no, same_home-is, All-homes, All-makers, past_in-filter}
-use Rattle.xa_queue.specs.Reading.{AllNew}
-use Rattle.xa_held.specs.declared.kept_board.BoardNote.{BoardNote}
-use Rattle.xa_held.specs.declared.kept_board.BoardNote.TheVariants.{Opened, By, Looked}
-use Rattle.xa_held.specs.declared.kept_queue.QueueNote.{QueueNote}
-use Rattle.xa_held.specs.declared.kept_queue.QueueNote.TheVariants as notes
-use Rattle.xa_held.specs.Board.{made_in, maker_of as change_maker}
-use Rattle.xa_held.specs.Kept.{Kept, setting_of}
-use Rattle.xa_held.specs.Notes.{maker_of as note_maker}
-use Rattle.xa_held.proofs.Front.{note}
-use Rattle.xa_work.specs.Work.{Standing as Working}
-use Rattle.xa_told.specs.Told.{StandAt}
-use Rattle.xa_caller.specs.declared.cargo.Filling.{Filling}
-use Rattle.xa_desk.specs.declared.domain.Domain.{Domain}
-use Rattle.xa_desk.specs.declared.desk.Desk.{Desk}
-use Rattle.xa_desk.specs.Whole.{entries_of}
-use Rattle.xa_desk.specs.Made.{IsMade}
+use Rattle.xa_clients.specs.xa_types.Setup.{numbered}
+use Rattle.xa_clients.specs.xa_events.declared.event.Event.{Event}
+use Rattle.xa_clients.specs.xa_events.Homes.{Home, home_of, at_home}
+use Rattle.xa_clients.specs.xa_events.Homes.Home.{BoardHome, QueueHome, ClockHome, CallerHome}
+use Rattle.xa_clients.specs.xa_events.Words.{AtEach}
+use Rattle.xa_clients.specs.xa_stamp.declared.home.Stamped.{Stamped}
+use Rattle.xa_clients.specs.xa_lock.declared.makers.Made.{Made}
+use Rattle.xa_clients.specs.xa_lock.Makers.{maker_of, noted_in, made_by}
+use Rattle.xa_clients.specs.xa_lock.Pages.{entries_by}
+use Rattle.xa_clients.specs.xa_crew.Crew.{MayNote, stands_at}
+use Rattle.xa_clients.specs.xa_crew.Ending.{list_in, workers_of}
+use Rattle.xa_clients.specs.xa_crew.Seen.{past_in}
+use Rattle.xa_clients.proofs.xa_crew.Growing.{all_of_maker}
+use Rattle.xa_clients.proofs.xa_crew.Lists.{filter-yes, filter-no, same_home-is, All-homes, All-makers, past_in-filter}
+use Rattle.xa_clients.specs.xa_queue.Reading.{AllNew}
+use Rattle.xa_clients.specs.xa_held.declared.kept_board.BoardNote.{BoardNote}
+use Rattle.xa_clients.specs.xa_held.declared.kept_board.BoardNote.TheVariants.{Opened, By, Looked}
+use Rattle.xa_clients.specs.xa_held.declared.kept_queue.QueueNote.{QueueNote}
+use Rattle.xa_clients.specs.xa_held.declared.kept_queue.QueueNote.TheVariants as notes
+use Rattle.xa_clients.specs.xa_held.Board.{made_in, maker_of as change_maker}
+use Rattle.xa_clients.specs.xa_held.Kept.{Kept, setting_of}
+use Rattle.xa_clients.specs.xa_held.Notes.{maker_of as note_maker}
+use Rattle.xa_clients.proofs.xa_held.Front.{note}
+use Rattle.xa_clients.specs.xa_work.Work.{Standing as Working}
+use Rattle.xa_clients.specs.xa_told.Told.{StandAt}
+use Rattle.xa_clients.specs.xa_caller.declared.cargo.Filling.{Filling}
+use Rattle.xa_clients.specs.xa_desk.declared.domain.Domain.{Domain}
+use Rattle.xa_clients.specs.xa_desk.declared.desk.Desk.{Desk}
+use Rattle.xa_clients.specs.xa_desk.Whole.{entries_of}
+use Rattle.xa_clients.specs.xa_desk.Made.{IsMade}
 use Rattle.xa_joined.specs.Joined.{Back, whole_of, kept_of, noted_of, AllLeft}
 use Rattle.xa_joined.proofs.Listed.{all_mapped, all_both, all_past, past_all, numbered_map, nothing_past}
 use Rattle.xa_joined.proofs.Left.{Left, same_homes, each_left}

@@ -1,21 +1,21 @@
 -- How the workers of a domain ended, by what their desks show (this project's own).
 use Rattle.std.specs.Prelude.{◌≡◌, ℕ, ◌+◌, true, List, [], length, map, Some, IsSomeAnd}
-use Rattle.xa_types.specs.declared.ids.Generation.{Generation}
-use Rattle.xa_types.specs.declared.call.Op.{Op}
-use Rattle.xa_types.specs.declared.setup.ServerSetup.{ServerSetup}
-use Rattle.xa_types.specs.Setup.{numbered, queue_of}
-use Rattle.xa_events.specs.Words.{EachNumbered}
-use Rattle.xa_stamp.specs.Home.{Notes}
-use Rattle.xa_crew.specs.Ending.{AreAll}
-use Rattle.xa_held.specs.Board.{made_in}
-use Rattle.xa_held.specs.Kept.{Kept}
-use Rattle.xa_work.specs.Work.{Standing as Working}
-use Rattle.xa_caller.specs.declared.cargo.Filling.{Filling}
-use Rattle.xa_pipe.specs.Standing.{Ending}
-use Rattle.xa_server.specs.Served.{StarterShows}
-use Rattle.xa_desk.specs.declared.domain.Domain.{Domain}
-use Rattle.xa_desk.specs.declared.desk.Desk.{Desk}
-use Rattle.xa_desk.specs.Desks.{FitsCalls}
+use Rattle.xa_clients.specs.xa_types.declared.ids.Generation.{Generation}
+use Rattle.xa_clients.specs.xa_types.declared.call.Op.{Op}
+use Rattle.xa_clients.specs.xa_types.declared.setup.ServerSetup.{ServerSetup}
+use Rattle.xa_clients.specs.xa_types.Setup.{numbered, queue_of}
+use Rattle.xa_clients.specs.xa_events.Words.{EachNumbered}
+use Rattle.xa_clients.specs.xa_stamp.Home.{Notes}
+use Rattle.xa_clients.specs.xa_crew.Ending.{AreAll}
+use Rattle.xa_clients.specs.xa_held.Board.{made_in}
+use Rattle.xa_clients.specs.xa_held.Kept.{Kept}
+use Rattle.xa_clients.specs.xa_work.Work.{Standing as Working}
+use Rattle.xa_clients.specs.xa_caller.declared.cargo.Filling.{Filling}
+use Rattle.xa_clients.specs.xa_pipe.Standing.{Ending}
+use Rattle.xa_clients.specs.xa_server.Served.{StarterShows}
+use Rattle.xa_clients.specs.xa_desk.declared.domain.Domain.{Domain}
+use Rattle.xa_clients.specs.xa_desk.declared.desk.Desk.{Desk}
+use Rattle.xa_clients.specs.xa_desk.Desks.{FitsCalls}
 use Rattle.xa_clients.specs.Ending.{HasMade}
 use Rattle.xa_links.specs.Lives.{ServerShows}
 use Rattle.xa_joined.specs.Joined.{Back, AllLeft}

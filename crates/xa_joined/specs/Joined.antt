@@ -1,37 +1,37 @@
 -- What a domain leaves once all its workers have left: its homes, and what each worker's desk was (this project's own).
 use Rattle.std.specs.Prelude.{◌≡◌, ℕ, zero, suc, ◌+◌, ◌<◌, false, List, [], ◌∷◌, map, length, Option, Some, None, option_map, slice_index_or}
 use Rattle.std.specs.List.{All, filter}
-use Rattle.xa_types.specs.Setup.{numbered}
-use Rattle.xa_events.specs.Homes.{Home}
-use Rattle.xa_events.specs.Homes.Home.{BoardHome, QueueHome, CallerHome}
-use Rattle.xa_stamp.specs.declared.home.Stamped.{Stamped}
-use Rattle.xa_lock.specs.declared.makers.Made.{Made}
-use Rattle.xa_lock.specs.declared.pass.Page.{Page}
-use Rattle.xa_lock.specs.Known.{known as page_of}
-use Rattle.xa_lock.specs.Makers.{noted_in}
-use Rattle.xa_lock.specs.Pages.{Knows}
-use Rattle.xa_crew.specs.Crew.{IsBooted, no_stamp, stands_at}
-use Rattle.xa_crew.specs.Ending.{kept_at, list_in, workers_of}
-use Rattle.xa_cell.specs.declared.tokens.Seat.{Seat}
-use Rattle.xa_cell.specs.Known.{known}
-use Rattle.xa_cell.specs.Law.{Answered}
-use Rattle.xa_cell.specs.Views.{at}
-use Rattle.xa_queue.specs.Queue.{IsSound as IsSoundQueue}
-use Rattle.xa_queue.specs.Reading.{ReadsAsNoted as QueueReads}
-use Rattle.xa_board.specs.Board.{ReadsAsNoted as BoardReads}
-use Rattle.xa_held.specs.declared.kept_board.BoardNote.{BoardNote}
-use Rattle.xa_held.specs.declared.kept_queue.QueueNote.{QueueNote}
-use Rattle.xa_held.specs.Board.{Held, IsSoundBoard, made_in, maker_of as change_maker}
-use Rattle.xa_held.specs.Joins.{changes_at, changes_page}
-use Rattle.xa_held.specs.Kept.{Kept, notes_of, setting_of}
-use Rattle.xa_held.specs.Notes.{maker_of, made_page}
-use Rattle.xa_work.specs.Work.{Standing as Working, IsSound, IsWorkOf}
-use Rattle.xa_caller.specs.declared.cargo.Filling.{Filling}
-use Rattle.xa_desk.specs.declared.domain.Domain.{Domain}
-use Rattle.xa_desk.specs.declared.desk.Desk.{Desk}
-use Rattle.xa_desk.specs.Whole.{Whole}
-use Rattle.xa_desk.specs.Made.{IsMade}
-use Rattle.xa_desk.specs.Desks.{IsDomain, IsDesk, IsGrounded, IsSettingOf, IsThere, Shows}
+use Rattle.xa_clients.specs.xa_types.Setup.{numbered}
+use Rattle.xa_clients.specs.xa_events.Homes.{Home}
+use Rattle.xa_clients.specs.xa_events.Homes.Home.{BoardHome, QueueHome, CallerHome}
+use Rattle.xa_clients.specs.xa_stamp.declared.home.Stamped.{Stamped}
+use Rattle.xa_clients.specs.xa_lock.declared.makers.Made.{Made}
+use Rattle.xa_clients.specs.xa_lock.declared.pass.Page.{Page}
+use Rattle.xa_clients.specs.xa_lock.Known.{known as page_of}
+use Rattle.xa_clients.specs.xa_lock.Makers.{noted_in}
+use Rattle.xa_clients.specs.xa_lock.Pages.{Knows}
+use Rattle.xa_clients.specs.xa_crew.Crew.{IsBooted, no_stamp, stands_at}
+use Rattle.xa_clients.specs.xa_crew.Ending.{kept_at, list_in, workers_of}
+use Rattle.xa_clients.specs.xa_cell.declared.tokens.Seat.{Seat}
+use Rattle.xa_clients.specs.xa_cell.Known.{known}
+use Rattle.xa_clients.specs.xa_cell.Law.{Answered}
+use Rattle.xa_clients.specs.xa_cell.Views.{at}
+use Rattle.xa_clients.specs.xa_queue.Queue.{IsSound as IsSoundQueue}
+use Rattle.xa_clients.specs.xa_queue.Reading.{ReadsAsNoted as QueueReads}
+use Rattle.xa_clients.specs.xa_board.Board.{ReadsAsNoted as BoardReads}
+use Rattle.xa_clients.specs.xa_held.declared.kept_board.BoardNote.{BoardNote}
+use Rattle.xa_clients.specs.xa_held.declared.kept_queue.QueueNote.{QueueNote}
+use Rattle.xa_clients.specs.xa_held.Board.{Held, IsSoundBoard, made_in, maker_of as change_maker}
+use Rattle.xa_clients.specs.xa_held.Joins.{changes_at, changes_page}
+use Rattle.xa_clients.specs.xa_held.Kept.{Kept, notes_of, setting_of}
+use Rattle.xa_clients.specs.xa_held.Notes.{maker_of, made_page}
+use Rattle.xa_clients.specs.xa_work.Work.{Standing as Working, IsSound, IsWorkOf}
+use Rattle.xa_clients.specs.xa_caller.declared.cargo.Filling.{Filling}
+use Rattle.xa_clients.specs.xa_desk.declared.domain.Domain.{Domain}
+use Rattle.xa_clients.specs.xa_desk.declared.desk.Desk.{Desk}
+use Rattle.xa_clients.specs.xa_desk.Whole.{Whole}
+use Rattle.xa_clients.specs.xa_desk.Made.{IsMade}
+use Rattle.xa_clients.specs.xa_desk.Desks.{IsDomain, IsDesk, IsGrounded, IsSettingOf, IsThere, Shows}
 
 -- the board and the queues as their locks gave them back, the queues in their order, what each caller noted at its own home, from caller 1 on, and
 -- all seats

@@ -1,33 +1,33 @@
 -- What a run of a domain comes to: where its events are recorded, and what they, its lives and its starters say (this project's own).
 use Rattle.std.specs.Prelude.{◌≡◌, ◌⊎◌, ℕ, ◌+◌, ◌<◌, ◌≤◌, ◌^◌, ◌==◌, ◌&&◌, Bool, List, [], ◌∷◌, ◌++◌, length, map, reverse, Option, Some, None}
 use Rattle.std.specs.List.{All, Contains, flat_map}
-use Rattle.xa_types.specs.declared.ids.Generation.{Generation}
-use Rattle.xa_types.specs.declared.setup.ServerSetup.{ServerSetup}
-use Rattle.xa_types.specs.declared.setup.Setup.{Setup}
-use Rattle.xa_types.specs.Setup.{numbered}
-use Rattle.xa_events.specs.declared.event.Event.{Event}
-use Rattle.xa_events.specs.Calls.{MadeCalls}
-use Rattle.xa_events.specs.Homes.{Home, home_of, of_worker, all_homes}
-use Rattle.xa_events.specs.Order.{TakesInOrder}
-use Rattle.xa_events.specs.Run.{Run, IsFinal}
-use Rattle.xa_events.specs.Server.{starts}
-use Rattle.xa_events.specs.State.{opening}
-use Rattle.xa_events.specs.Words.{EachNumbered, count}
-use Rattle.xa_stamp.specs.declared.home.Stamped.{Stamped}
-use Rattle.xa_stamp.specs.Home.{Notes, Rises}
-use Rattle.xa_stamp.specs.Merge.{stamps_of}
-use Rattle.xa_crew.specs.Ending.{AreAll, list_in}
-use Rattle.xa_held.specs.Board.{made_in}
-use Rattle.xa_held.specs.Kept.{Kept}
-use Rattle.xa_work.specs.declared.work.Halt.{Halt}
-use Rattle.xa_work.specs.declared.work.Halt.TheVariants.{NoMemory, Worn}
-use Rattle.xa_caller.specs.declared.cargo.Filling.{Filling}
+use Rattle.xa_clients.specs.xa_types.declared.ids.Generation.{Generation}
+use Rattle.xa_clients.specs.xa_types.declared.setup.ServerSetup.{ServerSetup}
+use Rattle.xa_clients.specs.xa_types.declared.setup.Setup.{Setup}
+use Rattle.xa_clients.specs.xa_types.Setup.{numbered}
+use Rattle.xa_clients.specs.xa_events.declared.event.Event.{Event}
+use Rattle.xa_clients.specs.xa_events.Calls.{MadeCalls}
+use Rattle.xa_clients.specs.xa_events.Homes.{Home, home_of, of_worker, all_homes}
+use Rattle.xa_clients.specs.xa_events.Order.{TakesInOrder}
+use Rattle.xa_clients.specs.xa_events.Run.{Run, IsFinal}
+use Rattle.xa_clients.specs.xa_events.Server.{starts}
+use Rattle.xa_clients.specs.xa_events.State.{opening}
+use Rattle.xa_clients.specs.xa_events.Words.{EachNumbered, count}
+use Rattle.xa_clients.specs.xa_stamp.declared.home.Stamped.{Stamped}
+use Rattle.xa_clients.specs.xa_stamp.Home.{Notes, Rises}
+use Rattle.xa_clients.specs.xa_stamp.Merge.{stamps_of}
+use Rattle.xa_clients.specs.xa_crew.Ending.{AreAll, list_in}
+use Rattle.xa_clients.specs.xa_held.Board.{made_in}
+use Rattle.xa_clients.specs.xa_held.Kept.{Kept}
+use Rattle.xa_clients.specs.xa_work.declared.work.Halt.{Halt}
+use Rattle.xa_clients.specs.xa_work.declared.work.Halt.TheVariants.{NoMemory, Worn}
+use Rattle.xa_clients.specs.xa_caller.declared.cargo.Filling.{Filling}
 use Rattle.xa_script.specs.declared.script.Client.{Client}
-use Rattle.xa_pipe.specs.Life.{IsLife}
-use Rattle.xa_pipe.specs.Standing.{Ending}
-use Rattle.xa_server.specs.Served.{StarterShows}
-use Rattle.xa_desk.specs.declared.domain.Domain.{Domain}
-use Rattle.xa_desk.specs.Made.{IsMade}
+use Rattle.xa_clients.specs.xa_pipe.Life.{IsLife}
+use Rattle.xa_clients.specs.xa_pipe.Standing.{Ending}
+use Rattle.xa_clients.specs.xa_server.Served.{StarterShows}
+use Rattle.xa_clients.specs.xa_desk.declared.domain.Domain.{Domain}
+use Rattle.xa_clients.specs.xa_desk.Made.{IsMade}
 use Rattle.xa_links.specs.Lives.{lives_in, failed_starts, HasStarted, HasStartedSoFar}
 use Rattle.xa_joined.specs.Joined.{Back}
 use Rattle.xa_joined.specs.Told.{AreTold}

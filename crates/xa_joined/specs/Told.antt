@@ -2,17 +2,17 @@
 -- oldest first.
 use Rattle.std.specs.Prelude.{◌≡◌, ℕ, ◌+◌, ◌<◌, Bool, true, false, List, [], ◌∷◌, ◌++◌, length, IsSomeAnd, ⊤, if◌then◌else◌}
 use Rattle.std.specs.List.{All, Contains, flat_map}
-use Rattle.xa_types.specs.declared.setup.Setup.{Setup}
-use Rattle.xa_types.specs.declared.stamp.Stamp.{Stamp}
-use Rattle.xa_events.specs.declared.event.Event.{Event}
-use Rattle.xa_events.specs.declared.event.Event.TheVariants.{Sweep, Start, StartFailed, End, Answer}
-use Rattle.xa_events.specs.declared.event.Replied.{Replied}
-use Rattle.xa_events.specs.Answers.{IsAnswerTo}
-use Rattle.xa_events.specs.Homes.{worker_of}
-use Rattle.xa_events.specs.Request.{settlement_in}
-use Rattle.xa_events.specs.State.{caller_of}
-use Rattle.xa_stamp.specs.declared.home.Stamped.{Stamped}
-use Rattle.xa_stamp.specs.Home.{Notes, Rises}
+use Rattle.xa_clients.specs.xa_types.declared.setup.Setup.{Setup}
+use Rattle.xa_clients.specs.xa_types.declared.stamp.Stamp.{Stamp}
+use Rattle.xa_clients.specs.xa_events.declared.event.Event.{Event}
+use Rattle.xa_clients.specs.xa_events.declared.event.Event.TheVariants.{Sweep, Start, StartFailed, End, Answer}
+use Rattle.xa_clients.specs.xa_events.declared.event.Replied.{Replied}
+use Rattle.xa_clients.specs.xa_events.Answers.{IsAnswerTo}
+use Rattle.xa_clients.specs.xa_events.Homes.{worker_of}
+use Rattle.xa_clients.specs.xa_events.Request.{settlement_in}
+use Rattle.xa_clients.specs.xa_events.State.{caller_of}
+use Rattle.xa_clients.specs.xa_stamp.declared.home.Stamped.{Stamped}
+use Rattle.xa_clients.specs.xa_stamp.Home.{Notes, Rises}
 use Rattle.xa_links.specs.Behind.{is_lost}
 
 -- the entries of all homes

@@ -1,17 +1,17 @@
 //! What a run of a domain comes to, by how its workers ended. Each law is the clause of a function without arguments.
 ghost use Rattle.std.specs.Prelude.{◌≡◌, ◌^◌, List, map, reverse, ⊤};
 ghost use Rattle.std.specs.List.{All, Contains};
-ghost use Rattle.xa_types.specs.declared.call.Op.{Op};
-ghost use Rattle.xa_events.specs.declared.event.Event.{Event};
-ghost use Rattle.xa_events.specs.Run.{Run};
-ghost use Rattle.xa_events.specs.State.{opening};
-ghost use Rattle.xa_stamp.specs.Home.{Notes};
-ghost use Rattle.xa_stamp.specs.Merge.{IsDense, IsMerged, stamps_of};
-ghost use Rattle.xa_work.specs.Work.{Standing as Working};
+ghost use Rattle.xa_clients.specs.xa_types.declared.call.Op.{Op};
+ghost use Rattle.xa_clients.specs.xa_events.declared.event.Event.{Event};
+ghost use Rattle.xa_clients.specs.xa_events.Run.{Run};
+ghost use Rattle.xa_clients.specs.xa_events.State.{opening};
+ghost use Rattle.xa_clients.specs.xa_stamp.Home.{Notes};
+ghost use Rattle.xa_clients.specs.xa_stamp.Merge.{IsDense, IsMerged, stamps_of};
+ghost use Rattle.xa_clients.specs.xa_work.Work.{Standing as Working};
 ghost use Rattle.xa_script.specs.declared.script.Client.{Client};
-ghost use Rattle.xa_desk.specs.declared.domain.Domain.{Domain};
-ghost use Rattle.xa_desk.specs.declared.desk.Desk.{Desk};
-ghost use Rattle.xa_desk.specs.Made.{IsMade};
+ghost use Rattle.xa_clients.specs.xa_desk.declared.domain.Domain.{Domain};
+ghost use Rattle.xa_clients.specs.xa_desk.declared.desk.Desk.{Desk};
+ghost use Rattle.xa_clients.specs.xa_desk.Made.{IsMade};
 ghost use Rattle.xa_joined.specs.Joined.{Back, AllLeft};
 ghost use Rattle.xa_joined.specs.Ended.{ServerEnd, Ends, EndsWhole};
 ghost use Rattle.xa_joined.specs.Served.{HoldAll, IsRecorded, IsHistory};

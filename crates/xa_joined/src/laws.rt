@@ -2,22 +2,22 @@
 //! arguments.
 ghost use Rattle.std.specs.Prelude.{◌≡◌, ℕ, ◌<◌, List, Some, length, false};
 ghost use Rattle.std.specs.List.{All};
-ghost use Rattle.xa_types.specs.declared.call.Op.{Op};
-ghost use Rattle.xa_types.specs.Setup.{numbered};
-ghost use Rattle.xa_events.specs.Calls.{awaits_answer};
-ghost use Rattle.xa_events.specs.Caller.{last_op, newest_call};
-ghost use Rattle.xa_events.specs.Local.{worker_events};
-ghost use Rattle.xa_stamp.specs.declared.home.Stamped.{Stamped};
-ghost use Rattle.xa_lock.specs.Makers.{noted_in};
-ghost use Rattle.xa_crew.specs.Calls.{MadeOwn};
-ghost use Rattle.xa_crew.specs.Crew.{IsCrew, AllMet, IsNextStamp};
-ghost use Rattle.xa_crew.specs.Ending.{workers_of};
-ghost use Rattle.xa_crew.specs.Orders.{AllNext};
-ghost use Rattle.xa_crew.specs.Seen.{past_in};
-ghost use Rattle.xa_work.specs.Work.{Standing as Working};
-ghost use Rattle.xa_desk.specs.declared.domain.Domain.{Domain};
-ghost use Rattle.xa_desk.specs.declared.desk.Desk.{Desk};
-ghost use Rattle.xa_desk.specs.Desks.{GoesOn, FitsCalls};
+ghost use Rattle.xa_clients.specs.xa_types.declared.call.Op.{Op};
+ghost use Rattle.xa_clients.specs.xa_types.Setup.{numbered};
+ghost use Rattle.xa_clients.specs.xa_events.Calls.{awaits_answer};
+ghost use Rattle.xa_clients.specs.xa_events.Caller.{last_op, newest_call};
+ghost use Rattle.xa_clients.specs.xa_events.Local.{worker_events};
+ghost use Rattle.xa_clients.specs.xa_stamp.declared.home.Stamped.{Stamped};
+ghost use Rattle.xa_clients.specs.xa_lock.Makers.{noted_in};
+ghost use Rattle.xa_clients.specs.xa_crew.Calls.{MadeOwn};
+ghost use Rattle.xa_clients.specs.xa_crew.Crew.{IsCrew, AllMet, IsNextStamp};
+ghost use Rattle.xa_clients.specs.xa_crew.Ending.{workers_of};
+ghost use Rattle.xa_clients.specs.xa_crew.Orders.{AllNext};
+ghost use Rattle.xa_clients.specs.xa_crew.Seen.{past_in};
+ghost use Rattle.xa_clients.specs.xa_work.Work.{Standing as Working};
+ghost use Rattle.xa_clients.specs.xa_desk.declared.domain.Domain.{Domain};
+ghost use Rattle.xa_clients.specs.xa_desk.declared.desk.Desk.{Desk};
+ghost use Rattle.xa_clients.specs.xa_desk.Desks.{GoesOn, FitsCalls};
 ghost use Rattle.xa_joined.specs.Joined.{Back, AllLeft, whole_of, kept_of, noted_of};
 
 /// What each desk asks of the homes in the end holds of them, once all workers have left.

@@ -4,3 +4,6 @@
 
 pub mod ending;
 pub mod laws;
+
+// What crates above name of those below.
+pub use xa_script as script;

@@ -5,31 +5,31 @@ use Rattle.std.specs.List.{All, Contains}
 use Rattle.std.proofs.lemmas.Bool.{false≢true}
 use Rattle.std.proofs.lemmas.List.{append_assoc, append-nil}
 use Rattle.std.proofs.lemmas.List.Elements.{All-push, All-weaker}
-use Rattle.xa_types.specs.declared.stamp.Stamp.{Stamp}
-use Rattle.xa_types.specs.declared.reply.Answer.{Answer}
-use Rattle.xa_types.specs.declared.ids.Generation.{Generation}
-use Rattle.xa_types.specs.declared.ids.RequestId.{RequestId}
-use Rattle.xa_events.specs.declared.event.Event.{Event}
-use Rattle.xa_events.specs.declared.event.Event.TheVariants.{Sweep, Start, StartFailed}
-use Rattle.xa_stamp.specs.declared.home.Stamped.{Stamped}
-use Rattle.xa_stamp.specs.Home.{last_stamp}
-use Rattle.xa_crew.specs.Crew.{no_stamp}
-use Rattle.xa_crew.specs.Seen.{past_in}
-use Rattle.xa_crew.proofs.Lists.{past_in-append}
-use Rattle.xa_cell.specs.declared.tokens.Seat.{Seat}
-use Rattle.xa_cell.specs.declared.tokens.Ticket.{Ticket}
-use Rattle.xa_cell.specs.declared.view.Fill.{Fill}
-use Rattle.xa_cell.specs.declared.view.Opening.{Opening}
-use Rattle.xa_cell.specs.declared.view.Part.{Part}
-use Rattle.xa_cell.specs.declared.view.View.{View}
-use Rattle.xa_cell.specs.declared.filler.Filled.{Filled}
-use Rattle.xa_cell.specs.declared.filler.Filled.TheVariants as fills
-use Rattle.xa_cell.specs.Calls.{Settles}
-use Rattle.xa_cell.specs.Known.{known}
-use Rattle.xa_cell.specs.Views.{nth, at, fill}
-use Rattle.xa_caller.specs.declared.cargo.Filling.{Filling}
-use Rattle.xa_server.specs.declared.closing.Given.{Given}
-use Rattle.xa_server.specs.Told.{GivenTo, IsEnded, EndedFor, FilledByEnds}
+use Rattle.xa_desk.specs.xa_types.declared.stamp.Stamp.{Stamp}
+use Rattle.xa_desk.specs.xa_types.declared.reply.Answer.{Answer}
+use Rattle.xa_desk.specs.xa_types.declared.ids.Generation.{Generation}
+use Rattle.xa_desk.specs.xa_types.declared.ids.RequestId.{RequestId}
+use Rattle.xa_desk.specs.xa_events.declared.event.Event.{Event}
+use Rattle.xa_desk.specs.xa_events.declared.event.Event.TheVariants.{Sweep, Start, StartFailed}
+use Rattle.xa_desk.specs.xa_stamp.declared.home.Stamped.{Stamped}
+use Rattle.xa_desk.specs.xa_stamp.Home.{last_stamp}
+use Rattle.xa_desk.specs.xa_crew.Crew.{no_stamp}
+use Rattle.xa_desk.specs.xa_crew.Seen.{past_in}
+use Rattle.xa_desk.proofs.xa_crew.Lists.{past_in-append}
+use Rattle.xa_desk.specs.xa_cell.declared.tokens.Seat.{Seat}
+use Rattle.xa_desk.specs.xa_cell.declared.tokens.Ticket.{Ticket}
+use Rattle.xa_desk.specs.xa_cell.declared.view.Fill.{Fill}
+use Rattle.xa_desk.specs.xa_cell.declared.view.Opening.{Opening}
+use Rattle.xa_desk.specs.xa_cell.declared.view.Part.{Part}
+use Rattle.xa_desk.specs.xa_cell.declared.view.View.{View}
+use Rattle.xa_desk.specs.xa_cell.declared.filler.Filled.{Filled}
+use Rattle.xa_desk.specs.xa_cell.declared.filler.Filled.TheVariants as fills
+use Rattle.xa_desk.specs.xa_cell.Calls.{Settles}
+use Rattle.xa_desk.specs.xa_cell.Known.{known}
+use Rattle.xa_desk.specs.xa_cell.Views.{nth, at, fill}
+use Rattle.xa_desk.specs.xa_caller.declared.cargo.Filling.{Filling}
+use Rattle.xa_desk.specs.xa_server.declared.closing.Given.{Given}
+use Rattle.xa_desk.specs.xa_server.Told.{GivenTo, IsEnded, EndedFor, FilledByEnds}
 use Rattle.xa_desk.specs.declared.domain.Domain.{Domain}
 use Rattle.xa_desk.specs.declared.desk.Desk.{Desk}
 use Rattle.xa_desk.specs.Desks.{Leads}

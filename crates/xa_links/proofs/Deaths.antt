@@ -4,43 +4,43 @@ use Rattle.std.specs.Prelude.{IfSome, ⊤}
 use Rattle.std.specs.List.{All}
 use Rattle.std.proofs.lemmas.List.{map_push, append_assoc}
 use Rattle.std.proofs.lemmas.List.Elements.{All-nil, All-cons}
-use Rattle.xa_types.specs.declared.ids.Generation.{Generation}
-use Rattle.xa_types.specs.declared.ids.RequestId.{RequestId}
-use Rattle.xa_types.specs.declared.stamp.Stamp.{Stamp}
-use Rattle.xa_types.specs.declared.stamp.Worn.{Worn}
-use Rattle.xa_events.specs.declared.event.Event.{Event}
-use Rattle.xa_events.specs.declared.event.Event.TheVariants.{End, Stop}
-use Rattle.xa_events.specs.declared.event.Ended.{Ended}
-use Rattle.xa_events.specs.declared.event.Stopped.{Stopped as StopEvent}
-use Rattle.xa_events.specs.declared.event.StopCause.{StopCause}
-use Rattle.xa_events.specs.declared.event.StopCause.TheVariants as causes
-use Rattle.xa_events.specs.declared.event.Outcome.{Outcome}
-use Rattle.xa_events.specs.declared.event.Outcome.TheVariants as outcomes
-use Rattle.xa_events.specs.declared.event.Doing.{Doing}
-use Rattle.xa_events.specs.declared.event.Doing.TheVariants.{Off, Idle, Busy, Dying}
-use Rattle.xa_events.specs.Words.{AtEach, count}
-use Rattle.xa_events.specs.Server.{after_end, is_shutdown}
-use Rattle.xa_events.specs.Homes.{worker_of}
-use Rattle.xa_events.specs.Cases.{IsShut}
-use Rattle.xa_stamp.specs.declared.home.Stamped.{Stamped}
-use Rattle.xa_work.specs.Work.{Standing as Working, theirs}
-use Rattle.xa_work.proofs.Noting.{theirs-more}
-use Rattle.xa_pipe.specs.declared.turn.Turn.TheVariants.{AwaitsInvoke, Exited}
-use Rattle.xa_pipe.specs.declared.turn.Turn.{Turn}
-use Rattle.xa_pipe.specs.declared.turn.Written.{Written}
-use Rattle.xa_pipe.specs.declared.turn.Written.TheVariants as writes
-use Rattle.xa_pipe.specs.Frames.{is_of_life}
-use Rattle.xa_pipe.specs.Life.{stops_life, lost_by, may_end}
-use Rattle.xa_pipe.specs.Standing.{Ending, IsOver}
-use Rattle.xa_pipe.specs.Following.{Settled, HasStopped}
-use Rattle.xa_pipe.proofs.Followed.{stops}
-use Rattle.xa_server.specs.declared.closing.Closing.{Closing}
-use Rattle.xa_server.specs.declared.slot.ServerSlot.{ServerSlot}
-use Rattle.xa_server.specs.declared.served.Served.{Served}
-use Rattle.xa_server.specs.Served.{StarterShows}
-use Rattle.xa_server.specs.Doings.{life_in, is_death, outcome_of}
-use Rattle.xa_server.specs.Noting.{IsWorn}
-use Rattle.xa_server.specs.Changes.{Stops, DiesFrom, DiesWorn}
+use Rattle.xa_desk.specs.xa_types.declared.ids.Generation.{Generation}
+use Rattle.xa_desk.specs.xa_types.declared.ids.RequestId.{RequestId}
+use Rattle.xa_desk.specs.xa_types.declared.stamp.Stamp.{Stamp}
+use Rattle.xa_desk.specs.xa_types.declared.stamp.Worn.{Worn}
+use Rattle.xa_desk.specs.xa_events.declared.event.Event.{Event}
+use Rattle.xa_desk.specs.xa_events.declared.event.Event.TheVariants.{End, Stop}
+use Rattle.xa_desk.specs.xa_events.declared.event.Ended.{Ended}
+use Rattle.xa_desk.specs.xa_events.declared.event.Stopped.{Stopped as StopEvent}
+use Rattle.xa_desk.specs.xa_events.declared.event.StopCause.{StopCause}
+use Rattle.xa_desk.specs.xa_events.declared.event.StopCause.TheVariants as causes
+use Rattle.xa_desk.specs.xa_events.declared.event.Outcome.{Outcome}
+use Rattle.xa_desk.specs.xa_events.declared.event.Outcome.TheVariants as outcomes
+use Rattle.xa_desk.specs.xa_events.declared.event.Doing.{Doing}
+use Rattle.xa_desk.specs.xa_events.declared.event.Doing.TheVariants.{Off, Idle, Busy, Dying}
+use Rattle.xa_desk.specs.xa_events.Words.{AtEach, count}
+use Rattle.xa_desk.specs.xa_events.Server.{after_end, is_shutdown}
+use Rattle.xa_desk.specs.xa_events.Homes.{worker_of}
+use Rattle.xa_desk.specs.xa_events.Cases.{IsShut}
+use Rattle.xa_desk.specs.xa_stamp.declared.home.Stamped.{Stamped}
+use Rattle.xa_desk.specs.xa_work.Work.{Standing as Working, theirs}
+use Rattle.xa_desk.proofs.xa_work.Noting.{theirs-more}
+use Rattle.xa_desk.specs.xa_pipe.declared.turn.Turn.TheVariants.{AwaitsInvoke, Exited}
+use Rattle.xa_desk.specs.xa_pipe.declared.turn.Turn.{Turn}
+use Rattle.xa_desk.specs.xa_pipe.declared.turn.Written.{Written}
+use Rattle.xa_desk.specs.xa_pipe.declared.turn.Written.TheVariants as writes
+use Rattle.xa_desk.specs.xa_pipe.Frames.{is_of_life}
+use Rattle.xa_desk.specs.xa_pipe.Life.{stops_life, lost_by, may_end}
+use Rattle.xa_desk.specs.xa_pipe.Standing.{Ending, IsOver}
+use Rattle.xa_desk.specs.xa_pipe.Following.{Settled, HasStopped}
+use Rattle.xa_desk.proofs.xa_pipe.Followed.{stops}
+use Rattle.xa_desk.specs.xa_server.declared.closing.Closing.{Closing}
+use Rattle.xa_desk.specs.xa_server.declared.slot.ServerSlot.{ServerSlot}
+use Rattle.xa_desk.specs.xa_server.declared.served.Served.{Served}
+use Rattle.xa_desk.specs.xa_server.Served.{StarterShows}
+use Rattle.xa_desk.specs.xa_server.Doings.{life_in, is_death, outcome_of}
+use Rattle.xa_desk.specs.xa_server.Noting.{IsWorn}
+use Rattle.xa_desk.specs.xa_server.Changes.{Stops, DiesFrom, DiesWorn}
 use Rattle.xa_desk.specs.declared.domain.Domain.{Domain}
 use Rattle.xa_desk.specs.declared.desk.Desk.{Desk}
 use Rattle.xa_desk.specs.declared.stopped.Stopped.{Stopped}

@@ -4,60 +4,60 @@ use Rattle.std.specs.Prelude.{take, drop, IfSome, ◌&&◌}
 use Rattle.std.proofs.lemmas.List.{length-append}
 use Rattle.std.proofs.Math.Seq.{drop-append_seam}
 use Rattle.std.proofs.lemmas.List.Elements.{All-nil, All-cons}
-use Rattle.xa_types.specs.declared.ids.Generation.{Generation}
-use Rattle.xa_types.specs.declared.ids.RequestId.{RequestId}
-use Rattle.xa_types.specs.declared.call.Rval.{Rval}
-use Rattle.xa_types.specs.declared.call.Rval.TheVariants as rvals
-use Rattle.xa_types.specs.declared.data.Data.{Data}
-use Rattle.xa_types.specs.declared.setup.Setup.{Setup}
-use Rattle.xa_types.specs.Kind.{is_sound}
-use Rattle.xa_events.specs.declared.event.Event.{Event}
-use Rattle.xa_events.specs.declared.event.Event.TheVariants.{Take, End}
-use Rattle.xa_events.specs.declared.event.Taken.{Taken}
-use Rattle.xa_events.specs.declared.event.Ended.{Ended}
-use Rattle.xa_events.specs.declared.event.StopCause.TheVariants as causes
-use Rattle.xa_events.specs.declared.event.Outcome.TheVariants as outcomes
-use Rattle.xa_events.specs.declared.event.Doing.{Doing}
-use Rattle.xa_events.specs.declared.event.Doing.TheVariants.{Off, Idle, Busy}
-use Rattle.xa_events.specs.declared.event.Outcome.{Outcome}
-use Rattle.xa_types.specs.declared.stamp.Stamp.{Stamp}
-use Rattle.xa_events.specs.Words.{AtEach, count}
-use Rattle.xa_events.specs.Server.{after_end}
-use Rattle.xa_events.specs.Finishing.{returned as outcome_by_value, return_by, is_empty}
-use Rattle.xa_frame.specs.declared.frame.Frame.{Frame}
-use Rattle.xa_lock.specs.declared.makers.Made.{Made}
-use Rattle.xa_queue.specs.declared.entry.Entry.{Entry}
-use Rattle.xa_held.specs.declared.cargo.Invocation.{Invocation}
-use Rattle.xa_held.specs.Kept.{Brings}
-use Rattle.xa_work.specs.Work.{Standing as Working, theirs}
-use Rattle.xa_caller.specs.Drafts.{Cargo}
-use Rattle.xa_pipe.specs.declared.hearing.Return.{Return}
-use Rattle.xa_pipe.specs.declared.turn.Turn.{Turn}
-use Rattle.xa_pipe.specs.declared.turn.Turn.TheVariants.{AwaitsReady, AwaitsNext, AwaitsInvoke, Serving, Exited}
-use Rattle.xa_pipe.specs.Frames.{is_of_life, is_take_in, invocation, ready_frame, next_frame, return_frame}
-use Rattle.xa_pipe.specs.Life.{LinkShows, EachCame, came_in, outcome_of, outcome_by, turn_behind, returns_in}
-use Rattle.xa_pipe.specs.Pipe.{invoke_frame}
-use Rattle.xa_pipe.specs.Standing.{Standing as Life, Ending, IsOver, returned, tag_of}
-use Rattle.xa_pipe.specs.Changes.{Heard, Fell, Greeted, FellGreeting, Invoked, Unsent, ShutDown, Exits, next_invoke, with_said, turn_after}
-use Rattle.xa_pipe.specs.Following.{Follows, Settled}
-use Rattle.xa_pipe.proofs.Followed.{follows_greeted, follows_next, follows_take, follows_end, settles_fallen, settles_shut, settles_exited, settles_lost, settles_unsent}
-use Rattle.xa_pipe.proofs.Saying.{returns_append, returns_next, returns_push}
-use Rattle.xa_server.specs.declared.closing.Closing.{Closing}
-use Rattle.xa_server.specs.declared.slot.ServerSlot.{ServerSlot}
-use Rattle.xa_server.specs.declared.slot.Last.TheVariants as lasts
-use Rattle.xa_server.specs.Served.{StarterShows}
-use Rattle.xa_server.specs.Doings.{life_in, last_by, InHand}
-use Rattle.xa_server.specs.declared.served.Served.{Served}
-use Rattle.xa_server.specs.Noting.{IsWorn}
-use Rattle.xa_server.specs.Changes.{Invokes, Finishes, Stops}
-use Rattle.xa_types.specs.declared.stamp.Worn.{Worn}
+use Rattle.xa_desk.specs.xa_types.declared.ids.Generation.{Generation}
+use Rattle.xa_desk.specs.xa_types.declared.ids.RequestId.{RequestId}
+use Rattle.xa_desk.specs.xa_types.declared.call.Rval.{Rval}
+use Rattle.xa_desk.specs.xa_types.declared.call.Rval.TheVariants as rvals
+use Rattle.xa_desk.specs.xa_types.declared.data.Data.{Data}
+use Rattle.xa_desk.specs.xa_types.declared.setup.Setup.{Setup}
+use Rattle.xa_desk.specs.xa_types.Kind.{is_sound}
+use Rattle.xa_desk.specs.xa_events.declared.event.Event.{Event}
+use Rattle.xa_desk.specs.xa_events.declared.event.Event.TheVariants.{Take, End}
+use Rattle.xa_desk.specs.xa_events.declared.event.Taken.{Taken}
+use Rattle.xa_desk.specs.xa_events.declared.event.Ended.{Ended}
+use Rattle.xa_desk.specs.xa_events.declared.event.StopCause.TheVariants as causes
+use Rattle.xa_desk.specs.xa_events.declared.event.Outcome.TheVariants as outcomes
+use Rattle.xa_desk.specs.xa_events.declared.event.Doing.{Doing}
+use Rattle.xa_desk.specs.xa_events.declared.event.Doing.TheVariants.{Off, Idle, Busy}
+use Rattle.xa_desk.specs.xa_events.declared.event.Outcome.{Outcome}
+use Rattle.xa_desk.specs.xa_types.declared.stamp.Stamp.{Stamp}
+use Rattle.xa_desk.specs.xa_events.Words.{AtEach, count}
+use Rattle.xa_desk.specs.xa_events.Server.{after_end}
+use Rattle.xa_desk.specs.xa_events.Finishing.{returned as outcome_by_value, return_by, is_empty}
+use Rattle.xa_desk.specs.xa_frame.declared.frame.Frame.{Frame}
+use Rattle.xa_desk.specs.xa_lock.declared.makers.Made.{Made}
+use Rattle.xa_desk.specs.xa_queue.declared.entry.Entry.{Entry}
+use Rattle.xa_desk.specs.xa_held.declared.cargo.Invocation.{Invocation}
+use Rattle.xa_desk.specs.xa_held.Kept.{Brings}
+use Rattle.xa_desk.specs.xa_work.Work.{Standing as Working, theirs}
+use Rattle.xa_desk.specs.xa_caller.Drafts.{Cargo}
+use Rattle.xa_desk.specs.xa_pipe.declared.hearing.Return.{Return}
+use Rattle.xa_desk.specs.xa_pipe.declared.turn.Turn.{Turn}
+use Rattle.xa_desk.specs.xa_pipe.declared.turn.Turn.TheVariants.{AwaitsReady, AwaitsNext, AwaitsInvoke, Serving, Exited}
+use Rattle.xa_desk.specs.xa_pipe.Frames.{is_of_life, is_take_in, invocation, ready_frame, next_frame, return_frame}
+use Rattle.xa_desk.specs.xa_pipe.Life.{LinkShows, EachCame, came_in, outcome_of, outcome_by, turn_behind, returns_in}
+use Rattle.xa_desk.specs.xa_pipe.Pipe.{invoke_frame}
+use Rattle.xa_desk.specs.xa_pipe.Standing.{Standing as Life, Ending, IsOver, returned, tag_of}
+use Rattle.xa_desk.specs.xa_pipe.Changes.{Heard, Fell, Greeted, FellGreeting, Invoked, Unsent, ShutDown, Exits, next_invoke, with_said, turn_after}
+use Rattle.xa_desk.specs.xa_pipe.Following.{Follows, Settled}
+use Rattle.xa_desk.proofs.xa_pipe.Followed.{follows_greeted, follows_next, follows_take, follows_end, settles_fallen, settles_shut, settles_exited, settles_lost, settles_unsent}
+use Rattle.xa_desk.proofs.xa_pipe.Saying.{returns_append, returns_next, returns_push}
+use Rattle.xa_desk.specs.xa_server.declared.closing.Closing.{Closing}
+use Rattle.xa_desk.specs.xa_server.declared.slot.ServerSlot.{ServerSlot}
+use Rattle.xa_desk.specs.xa_server.declared.slot.Last.TheVariants as lasts
+use Rattle.xa_desk.specs.xa_server.Served.{StarterShows}
+use Rattle.xa_desk.specs.xa_server.Doings.{life_in, last_by, InHand}
+use Rattle.xa_desk.specs.xa_server.declared.served.Served.{Served}
+use Rattle.xa_desk.specs.xa_server.Noting.{IsWorn}
+use Rattle.xa_desk.specs.xa_server.Changes.{Invokes, Finishes, Stops}
+use Rattle.xa_desk.specs.xa_types.declared.stamp.Worn.{Worn}
 use Rattle.xa_desk.specs.declared.stopped.Stopped.{Stopped}
 use Rattle.xa_desk.specs.declared.domain.Domain.{Domain}
 use Rattle.xa_desk.specs.declared.desk.Desk.{Desk}
 use Rattle.xa_desk.specs.Desks.{Leads}
 use Rattle.xa_desk.specs.Found.{SawAtQueue}
 use Rattle.xa_desk.specs.Serving.{IsServing, IsTaken}
-use Rattle.xa_events.specs.Cases.{IsShut}
+use Rattle.xa_desk.specs.xa_events.Cases.{IsShut}
 use Rattle.xa_links.specs.declared.working.ServerWorker.{ServerWorker}
 use Rattle.xa_links.specs.Lives.{IsHanded}
 use Rattle.xa_links.specs.Steps.{Serves, Takes, is_exit, stop_by}
@@ -67,7 +67,7 @@ use Rattle.xa_links.proofs.Behind.{calm_push}
 use Rattle.xa_links.proofs.Stepping.{noted_steps}
 use Rattle.xa_links.proofs.Keeping.{OfLife, handed_wider, handed_led, going_on}
 use Rattle.xa_desk.proofs.Staying.{queue_stays}
-use Rattle.xa_events.specs.Server.{was_shut_down}
+use Rattle.xa_desk.specs.xa_events.Server.{was_shut_down}
 use Rattle.xa_links.proofs.Lasting.{at_desk, at_kept, number_of, last_on, work_on, ends_done}
 use Rattle.xa_links.proofs.Deaths.{is_its, death_in, stops_idle, worn_still}
 

@@ -7,28 +7,28 @@ use Rattle.std.proofs.Common.{eq-eqb, eqb-true}
 use Rattle.std.proofs.lemmas.Grind.{flat_map-append}
 use Rattle.std.proofs.lemmas.List.{map_push}
 use Rattle.std.proofs.lemmas.List.Elements.{All-nil, All-cons, All-head, All-tail, All-push, All-append, All-weaker, Contains-append_left}
-use Rattle.xa_types.specs.declared.ids.Generation.{Generation}
-use Rattle.xa_types.specs.declared.setup.Setup.{Setup}
-use Rattle.xa_events.specs.declared.event.Event.{Event}
-use Rattle.xa_events.specs.declared.event.Event.TheVariants.{Take, Gone, End, Stop}
-use Rattle.xa_events.specs.Words.{AtEach, count}
-use Rattle.xa_events.specs.Homes.{of_worker}
-use Rattle.xa_events.specs.Homes.Home.{QueueHome}
-use Rattle.xa_events.specs.Caller.{tick_in}
-use Rattle.xa_events.specs.Cases.{IsShut}
-use Rattle.xa_frame.specs.declared.frame.Frame.{Frame}
-use Rattle.xa_stamp.specs.declared.home.Stamped.{Stamped}
-use Rattle.xa_lock.specs.declared.makers.Made.{Made}
-use Rattle.xa_crew.specs.Seen.{past_in, SawFront}
-use Rattle.xa_crew.proofs.Lists.{count_part, past_in-append}
-use Rattle.xa_held.specs.Notes.{made_of}
-use Rattle.xa_work.specs.Work.{Standing as Working, theirs}
-use Rattle.xa_caller.specs.declared.cargo.Filling.{Filling}
-use Rattle.xa_pipe.specs.Frames.{is_of_life, is_take_in}
-use Rattle.xa_pipe.specs.Life.{stops_life}
-use Rattle.xa_pipe.specs.Standing.{Standing as Life, Ending}
-use Rattle.xa_pipe.specs.Following.{is_of, HasStopped}
-use Rattle.xa_pipe.proofs.Followed.{stopped_idle}
+use Rattle.xa_desk.specs.xa_types.declared.ids.Generation.{Generation}
+use Rattle.xa_desk.specs.xa_types.declared.setup.Setup.{Setup}
+use Rattle.xa_desk.specs.xa_events.declared.event.Event.{Event}
+use Rattle.xa_desk.specs.xa_events.declared.event.Event.TheVariants.{Take, Gone, End, Stop}
+use Rattle.xa_desk.specs.xa_events.Words.{AtEach, count}
+use Rattle.xa_desk.specs.xa_events.Homes.{of_worker}
+use Rattle.xa_desk.specs.xa_events.Homes.Home.{QueueHome}
+use Rattle.xa_desk.specs.xa_events.Caller.{tick_in}
+use Rattle.xa_desk.specs.xa_events.Cases.{IsShut}
+use Rattle.xa_desk.specs.xa_frame.declared.frame.Frame.{Frame}
+use Rattle.xa_desk.specs.xa_stamp.declared.home.Stamped.{Stamped}
+use Rattle.xa_desk.specs.xa_lock.declared.makers.Made.{Made}
+use Rattle.xa_desk.specs.xa_crew.Seen.{past_in, SawFront}
+use Rattle.xa_desk.proofs.xa_crew.Lists.{count_part, past_in-append}
+use Rattle.xa_desk.specs.xa_held.Notes.{made_of}
+use Rattle.xa_desk.specs.xa_work.Work.{Standing as Working, theirs}
+use Rattle.xa_desk.specs.xa_caller.declared.cargo.Filling.{Filling}
+use Rattle.xa_desk.specs.xa_pipe.Frames.{is_of_life, is_take_in}
+use Rattle.xa_desk.specs.xa_pipe.Life.{stops_life}
+use Rattle.xa_desk.specs.xa_pipe.Standing.{Standing as Life, Ending}
+use Rattle.xa_desk.specs.xa_pipe.Following.{is_of, HasStopped}
+use Rattle.xa_desk.proofs.xa_pipe.Followed.{stopped_idle}
 use Rattle.xa_desk.specs.declared.domain.Domain.{Domain}
 use Rattle.xa_desk.specs.declared.desk.Desk.{Desk}
 use Rattle.xa_desk.specs.Whole.{entries_of}

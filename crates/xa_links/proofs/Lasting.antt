@@ -4,29 +4,29 @@ use Rattle.std.specs.Prelude.{IfSome, ⊤}
 use Rattle.std.specs.List.{All, Contains}
 use Rattle.std.proofs.lemmas.Bool.{false≢true}
 use Rattle.std.proofs.lemmas.List.Elements.{All-nil, All-append, All-weaker}
-use Rattle.xa_types.specs.declared.ids.Generation.{Generation}
-use Rattle.xa_events.specs.declared.event.Event.{Event}
-use Rattle.xa_events.specs.declared.event.Doing.{Doing}
-use Rattle.xa_events.specs.Words.{AtEach, count, greatest}
-use Rattle.xa_events.specs.Caller.{ticks, tick_floor}
-use Rattle.xa_events.specs.Homes.{of_worker}
-use Rattle.xa_events.specs.Homes.Home.{QueueHome}
-use Rattle.xa_events.specs.Cases.{IsShut}
-use Rattle.xa_events.specs.Server.{starts, is_gone, was_shut_down}
-use Rattle.xa_stamp.specs.declared.home.Stamped.{Stamped}
-use Rattle.xa_crew.specs.Seen.{past_in, SawFront}
-use Rattle.xa_crew.proofs.Lists.{count_part}
-use Rattle.xa_queue.specs.declared.entry.Entry.{Entry}
-use Rattle.xa_work.specs.Work.{Standing as Working, theirs}
-use Rattle.xa_caller.specs.Drafts.{Cargo}
-use Rattle.xa_pipe.specs.declared.turn.Turn.TheVariants.{AwaitsInvoke}
-use Rattle.xa_pipe.specs.declared.turn.Turn.{Turn}
-use Rattle.xa_pipe.specs.Life.{stops_life}
-use Rattle.xa_pipe.specs.Standing.{Standing as Life, Ending, IsOver}
-use Rattle.xa_pipe.specs.Following.{is_of, HasStopped}
-use Rattle.xa_server.specs.declared.slot.ServerSlot.{ServerSlot}
-use Rattle.xa_server.specs.declared.served.Served.{Served}
-use Rattle.xa_server.specs.Served.{StarterShows}
+use Rattle.xa_desk.specs.xa_types.declared.ids.Generation.{Generation}
+use Rattle.xa_desk.specs.xa_events.declared.event.Event.{Event}
+use Rattle.xa_desk.specs.xa_events.declared.event.Doing.{Doing}
+use Rattle.xa_desk.specs.xa_events.Words.{AtEach, count, greatest}
+use Rattle.xa_desk.specs.xa_events.Caller.{ticks, tick_floor}
+use Rattle.xa_desk.specs.xa_events.Homes.{of_worker}
+use Rattle.xa_desk.specs.xa_events.Homes.Home.{QueueHome}
+use Rattle.xa_desk.specs.xa_events.Cases.{IsShut}
+use Rattle.xa_desk.specs.xa_events.Server.{starts, is_gone, was_shut_down}
+use Rattle.xa_desk.specs.xa_stamp.declared.home.Stamped.{Stamped}
+use Rattle.xa_desk.specs.xa_crew.Seen.{past_in, SawFront}
+use Rattle.xa_desk.proofs.xa_crew.Lists.{count_part}
+use Rattle.xa_desk.specs.xa_queue.declared.entry.Entry.{Entry}
+use Rattle.xa_desk.specs.xa_work.Work.{Standing as Working, theirs}
+use Rattle.xa_desk.specs.xa_caller.Drafts.{Cargo}
+use Rattle.xa_desk.specs.xa_pipe.declared.turn.Turn.TheVariants.{AwaitsInvoke}
+use Rattle.xa_desk.specs.xa_pipe.declared.turn.Turn.{Turn}
+use Rattle.xa_desk.specs.xa_pipe.Life.{stops_life}
+use Rattle.xa_desk.specs.xa_pipe.Standing.{Standing as Life, Ending, IsOver}
+use Rattle.xa_desk.specs.xa_pipe.Following.{is_of, HasStopped}
+use Rattle.xa_desk.specs.xa_server.declared.slot.ServerSlot.{ServerSlot}
+use Rattle.xa_desk.specs.xa_server.declared.served.Served.{Served}
+use Rattle.xa_desk.specs.xa_server.Served.{StarterShows}
 use Rattle.xa_desk.specs.declared.domain.Domain.{Domain}
 use Rattle.xa_desk.specs.declared.desk.Desk.{Desk}
 use Rattle.xa_desk.specs.declared.stopped.Stopped.{Stopped}
@@ -35,11 +35,11 @@ use Rattle.xa_desk.specs.Desks.{IsDesk}
 use Rattle.xa_desk.specs.Found.{SawAtQueue}
 use Rattle.xa_desk.specs.Serving.{IsServing, IsTaken, LeftOthers, IsSwept}
 use Rattle.xa_desk.proofs.Staying.{queue_stays}
-use Rattle.xa_work.specs.declared.work.Halt.TheVariants.{NoMemory, Worn}
+use Rattle.xa_desk.specs.xa_work.declared.work.Halt.TheVariants.{NoMemory, Worn}
 use Rattle.xa_desk.specs.declared.stopped.Stopped.TheVariants.{Here, Elsewhere}
-use Rattle.xa_server.specs.Doings.{life_in}
-use Rattle.xa_server.proofs.Reading.{last_by_floor}
-use Rattle.xa_restart.specs.Rule.{IsLast as IsLastTick, may_start_by}
+use Rattle.xa_desk.specs.xa_server.Doings.{life_in}
+use Rattle.xa_desk.proofs.xa_server.Reading.{last_by_floor}
+use Rattle.xa_desk.specs.xa_restart.Rule.{IsLast as IsLastTick, may_start_by}
 use Rattle.xa_desk.proofs.Leading.{leads_trans}
 use Rattle.xa_links.specs.declared.telling.Told.{Told}
 use Rattle.xa_links.specs.Behind.{TellsLast, IsCalm}

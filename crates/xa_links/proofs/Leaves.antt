@@ -3,22 +3,22 @@ use Rattle.std.proofs.Common.{◌≡◌, ◌<◌, ℕ, zero, suc, ◌+◌, ◌||
 use Rattle.std.specs.Prelude.{OnOk, IfErr, IsSomeAnd, IfSome, ⊤}
 use Rattle.std.specs.List.{All, Contains}
 use Rattle.std.proofs.lemmas.List.Elements.{All-nil, All-cons, All-weaker, Contains-push}
-use Rattle.xa_types.specs.declared.stamp.Worn.{Worn}
-use Rattle.xa_types.specs.declared.setup.ServerSetup.{ServerSetup}
-use Rattle.xa_types.specs.Setup.{numbered}
-use Rattle.xa_events.specs.declared.event.Event.{Event}
-use Rattle.xa_events.specs.declared.event.Event.TheVariants.{Gone, Sweep}
-use Rattle.xa_events.specs.declared.event.Doing.{Doing}
-use Rattle.xa_events.specs.declared.event.Doing.TheVariants.{Off}
-use Rattle.xa_events.specs.Server.{start_in, starts, is_gone}
-use Rattle.xa_stamp.specs.declared.home.Stamped.{Stamped}
-use Rattle.xa_restart.specs.Rule.{IsRuleOf}
-use Rattle.xa_work.specs.Work.{theirs}
-use Rattle.xa_caller.specs.Caller.{Standing as Caller}
-use Rattle.xa_server.specs.declared.slot.ServerSlot.{ServerSlot}
-use Rattle.xa_server.specs.Doings.{InHand}
-use Rattle.xa_server.specs.Served.{StarterShows}
-use Rattle.xa_server.specs.Told.{HasStamp}
+use Rattle.xa_desk.specs.xa_types.declared.stamp.Worn.{Worn}
+use Rattle.xa_desk.specs.xa_types.declared.setup.ServerSetup.{ServerSetup}
+use Rattle.xa_desk.specs.xa_types.Setup.{numbered}
+use Rattle.xa_desk.specs.xa_events.declared.event.Event.{Event}
+use Rattle.xa_desk.specs.xa_events.declared.event.Event.TheVariants.{Gone, Sweep}
+use Rattle.xa_desk.specs.xa_events.declared.event.Doing.{Doing}
+use Rattle.xa_desk.specs.xa_events.declared.event.Doing.TheVariants.{Off}
+use Rattle.xa_desk.specs.xa_events.Server.{start_in, starts, is_gone}
+use Rattle.xa_desk.specs.xa_stamp.declared.home.Stamped.{Stamped}
+use Rattle.xa_desk.specs.xa_restart.Rule.{IsRuleOf}
+use Rattle.xa_desk.specs.xa_work.Work.{theirs}
+use Rattle.xa_desk.specs.xa_caller.Caller.{Standing as Caller}
+use Rattle.xa_desk.specs.xa_server.declared.slot.ServerSlot.{ServerSlot}
+use Rattle.xa_desk.specs.xa_server.Doings.{InHand}
+use Rattle.xa_desk.specs.xa_server.Served.{StarterShows}
+use Rattle.xa_desk.specs.xa_server.Told.{HasStamp}
 use Rattle.xa_desk.specs.declared.domain.Domain.{Domain}
 use Rattle.xa_desk.specs.declared.desk.Desk.{Desk}
 use Rattle.xa_desk.specs.declared.stopped.Stopped.{Stopped}

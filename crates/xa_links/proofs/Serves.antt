@@ -2,17 +2,17 @@
 use Rattle.std.proofs.Common.{◌≡◌, ◌≤◌, ℕ, ◌+◌, false, true, List, [], Option, None, refl, sym, ◌∙◌, ap, subst}
 use Rattle.std.specs.List.{All}
 use Rattle.std.proofs.lemmas.List.Elements.{All-nil}
-use Rattle.xa_events.specs.declared.event.Event.{Event}
-use Rattle.xa_events.specs.Caller.{ticks, tick_floor}
-use Rattle.xa_events.specs.Local.{worker_events}
-use Rattle.xa_stamp.specs.declared.home.Stamped.{Stamped}
-use Rattle.xa_crew.specs.Seen.{past_in}
-use Rattle.xa_restart.specs.Rule.{Standing as Restarts, may_start_by}
-use Rattle.xa_work.specs.Work.{theirs}
-use Rattle.xa_pipe.specs.Standing.{Ending}
-use Rattle.xa_pipe.specs.Following.{is_of}
-use Rattle.xa_server.specs.declared.slot.ServerSlot.{ServerSlot}
-use Rattle.xa_server.specs.Served.{StarterShows}
+use Rattle.xa_desk.specs.xa_events.declared.event.Event.{Event}
+use Rattle.xa_desk.specs.xa_events.Caller.{ticks, tick_floor}
+use Rattle.xa_desk.specs.xa_events.Local.{worker_events}
+use Rattle.xa_desk.specs.xa_stamp.declared.home.Stamped.{Stamped}
+use Rattle.xa_desk.specs.xa_crew.Seen.{past_in}
+use Rattle.xa_desk.specs.xa_restart.Rule.{Standing as Restarts, may_start_by}
+use Rattle.xa_desk.specs.xa_work.Work.{theirs}
+use Rattle.xa_desk.specs.xa_pipe.Standing.{Ending}
+use Rattle.xa_desk.specs.xa_pipe.Following.{is_of}
+use Rattle.xa_desk.specs.xa_server.declared.slot.ServerSlot.{ServerSlot}
+use Rattle.xa_desk.specs.xa_server.Served.{StarterShows}
 use Rattle.xa_desk.specs.declared.domain.Domain.{Domain}
 use Rattle.xa_desk.specs.declared.stopped.Stopped.{Stopped}
 use Rattle.xa_links.specs.declared.working.ServerWorker.{ServerWorker}

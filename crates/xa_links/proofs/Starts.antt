@@ -4,28 +4,28 @@ use Rattle.std.specs.Prelude.{IfSome, ⊤, reverse, vec_len, vec_capacity}
 use Rattle.std.specs.List.{All, cons_option, filter_map}
 use Rattle.std.proofs.lemmas.List.{reverse-append}
 use Rattle.std.proofs.lemmas.List.Elements.{All-nil, All-cons, All-head, All-tail, All-weaker}
-use Rattle.xa_types.specs.declared.ids.Generation.{Generation}
-use Rattle.xa_events.specs.declared.event.Event.{Event}
-use Rattle.xa_events.specs.declared.event.Event.TheVariants.{Take, Forward, End, Start, StartFailed}
-use Rattle.xa_events.specs.declared.event.Started.{Started}
-use Rattle.xa_events.specs.declared.event.Doing.TheVariants.{Idle}
-use Rattle.xa_events.specs.Words.{AtEach, count, greatest}
-use Rattle.xa_events.specs.Caller.{tick_in, ticks, tick_floor}
-use Rattle.xa_link.specs.Starts.{AsksFor}
-use Rattle.xa_link.specs.Told.{Rose}
-use Rattle.xa_work.specs.Work.{Standing as Working, theirs}
-use Rattle.xa_work.specs.declared.work.Halt.{Halt}
-use Rattle.xa_pipe.specs.declared.turn.Turn.TheVariants.{AwaitsReady}
-use Rattle.xa_pipe.specs.Frames.{is_take_in}
-use Rattle.xa_pipe.specs.Life.{Occurrence, stops_life, came_at, came_in, returns_in}
-use Rattle.xa_pipe.specs.Standing.{Standing as Life, Ending}
-use Rattle.xa_pipe.specs.Following.{is_of, Follows}
-use Rattle.xa_pipe.proofs.Followed.{follows_begun}
-use Rattle.xa_server.specs.declared.slot.ServerSlot.{ServerSlot}
-use Rattle.xa_server.specs.declared.served.Served.{Served}
-use Rattle.xa_server.specs.Served.{StarterShows, Begins, Halts}
-use Rattle.xa_server.specs.Noting.{HaltsWith}
-use Rattle.xa_server.specs.Changes.{FailsToStart, next_life}
+use Rattle.xa_desk.specs.xa_types.declared.ids.Generation.{Generation}
+use Rattle.xa_desk.specs.xa_events.declared.event.Event.{Event}
+use Rattle.xa_desk.specs.xa_events.declared.event.Event.TheVariants.{Take, Forward, End, Start, StartFailed}
+use Rattle.xa_desk.specs.xa_events.declared.event.Started.{Started}
+use Rattle.xa_desk.specs.xa_events.declared.event.Doing.TheVariants.{Idle}
+use Rattle.xa_desk.specs.xa_events.Words.{AtEach, count, greatest}
+use Rattle.xa_desk.specs.xa_events.Caller.{tick_in, ticks, tick_floor}
+use Rattle.xa_desk.specs.xa_link.Starts.{AsksFor}
+use Rattle.xa_desk.specs.xa_link.Told.{Rose}
+use Rattle.xa_desk.specs.xa_work.Work.{Standing as Working, theirs}
+use Rattle.xa_desk.specs.xa_work.declared.work.Halt.{Halt}
+use Rattle.xa_desk.specs.xa_pipe.declared.turn.Turn.TheVariants.{AwaitsReady}
+use Rattle.xa_desk.specs.xa_pipe.Frames.{is_take_in}
+use Rattle.xa_desk.specs.xa_pipe.Life.{Occurrence, stops_life, came_at, came_in, returns_in}
+use Rattle.xa_desk.specs.xa_pipe.Standing.{Standing as Life, Ending}
+use Rattle.xa_desk.specs.xa_pipe.Following.{is_of, Follows}
+use Rattle.xa_desk.proofs.xa_pipe.Followed.{follows_begun}
+use Rattle.xa_desk.specs.xa_server.declared.slot.ServerSlot.{ServerSlot}
+use Rattle.xa_desk.specs.xa_server.declared.served.Served.{Served}
+use Rattle.xa_desk.specs.xa_server.Served.{StarterShows, Begins, Halts}
+use Rattle.xa_desk.specs.xa_server.Noting.{HaltsWith}
+use Rattle.xa_desk.specs.xa_server.Changes.{FailsToStart, next_life}
 use Rattle.xa_desk.specs.declared.domain.Domain.{Domain}
 use Rattle.xa_desk.specs.declared.desk.Desk.{Desk}
 use Rattle.xa_desk.specs.declared.stopped.Stopped.TheVariants.{Here}

@@ -4,38 +4,38 @@ use Rattle.std.specs.Prelude.{IfSome}
 use Rattle.std.specs.List.{All, filter}
 use Rattle.std.proofs.lemmas.List.{append_assoc}
 use Rattle.std.proofs.lemmas.List.Elements.{All-weaker, filter-append}
-use Rattle.xa_types.specs.declared.stamp.Stamp.{Stamp}
-use Rattle.xa_types.specs.declared.stamp.Worn.{Worn}
-use Rattle.xa_events.specs.declared.event.Event.{Event}
-use Rattle.xa_events.specs.declared.event.Event.TheVariants.{Take}
-use Rattle.xa_events.specs.declared.event.Taken.{Taken}
-use Rattle.xa_events.specs.Homes.{worker_of, of_worker}
-use Rattle.xa_events.specs.Local.{worker_events}
-use Rattle.xa_stamp.specs.declared.home.Stamped.{Stamped}
-use Rattle.xa_crew.specs.Seen.{past_in}
-use Rattle.xa_crew.specs.Crew.{IsOfDomain}
-use Rattle.xa_crew.proofs.Lists.{filter-none, past_in-append, past_in-filter}
-use Rattle.xa_queue.specs.declared.entry.Entry.{Entry}
-use Rattle.xa_work.specs.Work.{Standing as Working, theirs}
-use Rattle.xa_work.proofs.Noting.{theirs-more, not_theirs}
-use Rattle.xa_caller.specs.Caller.{Standing as Caller}
-use Rattle.xa_caller.specs.Drafts.{Cargo}
-use Rattle.xa_caller.specs.Serving.{noted_off}
-use Rattle.xa_server.specs.declared.slot.ServerSlot.{ServerSlot}
-use Rattle.xa_server.specs.Doings.{life_in}
-use Rattle.xa_server.specs.Noting.{Notes, HaltsWith}
-use Rattle.xa_server.specs.Told.{IsBacked}
-use Rattle.xa_server.proofs.Telling.{closings_stay}
-use Rattle.xa_work.specs.declared.work.Halt.{Halt}
-use Rattle.xa_work.specs.declared.work.Halt.TheVariants.{NoMemory, Worn as WornOut}
-use Rattle.xa_stamp.specs.Home.{Rises, last_stamp}
-use Rattle.xa_crew.specs.Crew.{no_stamp}
+use Rattle.xa_desk.specs.xa_types.declared.stamp.Stamp.{Stamp}
+use Rattle.xa_desk.specs.xa_types.declared.stamp.Worn.{Worn}
+use Rattle.xa_desk.specs.xa_events.declared.event.Event.{Event}
+use Rattle.xa_desk.specs.xa_events.declared.event.Event.TheVariants.{Take}
+use Rattle.xa_desk.specs.xa_events.declared.event.Taken.{Taken}
+use Rattle.xa_desk.specs.xa_events.Homes.{worker_of, of_worker}
+use Rattle.xa_desk.specs.xa_events.Local.{worker_events}
+use Rattle.xa_desk.specs.xa_stamp.declared.home.Stamped.{Stamped}
+use Rattle.xa_desk.specs.xa_crew.Seen.{past_in}
+use Rattle.xa_desk.specs.xa_crew.Crew.{IsOfDomain}
+use Rattle.xa_desk.proofs.xa_crew.Lists.{filter-none, past_in-append, past_in-filter}
+use Rattle.xa_desk.specs.xa_queue.declared.entry.Entry.{Entry}
+use Rattle.xa_desk.specs.xa_work.Work.{Standing as Working, theirs}
+use Rattle.xa_desk.proofs.xa_work.Noting.{theirs-more, not_theirs}
+use Rattle.xa_desk.specs.xa_caller.Caller.{Standing as Caller}
+use Rattle.xa_desk.specs.xa_caller.Drafts.{Cargo}
+use Rattle.xa_desk.specs.xa_caller.Serving.{noted_off}
+use Rattle.xa_desk.specs.xa_server.declared.slot.ServerSlot.{ServerSlot}
+use Rattle.xa_desk.specs.xa_server.Doings.{life_in}
+use Rattle.xa_desk.specs.xa_server.Noting.{Notes, HaltsWith}
+use Rattle.xa_desk.specs.xa_server.Told.{IsBacked}
+use Rattle.xa_desk.proofs.xa_server.Telling.{closings_stay}
+use Rattle.xa_desk.specs.xa_work.declared.work.Halt.{Halt}
+use Rattle.xa_desk.specs.xa_work.declared.work.Halt.TheVariants.{NoMemory, Worn as WornOut}
+use Rattle.xa_desk.specs.xa_stamp.Home.{Rises, last_stamp}
+use Rattle.xa_desk.specs.xa_crew.Crew.{no_stamp}
 use Rattle.xa_desk.specs.declared.domain.Domain.{Domain}
 use Rattle.xa_desk.specs.declared.desk.Desk.{Desk}
 use Rattle.xa_desk.specs.declared.serving.Took.{Took}
 use Rattle.xa_desk.specs.declared.serving.Took.TheVariants as takes
 use Rattle.xa_desk.specs.declared.stopped.Stopped.{Stopped}
-use Rattle.xa_held.specs.Notes.{is_down_in}
+use Rattle.xa_desk.specs.xa_held.Notes.{is_down_in}
 use Rattle.xa_desk.specs.Desks.{Leads, queue_page}
 use Rattle.xa_desk.specs.Serving.{Sees, TakesAs, OfDomain, IsServing, IsTaken, IsFallen}
 use Rattle.xa_desk.proofs.Leading.{leads_trans}

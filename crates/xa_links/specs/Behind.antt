@@ -2,21 +2,21 @@
 -- worker noted has the oldest first, and lists of events the newest.
 use Rattle.std.specs.Prelude.{◌≡◌, ℕ, Bool, true, false, ◌||◌, List, [], ◌∷◌, ◌++◌, IfSome, ⊤}
 use Rattle.std.specs.List.{All}
-use Rattle.xa_types.specs.declared.stamp.Stamp.{Stamp}
-use Rattle.xa_types.specs.declared.ids.Generation.{Generation}
-use Rattle.xa_events.specs.declared.event.Event.{Event}
-use Rattle.xa_events.specs.declared.event.Event.TheVariants.{Sweep, Start, StartFailed, End, Stop}
-use Rattle.xa_events.specs.declared.event.Outcome.{Outcome}
-use Rattle.xa_events.specs.declared.event.Outcome.TheVariants.{Died, Starved}
-use Rattle.xa_stamp.specs.declared.home.Stamped.{Stamped}
-use Rattle.xa_stamp.specs.Home.{last_stamp}
-use Rattle.xa_crew.specs.Crew.{no_stamp}
-use Rattle.xa_crew.specs.Seen.{past_in}
-use Rattle.xa_cell.specs.declared.view.Fill.{Fill}
-use Rattle.xa_cell.specs.declared.view.View.{View}
-use Rattle.xa_cell.specs.Known.{known}
-use Rattle.xa_cell.specs.Views.{at}
-use Rattle.xa_caller.specs.declared.cargo.Filling.{Filling}
+use Rattle.xa_desk.specs.xa_types.declared.stamp.Stamp.{Stamp}
+use Rattle.xa_desk.specs.xa_types.declared.ids.Generation.{Generation}
+use Rattle.xa_desk.specs.xa_events.declared.event.Event.{Event}
+use Rattle.xa_desk.specs.xa_events.declared.event.Event.TheVariants.{Sweep, Start, StartFailed, End, Stop}
+use Rattle.xa_desk.specs.xa_events.declared.event.Outcome.{Outcome}
+use Rattle.xa_desk.specs.xa_events.declared.event.Outcome.TheVariants.{Died, Starved}
+use Rattle.xa_desk.specs.xa_stamp.declared.home.Stamped.{Stamped}
+use Rattle.xa_desk.specs.xa_stamp.Home.{last_stamp}
+use Rattle.xa_desk.specs.xa_crew.Crew.{no_stamp}
+use Rattle.xa_desk.specs.xa_crew.Seen.{past_in}
+use Rattle.xa_desk.specs.xa_cell.declared.view.Fill.{Fill}
+use Rattle.xa_desk.specs.xa_cell.declared.view.View.{View}
+use Rattle.xa_desk.specs.xa_cell.Known.{known}
+use Rattle.xa_desk.specs.xa_cell.Views.{at}
+use Rattle.xa_desk.specs.xa_caller.declared.cargo.Filling.{Filling}
 use Rattle.xa_desk.specs.declared.desk.Desk.{Desk}
 
 -- a request ended so is lost with the life of its server

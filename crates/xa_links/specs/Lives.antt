@@ -2,28 +2,28 @@
 -- this project's own). Lists of events have the newest first.
 use Rattle.std.specs.Prelude.{◌≡◌, ◌⊎◌, ℕ, zero, suc, ◌+◌, ◌-◌, ◌^◌, ◌==◌, min, if◌then◌else◌, Bool, true, false, List, [], ◌∷◌, ◌++◌, map, reverse, length, take, drop, Option, Some, None, IfSome}
 use Rattle.std.specs.List.{All, Contains, filter_map, flat_map}
-use Rattle.xa_types.specs.declared.ids.Generation.{Generation}
-use Rattle.xa_events.specs.declared.event.Event.{Event}
-use Rattle.xa_events.specs.declared.event.Event.TheVariants.{Take, Start, StartFailed}
-use Rattle.xa_events.specs.Words.{AtEach, count}
-use Rattle.xa_events.specs.Server.{starts, is_gone, was_shut_down}
-use Rattle.xa_events.specs.Cases.{IsShut}
-use Rattle.xa_frame.specs.declared.frame.Frame.{Frame}
-use Rattle.xa_events.specs.Homes.Home.{QueueHome}
-use Rattle.xa_stamp.specs.declared.home.Stamped.{Stamped}
-use Rattle.xa_crew.specs.Seen.{SawFront}
-use Rattle.xa_lock.specs.declared.makers.Made.{Made}
-use Rattle.xa_held.specs.declared.cargo.Invocation.{Invocation}
-use Rattle.xa_held.specs.Kept.{Brings}
-use Rattle.xa_held.specs.Notes.{made_of}
-use Rattle.xa_pipe.specs.declared.turn.Turn.TheVariants.{AwaitsInvoke}
-use Rattle.xa_pipe.specs.Frames.{is_of_life, is_take_in, invocation}
-use Rattle.xa_pipe.specs.Following.{HasStopped}
-use Rattle.xa_pipe.specs.Life.{stops_life}
-use Rattle.xa_pipe.specs.Pipe.{invoke_frame}
-use Rattle.xa_pipe.specs.Standing.{Ending, IsOver}
-use Rattle.xa_server.specs.Served.{StarterShows}
-use Rattle.xa_work.specs.Work.{theirs}
+use Rattle.xa_desk.specs.xa_types.declared.ids.Generation.{Generation}
+use Rattle.xa_desk.specs.xa_events.declared.event.Event.{Event}
+use Rattle.xa_desk.specs.xa_events.declared.event.Event.TheVariants.{Take, Start, StartFailed}
+use Rattle.xa_desk.specs.xa_events.Words.{AtEach, count}
+use Rattle.xa_desk.specs.xa_events.Server.{starts, is_gone, was_shut_down}
+use Rattle.xa_desk.specs.xa_events.Cases.{IsShut}
+use Rattle.xa_desk.specs.xa_frame.declared.frame.Frame.{Frame}
+use Rattle.xa_desk.specs.xa_events.Homes.Home.{QueueHome}
+use Rattle.xa_desk.specs.xa_stamp.declared.home.Stamped.{Stamped}
+use Rattle.xa_desk.specs.xa_crew.Seen.{SawFront}
+use Rattle.xa_desk.specs.xa_lock.declared.makers.Made.{Made}
+use Rattle.xa_desk.specs.xa_held.declared.cargo.Invocation.{Invocation}
+use Rattle.xa_desk.specs.xa_held.Kept.{Brings}
+use Rattle.xa_desk.specs.xa_held.Notes.{made_of}
+use Rattle.xa_desk.specs.xa_pipe.declared.turn.Turn.TheVariants.{AwaitsInvoke}
+use Rattle.xa_desk.specs.xa_pipe.Frames.{is_of_life, is_take_in, invocation}
+use Rattle.xa_desk.specs.xa_pipe.Following.{HasStopped}
+use Rattle.xa_desk.specs.xa_pipe.Life.{stops_life}
+use Rattle.xa_desk.specs.xa_pipe.Pipe.{invoke_frame}
+use Rattle.xa_desk.specs.xa_pipe.Standing.{Ending, IsOver}
+use Rattle.xa_desk.specs.xa_server.Served.{StarterShows}
+use Rattle.xa_desk.specs.xa_work.Work.{theirs}
 use Rattle.xa_desk.specs.declared.domain.Domain.{Domain}
 use Rattle.xa_desk.specs.declared.desk.Desk.{Desk}
 use Rattle.xa_desk.specs.Whole.{Whole, entries_of}

@@ -1,32 +1,32 @@
 -- How a server's worker stands between its steps: its server is off, or in a life, or the worker's work is over (this project's own).
 use Rattle.std.specs.Prelude.{◌≡◌, ℕ, ◌+◌, ◌<◌, ◌≤◌, false, true, List, [], ◌∷◌, ◌++◌, map, length, Option, Some, None, IfSome, Result, Ok, Err, vec_len, vec_capacity}
 use Rattle.std.specs.List.{All, flat_map}
-use Rattle.xa_types.specs.declared.ids.Generation.{Generation}
-use Rattle.xa_events.specs.declared.event.Event.{Event}
-use Rattle.xa_events.specs.declared.event.Event.TheVariants.{Take, End}
-use Rattle.xa_events.specs.declared.event.Taken.{Taken}
-use Rattle.xa_events.specs.declared.event.Ended.{Ended}
-use Rattle.xa_events.specs.declared.event.Doing.{Doing}
-use Rattle.xa_events.specs.declared.event.Doing.TheVariants as doings
-use Rattle.xa_events.specs.Words.{AtEach}
-use Rattle.xa_events.specs.Caller.{tick_floor}
-use Rattle.xa_events.specs.Cases.{IsShut}
-use Rattle.xa_lock.specs.declared.makers.Made.{Made}
-use Rattle.xa_queue.specs.declared.entry.Entry.{Entry}
-use Rattle.xa_held.specs.Notes.{made_of}
-use Rattle.xa_work.specs.Work.{theirs}
-use Rattle.xa_caller.specs.declared.phase.Phase.TheVariants.{Idle}
-use Rattle.xa_caller.specs.Drafts.{Cargo}
-use Rattle.xa_pipe.specs.declared.turn.Turn.TheVariants.{AwaitsInvoke}
-use Rattle.xa_pipe.specs.Frames.{is_of_life}
-use Rattle.xa_pipe.specs.declared.turn.Turn.{Turn}
-use Rattle.xa_pipe.specs.Life.{may_end, lost_by}
-use Rattle.xa_pipe.specs.Standing.{Standing as Life, Ending, returned}
-use Rattle.xa_pipe.specs.Following.{is_of, Follows, Settled}
-use Rattle.xa_server.specs.declared.slot.ServerSlot.{ServerSlot}
-use Rattle.xa_server.specs.Doings.{is_death}
-use Rattle.xa_server.specs.Served.{StarterShows}
-use Rattle.xa_restart.specs.Rule.{may_start_by}
+use Rattle.xa_desk.specs.xa_types.declared.ids.Generation.{Generation}
+use Rattle.xa_desk.specs.xa_events.declared.event.Event.{Event}
+use Rattle.xa_desk.specs.xa_events.declared.event.Event.TheVariants.{Take, End}
+use Rattle.xa_desk.specs.xa_events.declared.event.Taken.{Taken}
+use Rattle.xa_desk.specs.xa_events.declared.event.Ended.{Ended}
+use Rattle.xa_desk.specs.xa_events.declared.event.Doing.{Doing}
+use Rattle.xa_desk.specs.xa_events.declared.event.Doing.TheVariants as doings
+use Rattle.xa_desk.specs.xa_events.Words.{AtEach}
+use Rattle.xa_desk.specs.xa_events.Caller.{tick_floor}
+use Rattle.xa_desk.specs.xa_events.Cases.{IsShut}
+use Rattle.xa_desk.specs.xa_lock.declared.makers.Made.{Made}
+use Rattle.xa_desk.specs.xa_queue.declared.entry.Entry.{Entry}
+use Rattle.xa_desk.specs.xa_held.Notes.{made_of}
+use Rattle.xa_desk.specs.xa_work.Work.{theirs}
+use Rattle.xa_desk.specs.xa_caller.declared.phase.Phase.TheVariants.{Idle}
+use Rattle.xa_desk.specs.xa_caller.Drafts.{Cargo}
+use Rattle.xa_desk.specs.xa_pipe.declared.turn.Turn.TheVariants.{AwaitsInvoke}
+use Rattle.xa_desk.specs.xa_pipe.Frames.{is_of_life}
+use Rattle.xa_desk.specs.xa_pipe.declared.turn.Turn.{Turn}
+use Rattle.xa_desk.specs.xa_pipe.Life.{may_end, lost_by}
+use Rattle.xa_desk.specs.xa_pipe.Standing.{Standing as Life, Ending, returned}
+use Rattle.xa_desk.specs.xa_pipe.Following.{is_of, Follows, Settled}
+use Rattle.xa_desk.specs.xa_server.declared.slot.ServerSlot.{ServerSlot}
+use Rattle.xa_desk.specs.xa_server.Doings.{is_death}
+use Rattle.xa_desk.specs.xa_server.Served.{StarterShows}
+use Rattle.xa_desk.specs.xa_restart.Rule.{may_start_by}
 use Rattle.xa_desk.specs.declared.domain.Domain.{Domain}
 use Rattle.xa_desk.specs.declared.desk.Desk.{Desk}
 use Rattle.xa_desk.specs.declared.stopped.Stopped.{Stopped}

@@ -1,32 +1,32 @@
 -- Steps of a server's worker at its desk (this project's own). Lists of events have the newest first.
 use Rattle.std.specs.Prelude.{◌≡◌, ◌⊎◌, ℕ, Bool, true, false, List, [], ◌∷◌, ◌++◌, Option, Some, None, Result, Ok, Err}
 use Rattle.std.specs.List.{All}
-use Rattle.xa_types.specs.declared.call.Rval.{Rval}
-use Rattle.xa_types.specs.declared.call.Rval.TheVariants.{Exit}
-use Rattle.xa_types.specs.declared.ids.RequestId.{RequestId}
-use Rattle.xa_types.specs.declared.stamp.Stamp.{Stamp}
-use Rattle.xa_types.specs.declared.stamp.Worn.{Worn}
-use Rattle.xa_events.specs.declared.event.Event.{Event}
-use Rattle.xa_events.specs.declared.event.Event.TheVariants.{Take, Gone}
-use Rattle.xa_events.specs.declared.event.Taken.{Taken}
-use Rattle.xa_events.specs.declared.event.Doing.TheVariants.{Busy}
-use Rattle.xa_events.specs.Cases.{IsShut}
-use Rattle.xa_events.specs.Server.{is_gone}
-use Rattle.xa_queue.specs.declared.entry.Entry.{Entry}
-use Rattle.xa_work.specs.Work.{theirs}
-use Rattle.xa_work.specs.declared.work.Halt.TheVariants as halts
-use Rattle.xa_caller.specs.declared.phase.Phase.TheVariants.{Idle}
-use Rattle.xa_caller.specs.Drafts.{Cargo}
-use Rattle.xa_server.specs.declared.slot.ServerSlot.{ServerSlot}
-use Rattle.xa_server.specs.declared.closing.Closing.{Closing}
-use Rattle.xa_stamp.specs.Home.{last_stamp}
-use Rattle.xa_crew.specs.Crew.{no_stamp}
-use Rattle.xa_cell.specs.declared.view.View.{View}
-use Rattle.xa_cell.specs.Known.{known}
-use Rattle.xa_caller.specs.declared.cargo.Filling.{Filling}
-use Rattle.xa_server.specs.declared.closing.Given.{Given}
-use Rattle.xa_server.specs.Doings.{life_in}
-use Rattle.xa_server.specs.Told.{GivenAs}
+use Rattle.xa_desk.specs.xa_types.declared.call.Rval.{Rval}
+use Rattle.xa_desk.specs.xa_types.declared.call.Rval.TheVariants.{Exit}
+use Rattle.xa_desk.specs.xa_types.declared.ids.RequestId.{RequestId}
+use Rattle.xa_desk.specs.xa_types.declared.stamp.Stamp.{Stamp}
+use Rattle.xa_desk.specs.xa_types.declared.stamp.Worn.{Worn}
+use Rattle.xa_desk.specs.xa_events.declared.event.Event.{Event}
+use Rattle.xa_desk.specs.xa_events.declared.event.Event.TheVariants.{Take, Gone}
+use Rattle.xa_desk.specs.xa_events.declared.event.Taken.{Taken}
+use Rattle.xa_desk.specs.xa_events.declared.event.Doing.TheVariants.{Busy}
+use Rattle.xa_desk.specs.xa_events.Cases.{IsShut}
+use Rattle.xa_desk.specs.xa_events.Server.{is_gone}
+use Rattle.xa_desk.specs.xa_queue.declared.entry.Entry.{Entry}
+use Rattle.xa_desk.specs.xa_work.Work.{theirs}
+use Rattle.xa_desk.specs.xa_work.declared.work.Halt.TheVariants as halts
+use Rattle.xa_desk.specs.xa_caller.declared.phase.Phase.TheVariants.{Idle}
+use Rattle.xa_desk.specs.xa_caller.Drafts.{Cargo}
+use Rattle.xa_desk.specs.xa_server.declared.slot.ServerSlot.{ServerSlot}
+use Rattle.xa_desk.specs.xa_server.declared.closing.Closing.{Closing}
+use Rattle.xa_desk.specs.xa_stamp.Home.{last_stamp}
+use Rattle.xa_desk.specs.xa_crew.Crew.{no_stamp}
+use Rattle.xa_desk.specs.xa_cell.declared.view.View.{View}
+use Rattle.xa_desk.specs.xa_cell.Known.{known}
+use Rattle.xa_desk.specs.xa_caller.declared.cargo.Filling.{Filling}
+use Rattle.xa_desk.specs.xa_server.declared.closing.Given.{Given}
+use Rattle.xa_desk.specs.xa_server.Doings.{life_in}
+use Rattle.xa_desk.specs.xa_server.Told.{GivenAs}
 use Rattle.xa_desk.specs.declared.domain.Domain.{Domain}
 use Rattle.xa_desk.specs.declared.desk.Desk.{Desk}
 use Rattle.xa_desk.specs.declared.serving.Took.{Took}

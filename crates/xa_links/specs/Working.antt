@@ -1,10 +1,10 @@
 -- What a server's worker asks, and what it leaves (this project's own).
 use Rattle.std.specs.Prelude.{◌≡◌, ℕ, List, [], ◌∷◌, Option, Some, None, IfSome}
-use Rattle.xa_types.specs.declared.ids.Generation.{Generation}
-use Rattle.xa_restart.specs.Rule.{Standing as Restarts}
-use Rattle.xa_caller.specs.declared.phase.Phase.TheVariants.{Idle}
-use Rattle.xa_server.specs.Changes.{new_slot}
-use Rattle.xa_server.specs.Served.{StarterShows}
+use Rattle.xa_desk.specs.xa_types.declared.ids.Generation.{Generation}
+use Rattle.xa_desk.specs.xa_restart.Rule.{Standing as Restarts}
+use Rattle.xa_desk.specs.xa_caller.declared.phase.Phase.TheVariants.{Idle}
+use Rattle.xa_desk.specs.xa_server.Changes.{new_slot}
+use Rattle.xa_desk.specs.xa_server.Served.{StarterShows}
 use Rattle.xa_desk.specs.declared.domain.Domain.{Domain}
 use Rattle.xa_desk.specs.Desks.{IsDesk, Leads}
 use Rattle.xa_desk.specs.Halting.{IsStopAt}

@@ -1,16 +1,16 @@
 // A life of a server.
 ghost use Rattle.std.specs.Prelude.{◌≡◌, ◌∷◌, [], IfOk, IfErr, IfSome, Some, None};
-ghost use Rattle.xa_types.specs.declared.stamp.Stamp.{Stamp};
-ghost use Rattle.xa_events.specs.Cases.{IsShut};
-ghost use Rattle.xa_events.specs.Server.{is_shutdown};
-ghost use Rattle.xa_events.specs.declared.event.Doing.TheVariants as doings;
-ghost use Rattle.xa_pipe.specs.declared.turn.Turn.TheVariants.{Serving, Exited};
-ghost use Rattle.xa_pipe.specs.Frames.{return_frame};
-ghost use Rattle.xa_pipe.specs.Standing.{Standing as Lives, tag_of};
-ghost use Rattle.xa_pipe.specs.Changes.{Heard};
-ghost use Rattle.xa_server.specs.Doings.{life_in};
-ghost use Rattle.xa_server.specs.declared.slot.Last.TheVariants as lasts;
-ghost use Rattle.xa_types.specs.declared.ids.RequestId.{RequestId as Asked};
+ghost use Rattle.xa_desk.specs.xa_types.declared.stamp.Stamp.{Stamp};
+ghost use Rattle.xa_desk.specs.xa_events.Cases.{IsShut};
+ghost use Rattle.xa_desk.specs.xa_events.Server.{is_shutdown};
+ghost use Rattle.xa_desk.specs.xa_events.declared.event.Doing.TheVariants as doings;
+ghost use Rattle.xa_desk.specs.xa_pipe.declared.turn.Turn.TheVariants.{Serving, Exited};
+ghost use Rattle.xa_desk.specs.xa_pipe.Frames.{return_frame};
+ghost use Rattle.xa_desk.specs.xa_pipe.Standing.{Standing as Lives, tag_of};
+ghost use Rattle.xa_desk.specs.xa_pipe.Changes.{Heard};
+ghost use Rattle.xa_desk.specs.xa_server.Doings.{life_in};
+ghost use Rattle.xa_desk.specs.xa_server.declared.slot.Last.TheVariants as lasts;
+ghost use Rattle.xa_desk.specs.xa_types.declared.ids.RequestId.{RequestId as Asked};
 ghost use Rattle.xa_desk.specs.Desks.{IsDomain};
 ghost use Rattle.xa_desk.specs.Found.{SawAtQueue};
 ghost use Rattle.xa_links.specs.Steps.{IsToldOf, is_exit};
@@ -21,11 +21,11 @@ use crate::taking::stop_by;
 use crate::telling::{Told, tell_if, told_by};
 use crate::working::{CutLife, ServerWorker};
 use std::alloc::Global;
+use xa_desk::events::StopCause;
+use xa_desk::link::{Gate, Link, Starter};
+use xa_desk::pipe::{Answered, EndedLife, Life, Return};
+use xa_desk::types::Rval;
 use xa_desk::{Domain, Stopped};
-use xa_events::StopCause;
-use xa_link::{Gate, Link, Starter};
-use xa_pipe::{Answered, EndedLife, Life, Return};
-use xa_types::Rval;
 
 /// What comes of a life: it goes on, or is over, and then a request may have to be answered.
 pub(crate) enum Exchanged<L: Link> {

@@ -1,6 +1,6 @@
 // A server that is given up.
 ghost use Rattle.std.specs.Prelude.{◌≡◌, ◌<◌, ◌+◌, false, length, None, OnOk, IfErr};
-ghost use Rattle.xa_server.specs.Changes.{MayBeGivenUp};
+ghost use Rattle.xa_desk.specs.xa_server.Changes.{MayBeGivenUp};
 ghost use Rattle.xa_desk.specs.Desks.{IsDomain, IsDesk};
 ghost use Rattle.xa_desk.specs.Found.{SawAtQueue};
 ghost use Rattle.xa_desk.specs.Serving.{IsServing, IsFallen, IsSwept};
@@ -11,10 +11,10 @@ ghost use Rattle.xa_links.specs.Steps.{Steps, Retires, RetiresAs, OfDomainAt};
 use crate::taking::stop_by;
 use crate::telling::{Told, tell};
 use std::sync::Wait;
+use xa_desk::link::Gate;
+use xa_desk::server::ServerSlot;
+use xa_desk::types::QueueId;
 use xa_desk::{Desk, Domain, Stopped, SweptOut};
-use xa_link::Gate;
-use xa_server::ServerSlot;
-use xa_types::QueueId;
 
 // The clock isn't moved yet.
 pub(crate) const NOW: u64 = 0;

@@ -1,17 +1,17 @@
 // A server's worker at its queue.
 ghost use Rattle.std.specs.Prelude.{◌≡◌, false};
-ghost use Rattle.xa_server.specs.Doings.{IsIdle};
+ghost use Rattle.xa_desk.specs.xa_server.Doings.{IsIdle};
 ghost use Rattle.xa_desk.specs.Desks.{IsDomain, IsDesk};
 ghost use Rattle.xa_desk.specs.Serving.{IsServing};
 ghost use Rattle.xa_links.specs.Steps.{TakesFrom, LooksFrom, NextFrom, stop_by};
 
 use std::sync::Wait;
 use std::thread;
+use xa_desk::link::{Gate, Point, stay};
+use xa_desk::server::ServerSlot;
+use xa_desk::types::{QueueId, Worn};
+use xa_desk::work::Halt;
 use xa_desk::{Desk, Domain, Stopped, Took};
-use xa_link::{Gate, Point, stay};
-use xa_server::ServerSlot;
-use xa_types::{QueueId, Worn};
-use xa_work::Halt;
 
 // How often it looks for a request before it sleeps. Others run between two looks.
 const LOOKS: u32 = 100;

@@ -3,10 +3,10 @@ ghost use Rattle.std.specs.Prelude.{◌≡◌, Some, IfSome};
 ghost use Rattle.xa_desk.specs.Desks.{IsDomain, IsDesk};
 ghost use Rattle.xa_links.specs.Steps.{IsToldOf, Tells, HasAsker};
 
+use xa_desk::link::{Gate, Point};
+use xa_desk::server::Closing;
+use xa_desk::types::RequestId;
 use xa_desk::{Desk, Domain};
-use xa_link::{Gate, Point};
-use xa_server::Closing;
-use xa_types::RequestId;
 
 /// A request that ended, and what its caller is to be told.
 pub(crate) struct Told {

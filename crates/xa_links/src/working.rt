@@ -1,6 +1,6 @@
 // A server's worker.
 ghost use Rattle.std.specs.Prelude.{◌≡◌, IfOk, IfErr, Some, None};
-ghost use Rattle.xa_events.specs.declared.event.Doing.TheVariants as doings;
+ghost use Rattle.xa_desk.specs.xa_events.declared.event.Doing.TheVariants as doings;
 ghost use Rattle.xa_desk.specs.Desks.{IsDomain};
 ghost use Rattle.xa_links.specs.Standing.{Goes, IsFree, MayGoOn, HasEnded, OffAs, why_of};
 ghost use Rattle.xa_links.specs.Working.{MayServe, HasServed};
@@ -11,11 +11,11 @@ use crate::taking::next;
 use crate::telling::{tell_if, told_by};
 use std::alloc::Global;
 use std::sync::Wait;
+use xa_desk::link::{Gate, Killed, Link, Starter};
+use xa_desk::pipe::Life;
+use xa_desk::server::Served;
+use xa_desk::types::{Generation, Name, QueueId};
 use xa_desk::{Desk, Domain, Stopped};
-use xa_link::{Gate, Killed, Link, Starter};
-use xa_pipe::Life;
-use xa_server::Served;
-use xa_types::{Generation, Name, QueueId};
 
 /// A life that the monitor didn't go on with, at a halt: its program was ended by force.
 #[derive(Drop)]

@@ -1,6 +1,6 @@
 -- What a run asks of its yard, by how it ends.
 use Rattle.std.proofs.Common.{ℕ, List, Option, Some, inr, inl}
-use Rattle.xa_types.specs.declared.setup.Setup.{Setup}
+use Rattle.xa_domain.specs.xa_types.declared.setup.Setup.{Setup}
 use Rattle.xa_program.specs.declared.words.Command.{Command}
 use Rattle.xa_program.specs.declared.words.Command.TheVariants.{Server}
 use Rattle.xa_program.specs.declared.status.Status.{Status}

@@ -7,23 +7,23 @@ use Rattle.std.proofs.lemmas.List.Elements.{All-cons, All-append}
 use Rattle.std.specs.List.{list_all}
 use Rattle.std.specs.Str.{bytes_eq}
 use Rattle.std.proofs.lemmas.Bool.{leb-false}
-use Rattle.xa_types.specs.Name.{is_name}
-use Rattle.xa_types.specs.Configured.{is_among}
-use Rattle.xa_types.specs.declared.setup.Setup.{Setup}
-use Rattle.xa_types.specs.declared.call.Op.{Op}
-use Rattle.xa_types.specs.declared.call.Op.TheVariants.{Call}
-use Rattle.xa_script.specs.declared.script.Client.{Client}
-use Rattle.xa_clients.specs.Going.{IsCall, AllCalls}
-use Rattle.xa_workers.specs.Working.{IsBuiltClient}
+use Rattle.xa_domain.specs.xa_types.Name.{is_name}
+use Rattle.xa_domain.specs.xa_types.Configured.{is_among}
+use Rattle.xa_domain.specs.xa_types.declared.setup.Setup.{Setup}
+use Rattle.xa_domain.specs.xa_types.declared.call.Op.{Op}
+use Rattle.xa_domain.specs.xa_types.declared.call.Op.TheVariants.{Call}
+use Rattle.xa_domain.specs.xa_script.declared.script.Client.{Client}
+use Rattle.xa_domain.specs.xa_clients.Going.{IsCall, AllCalls}
+use Rattle.xa_domain.specs.xa_workers.Working.{IsBuiltClient}
 use Rattle.xa_domain.specs.Serving.{IsBuilt}
-use Rattle.xa_script.specs.declared.calls.Verb.{Verb}
-use Rattle.xa_script.specs.declared.draft.Cause.TheVariants.{Unprinted, NoName, Doubled, OneTooMany, NotServed}
-use Rattle.xa_script.specs.Words.{is_printed, is_skipped, next_word}
-use Rattle.xa_script.specs.Calls.{verb_of, op_of}
-use Rattle.xa_script.specs.Served.{is_served}
-use Rattle.xa_script.specs.Script.{Taken, IsScriptOf, client_with, client_names, client_of, with_call, with_client, with_op, called, with_line, and_then, read_all}
-use Rattle.xa_script.specs.Draft.{is_line_end}
-use Rattle.xa_script.proofs.ScriptCut.{lines_at, lines_last}
+use Rattle.xa_domain.specs.xa_script.declared.calls.Verb.{Verb}
+use Rattle.xa_domain.specs.xa_script.declared.draft.Cause.TheVariants.{Unprinted, NoName, Doubled, OneTooMany, NotServed}
+use Rattle.xa_domain.specs.xa_script.Words.{is_printed, is_skipped, next_word}
+use Rattle.xa_domain.specs.xa_script.Calls.{verb_of, op_of}
+use Rattle.xa_domain.specs.xa_script.Served.{is_served}
+use Rattle.xa_domain.specs.xa_script.Script.{Taken, IsScriptOf, client_with, client_names, client_of, with_call, with_client, with_op, called, with_line, and_then, read_all}
+use Rattle.xa_domain.specs.xa_script.Draft.{is_line_end}
+use Rattle.xa_domain.proofs.xa_script.ScriptCut.{lines_at, lines_last}
 
 lines_from : (octets : List ℕ) → 0 < length octets → ((rest : List ℕ) → length rest < length octets → length (lines rest) ≤ length rest)
     → (end : Option ℕ) → position is_line_end octets ≡ end → length (lines octets) ≤ length octets

@@ -2,12 +2,12 @@
 use Rattle.std.proofs.Common.{◌≡◌, ◌≤◌, ◌<◌, ℕ, List, length, Option, Some, ◌++◌, ◌∙◌, inl, inr, ap, sym, subst, arith}
 use Rattle.std.specs.Prelude.{IfSome}
 use Rattle.std.proofs.lemmas.List.{append_cancel_left}
-use Rattle.xa_types.specs.declared.setup.Setup.{Setup}
-use Rattle.xa_link.specs.Told.{Rose, Grew}
-use Rattle.xa_link.specs.Reads.{Holds, HoldsMore}
-use Rattle.xa_script.specs.declared.script.Script.{Script}
-use Rattle.xa_script.specs.Script.{IsScript, IsFirstFault}
-use Rattle.xa_script.proofs.ReadLines.{no_fault}
+use Rattle.xa_domain.specs.xa_types.declared.setup.Setup.{Setup}
+use Rattle.xa_domain.specs.xa_link.Told.{Rose, Grew}
+use Rattle.xa_domain.specs.xa_link.Reads.{Holds, HoldsMore}
+use Rattle.xa_domain.specs.xa_script.declared.script.Script.{Script}
+use Rattle.xa_domain.specs.xa_script.Script.{IsScript, IsFirstFault}
+use Rattle.xa_domain.proofs.xa_script.ReadLines.{no_fault}
 use Rattle.xa_config.specs.Document.{IsConfiguration, IsFirstFault as IsFirstConfigFault}
 use Rattle.xa_config.specs.Faults.{fault}
 use Rattle.xa_config.proofs.OneReading as readings

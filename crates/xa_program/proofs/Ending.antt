@@ -1,14 +1,14 @@
 -- How a run ends, by how its parts do.
 use Rattle.std.proofs.Common.{◌≡◌, ℕ, List, length, reverse, Option, Some, None, inl, inr, refl, sym, subst}
-use Rattle.xa_types.specs.declared.setup.Setup.{Setup}
-use Rattle.xa_events.specs.declared.event.Event.{Event}
-use Rattle.xa_stamp.specs.Merge.{IsMerged, IsDense}
-use Rattle.xa_script.specs.declared.script.Client.{Client}
+use Rattle.xa_domain.specs.xa_types.declared.setup.Setup.{Setup}
+use Rattle.xa_domain.specs.xa_events.declared.event.Event.{Event}
+use Rattle.xa_domain.specs.xa_stamp.Merge.{IsMerged, IsDense}
+use Rattle.xa_domain.specs.xa_script.declared.script.Client.{Client}
 use Rattle.xa_text.specs.InTurn.{AllInTurn}
 use Rattle.xa_text.proofs.InTurn.{run_in_turn}
-use Rattle.xa_work.specs.declared.work.Halt.{Halt}
-use Rattle.xa_work.specs.declared.work.Halt.TheVariants as halts
-use Rattle.xa_joined.specs.Served.{IsServedSoFar, IsWorn}
+use Rattle.xa_domain.specs.xa_work.declared.work.Halt.{Halt}
+use Rattle.xa_domain.specs.xa_work.declared.work.Halt.TheVariants as halts
+use Rattle.xa_domain.specs.xa_joined.Served.{IsServedSoFar, IsWorn}
 use Rattle.xa_domain.specs.Serving.{HasHomes, ServeEnds}
 use Rattle.xa_program.specs.declared.words.Command.{Command}
 use Rattle.xa_program.specs.declared.words.Command.TheVariants.{Run}

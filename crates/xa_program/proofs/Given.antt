@@ -5,8 +5,8 @@ use Rattle.std.specs.Str.{bytes_eq}
 use Rattle.std.proofs.Math.Seq.{take-suc}
 use Rattle.std.proofs.lemmas.List.{take_all, map-append}
 use Rattle.std.proofs.lemmas.Option.{none-some, slice_get_cases, slice_get_within, get_or_from_slice_get}
-use Rattle.xa_link.specs.Arguments.{word_at}
-use Rattle.xa_script.specs.declared.script.Client.{Client}
+use Rattle.xa_domain.specs.xa_link.Arguments.{word_at}
+use Rattle.xa_domain.specs.xa_script.declared.script.Client.{Client}
 use Rattle.xa_program.specs.Headline.{names_of}
 use Rattle.xa_program.specs.Words.{file_in, command_of, command_in}
 use Rattle.xa_program.specs.declared.words.Command.TheVariants.{Run}

@@ -3,19 +3,19 @@ use Rattle.std.proofs.Common.{◌≡◌, ◌∙◌, ℕ, zero, suc, ◌+◌, Lis
 use Rattle.std.specs.Prelude.{slice_get}
 use Rattle.std.proofs.lemmas.List.{append-nil}
 use Rattle.std.proofs.lemmas.Option.{slice_get_within, get_or_from_slice_get}
-use Rattle.xa_types.specs.declared.ids.Generation.{Generation}
-use Rattle.xa_types.specs.declared.setup.Setup.{Setup}
-use Rattle.xa_types.specs.Setup.{numbered}
-use Rattle.xa_events.specs.declared.event.Event.{Event}
-use Rattle.xa_events.specs.Words.{EachNumbered}
-use Rattle.xa_crew.specs.Ending.{list_in}
-use Rattle.xa_work.specs.declared.work.Halt.TheVariants as halts
-use Rattle.xa_script.specs.declared.script.Client.{Client}
-use Rattle.xa_pipe.specs.Standing.{Ending}
-use Rattle.xa_server.specs.Served.{StarterShows}
-use Rattle.xa_links.specs.Lives.{lives_in}
-use Rattle.xa_joined.specs.Served.{IsServedSoFar, AreLives, AreLivesSoFar, IsStarterOf, IsStarterSoFar, generations_of}
-use Rattle.xa_carried.proofs.Numbered.{each_at, numbered_there}
+use Rattle.xa_domain.specs.xa_types.declared.ids.Generation.{Generation}
+use Rattle.xa_domain.specs.xa_types.declared.setup.Setup.{Setup}
+use Rattle.xa_domain.specs.xa_types.Setup.{numbered}
+use Rattle.xa_domain.specs.xa_events.declared.event.Event.{Event}
+use Rattle.xa_domain.specs.xa_events.Words.{EachNumbered}
+use Rattle.xa_domain.specs.xa_crew.Ending.{list_in}
+use Rattle.xa_domain.specs.xa_work.declared.work.Halt.TheVariants as halts
+use Rattle.xa_domain.specs.xa_script.declared.script.Client.{Client}
+use Rattle.xa_domain.specs.xa_pipe.Standing.{Ending}
+use Rattle.xa_domain.specs.xa_server.Served.{StarterShows}
+use Rattle.xa_domain.specs.xa_links.Lives.{lives_in}
+use Rattle.xa_domain.specs.xa_joined.Served.{IsServedSoFar, AreLives, AreLivesSoFar, IsStarterOf, IsStarterSoFar, generations_of}
+use Rattle.xa_domain.proofs.xa_carried.Numbered.{each_at, numbered_there}
 use Rattle.xa_domain.specs.Serving.{IsNoneCut, ComesTo}
 
 -- of no server a life was cut

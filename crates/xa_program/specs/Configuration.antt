@@ -1,9 +1,9 @@
 -- The setup of a run: what a configuration says, or the setup of `play` (this project's own).
 use Rattle.std.specs.Prelude.{◌≡◌, ◌⊎◌, ◌≤◌, ℕ, List, length, Option, Some, None}
-use Rattle.xa_types.specs.declared.setup.Setup.{Setup}
-use Rattle.xa_link.specs.Told.{Rose}
-use Rattle.xa_link.specs.Reads.{Holds, HoldsMore}
-use Rattle.xa_link.specs.Starts.{AsksFile}
+use Rattle.xa_domain.specs.xa_types.declared.setup.Setup.{Setup}
+use Rattle.xa_domain.specs.xa_link.Told.{Rose}
+use Rattle.xa_domain.specs.xa_link.Reads.{Holds, HoldsMore}
+use Rattle.xa_domain.specs.xa_link.Starts.{AsksFile}
 use Rattle.xa_config.specs.Faults.{fault}
 use Rattle.xa_config.specs.Document.{IsConfiguration, IsFirstFault}
 use Rattle.xa_program.specs.declared.words.Command.{Command}

@@ -1,19 +1,19 @@
 -- What a run of `run` or `play` comes to (this project's own).
 use Rattle.std.specs.Prelude.{◌≡◌, ◌⊎◌, ◌≤◌, ℕ, List, [], length, reverse, map, Option, Some, ⊤}
-use Rattle.xa_types.specs.declared.setup.Setup.{Setup}
-use Rattle.xa_link.specs.Told.{Rose, Grew, GrewByPart}
-use Rattle.xa_events.specs.declared.event.Event.{Event}
-use Rattle.xa_stamp.specs.Home.{Notes}
-use Rattle.xa_stamp.specs.Merge.{IsMerged, IsDense}
-use Rattle.xa_script.specs.declared.script.Client.{Client}
-use Rattle.xa_script.specs.Script.{IsScript, IsFirstFault}
+use Rattle.xa_domain.specs.xa_types.declared.setup.Setup.{Setup}
+use Rattle.xa_domain.specs.xa_link.Told.{Rose, Grew, GrewByPart}
+use Rattle.xa_domain.specs.xa_events.declared.event.Event.{Event}
+use Rattle.xa_domain.specs.xa_stamp.Home.{Notes}
+use Rattle.xa_domain.specs.xa_stamp.Merge.{IsMerged, IsDense}
+use Rattle.xa_domain.specs.xa_script.declared.script.Client.{Client}
+use Rattle.xa_domain.specs.xa_script.Script.{IsScript, IsFirstFault}
 use Rattle.xa_text.specs.Transcript.{transcript}
-use Rattle.xa_types.specs.declared.ids.Generation.{Generation}
-use Rattle.xa_work.specs.declared.work.Halt.{Halt}
-use Rattle.xa_work.specs.declared.work.Halt.TheVariants as halts
-use Rattle.xa_pipe.specs.Standing.{Ending}
-use Rattle.xa_server.specs.Served.{StarterShows}
-use Rattle.xa_joined.specs.Served.{IsRecorded, IsServedWhole, IsServedSoFar, IsWorn}
+use Rattle.xa_domain.specs.xa_types.declared.ids.Generation.{Generation}
+use Rattle.xa_domain.specs.xa_work.declared.work.Halt.{Halt}
+use Rattle.xa_domain.specs.xa_work.declared.work.Halt.TheVariants as halts
+use Rattle.xa_domain.specs.xa_pipe.Standing.{Ending}
+use Rattle.xa_domain.specs.xa_server.Served.{StarterShows}
+use Rattle.xa_domain.specs.xa_joined.Served.{IsRecorded, IsServedWhole, IsServedSoFar, IsWorn}
 use Rattle.xa_domain.specs.Serving.{HasHomes, IsNoneCut}
 use Rattle.xa_program.specs.declared.words.Command.{Command}
 use Rattle.xa_program.specs.declared.words.Command.TheVariants.{Play, Server}

@@ -1,7 +1,7 @@
 -- What the input shows of a run (this project's own).
 use Rattle.std.specs.Prelude.{◌≡◌, ◌⊎◌, ◌++◌, ℕ, List, Option, Some}
-use Rattle.xa_link.specs.Told.{ReadOut, Grew}
-use Rattle.xa_link.specs.Reads.{HasExactly, HasMore, GrewByMore}
+use Rattle.xa_domain.specs.xa_link.Told.{ReadOut, Grew}
+use Rattle.xa_domain.specs.xa_link.Reads.{HasExactly, HasMore, GrewByMore}
 
 -- what it holds before and after, and what it gave before and after, where it tells them
 pub record InputTells : Type 0 where

@@ -1,8 +1,8 @@
 -- The setup of `play SERVICE`: one queue, one server on it without restart, and one service with the routine of its name (after Tuxedo,
 -- UBBCONFIG).
 use Rattle.std.specs.Prelude.{ℕ, false, List, [], ◌∷◌, None, codes}
-use Rattle.xa_types.specs.declared.setup.Setup.{Setup}
-use Rattle.xa_types.specs.Rows.{all_kinds}
+use Rattle.xa_domain.specs.xa_types.declared.setup.Setup.{Setup}
+use Rattle.xa_domain.specs.xa_types.Rows.{all_kinds}
 
 -- the name of the one server
 abbrev pub server_name : List ℕ

@@ -1,17 +1,17 @@
 -- How the parts of a run end.
 -- Contracts inside this crate rest on this file, and no public one.
 use Rattle.std.specs.Prelude.{◌≡◌, ◌⊎◌, ℕ, List, [], reverse, Option, Some, None}
-use Rattle.xa_types.specs.declared.setup.Setup.{Setup}
-use Rattle.xa_link.specs.Told.{Rose, Grew, GrewByPart}
-use Rattle.xa_link.specs.Reads.{HoldsMore}
-use Rattle.xa_link.specs.Starts.{AsksStarters}
-use Rattle.xa_events.specs.declared.event.Event.{Event}
-use Rattle.xa_stamp.specs.Home.{Notes}
-use Rattle.xa_stamp.specs.Merge.{IsMerged}
-use Rattle.xa_script.specs.declared.script.Client.{Client}
+use Rattle.xa_domain.specs.xa_types.declared.setup.Setup.{Setup}
+use Rattle.xa_domain.specs.xa_link.Told.{Rose, Grew, GrewByPart}
+use Rattle.xa_domain.specs.xa_link.Reads.{HoldsMore}
+use Rattle.xa_domain.specs.xa_link.Starts.{AsksStarters}
+use Rattle.xa_domain.specs.xa_events.declared.event.Event.{Event}
+use Rattle.xa_domain.specs.xa_stamp.Home.{Notes}
+use Rattle.xa_domain.specs.xa_stamp.Merge.{IsMerged}
+use Rattle.xa_domain.specs.xa_script.declared.script.Client.{Client}
 use Rattle.xa_text.specs.Transcript.{transcript}
-use Rattle.xa_work.specs.declared.work.Halt.{Halt}
-use Rattle.xa_work.specs.declared.work.Halt.TheVariants as halts
+use Rattle.xa_domain.specs.xa_work.declared.work.Halt.{Halt}
+use Rattle.xa_domain.specs.xa_work.declared.work.Halt.TheVariants as halts
 use Rattle.xa_program.specs.declared.words.Command.{Command}
 use Rattle.xa_program.specs.declared.words.Command.TheVariants.{Run}
 use Rattle.xa_program.specs.declared.status.Status.{Status}

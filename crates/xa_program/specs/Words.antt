@@ -1,7 +1,7 @@
 -- The words of a command line (this project's own).
 use Rattle.std.specs.Prelude.{ℕ, drop, Bool, false, not, ◌&&◌, ◌==◌, List, [], ◌∷◌, Option, Some, None, option_map, option_and_then, codes, if◌then◌else◌}
 use Rattle.std.specs.Str.{bytes_eq}
-use Rattle.xa_types.specs.Name.{is_name}
+use Rattle.xa_domain.specs.xa_types.Name.{is_name}
 use Rattle.xa_program.specs.declared.words.Command.{Command}
 use Rattle.xa_program.specs.declared.words.Command.TheVariants.{Run, Play, Server}
 

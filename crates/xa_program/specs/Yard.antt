@@ -1,7 +1,7 @@
 -- What a run asks of its yard (this project's own).
 use Rattle.std.specs.Prelude.{◌≡◌, ◌⊎◌, ℕ, List, Option, Some}
-use Rattle.xa_types.specs.declared.setup.Setup.{Setup}
-use Rattle.xa_link.specs.Starts.{AsksStarters}
+use Rattle.xa_domain.specs.xa_types.declared.setup.Setup.{Setup}
+use Rattle.xa_domain.specs.xa_link.Starts.{AsksStarters}
 use Rattle.xa_program.specs.declared.words.Command.{Command}
 use Rattle.xa_program.specs.declared.words.Command.TheVariants.{Server}
 use Rattle.xa_program.specs.declared.status.Status.{Status}

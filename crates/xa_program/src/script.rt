@@ -1,15 +1,15 @@
 // The script that a run reads.
 ghost use Rattle.std.specs.Prelude.{◌≡◌, ◌≤◌, true, IfOk, IfErr, OnOk};
-ghost use Rattle.xa_types.specs.Configured.{is_configured};
+ghost use Rattle.xa_domain.specs.xa_types.Configured.{is_configured};
 ghost use Rattle.xa_domain.specs.Serving.{IsBuilt};
 ghost use Rattle.xa_program.specs.Headline.{IsTheScript};
 ghost use Rattle.xa_program.specs.Progress.{ScriptRefusedAs};
 
 use crate::status::{Input, Status};
 use std::alloc::Global;
-use xa_link::{ShelfRefused, Source, read_all};
-use xa_script::{Script, ScriptRefused, read_upto};
-use xa_types::Setup;
+use xa_domain::link::{ShelfRefused, Source, read_all};
+use xa_domain::script::{Script, ScriptRefused, read_upto};
+use xa_domain::types::Setup;
 
 /// How many octets a script may have.
 const LONGEST_SCRIPT: usize = 1_048_576;

@@ -1,8 +1,8 @@
 // The setups of the commands: that of a configuration, and that of `play`.
 ghost use Rattle.std.specs.Prelude.{◌≡◌, true, Some, IfOk, IfErr, OnOk};
-ghost use Rattle.xa_types.specs.Configured.{is_configured};
-ghost use Rattle.xa_types.specs.Name.{IsName};
-ghost use Rattle.xa_link.specs.Starts.{AsksFile};
+ghost use Rattle.xa_domain.specs.xa_types.Configured.{is_configured};
+ghost use Rattle.xa_domain.specs.xa_types.Name.{IsName};
+ghost use Rattle.xa_domain.specs.xa_link.Starts.{AsksFile};
 ghost use Rattle.xa_program.specs.declared.words.Command.TheVariants.{Run};
 ghost use Rattle.xa_program.specs.PlaySetup.{play_setup};
 ghost use Rattle.xa_program.specs.Configuration.{IsSetup, AsksShelf};
@@ -11,8 +11,10 @@ ghost use Rattle.xa_program.specs.Progress.{SetupRefusedAs};
 use crate::status::{Input, Status};
 use std::alloc::Global;
 use xa_config::{ConfigRefused, read};
-use xa_link::{Shelf, ShelfRefused};
-use xa_types::{Accepts, Name, NoMemory, QueueSetup, Sequence, ServerSetup, ServiceSetup, Setup};
+use xa_domain::link::{Shelf, ShelfRefused};
+use xa_domain::types::{
+    Accepts, Name, NoMemory, QueueSetup, Sequence, ServerSetup, ServiceSetup, Setup,
+};
 
 /// How many octets a configuration may have.
 const LONGEST_CONFIGURATION: u32 = 262_144;

@@ -1,7 +1,7 @@
 // The history of a run that was served, and its transcript.
 ghost use Rattle.std.specs.Prelude.{◌≡◌, ◌⊎◌, [], List, length, reverse, None, IfOk};
-ghost use Rattle.xa_events.specs.declared.event.Event.{Event};
-ghost use Rattle.xa_stamp.specs.Merge.{IsMerged};
+ghost use Rattle.xa_domain.specs.xa_events.declared.event.Event.{Event};
+ghost use Rattle.xa_domain.specs.xa_stamp.Merge.{IsMerged};
 ghost use Rattle.xa_text.specs.InTurn.{AllInTurn};
 ghost use Rattle.xa_text.specs.Transcript.{transcript};
 ghost use Rattle.xa_program.specs.Headline.{names_of};
@@ -10,12 +10,12 @@ ghost use Rattle.xa_program.specs.Progress.{Printed, TellingEnds};
 use crate::status::Status;
 use std::alloc::Global;
 use xa_domain::Halt;
-use xa_events::Event;
-use xa_link::{Sink, put};
-use xa_script::Client;
-use xa_stamp::{Record, merge};
+use xa_domain::events::Event;
+use xa_domain::link::{Sink, put};
+use xa_domain::script::Client;
+use xa_domain::stamp::{Record, merge};
+use xa_domain::types::{Name, NoMemory, Octets};
 use xa_text::transcript;
-use xa_types::{Name, NoMemory, Octets};
 
 fn names_of(alloc: Global, clients: &[Client]) -> Result<Vec<Name>, NoMemory>
     ensures { IfOk result (λ names. names.items ≡ names_of clients.now) }

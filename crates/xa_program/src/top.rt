@@ -1,11 +1,11 @@
 // The top call.
 ghost use Rattle.std.specs.Prelude.{◌≡◌, ◌≤◌, ◌↔◌, true, ℕ, List, map, string_bytes, None, Some, IfOk, IfErr, OnOk, length};
-ghost use Rattle.xa_link.specs.Told.{Rose};
-ghost use Rattle.xa_links.specs.Working.{cut_in};
-ghost use Rattle.xa_types.specs.Configured.{is_configured};
-ghost use Rattle.xa_types.specs.declared.setup.Setup.{Setup};
-ghost use Rattle.xa_script.specs.declared.script.Script.{Script};
-ghost use Rattle.xa_script.specs.Script.{IsScript};
+ghost use Rattle.xa_domain.specs.xa_link.Told.{Rose};
+ghost use Rattle.xa_domain.specs.xa_links.Working.{cut_in};
+ghost use Rattle.xa_domain.specs.xa_types.Configured.{is_configured};
+ghost use Rattle.xa_domain.specs.xa_types.declared.setup.Setup.{Setup};
+ghost use Rattle.xa_domain.specs.xa_script.declared.script.Script.{Script};
+ghost use Rattle.xa_domain.specs.xa_script.Script.{IsScript};
 ghost use Rattle.xa_program.specs.declared.words.Command.{Command};
 ghost use Rattle.xa_program.specs.declared.words.Command.TheVariants.{Server};
 ghost use Rattle.xa_program.specs.Configuration.{IsSetup, TellsSetup, KeepsShelf, AsksFiles, AsksShelf};
@@ -26,10 +26,10 @@ use crate::words::{Command, read_words};
 use std::alloc::Global;
 use std::sync::Wait;
 use std::thread::Threads;
+use xa_domain::link::{Gate, Shelf, Sink, Source, Yard};
+use xa_domain::stamp::Record;
+use xa_domain::types::{NoMemory, Sequence, Setup};
 use xa_domain::{Served, serve};
-use xa_link::{Gate, Shelf, Sink, Source, Yard};
-use xa_stamp::Record;
-use xa_types::{NoMemory, Sequence, Setup};
 
 /// Runs the command that these words are, which stand behind the program's own name.
 ///

@@ -1,20 +1,20 @@
 -- A slot stands where nothing was noted yet.
 use Rattle.std.proofs.Common.{◌≡◌, List, [], length, refl, sym, ◌∙◌, ap, arith}
 use Rattle.std.specs.Prelude.{IsSomeAnd}
-use Rattle.xa_types.specs.declared.ids.ServerId.{ServerId}
-use Rattle.xa_types.specs.declared.setup.ServerSetup.{ServerSetup}
-use Rattle.xa_types.specs.Setup.{numbered}
-use Rattle.xa_events.specs.declared.event.Event.{Event}
-use Rattle.xa_events.specs.Local.{worker_events}
-use Rattle.xa_events.specs.State.{caller_of}
-use Rattle.xa_events.specs.Server.{starts, is_gone, doing_after, outcome_in, is_shutdown_stop}
-use Rattle.xa_events.specs.Caller.{open_descriptors}
-use Rattle.xa_events.specs.Conversation.{connections}
-use Rattle.xa_events.specs.Views.{server_view}
-use Rattle.xa_stamp.specs.declared.home.Stamped.{Stamped}
-use Rattle.xa_crew.specs.Seen.{past_in}
+use Rattle.xa_caller.specs.xa_types.declared.ids.ServerId.{ServerId}
+use Rattle.xa_caller.specs.xa_types.declared.setup.ServerSetup.{ServerSetup}
+use Rattle.xa_caller.specs.xa_types.Setup.{numbered}
+use Rattle.xa_caller.specs.xa_events.declared.event.Event.{Event}
+use Rattle.xa_caller.specs.xa_events.Local.{worker_events}
+use Rattle.xa_caller.specs.xa_events.State.{caller_of}
+use Rattle.xa_caller.specs.xa_events.Server.{starts, is_gone, doing_after, outcome_in, is_shutdown_stop}
+use Rattle.xa_caller.specs.xa_events.Caller.{open_descriptors}
+use Rattle.xa_caller.specs.xa_events.Conversation.{connections}
+use Rattle.xa_caller.specs.xa_events.Views.{server_view}
+use Rattle.xa_caller.specs.xa_stamp.declared.home.Stamped.{Stamped}
+use Rattle.xa_caller.specs.xa_crew.Seen.{past_in}
 use Rattle.xa_restart.specs.Rule.{Standing as Restarts, IsRuleOf}
-use Rattle.xa_work.specs.Work.{Standing, theirs}
+use Rattle.xa_caller.specs.xa_work.Work.{Standing, theirs}
 use Rattle.xa_server.specs.Changes.{new_slot}
 use Rattle.xa_server.specs.Doings.{last_of}
 use Rattle.xa_server.specs.Slot.{Stands}

@@ -4,43 +4,43 @@ use Rattle.std.specs.Prelude.{IsSomeAnd}
 use Rattle.std.specs.List.{cons_option, filter_map}
 use Rattle.std.proofs.lemmas.Bool.{false≢true}
 use Rattle.std.proofs.Math.Nat.{le-max_left, le-max_right, max-le}
-use Rattle.xa_types.specs.declared.ids.Generation.{Generation}
-use Rattle.xa_types.specs.declared.ids.RequestId.{RequestId}
-use Rattle.xa_types.specs.declared.ids.ServerId.{ServerId}
-use Rattle.xa_types.specs.declared.setup.ServerSetup.{ServerSetup}
-use Rattle.xa_types.specs.Setup.{numbered}
-use Rattle.xa_events.specs.declared.event.Event.{Event}
-use Rattle.xa_events.specs.declared.event.Event.TheVariants.{Take, Gone, Start, StartFailed, End, Stop}
-use Rattle.xa_events.specs.declared.event.Taken.{Taken}
-use Rattle.xa_events.specs.declared.event.Started.{Started}
-use Rattle.xa_events.specs.declared.event.Ended.{Ended}
-use Rattle.xa_events.specs.declared.event.Stopped.{Stopped}
-use Rattle.xa_events.specs.declared.event.Outcome.{Outcome}
-use Rattle.xa_events.specs.declared.event.Outcome.TheVariants.{Returned, Failed, BadReturn, BadForward, Died, Starved}
-use Rattle.xa_events.specs.declared.event.StopCause.{StopCause}
-use Rattle.xa_events.specs.declared.event.StopCause.TheVariants as causes
-use Rattle.xa_events.specs.Finishing.{returned, return_by}
-use Rattle.xa_types.specs.declared.call.Rval.{Rval}
-use Rattle.xa_types.specs.declared.call.Rval.TheVariants.{Success, Fail, Exit}
-use Rattle.xa_types.specs.declared.data.Data.{Data}
-use Rattle.xa_types.specs.declared.setup.Setup.{Setup}
-use Rattle.xa_types.specs.Kind.{is_sound}
-use Rattle.xa_events.specs.declared.event.Doing.{Doing}
-use Rattle.xa_events.specs.declared.event.Doing.TheVariants.{Off, Idle, Busy, Dying}
-use Rattle.xa_events.specs.Homes.{worker_of}
-use Rattle.xa_events.specs.Words.{added, without, greatest}
-use Rattle.xa_events.specs.State.{caller_of}
-use Rattle.xa_events.specs.Server.{starts, start_in, after_end, doing_after, outcome_in, is_shutdown, is_shutdown_stop, doing, was_shut_down, last_outcome, may_start, may_start_as}
-use Rattle.xa_events.specs.Cases.{may_end_so, idle_stops, dying_stops, is_starved, StartWorker, TakeWorker, EndWorker, StopWorker}
-use Rattle.xa_events.specs.Caller.{open_descriptors, opens_descriptor, closes_descriptor, tick_in, ticks, tick_floor, version_of}
-use Rattle.xa_events.specs.Conversation.{connections, opens_connection, closes_connection}
-use Rattle.xa_events.specs.Views.{newer, ServerView, server_view, server_after}
-use Rattle.xa_events.proofs.Owns.{server_more}
-use Rattle.xa_stamp.specs.declared.home.Stamped.{Stamped}
+use Rattle.xa_caller.specs.xa_types.declared.ids.Generation.{Generation}
+use Rattle.xa_caller.specs.xa_types.declared.ids.RequestId.{RequestId}
+use Rattle.xa_caller.specs.xa_types.declared.ids.ServerId.{ServerId}
+use Rattle.xa_caller.specs.xa_types.declared.setup.ServerSetup.{ServerSetup}
+use Rattle.xa_caller.specs.xa_types.Setup.{numbered}
+use Rattle.xa_caller.specs.xa_events.declared.event.Event.{Event}
+use Rattle.xa_caller.specs.xa_events.declared.event.Event.TheVariants.{Take, Gone, Start, StartFailed, End, Stop}
+use Rattle.xa_caller.specs.xa_events.declared.event.Taken.{Taken}
+use Rattle.xa_caller.specs.xa_events.declared.event.Started.{Started}
+use Rattle.xa_caller.specs.xa_events.declared.event.Ended.{Ended}
+use Rattle.xa_caller.specs.xa_events.declared.event.Stopped.{Stopped}
+use Rattle.xa_caller.specs.xa_events.declared.event.Outcome.{Outcome}
+use Rattle.xa_caller.specs.xa_events.declared.event.Outcome.TheVariants.{Returned, Failed, BadReturn, BadForward, Died, Starved}
+use Rattle.xa_caller.specs.xa_events.declared.event.StopCause.{StopCause}
+use Rattle.xa_caller.specs.xa_events.declared.event.StopCause.TheVariants as causes
+use Rattle.xa_caller.specs.xa_events.Finishing.{returned, return_by}
+use Rattle.xa_caller.specs.xa_types.declared.call.Rval.{Rval}
+use Rattle.xa_caller.specs.xa_types.declared.call.Rval.TheVariants.{Success, Fail, Exit}
+use Rattle.xa_caller.specs.xa_types.declared.data.Data.{Data}
+use Rattle.xa_caller.specs.xa_types.declared.setup.Setup.{Setup}
+use Rattle.xa_caller.specs.xa_types.Kind.{is_sound}
+use Rattle.xa_caller.specs.xa_events.declared.event.Doing.{Doing}
+use Rattle.xa_caller.specs.xa_events.declared.event.Doing.TheVariants.{Off, Idle, Busy, Dying}
+use Rattle.xa_caller.specs.xa_events.Homes.{worker_of}
+use Rattle.xa_caller.specs.xa_events.Words.{added, without, greatest}
+use Rattle.xa_caller.specs.xa_events.State.{caller_of}
+use Rattle.xa_caller.specs.xa_events.Server.{starts, start_in, after_end, doing_after, outcome_in, is_shutdown, is_shutdown_stop, doing, was_shut_down, last_outcome, may_start, may_start_as}
+use Rattle.xa_caller.specs.xa_events.Cases.{may_end_so, idle_stops, dying_stops, is_starved, StartWorker, TakeWorker, EndWorker, StopWorker}
+use Rattle.xa_caller.specs.xa_events.Caller.{open_descriptors, opens_descriptor, closes_descriptor, tick_in, ticks, tick_floor, version_of}
+use Rattle.xa_caller.specs.xa_events.Conversation.{connections, opens_connection, closes_connection}
+use Rattle.xa_caller.specs.xa_events.Views.{newer, ServerView, server_view, server_after}
+use Rattle.xa_caller.proofs.xa_events.Owns.{server_more}
+use Rattle.xa_caller.specs.xa_stamp.declared.home.Stamped.{Stamped}
 use Rattle.xa_restart.specs.Rule.{Standing as Restarts, IsRuleOf, IsLast, may_start_by}
 use Rattle.xa_restart.proofs.Recalling.{rule_is, no_earlier}
-use Rattle.xa_work.specs.Work.{Standing, IsNext, theirs, noted, noted_here}
-use Rattle.xa_work.proofs.Noting.{theirs-more}
+use Rattle.xa_caller.specs.xa_work.Work.{Standing, IsNext, theirs, noted, noted_here}
+use Rattle.xa_caller.proofs.xa_work.Noting.{theirs-more}
 use Rattle.xa_server.specs.declared.slot.ServerSlot.{ServerSlot}
 use Rattle.xa_server.specs.declared.slot.Last.{Last}
 use Rattle.xa_server.specs.declared.slot.Last.TheVariants as lasts
@@ -48,8 +48,8 @@ use Rattle.xa_server.specs.Doings.{life_in, last_by, last_of, room_for, IsBusy, 
 use Rattle.xa_server.specs.Slot.{Reads, IsWorkerOf, Stand, Tables, Stands, view_of}
 use Rattle.xa_server.specs.Noting.{with_room}
 use Rattle.xa_caller.specs.Drafts.{Cargo}
-use Rattle.xa_queue.specs.declared.entry.Entry.{Entry}
-use Rattle.xa_types.specs.declared.stamp.Stamp.{Stamp}
+use Rattle.xa_caller.specs.xa_queue.declared.entry.Entry.{Entry}
+use Rattle.xa_caller.specs.xa_types.declared.stamp.Stamp.{Stamp}
 use Rattle.xa_server.specs.Changes.{MayStart, MayBeGivenUp, with_start}
 
 -- the work with one event more, and room for so many more

@@ -3,38 +3,38 @@ use Rattle.std.proofs.Common.{◌≡◌, ℕ, zero, suc, ◌≤◌, List, [], �
 use Rattle.std.specs.Prelude.{IsSome, IsSomeAnd, IfSome, slice_set}
 use Rattle.std.specs.List.{All, Contains}
 use Rattle.std.proofs.lemmas.List.Elements.{All-push, All-weaker, Contains-push, Contains-append_left}
-use Rattle.xa_types.specs.declared.stamp.Stamp.{Stamp}
-use Rattle.xa_types.specs.declared.ids.RequestId.{RequestId}
-use Rattle.xa_types.specs.declared.reply.Answer.{Answer}
-use Rattle.xa_events.specs.declared.event.Ended.{Ended}
-use Rattle.xa_events.specs.declared.event.Event.TheVariants.{End, Sweep}
-use Rattle.xa_events.specs.declared.event.Outcome.{Outcome}
-use Rattle.xa_events.specs.declared.event.StopCause.{StopCause}
-use Rattle.xa_events.specs.declared.event.Swept.{Swept}
-use Rattle.xa_events.specs.declared.event.Doing.{Doing}
-use Rattle.xa_events.specs.declared.event.Doing.TheVariants.{Busy}
-use Rattle.xa_types.specs.declared.ids.QueueId.{QueueId}
-use Rattle.xa_events.specs.Answers.{reply_of}
-use Rattle.xa_events.specs.Request.{Settlement, settlement_in}
-use Rattle.xa_events.specs.Request.Settlement.{EndedBy, SweptAway}
-use Rattle.xa_events.proofs.WordsLemmas.{same_request_of}
-use Rattle.xa_stamp.specs.declared.home.Stamped.{Stamped}
-use Rattle.xa_stamp.specs.Home.{last_stamp}
-use Rattle.xa_stamp.proofs.Stamps.{last_stamp-push}
-use Rattle.xa_crew.specs.Crew.{no_stamp}
-use Rattle.xa_queue.specs.declared.entry.Entry.{Entry}
-use Rattle.xa_cell.specs.declared.tokens.Ticket.{Ticket}
-use Rattle.xa_cell.specs.declared.view.Opening.{Opening}
-use Rattle.xa_cell.specs.declared.view.Part.{Part}
-use Rattle.xa_cell.specs.declared.view.View.{View}
-use Rattle.xa_cell.specs.declared.filler.Filled.{Filled}
-use Rattle.xa_cell.specs.declared.filler.Filled.TheVariants as fills
-use Rattle.xa_cell.specs.Views.{nth, at, fill}
-use Rattle.xa_cell.specs.Known.{named}
-use Rattle.xa_cell.specs.Calls.{Settles as SettlesCell}
+use Rattle.xa_caller.specs.xa_types.declared.stamp.Stamp.{Stamp}
+use Rattle.xa_caller.specs.xa_types.declared.ids.RequestId.{RequestId}
+use Rattle.xa_caller.specs.xa_types.declared.reply.Answer.{Answer}
+use Rattle.xa_caller.specs.xa_events.declared.event.Ended.{Ended}
+use Rattle.xa_caller.specs.xa_events.declared.event.Event.TheVariants.{End, Sweep}
+use Rattle.xa_caller.specs.xa_events.declared.event.Outcome.{Outcome}
+use Rattle.xa_caller.specs.xa_events.declared.event.StopCause.{StopCause}
+use Rattle.xa_caller.specs.xa_events.declared.event.Swept.{Swept}
+use Rattle.xa_caller.specs.xa_events.declared.event.Doing.{Doing}
+use Rattle.xa_caller.specs.xa_events.declared.event.Doing.TheVariants.{Busy}
+use Rattle.xa_caller.specs.xa_types.declared.ids.QueueId.{QueueId}
+use Rattle.xa_caller.specs.xa_events.Answers.{reply_of}
+use Rattle.xa_caller.specs.xa_events.Request.{Settlement, settlement_in}
+use Rattle.xa_caller.specs.xa_events.Request.Settlement.{EndedBy, SweptAway}
+use Rattle.xa_caller.proofs.xa_events.WordsLemmas.{same_request_of}
+use Rattle.xa_caller.specs.xa_stamp.declared.home.Stamped.{Stamped}
+use Rattle.xa_caller.specs.xa_stamp.Home.{last_stamp}
+use Rattle.xa_caller.proofs.xa_stamp.Stamps.{last_stamp-push}
+use Rattle.xa_caller.specs.xa_crew.Crew.{no_stamp}
+use Rattle.xa_caller.specs.xa_queue.declared.entry.Entry.{Entry}
+use Rattle.xa_caller.specs.xa_cell.declared.tokens.Ticket.{Ticket}
+use Rattle.xa_caller.specs.xa_cell.declared.view.Opening.{Opening}
+use Rattle.xa_caller.specs.xa_cell.declared.view.Part.{Part}
+use Rattle.xa_caller.specs.xa_cell.declared.view.View.{View}
+use Rattle.xa_caller.specs.xa_cell.declared.filler.Filled.{Filled}
+use Rattle.xa_caller.specs.xa_cell.declared.filler.Filled.TheVariants as fills
+use Rattle.xa_caller.specs.xa_cell.Views.{nth, at, fill}
+use Rattle.xa_caller.specs.xa_cell.Known.{named}
+use Rattle.xa_caller.specs.xa_cell.Calls.{Settles as SettlesCell}
 use Rattle.xa_caller.specs.Drafts.{Cargo}
 use Rattle.xa_caller.specs.declared.cargo.Filling.{Filling}
-use Rattle.xa_work.specs.Work.{Standing}
+use Rattle.xa_caller.specs.xa_work.Work.{Standing}
 use Rattle.xa_server.specs.declared.slot.ServerSlot.{ServerSlot}
 use Rattle.xa_server.specs.declared.closing.Closing.{Closing}
 use Rattle.xa_server.specs.declared.closing.Given.{Given}

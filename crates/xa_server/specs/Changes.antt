@@ -1,27 +1,27 @@
 -- What each call of a slot asks and leaves (this project's own). A call changes the slot and its worker's work: `new` and `old` are the work.
 use Rattle.std.specs.Prelude.{◌≡◌, ◌⊎◌, ℕ, ◌+◌, ◌≤◌, ◌∷◌, true, false, Option, Some, None}
-use Rattle.xa_types.specs.declared.ids.RequestId.{RequestId}
-use Rattle.xa_types.specs.declared.ids.Generation.{Generation}
-use Rattle.xa_types.specs.declared.ids.ServerId.{ServerId}
-use Rattle.xa_types.specs.declared.stamp.Stamp.{Stamp}
-use Rattle.xa_events.specs.declared.event.Event.{Event}
-use Rattle.xa_events.specs.declared.event.Event.TheVariants.{Take, Start, StartFailed, End, Stop}
-use Rattle.xa_events.specs.declared.event.Doing.TheVariants.{Off, Idle, Busy}
-use Rattle.xa_events.specs.declared.event.Outcome.{Outcome}
-use Rattle.xa_events.specs.declared.event.StopCause.{StopCause}
-use Rattle.xa_events.specs.Server.{after_end, is_shutdown}
-use Rattle.xa_events.specs.Caller.{tick_floor}
-use Rattle.xa_events.specs.Answers.{reply_of}
-use Rattle.xa_events.specs.Request.Settlement.{EndedBy}
-use Rattle.xa_events.specs.declared.event.Doing.{Doing}
-use Rattle.xa_types.specs.declared.stamp.Worn.{Worn}
-use Rattle.xa_types.specs.declared.reply.Answer.{Answer}
-use Rattle.xa_queue.specs.declared.entry.Entry.{Entry}
+use Rattle.xa_caller.specs.xa_types.declared.ids.RequestId.{RequestId}
+use Rattle.xa_caller.specs.xa_types.declared.ids.Generation.{Generation}
+use Rattle.xa_caller.specs.xa_types.declared.ids.ServerId.{ServerId}
+use Rattle.xa_caller.specs.xa_types.declared.stamp.Stamp.{Stamp}
+use Rattle.xa_caller.specs.xa_events.declared.event.Event.{Event}
+use Rattle.xa_caller.specs.xa_events.declared.event.Event.TheVariants.{Take, Start, StartFailed, End, Stop}
+use Rattle.xa_caller.specs.xa_events.declared.event.Doing.TheVariants.{Off, Idle, Busy}
+use Rattle.xa_caller.specs.xa_events.declared.event.Outcome.{Outcome}
+use Rattle.xa_caller.specs.xa_events.declared.event.StopCause.{StopCause}
+use Rattle.xa_caller.specs.xa_events.Server.{after_end, is_shutdown}
+use Rattle.xa_caller.specs.xa_events.Caller.{tick_floor}
+use Rattle.xa_caller.specs.xa_events.Answers.{reply_of}
+use Rattle.xa_caller.specs.xa_events.Request.Settlement.{EndedBy}
+use Rattle.xa_caller.specs.xa_events.declared.event.Doing.{Doing}
+use Rattle.xa_caller.specs.xa_types.declared.stamp.Worn.{Worn}
+use Rattle.xa_caller.specs.xa_types.declared.reply.Answer.{Answer}
+use Rattle.xa_caller.specs.xa_queue.declared.entry.Entry.{Entry}
 use Rattle.xa_caller.specs.Drafts.{Cargo}
-use Rattle.xa_held.specs.declared.cargo.Invocation.{Invocation}
+use Rattle.xa_caller.specs.xa_held.declared.cargo.Invocation.{Invocation}
 use Rattle.xa_server.specs.declared.closing.Closing.{Closing}
 use Rattle.xa_restart.specs.Rule.{Standing as Restarts, may_start_by}
-use Rattle.xa_work.specs.Work.{Standing, theirs}
+use Rattle.xa_caller.specs.xa_work.Work.{Standing, theirs}
 use Rattle.xa_server.specs.Noting.{Notes, IsWorn, with_room}
 use Rattle.xa_server.specs.declared.slot.ServerSlot.{ServerSlot}
 use Rattle.xa_server.specs.declared.slot.Last.TheVariants.{Nothing}

@@ -1,14 +1,14 @@
 -- A server's slot with its starter and its lives (this project's own).
 use Rattle.std.specs.Prelude.{◌≡◌, ◌⊎◌, ℕ, List, Option, Some, None}
-use Rattle.xa_types.specs.declared.ids.Generation.{Generation}
+use Rattle.xa_caller.specs.xa_types.declared.ids.Generation.{Generation}
 use Rattle.xa_link.specs.Starts.{AsksFor}
 use Rattle.xa_link.specs.Told.{Empty, Rose}
 use Rattle.xa_pipe.specs.Life.{LinkShows}
 use Rattle.xa_pipe.specs.Standing.{Standing as Life}
 use Rattle.xa_pipe.specs.Changes.{begun}
-use Rattle.xa_work.specs.Work.{Standing}
-use Rattle.xa_work.specs.declared.work.Halt.{Halt}
-use Rattle.xa_work.specs.declared.work.Halt.TheVariants.{NoMemory}
+use Rattle.xa_caller.specs.xa_work.Work.{Standing}
+use Rattle.xa_caller.specs.xa_work.declared.work.Halt.{Halt}
+use Rattle.xa_caller.specs.xa_work.declared.work.Halt.TheVariants.{NoMemory}
 use Rattle.xa_server.specs.Noting.{HaltsWith}
 use Rattle.xa_server.specs.declared.slot.ServerSlot.{ServerSlot}
 use Rattle.xa_server.specs.Changes.{Starts, FailsToStart, next_life}

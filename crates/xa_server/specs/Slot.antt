@@ -1,15 +1,15 @@
 -- A server's slot beside its worker's events (after Tuxedo, UBBCONFIG; that a server's worker notes its events is this project's own).
 use Rattle.std.specs.Prelude.{◌≡◌, ℕ, ◌≤◌, Bool, List, [], length, IsSomeAnd}
-use Rattle.xa_types.specs.declared.ids.ServerId.{ServerId}
-use Rattle.xa_types.specs.Setup.{numbered}
-use Rattle.xa_events.specs.declared.event.Doing.{Doing}
-use Rattle.xa_events.specs.Server.{doing_after, outcome_in, is_shutdown_stop}
-use Rattle.xa_events.specs.Caller.{open_descriptors}
-use Rattle.xa_events.specs.Conversation.{connections}
-use Rattle.xa_events.specs.State.{caller_of}
-use Rattle.xa_events.specs.Views.{ServerView, server_view}
+use Rattle.xa_caller.specs.xa_types.declared.ids.ServerId.{ServerId}
+use Rattle.xa_caller.specs.xa_types.Setup.{numbered}
+use Rattle.xa_caller.specs.xa_events.declared.event.Doing.{Doing}
+use Rattle.xa_caller.specs.xa_events.Server.{doing_after, outcome_in, is_shutdown_stop}
+use Rattle.xa_caller.specs.xa_events.Caller.{open_descriptors}
+use Rattle.xa_caller.specs.xa_events.Conversation.{connections}
+use Rattle.xa_caller.specs.xa_events.State.{caller_of}
+use Rattle.xa_caller.specs.xa_events.Views.{ServerView, server_view}
 use Rattle.xa_restart.specs.Rule.{Standing as Restarts, IsRuleOf}
-use Rattle.xa_work.specs.Work.{Standing, theirs}
+use Rattle.xa_caller.specs.xa_work.Work.{Standing, theirs}
 use Rattle.xa_server.specs.declared.slot.ServerSlot.{ServerSlot}
 use Rattle.xa_server.specs.declared.slot.Last.{Last}
 use Rattle.xa_server.specs.Doings.{last_of, room_for, InHand}

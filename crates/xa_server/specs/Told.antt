@@ -1,23 +1,23 @@
 -- What a caller is told, and the end that stands behind it (this project's own).
 use Rattle.std.specs.Prelude.{◌≡◌, ℕ, ◌≤◌, List, [], ◌∷◌, Option, Some, None, IsSomeAnd, IfSome}
 use Rattle.std.specs.List.{All, Contains}
-use Rattle.xa_types.specs.declared.stamp.Stamp.{Stamp}
-use Rattle.xa_types.specs.declared.ids.RequestId.{RequestId}
-use Rattle.xa_events.specs.Answers.{reply_of}
-use Rattle.xa_events.specs.Request.{settlement_in}
-use Rattle.xa_stamp.specs.declared.home.Stamped.{Stamped}
-use Rattle.xa_queue.specs.declared.entry.Entry.{Entry}
-use Rattle.xa_cell.specs.declared.view.Opening.{Opening}
-use Rattle.xa_cell.specs.declared.view.Fill.{Fill}
-use Rattle.xa_cell.specs.Views.{at}
-use Rattle.xa_cell.specs.Known.{named}
+use Rattle.xa_caller.specs.xa_types.declared.stamp.Stamp.{Stamp}
+use Rattle.xa_caller.specs.xa_types.declared.ids.RequestId.{RequestId}
+use Rattle.xa_caller.specs.xa_events.Answers.{reply_of}
+use Rattle.xa_caller.specs.xa_events.Request.{settlement_in}
+use Rattle.xa_caller.specs.xa_stamp.declared.home.Stamped.{Stamped}
+use Rattle.xa_caller.specs.xa_queue.declared.entry.Entry.{Entry}
+use Rattle.xa_caller.specs.xa_cell.declared.view.Opening.{Opening}
+use Rattle.xa_caller.specs.xa_cell.declared.view.Fill.{Fill}
+use Rattle.xa_caller.specs.xa_cell.Views.{at}
+use Rattle.xa_caller.specs.xa_cell.Known.{named}
 use Rattle.xa_caller.specs.Drafts.{Cargo}
-use Rattle.xa_types.specs.declared.reply.Answer.{Answer}
-use Rattle.xa_cell.specs.declared.tokens.Ticket.{Ticket}
-use Rattle.xa_cell.specs.declared.view.View.{View}
-use Rattle.xa_cell.specs.declared.filler.Filled.{Filled}
-use Rattle.xa_cell.specs.declared.filler.Filled.TheVariants as fills
-use Rattle.xa_cell.specs.Calls.{FilledAs}
+use Rattle.xa_caller.specs.xa_types.declared.reply.Answer.{Answer}
+use Rattle.xa_caller.specs.xa_cell.declared.tokens.Ticket.{Ticket}
+use Rattle.xa_caller.specs.xa_cell.declared.view.View.{View}
+use Rattle.xa_caller.specs.xa_cell.declared.filler.Filled.{Filled}
+use Rattle.xa_caller.specs.xa_cell.declared.filler.Filled.TheVariants as fills
+use Rattle.xa_caller.specs.xa_cell.Calls.{FilledAs}
 use Rattle.xa_caller.specs.declared.cargo.Filling.{Filling}
 use Rattle.xa_server.specs.declared.closing.Closing.{Closing}
 use Rattle.xa_server.specs.declared.closing.Given.{Given}

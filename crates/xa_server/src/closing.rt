@@ -1,18 +1,18 @@
 // The end of a request, which its caller has to be told.
 ghost use Rattle.std.specs.Prelude.{◌≡◌, ◌≤◌, Some, IfOk, IfSome};
-ghost use Rattle.xa_events.specs.Answers.{reply_of};
-ghost use Rattle.xa_events.specs.Request.Settlement.{EndedBy};
-ghost use Rattle.xa_stamp.specs.Home.{last_stamp};
-ghost use Rattle.xa_crew.specs.Crew.{no_stamp};
-ghost use Rattle.xa_cell.specs.Known.{known, IsSeatOf, IsTicketOf, SameSeat};
+ghost use Rattle.xa_caller.specs.xa_events.Answers.{reply_of};
+ghost use Rattle.xa_caller.specs.xa_events.Request.Settlement.{EndedBy};
+ghost use Rattle.xa_caller.specs.xa_stamp.Home.{last_stamp};
+ghost use Rattle.xa_caller.specs.xa_crew.Crew.{no_stamp};
+ghost use Rattle.xa_caller.specs.xa_cell.Known.{known, IsSeatOf, IsTicketOf, SameSeat};
 ghost use Rattle.xa_server.specs.Told.{GivenAs};
 
 use std::alloc::Global;
+use xa_caller::cell::{Cells, Filled, Ticket};
+use xa_caller::events::Outcome;
+use xa_caller::queue::Entry;
+use xa_caller::types::{Answer, Fault, NoMemory, Stamp};
 use xa_caller::{Caller, Cargo, Filling};
-use xa_cell::{Cells, Filled, Ticket};
-use xa_events::Outcome;
-use xa_queue::Entry;
-use xa_types::{Answer, Fault, NoMemory, Stamp};
 
 /// What the caller of a request is to be told, and the stamp of the event by which the request ended: it ends in `give`. There
 /// is no answer where the run halts.

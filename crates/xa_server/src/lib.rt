@@ -11,3 +11,10 @@ mod slot;
 pub use closing::{Closing, Given};
 pub use served::Served;
 pub use slot::{Last, ServerSlot};
+
+// What crates above name of those below.
+pub use xa_caller as caller;
+pub use xa_caller::{buffer, cell, events, held, lock, queue, route, stamp, types, work};
+pub use xa_link as link;
+pub use xa_pipe as pipe;
+pub use xa_restart as restart;

@@ -1,14 +1,14 @@
 // An event at the own home of the server's caller, with the room that it needs.
 ghost use Rattle.std.specs.Prelude.{◌≡◌, ◌<◌, None, IfOk, IfErr, OnErr};
-ghost use Rattle.xa_work.specs.Work.{IsNext};
+ghost use Rattle.xa_caller.specs.xa_work.Work.{IsNext};
 ghost use Rattle.xa_caller.specs.declared.phase.Phase.TheVariants as phases;
 ghost use Rattle.xa_caller.specs.Serving.{IsOfServer, version_ended};
 ghost use Rattle.xa_server.specs.Noting.{Notes, IsWorn, HaltsWith, with_room};
 
 use xa_caller::Caller;
-use xa_events::Event;
-use xa_types::{Stamp, Worn};
-use xa_work::Halt;
+use xa_caller::events::Event;
+use xa_caller::types::{Stamp, Worn};
+use xa_caller::work::Halt;
 
 // Notes the event, in room that was made before.
 pub(crate) fn note_in_room(caller: &mut Caller, event: Event) -> Result<Stamp, Worn>

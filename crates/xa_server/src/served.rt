@@ -9,10 +9,10 @@ ghost use Rattle.xa_server.specs.Served.{Tries, Counts, Halts};
 use crate::slot::ServerSlot;
 use std::alloc::Global;
 use xa_caller::Caller;
+use xa_caller::types::Name;
+use xa_caller::work::Halt;
 use xa_link::{Link, StartRefused, Starter};
 use xa_pipe::{EndedLife, Life};
-use xa_types::Name;
-use xa_work::Halt;
 
 /// A server's slot, what starts the server, and its lives that ended, in the order of their generations.
 pub struct Served<L: Link, T: Starter<L>> {

@@ -1,19 +1,19 @@
 // The slot of a server.
 ghost use Rattle.std.specs.Prelude.{◌≡◌, ◌+◌, ◌≤◌, ◌<◌, ◌^◌, ◌∷◌, [], Some, None, IfOk, IfErr, OnErr, IsSome, MatchOption, option_map, if◌then◌else◌};
 ghost use Rattle.xa_restart.specs.Rule.{may_start_by, IsLast};
-ghost use Rattle.xa_events.specs.declared.event.Doing.TheVariants as doings;
-ghost use Rattle.xa_work.specs.Work.{noted, theirs};
+ghost use Rattle.xa_caller.specs.xa_events.declared.event.Doing.TheVariants as doings;
+ghost use Rattle.xa_caller.specs.xa_work.Work.{noted, theirs};
 ghost use Rattle.xa_caller.specs.declared.phase.Phase.TheVariants as phases;
-ghost use Rattle.xa_types.specs.Kind.{is_sound};
-ghost use Rattle.xa_events.specs.declared.event.Outcome.TheVariants.{BadReturn};
-ghost use Rattle.xa_events.specs.Conversation.{connections};
-ghost use Rattle.xa_events.specs.Finishing.{returned, return_by};
-ghost use Rattle.xa_events.specs.Server.{after_end, is_shutdown};
-ghost use Rattle.xa_events.specs.Answers.{reply_of};
-ghost use Rattle.xa_events.specs.Request.Settlement.{EndedBy, SweptAway};
-ghost use Rattle.xa_events.specs.declared.event.Event.TheVariants.{Gone};
+ghost use Rattle.xa_caller.specs.xa_types.Kind.{is_sound};
+ghost use Rattle.xa_caller.specs.xa_events.declared.event.Outcome.TheVariants.{BadReturn};
+ghost use Rattle.xa_caller.specs.xa_events.Conversation.{connections};
+ghost use Rattle.xa_caller.specs.xa_events.Finishing.{returned, return_by};
+ghost use Rattle.xa_caller.specs.xa_events.Server.{after_end, is_shutdown};
+ghost use Rattle.xa_caller.specs.xa_events.Answers.{reply_of};
+ghost use Rattle.xa_caller.specs.xa_events.Request.Settlement.{EndedBy, SweptAway};
+ghost use Rattle.xa_caller.specs.xa_events.declared.event.Event.TheVariants.{Gone};
 ghost use Rattle.xa_server.specs.Doings.{life_in, last_by, outcome_of, is_death, IsAlive, IsBusy, InHand, MayStop};
-ghost use Rattle.xa_queue.specs.declared.entry.Entry.{Entry};
+ghost use Rattle.xa_caller.specs.xa_queue.declared.entry.Entry.{Entry};
 ghost use Rattle.xa_caller.specs.Drafts.{Cargo};
 
 use crate::closing::{Closing, close, reply_to};
@@ -21,13 +21,13 @@ use crate::noting::{note_anew, note_in_room};
 use std::alloc::Global;
 use std::mem;
 use std::snapshot::Snapshot;
+use xa_caller::events::{Doing, Ended, Event, Outcome, Started, StopCause, Stopped};
+use xa_caller::held::Invocation;
+use xa_caller::queue::Entry;
+use xa_caller::types::{Answer, Data, Fault, Generation, RequestId, Rval, ServerId, Stamp, Worn};
+use xa_caller::work::Halt;
 use xa_caller::{Caller, Cargo};
-use xa_events::{Doing, Ended, Event, Outcome, Started, StopCause, Stopped};
-use xa_held::Invocation;
-use xa_queue::Entry;
 use xa_restart::Lives;
-use xa_types::{Answer, Data, Fault, Generation, RequestId, Rval, ServerId, Stamp, Worn};
-use xa_work::Halt;
 
 /// How the request ended that the server ended last, where it has done nothing since.
 #[derive(Clone, Copy, PartialEq, Eq)]

@@ -1,27 +1,27 @@
 -- What each call of a seat leaves of what was taken and filled, by what its contract says of the view.
 use Rattle.std.proofs.Common.{◌≡◌, ℕ, zero, suc, ◌-◌, ◌<◌, ◌≤◌, List, [], ◌∷◌, length, set, refl, sym, ap, ◌∙◌, subst, arith, ⊎_elim}
-use Rattle.xa_types.specs.declared.ids.RequestId.{RequestId}
-use Rattle.xa_events.specs.Homes.{Home}
-use Rattle.xa_stamp.specs.declared.home.Stamped.{Stamped}
-use Rattle.xa_cell.specs.declared.cells.Cells.{Cells}
-use Rattle.xa_cell.specs.declared.filler.Filled.{Filled}
-use Rattle.xa_cell.specs.declared.filler.Filled.TheVariants.{Delivered, Dropped}
-use Rattle.xa_cell.specs.declared.owner.Cancelled.{Cancelled}
-use Rattle.xa_cell.specs.declared.owner.Cancelled.TheVariants.{Under, Came}
-use Rattle.xa_cell.specs.declared.tokens.Place.{Place}
-use Rattle.xa_cell.specs.declared.tokens.Seat.{Seat}
-use Rattle.xa_cell.specs.declared.tokens.Ticket.{Ticket}
-use Rattle.xa_cell.specs.declared.view.Opening.{Opening}
-use Rattle.xa_cell.specs.declared.view.Part.{Part}
-use Rattle.xa_cell.specs.declared.view.View.{View}
-use Rattle.xa_cell.specs.Calls.{after_looks, Began, AllTaken, TookAs, CancelledAs, FilledAs}
-use Rattle.xa_cell.specs.Changes.{looked, filled, dropped}
-use Rattle.xa_cell.specs.Growing.{Keeps, TakesMore, CancelTakes}
-use Rattle.xa_cell.specs.Known.{known, named}
-use Rattle.xa_cell.specs.Views.{nth, at, fill}
-use Rattle.xa_cell.proofs.Growing.{keeps_trans, looked_keeps, opened_keeps, cancelled_keeps, dropped_keeps, looks_keep, took_more, filled_more, more_behind}
-use Rattle.xa_cell.proofs.Lists.{below}
-use Rattle.xa_caller.specs.declared.cargo.Filling.{Filling}
+use Rattle.xa_server.specs.xa_types.declared.ids.RequestId.{RequestId}
+use Rattle.xa_server.specs.xa_events.Homes.{Home}
+use Rattle.xa_server.specs.xa_stamp.declared.home.Stamped.{Stamped}
+use Rattle.xa_server.specs.xa_cell.declared.cells.Cells.{Cells}
+use Rattle.xa_server.specs.xa_cell.declared.filler.Filled.{Filled}
+use Rattle.xa_server.specs.xa_cell.declared.filler.Filled.TheVariants.{Delivered, Dropped}
+use Rattle.xa_server.specs.xa_cell.declared.owner.Cancelled.{Cancelled}
+use Rattle.xa_server.specs.xa_cell.declared.owner.Cancelled.TheVariants.{Under, Came}
+use Rattle.xa_server.specs.xa_cell.declared.tokens.Place.{Place}
+use Rattle.xa_server.specs.xa_cell.declared.tokens.Seat.{Seat}
+use Rattle.xa_server.specs.xa_cell.declared.tokens.Ticket.{Ticket}
+use Rattle.xa_server.specs.xa_cell.declared.view.Opening.{Opening}
+use Rattle.xa_server.specs.xa_cell.declared.view.Part.{Part}
+use Rattle.xa_server.specs.xa_cell.declared.view.View.{View}
+use Rattle.xa_server.specs.xa_cell.Calls.{after_looks, Began, AllTaken, TookAs, CancelledAs, FilledAs}
+use Rattle.xa_server.specs.xa_cell.Changes.{looked, filled, dropped}
+use Rattle.xa_server.specs.xa_cell.Growing.{Keeps, TakesMore, CancelTakes}
+use Rattle.xa_server.specs.xa_cell.Known.{known, named}
+use Rattle.xa_server.specs.xa_cell.Views.{nth, at, fill}
+use Rattle.xa_server.proofs.xa_cell.Growing.{keeps_trans, looked_keeps, opened_keeps, cancelled_keeps, dropped_keeps, looks_keep, took_more, filled_more, more_behind}
+use Rattle.xa_server.proofs.xa_cell.Lists.{below}
+use Rattle.xa_server.specs.xa_caller.declared.cargo.Filling.{Filling}
 use Rattle.xa_told.specs.Growing.{Grows}
 use Rattle.xa_told.specs.Told.{HasEnd, AllEnded}
 use Rattle.xa_told.proofs.Ends.{ends_kept, ends_filling}

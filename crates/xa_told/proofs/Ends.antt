@@ -2,20 +2,20 @@
 use Rattle.std.proofs.Common.{ℕ, List, [], ◌∷◌, ◌++◌, Option, Some, None}
 use Rattle.std.specs.List.{All, Contains}
 use Rattle.std.proofs.lemmas.List.Elements.{All-same, All-push, All-weaker}
-use Rattle.xa_types.specs.declared.stamp.Stamp.{Stamp}
-use Rattle.xa_events.specs.declared.event.Event.{Event}
-use Rattle.xa_events.specs.declared.event.Event.TheVariants as events
-use Rattle.xa_events.specs.Homes.{Home}
-use Rattle.xa_stamp.specs.declared.home.Stamped.{Stamped}
-use Rattle.xa_cell.specs.declared.view.Opening.{Opening}
-use Rattle.xa_cell.specs.declared.view.View.{View}
-use Rattle.xa_cell.specs.Growing.{Keeps, TakesMore, FillsMore}
-use Rattle.xa_cell.specs.Views.{at, fill}
-use Rattle.xa_caller.specs.declared.cargo.Filling.{Filling}
+use Rattle.xa_server.specs.xa_types.declared.stamp.Stamp.{Stamp}
+use Rattle.xa_server.specs.xa_events.declared.event.Event.{Event}
+use Rattle.xa_server.specs.xa_events.declared.event.Event.TheVariants as events
+use Rattle.xa_server.specs.xa_events.Homes.{Home}
+use Rattle.xa_server.specs.xa_stamp.declared.home.Stamped.{Stamped}
+use Rattle.xa_server.specs.xa_cell.declared.view.Opening.{Opening}
+use Rattle.xa_server.specs.xa_cell.declared.view.View.{View}
+use Rattle.xa_server.specs.xa_cell.Growing.{Keeps, TakesMore, FillsMore}
+use Rattle.xa_server.specs.xa_cell.Views.{at, fill}
+use Rattle.xa_server.specs.xa_caller.declared.cargo.Filling.{Filling}
 use Rattle.xa_told.specs.Growing.{Grows}
 use Rattle.std.specs.Prelude.{IfSome}
-use Rattle.xa_types.specs.declared.ids.RequestId.{RequestId}
-use Rattle.xa_types.specs.declared.reply.Answer.{Answer as Reply}
+use Rattle.xa_server.specs.xa_types.declared.ids.RequestId.{RequestId}
+use Rattle.xa_server.specs.xa_types.declared.reply.Answer.{Answer as Reply}
 use Rattle.xa_told.specs.Told.{WasTaken, AnswersTaken, EndsAt, HasEnd, AllEnded}
 use Rattle.xa_told.proofs.Growth.{only_at}
 

@@ -2,12 +2,12 @@
 use Rattle.std.proofs.Common.{◌≡◌, ◌≢◌, ℕ, List, [], ◌∷◌, ◌++◌, sym, subst, ⊎_elim}
 use Rattle.std.specs.List.{Contains}
 use Rattle.std.proofs.lemmas.List.Elements.{Contains-append_left}
-use Rattle.xa_cell.specs.declared.view.Fill.{Fill}
-use Rattle.xa_cell.specs.declared.view.Opening.{Opening}
-use Rattle.xa_cell.specs.declared.view.View.{View}
-use Rattle.xa_cell.specs.Growing.{Keeps, TakesMore, FillsMore}
-use Rattle.xa_cell.specs.Views.{at, fill}
-use Rattle.xa_cell.proofs.Lists.{decided}
+use Rattle.xa_server.specs.xa_cell.declared.view.Fill.{Fill}
+use Rattle.xa_server.specs.xa_cell.declared.view.Opening.{Opening}
+use Rattle.xa_server.specs.xa_cell.declared.view.View.{View}
+use Rattle.xa_server.specs.xa_cell.Growing.{Keeps, TakesMore, FillsMore}
+use Rattle.xa_server.specs.xa_cell.Views.{at, fill}
+use Rattle.xa_server.proofs.xa_cell.Lists.{decided}
 use Rattle.xa_told.specs.Growing.{Grows}
 
 -- what holds at k and at each other number

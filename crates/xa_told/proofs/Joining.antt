@@ -4,30 +4,30 @@ use Rattle.std.specs.Prelude.{IsSomeAnd, IfSome}
 use Rattle.std.specs.List.{All, Contains, flat_map}
 use Rattle.std.proofs.lemmas.List.Elements.{All-nil, All-cons, All-head, All-tail, All-append, All-contains, All-contains_itself, All-weaker}
 use Rattle.std.proofs.lemmas.Bool.{cases_Bool}
-use Rattle.xa_types.specs.declared.fault.Fault.TheVariants.{OType}
-use Rattle.xa_types.specs.declared.data.Data.{Data}
-use Rattle.xa_types.specs.declared.ids.RequestId.{RequestId}
-use Rattle.xa_types.specs.declared.data.Kind.{Kind}
-use Rattle.xa_types.specs.declared.reply.Answer.{Answer as Reply}
-use Rattle.xa_types.specs.declared.reply.Answer.TheVariants.{Success, Failed, Error}
-use Rattle.xa_types.specs.declared.setup.Setup.{Setup}
-use Rattle.xa_types.specs.declared.stamp.Stamp.{Stamp}
-use Rattle.xa_types.specs.Kind.{kind_of}
-use Rattle.xa_events.specs.declared.event.Event.{Event}
-use Rattle.xa_events.specs.declared.event.Event.TheVariants.{Answer}
-use Rattle.xa_events.specs.declared.event.Replied.{Replied}
-use Rattle.xa_events.specs.Answers.{reply_of, answer_to, under_kind, kind_fits, has_kind, has_payload, IsAnswerTo}
-use Rattle.xa_events.specs.Homes.{Home}
-use Rattle.xa_events.specs.Request.{Settlement, settlement_in}
-use Rattle.xa_stamp.specs.declared.home.Stamped.{Stamped}
-use Rattle.xa_crew.specs.Seen.{WasTold}
-use Rattle.xa_cell.specs.declared.tokens.Seat.{Seat}
-use Rattle.xa_cell.specs.declared.view.Fill.{Fill}
-use Rattle.xa_cell.specs.declared.view.Part.{Part}
-use Rattle.xa_cell.specs.Views.{at}
-use Rattle.xa_cell.specs.Known.{known}
-use Rattle.xa_cell.specs.Law.{parts_of, Answered}
-use Rattle.xa_caller.specs.declared.cargo.Filling.{Filling}
+use Rattle.xa_server.specs.xa_types.declared.fault.Fault.TheVariants.{OType}
+use Rattle.xa_server.specs.xa_types.declared.data.Data.{Data}
+use Rattle.xa_server.specs.xa_types.declared.ids.RequestId.{RequestId}
+use Rattle.xa_server.specs.xa_types.declared.data.Kind.{Kind}
+use Rattle.xa_server.specs.xa_types.declared.reply.Answer.{Answer as Reply}
+use Rattle.xa_server.specs.xa_types.declared.reply.Answer.TheVariants.{Success, Failed, Error}
+use Rattle.xa_server.specs.xa_types.declared.setup.Setup.{Setup}
+use Rattle.xa_server.specs.xa_types.declared.stamp.Stamp.{Stamp}
+use Rattle.xa_server.specs.xa_types.Kind.{kind_of}
+use Rattle.xa_server.specs.xa_events.declared.event.Event.{Event}
+use Rattle.xa_server.specs.xa_events.declared.event.Event.TheVariants.{Answer}
+use Rattle.xa_server.specs.xa_events.declared.event.Replied.{Replied}
+use Rattle.xa_server.specs.xa_events.Answers.{reply_of, answer_to, under_kind, kind_fits, has_kind, has_payload, IsAnswerTo}
+use Rattle.xa_server.specs.xa_events.Homes.{Home}
+use Rattle.xa_server.specs.xa_events.Request.{Settlement, settlement_in}
+use Rattle.xa_server.specs.xa_stamp.declared.home.Stamped.{Stamped}
+use Rattle.xa_server.specs.xa_crew.Seen.{WasTold}
+use Rattle.xa_server.specs.xa_cell.declared.tokens.Seat.{Seat}
+use Rattle.xa_server.specs.xa_cell.declared.view.Fill.{Fill}
+use Rattle.xa_server.specs.xa_cell.declared.view.Part.{Part}
+use Rattle.xa_server.specs.xa_cell.Views.{at}
+use Rattle.xa_server.specs.xa_cell.Known.{known}
+use Rattle.xa_server.specs.xa_cell.Law.{parts_of, Answered}
+use Rattle.xa_server.specs.xa_caller.declared.cargo.Filling.{Filling}
 use Rattle.xa_told.specs.Told.{TookFor, WasTaken, AnswersTaken, EndsAt, HasEnd, AllEnded}
 
 taken_in : Seat Filling → ℕ → List (Fill Filling)

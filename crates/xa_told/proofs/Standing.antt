@@ -3,22 +3,22 @@ use Rattle.std.proofs.Common.{◌≡◌, ℕ, ◌<◌, ◌==◌, Bool, true, Lis
 use Rattle.std.specs.List.{All, Contains, filter}
 use Rattle.std.proofs.lemmas.List.Elements.{All-nil, All-cons, All-head, All-tail, All-same, All-weaker, All-contains, All-contains_itself}
 use Rattle.std.proofs.lemmas.Bool.{cases_Bool}
-use Rattle.xa_types.specs.declared.setup.Setup.{Setup}
-use Rattle.xa_events.specs.Homes.{Home, home_of}
-use Rattle.xa_stamp.specs.declared.home.Stamped.{Stamped}
-use Rattle.xa_lock.specs.declared.makers.Made.{Made}
-use Rattle.xa_lock.specs.Makers.{maker_of, noted_in}
-use Rattle.xa_lock.specs.Pages.{entries_by}
-use Rattle.xa_crew.specs.Crew.{stands_at, IsCrew}
-use Rattle.xa_crew.proofs.Lists.{filter-yes, filter-no, same_home-is, All-homes}
-use Rattle.xa_cell.specs.declared.view.View.{View}
-use Rattle.xa_cell.specs.Growing.{Keeps, TakesMore}
-use Rattle.xa_cell.specs.Views.{at}
-use Rattle.xa_caller.specs.declared.cargo.Filling.{Filling}
+use Rattle.xa_server.specs.xa_types.declared.setup.Setup.{Setup}
+use Rattle.xa_server.specs.xa_events.Homes.{Home, home_of}
+use Rattle.xa_server.specs.xa_stamp.declared.home.Stamped.{Stamped}
+use Rattle.xa_server.specs.xa_lock.declared.makers.Made.{Made}
+use Rattle.xa_server.specs.xa_lock.Makers.{maker_of, noted_in}
+use Rattle.xa_server.specs.xa_lock.Pages.{entries_by}
+use Rattle.xa_server.specs.xa_crew.Crew.{stands_at, IsCrew}
+use Rattle.xa_server.proofs.xa_crew.Lists.{filter-yes, filter-no, same_home-is, All-homes}
+use Rattle.xa_server.specs.xa_cell.declared.view.View.{View}
+use Rattle.xa_server.specs.xa_cell.Growing.{Keeps, TakesMore}
+use Rattle.xa_server.specs.xa_cell.Views.{at}
+use Rattle.xa_server.specs.xa_caller.declared.cargo.Filling.{Filling}
 use Rattle.std.specs.Prelude.{IfSome, Option, Some, None}
-use Rattle.xa_types.specs.declared.ids.RequestId.{RequestId}
-use Rattle.xa_types.specs.declared.stamp.Stamp.{Stamp}
-use Rattle.xa_types.specs.declared.reply.Answer.{Answer as Reply}
+use Rattle.xa_server.specs.xa_types.declared.ids.RequestId.{RequestId}
+use Rattle.xa_server.specs.xa_types.declared.stamp.Stamp.{Stamp}
+use Rattle.xa_server.specs.xa_types.declared.reply.Answer.{Answer as Reply}
 use Rattle.xa_server.specs.Told.{IsEnded, EndedFor, FilledByEnds}
 use Rattle.xa_told.specs.Told.{EndsAt, HasEnd, AllEnded, StandAt}
 use Rattle.xa_told.proofs.Growth.{only_at}

@@ -3,24 +3,24 @@ use Rattle.std.proofs.Common.{◌≡◌, ℕ, zero, suc, List, [], ◌∷◌, �
 use Rattle.std.specs.Prelude.{slice_set}
 use Rattle.std.specs.List.{Contains}
 use Rattle.std.proofs.lemmas.List.Elements.{Contains-push, All-same, All-push}
-use Rattle.xa_types.specs.declared.data.Kind.{Kind}
-use Rattle.xa_types.specs.declared.reply.Answer.{Answer as Reply}
-use Rattle.xa_types.specs.declared.ids.RequestId.{RequestId}
-use Rattle.xa_types.specs.declared.stamp.Stamp.{Stamp}
-use Rattle.xa_events.specs.declared.event.Event.TheVariants.{Answer}
-use Rattle.xa_events.specs.declared.event.Replied.{Replied}
-use Rattle.xa_events.specs.Answers.{answer_to}
-use Rattle.xa_stamp.specs.declared.home.Stamped.{Stamped}
-use Rattle.xa_cell.specs.declared.view.Fill.{Fill}
-use Rattle.xa_cell.specs.declared.view.Part.{Part}
-use Rattle.xa_cell.specs.declared.view.View.{View}
-use Rattle.xa_cell.specs.Views.{nth, at, opening, fill}
-use Rattle.xa_cell.specs.Changes.{looked, took}
-use Rattle.xa_cell.specs.Known.{known}
-use Rattle.xa_caller.specs.declared.cargo.Filling.{Filling}
-use Rattle.xa_caller.specs.Caller.{Standing as Caller}
-use Rattle.xa_caller.specs.Changes.{Answers}
-use Rattle.xa_cell.proofs.Growing.{looked_keeps}
+use Rattle.xa_server.specs.xa_types.declared.data.Kind.{Kind}
+use Rattle.xa_server.specs.xa_types.declared.reply.Answer.{Answer as Reply}
+use Rattle.xa_server.specs.xa_types.declared.ids.RequestId.{RequestId}
+use Rattle.xa_server.specs.xa_types.declared.stamp.Stamp.{Stamp}
+use Rattle.xa_server.specs.xa_events.declared.event.Event.TheVariants.{Answer}
+use Rattle.xa_server.specs.xa_events.declared.event.Replied.{Replied}
+use Rattle.xa_server.specs.xa_events.Answers.{answer_to}
+use Rattle.xa_server.specs.xa_stamp.declared.home.Stamped.{Stamped}
+use Rattle.xa_server.specs.xa_cell.declared.view.Fill.{Fill}
+use Rattle.xa_server.specs.xa_cell.declared.view.Part.{Part}
+use Rattle.xa_server.specs.xa_cell.declared.view.View.{View}
+use Rattle.xa_server.specs.xa_cell.Views.{nth, at, opening, fill}
+use Rattle.xa_server.specs.xa_cell.Changes.{looked, took}
+use Rattle.xa_server.specs.xa_cell.Known.{known}
+use Rattle.xa_server.specs.xa_caller.declared.cargo.Filling.{Filling}
+use Rattle.xa_server.specs.xa_caller.Caller.{Standing as Caller}
+use Rattle.xa_server.specs.xa_caller.Changes.{Answers}
+use Rattle.xa_server.proofs.xa_cell.Growing.{looked_keeps}
 use Rattle.xa_told.specs.Growing.{Grows}
 use Rattle.xa_told.specs.Told.{TookFor, WasTaken, AnswersTaken}
 use Rattle.xa_told.proofs.Calls.{took_is_more}

@@ -1,21 +1,21 @@
 -- What seats show of answers: whose end each filling has, and which filling each answer has (XATMI, tpgetrply; cells are this project's own).
 use Rattle.std.specs.Prelude.{◌≡◌, ℕ, ◌<◌, List, Option, Some, IfSome}
 use Rattle.std.specs.List.{All, Contains}
-use Rattle.xa_types.specs.declared.data.Kind.{Kind}
-use Rattle.xa_types.specs.declared.reply.Answer.{Answer as Reply}
-use Rattle.xa_types.specs.declared.setup.Setup.{Setup}
-use Rattle.xa_types.specs.declared.stamp.Stamp.{Stamp}
-use Rattle.xa_types.specs.declared.ids.RequestId.{RequestId}
-use Rattle.xa_events.specs.declared.event.Event.{Event}
-use Rattle.xa_events.specs.declared.event.Event.TheVariants.{Answer}
-use Rattle.xa_events.specs.declared.event.Replied.{Replied}
-use Rattle.xa_events.specs.Answers.{answer_to}
-use Rattle.xa_events.specs.Homes.{Home, home_of}
-use Rattle.xa_stamp.specs.declared.home.Stamped.{Stamped}
-use Rattle.xa_cell.specs.declared.view.Fill.{Fill}
-use Rattle.xa_cell.specs.declared.view.View.{View}
-use Rattle.xa_cell.specs.Views.{at}
-use Rattle.xa_caller.specs.declared.cargo.Filling.{Filling}
+use Rattle.xa_server.specs.xa_types.declared.data.Kind.{Kind}
+use Rattle.xa_server.specs.xa_types.declared.reply.Answer.{Answer as Reply}
+use Rattle.xa_server.specs.xa_types.declared.setup.Setup.{Setup}
+use Rattle.xa_server.specs.xa_types.declared.stamp.Stamp.{Stamp}
+use Rattle.xa_server.specs.xa_types.declared.ids.RequestId.{RequestId}
+use Rattle.xa_server.specs.xa_events.declared.event.Event.{Event}
+use Rattle.xa_server.specs.xa_events.declared.event.Event.TheVariants.{Answer}
+use Rattle.xa_server.specs.xa_events.declared.event.Replied.{Replied}
+use Rattle.xa_server.specs.xa_events.Answers.{answer_to}
+use Rattle.xa_server.specs.xa_events.Homes.{Home, home_of}
+use Rattle.xa_server.specs.xa_stamp.declared.home.Stamped.{Stamped}
+use Rattle.xa_server.specs.xa_cell.declared.view.Fill.{Fill}
+use Rattle.xa_server.specs.xa_cell.declared.view.View.{View}
+use Rattle.xa_server.specs.xa_cell.Views.{at}
+use Rattle.xa_server.specs.xa_caller.declared.cargo.Filling.{Filling}
 use Rattle.xa_server.specs.Told.{Settles, HasStamp}
 
 -- the answer, noted with that stamp, is a filling that this seat took from a cell, for the same request

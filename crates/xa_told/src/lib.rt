@@ -3,3 +3,9 @@
 #![tactic(auto)]
 
 pub mod laws;
+
+// What crates above name of those below.
+pub use xa_server as server;
+pub use xa_server::{
+    buffer, caller, cell, events, held, link, lock, pipe, queue, restart, route, stamp, types, work,
+};

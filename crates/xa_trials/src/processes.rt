@@ -1,13 +1,15 @@
 //! What the processes of servers do: how they are started, what their pipes carry, and that nothing is left of them.
 ghost use Rattle.std.specs.Prelude.{◌≡◌, true, IfOk, codes};
-ghost use Rattle.xa_types.specs.Configured.{is_configured, is_valid_program};
+ghost use Rattle.xa_report.specs.xa_types.Configured.{is_configured, is_valid_program};
 
 use crate::rows::none_fails;
 use crate::served::{has, remove};
 use std::alloc::Global;
 use std::fs;
-use xa_link::{ChildStarter, ChildYard, Link, Source, StartRefused, Starter, Yard, put};
-use xa_types::{Generation, Name, NoMemory, Octets, QueueSetup, Sequence, ServerSetup, Setup};
+use xa_report::link::{ChildStarter, ChildYard, Link, Source, StartRefused, Starter, Yard, put};
+use xa_report::types::{
+    Generation, Name, NoMemory, Octets, QueueSetup, Sequence, ServerSetup, Setup,
+};
 
 // What a link is to do next.
 enum Step {

@@ -3,11 +3,11 @@ use crate::rows::none_fails;
 use std::alloc::Global;
 use std::fmt::Display;
 use std::io;
-use xa_events::{Event, StopCause, Stopped};
-use xa_link::MemoryArguments;
-use xa_program::{Input, Status, all_words, words_behind};
+use xa_report::events::{Event, StopCause, Stopped};
+use xa_report::link::MemoryArguments;
+use xa_report::program::{Input, Status, all_words, words_behind};
+use xa_report::types::{Generation, Name, Octets, ServerId, Stamp};
 use xa_report::{report, report_lives};
-use xa_types::{Generation, Name, Octets, ServerId, Stamp};
 
 const LINES: [(Status, u8, &str); 11] = [
     (Status::Done, 0, ""),

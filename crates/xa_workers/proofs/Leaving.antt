@@ -4,26 +4,26 @@ use Rattle.std.specs.Prelude.{is_some}
 use Rattle.std.specs.List.{All, Contains, filter}
 use Rattle.std.proofs.lemmas.Bool.{cases_Bool}
 use Rattle.std.proofs.lemmas.List.Elements.{All-nil, All-cons, All-head, All-tail, All-push, All-weaker, All-contains, Contains-append_left, Contains-push}
-use Rattle.xa_types.specs.declared.call.Op.{Op}
-use Rattle.xa_types.specs.declared.ids.CallerId.{CallerId}
-use Rattle.xa_types.specs.declared.stamp.Stamp.{Stamp}
-use Rattle.xa_events.specs.declared.event.Event.TheVariants.{Leave}
-use Rattle.xa_events.specs.Caller.{is_leave_of}
-use Rattle.xa_events.specs.Homes.Home.{CallerHome}
-use Rattle.xa_events.specs.Words.{EachNumbered}
-use Rattle.xa_stamp.specs.declared.home.Stamped.{Stamped}
-use Rattle.xa_crew.specs.Crew.{stands_at}
-use Rattle.xa_crew.specs.Seen.{SawEntry}
-use Rattle.xa_crew.proofs.Lists.{filter-yes, filter-no}
-use Rattle.xa_cell.proofs.Lists.{below}
-use Rattle.xa_work.specs.Work.{Standing as Working}
-use Rattle.xa_script.specs.declared.script.Client.{Client}
-use Rattle.xa_desk.specs.declared.domain.Domain.{Domain}
-use Rattle.xa_desk.specs.Whole.{Whole, IsKnown}
-use Rattle.xa_desk.proofs.Visiting.{stamp_is}
-use Rattle.xa_clients.specs.declared.working.ClientWorker.{ClientWorker}
-use Rattle.xa_clients.specs.declared.working.ClientWorker.TheVariants.{Left}
-use Rattle.xa_clients.specs.declared.working.Ended.{Ended}
+use Rattle.xa_boot.specs.xa_types.declared.call.Op.{Op}
+use Rattle.xa_boot.specs.xa_types.declared.ids.CallerId.{CallerId}
+use Rattle.xa_boot.specs.xa_types.declared.stamp.Stamp.{Stamp}
+use Rattle.xa_boot.specs.xa_events.declared.event.Event.TheVariants.{Leave}
+use Rattle.xa_boot.specs.xa_events.Caller.{is_leave_of}
+use Rattle.xa_boot.specs.xa_events.Homes.Home.{CallerHome}
+use Rattle.xa_boot.specs.xa_events.Words.{EachNumbered}
+use Rattle.xa_boot.specs.xa_stamp.declared.home.Stamped.{Stamped}
+use Rattle.xa_boot.specs.xa_crew.Crew.{stands_at}
+use Rattle.xa_boot.specs.xa_crew.Seen.{SawEntry}
+use Rattle.xa_boot.proofs.xa_crew.Lists.{filter-yes, filter-no}
+use Rattle.xa_boot.proofs.xa_cell.Lists.{below}
+use Rattle.xa_boot.specs.xa_work.Work.{Standing as Working}
+use Rattle.xa_joined.specs.xa_script.declared.script.Client.{Client}
+use Rattle.xa_boot.specs.xa_desk.declared.domain.Domain.{Domain}
+use Rattle.xa_boot.specs.xa_desk.Whole.{Whole, IsKnown}
+use Rattle.xa_boot.proofs.xa_desk.Visiting.{stamp_is}
+use Rattle.xa_boot.specs.xa_clients.declared.working.ClientWorker.{ClientWorker}
+use Rattle.xa_boot.specs.xa_clients.declared.working.ClientWorker.TheVariants.{Left}
+use Rattle.xa_boot.specs.xa_clients.declared.working.Ended.{Ended}
 use Rattle.xa_workers.specs.Working.{IsGone, EachDone}
 use Rattle.xa_workers.specs.Closing.{KeepsItsOwn, HasLeftBy, IsBehindAll}
 

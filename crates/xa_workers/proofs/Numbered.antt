@@ -1,6 +1,6 @@
 -- What becomes of each entry of a list with its number, by places.
 use Rattle.std.proofs.Common.{◌≡◌, ℕ, zero, suc, ◌+◌, ◌<◌, List, [], ◌∷◌, length, map, get_or, refl, ap₂, subst, arith}
-use Rattle.xa_events.specs.Words.{EachNumbered}
+use Rattle.xa_boot.specs.xa_events.Words.{EachNumbered}
 
 pub numbered-at : {X : Type 0} (P : ℕ → X → Type 0) (n : ℕ) (xs : List X) → EachNumbered P n xs → (k : ℕ) (d : X) → k < length xs → P (n + k) (get_or xs k d)
 numbered-at P n [] each k d within = absurd (omega (arith, within))

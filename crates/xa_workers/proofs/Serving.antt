@@ -6,24 +6,24 @@ use denote.Enum.Declared as declared_enum
 use denote.Param.Send.{IsSend, sendable, struct_send, enum_send, recorded_send}
 use Rattle.std.proofs.Crossing.{crosses}
 use Rattle.http_server.proofs.log.Log.TheSendSync as log
-use Rattle.xa_types.proofs.name.Name.TheSendSync as name
-use Rattle.xa_types.proofs.data.Data.TheSendSync as payload
-use Rattle.xa_caller.specs.contracts.cargo.Filling as Filling
-use Rattle.xa_held.specs.contracts.cargo.Cargo as Cargo
-use Rattle.xa_link.specs.declared.link.Link as Link
-use Rattle.xa_link.specs.declared.source.Source as Source
-use Rattle.xa_link.specs.declared.sink.Sink as Sink
-use Rattle.xa_link.specs.contracts.link.Killed as Killed
-use Rattle.xa_pipe.specs.contracts.noted.Said as Said
-use Rattle.xa_pipe.specs.contracts.noted.Asked as Asked
-use Rattle.xa_pipe.specs.contracts.over.EndedLife as EndedLife
-use Rattle.xa_pipe.specs.contracts.over.Pipes as Pipes
-use Rattle.xa_restart.specs.contracts.lives.Lives as Lives
-use Rattle.xa_queue.specs.contracts.entry.Entry as Entry
-use Rattle.xa_server.specs.contracts.slot.ServerSlot as ServerSlot
-use Rattle.xa_server.specs.contracts.served.Served as Served
-use Rattle.xa_links.specs.contracts.working.CutLife as CutLife
-use Rattle.xa_links.specs.contracts.working.ServerWorker as ServerWorker
+use Rattle.xa_boot.proofs.xa_types.name.Name.TheSendSync as name
+use Rattle.xa_boot.proofs.xa_types.data.Data.TheSendSync as payload
+use Rattle.xa_boot.specs.xa_caller.contracts.cargo.Filling as Filling
+use Rattle.xa_boot.specs.xa_held.contracts.cargo.Cargo as Cargo
+use Rattle.xa_boot.specs.xa_link.declared.link.Link as Link
+use Rattle.xa_boot.specs.xa_link.declared.source.Source as Source
+use Rattle.xa_boot.specs.xa_link.declared.sink.Sink as Sink
+use Rattle.xa_boot.specs.xa_link.contracts.link.Killed as Killed
+use Rattle.xa_boot.specs.xa_pipe.contracts.noted.Said as Said
+use Rattle.xa_boot.specs.xa_pipe.contracts.noted.Asked as Asked
+use Rattle.xa_boot.specs.xa_pipe.contracts.over.EndedLife as EndedLife
+use Rattle.xa_boot.specs.xa_pipe.contracts.over.Pipes as Pipes
+use Rattle.xa_boot.specs.xa_restart.contracts.lives.Lives as Lives
+use Rattle.xa_boot.specs.xa_queue.contracts.entry.Entry as Entry
+use Rattle.xa_boot.specs.xa_server.contracts.slot.ServerSlot as ServerSlot
+use Rattle.xa_boot.specs.xa_server.contracts.served.Served as Served
+use Rattle.xa_boot.specs.xa_links.contracts.working.CutLife as CutLife
+use Rattle.xa_boot.specs.xa_links.contracts.working.ServerWorker as ServerWorker
 use Rattle.xa_workers.proofs.Sending.{cargo_sends, desk_field, stopped_sends}
 
 said_sends : IsSend Said.the_row

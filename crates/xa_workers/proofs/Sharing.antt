@@ -5,7 +5,7 @@ use denote.Struct.Struct.{Struct}
 use denote.Struct.Declared as declared
 use denote.Param.Send.{IsSend, IsSync, sendable, struct_send, struct_sync, recorded_send, recorded_sync}
 use Rattle.std.proofs.Crossing.{crosses}
-use Rattle.xa_script.proofs.script.Client.TheSendSync as client
+use Rattle.xa_joined.proofs.xa_script.script.Client.TheSendSync as client
 use Rattle.xa_workers.specs.contracts.crew.Shared as Shared
 use Rattle.xa_workers.specs.contracts.crew.ClientSide as ClientSide
 use Rattle.xa_workers.proofs.Sending.{client_worker_sends, closer_field, domain_syncs}

@@ -7,56 +7,56 @@ use Rattle.std.proofs.lemmas.Bool.{or_right}
 use Rattle.std.proofs.lemmas.List.{length-set, set-set, get_or-set_same, get_or-set_other, get_or_default}
 use Rattle.std.proofs.lemmas.List.Elements.{All-nil, All-cons, All-head, All-tail, All-append, All-push, All-weaker}
 use Rattle.std.proofs.lemmas.List.Folds.{list_any-append}
-use Rattle.xa_types.specs.declared.ids.CallerId.{CallerId}
-use Rattle.xa_types.specs.declared.stamp.Stamp.{Stamp}
-use Rattle.xa_types.specs.declared.stamp.Worn.{Worn}
-use Rattle.xa_events.specs.declared.event.Event.{Event}
-use Rattle.xa_events.specs.declared.event.Event.TheVariants.{Close}
-use Rattle.xa_events.specs.Cases.{WorkerPart}
-use Rattle.xa_events.specs.Homes.{home_of, same_home, worker_of}
-use Rattle.xa_events.specs.Homes.Home.{BoardHome, QueueHome}
-use Rattle.xa_events.specs.Local.{worker_events}
-use Rattle.xa_events.specs.Queue.{is_closed, is_close_of}
-use Rattle.xa_events.specs.Words.{AtEach, EachNumbered}
-use Rattle.xa_stamp.specs.declared.home.Stamped.{Stamped}
-use Rattle.xa_stamp.specs.declared.told.Noted.{Noted}
-use Rattle.xa_stamp.specs.Home.{last_stamp, larger_of}
-use Rattle.xa_stamp.proofs.Stamps.{last_stamp-push, Rises-push}
-use Rattle.xa_lock.specs.declared.makers.Made.{Made}
-use Rattle.xa_lock.specs.Known.{known as page_of, IsPassOf}
-use Rattle.xa_lock.specs.Makers.{noted_in}
-use Rattle.xa_lock.specs.Pages.{StartsWith}
-use Rattle.xa_crew.specs.Crew.{IsOfDomain, MayNote, no_stamp, stands_at}
-use Rattle.xa_crew.specs.Seen.{past_in, IsBehind, SawFronts, WasTold}
-use Rattle.xa_crew.proofs.Lists.{past_in-append}
-use Rattle.xa_cell.specs.declared.tokens.Seat.{Seat}
-use Rattle.xa_cell.specs.Known.{known, IsSeatOf, IsNew}
-use Rattle.xa_cell.proofs.Lists.{decided}
-use Rattle.xa_caller.specs.declared.cargo.Filling.{Filling}
-use Rattle.xa_queue.specs.Changes.{IsWorn, next_stamp}
-use Rattle.xa_held.specs.declared.kept_queue.QueueNote.{QueueNote}
-use Rattle.xa_held.specs.declared.kept_queue.Setting.{Setting}
-use Rattle.xa_held.specs.Joins.{changes_at, events_at}
-use Rattle.xa_held.specs.Kept.{Kept, setting_of, notes_of}
-use Rattle.xa_held.specs.Steps.{ClosedAs}
-use Rattle.xa_held.specs.Visits.{Visits, Reaches}
-use Rattle.xa_held.proofs.Lefts.{events_front}
-use Rattle.xa_held.proofs.Owning.{queue_own}
-use Rattle.xa_held.proofs.Seen.{events_kept, events_more, sees_more}
-use Rattle.xa_work.specs.declared.work.Halt.{Halt}
-use Rattle.xa_work.specs.declared.work.Halt.TheVariants as halts
-use Rattle.xa_work.specs.Work.{Standing as Working, IsWorkOf, theirs}
-use Rattle.xa_work.proofs.Noting.{theirs-more}
-use Rattle.xa_desk.specs.declared.domain.Domain.{Domain}
-use Rattle.xa_desk.specs.Desks.{IsBoardPass, IsQueuePass, IsSettingOf, IsThere, Shows, page_in, page_at}
-use Rattle.xa_desk.specs.Made.{IsMade}
-use Rattle.xa_desk.specs.Whole.{Whole, entries_of, IsKnown}
-use Rattle.xa_desk.proofs.Leading.{AllMade, Grew, none_made, one_made, among_at, among_more, board_pass_stays, made_more, off_home, on_home, queue_pass_stays, shows_one_more, shows_still, starts_same, starts_trans, there}
-use Rattle.xa_desk.proofs.Visiting.{QueuePass, QueueLock, stamp_is, last_known, larger_known, behind_known}
-use Rattle.xa_clients.specs.declared.working.ClientWorker.{ClientWorker}
+use Rattle.xa_boot.specs.xa_types.declared.ids.CallerId.{CallerId}
+use Rattle.xa_boot.specs.xa_types.declared.stamp.Stamp.{Stamp}
+use Rattle.xa_boot.specs.xa_types.declared.stamp.Worn.{Worn}
+use Rattle.xa_boot.specs.xa_events.declared.event.Event.{Event}
+use Rattle.xa_boot.specs.xa_events.declared.event.Event.TheVariants.{Close}
+use Rattle.xa_boot.specs.xa_events.Cases.{WorkerPart}
+use Rattle.xa_boot.specs.xa_events.Homes.{home_of, same_home, worker_of}
+use Rattle.xa_boot.specs.xa_events.Homes.Home.{BoardHome, QueueHome}
+use Rattle.xa_boot.specs.xa_events.Local.{worker_events}
+use Rattle.xa_boot.specs.xa_events.Queue.{is_closed, is_close_of}
+use Rattle.xa_boot.specs.xa_events.Words.{AtEach, EachNumbered}
+use Rattle.xa_boot.specs.xa_stamp.declared.home.Stamped.{Stamped}
+use Rattle.xa_boot.specs.xa_stamp.declared.told.Noted.{Noted}
+use Rattle.xa_boot.specs.xa_stamp.Home.{last_stamp, larger_of}
+use Rattle.xa_boot.proofs.xa_stamp.Stamps.{last_stamp-push, Rises-push}
+use Rattle.xa_boot.specs.xa_lock.declared.makers.Made.{Made}
+use Rattle.xa_boot.specs.xa_lock.Known.{known as page_of, IsPassOf}
+use Rattle.xa_boot.specs.xa_lock.Makers.{noted_in}
+use Rattle.xa_boot.specs.xa_lock.Pages.{StartsWith}
+use Rattle.xa_boot.specs.xa_crew.Crew.{IsOfDomain, MayNote, no_stamp, stands_at}
+use Rattle.xa_boot.specs.xa_crew.Seen.{past_in, IsBehind, SawFronts, WasTold}
+use Rattle.xa_boot.proofs.xa_crew.Lists.{past_in-append}
+use Rattle.xa_boot.specs.xa_cell.declared.tokens.Seat.{Seat}
+use Rattle.xa_boot.specs.xa_cell.Known.{known, IsSeatOf, IsNew}
+use Rattle.xa_boot.proofs.xa_cell.Lists.{decided}
+use Rattle.xa_boot.specs.xa_caller.declared.cargo.Filling.{Filling}
+use Rattle.xa_boot.specs.xa_queue.Changes.{IsWorn, next_stamp}
+use Rattle.xa_boot.specs.xa_held.declared.kept_queue.QueueNote.{QueueNote}
+use Rattle.xa_boot.specs.xa_held.declared.kept_queue.Setting.{Setting}
+use Rattle.xa_boot.specs.xa_held.Joins.{changes_at, events_at}
+use Rattle.xa_boot.specs.xa_held.Kept.{Kept, setting_of, notes_of}
+use Rattle.xa_boot.specs.xa_held.Steps.{ClosedAs}
+use Rattle.xa_boot.specs.xa_held.Visits.{Visits, Reaches}
+use Rattle.xa_boot.proofs.xa_held.Lefts.{events_front}
+use Rattle.xa_boot.proofs.xa_held.Owning.{queue_own}
+use Rattle.xa_boot.proofs.xa_held.Seen.{events_kept, events_more, sees_more}
+use Rattle.xa_boot.specs.xa_work.declared.work.Halt.{Halt}
+use Rattle.xa_boot.specs.xa_work.declared.work.Halt.TheVariants as halts
+use Rattle.xa_boot.specs.xa_work.Work.{Standing as Working, IsWorkOf, theirs}
+use Rattle.xa_boot.proofs.xa_work.Noting.{theirs-more}
+use Rattle.xa_boot.specs.xa_desk.declared.domain.Domain.{Domain}
+use Rattle.xa_boot.specs.xa_desk.Desks.{IsBoardPass, IsQueuePass, IsSettingOf, IsThere, Shows, page_in, page_at}
+use Rattle.xa_boot.specs.xa_desk.Made.{IsMade}
+use Rattle.xa_boot.specs.xa_desk.Whole.{Whole, entries_of, IsKnown}
+use Rattle.xa_boot.proofs.xa_desk.Leading.{AllMade, Grew, none_made, one_made, among_at, among_more, board_pass_stays, made_more, off_home, on_home, queue_pass_stays, shows_one_more, shows_still, starts_same, starts_trans, there}
+use Rattle.xa_boot.proofs.xa_desk.Visiting.{QueuePass, QueueLock, stamp_is, last_known, larger_known, behind_known}
+use Rattle.xa_boot.specs.xa_clients.declared.working.ClientWorker.{ClientWorker}
 use Rattle.xa_boot.specs.declared.closer.Closer.{Closer}
 use Rattle.xa_boot.specs.Booting.{work_of}
-use Rattle.xa_script.specs.declared.script.Client.{Client}
+use Rattle.xa_joined.specs.xa_script.declared.script.Client.{Client}
 use Rattle.xa_workers.specs.Working.{EachDone}
 use Rattle.xa_workers.specs.Closing.{IsCloser, GoesOnFor, HasLeftBy, IsBehindAll, ShowsFor, AreClosed, Closes, IsWornOut, IsHaltBy, HasClosed}
 use Rattle.xa_workers.proofs.Leaving.{each_told, left_later}

@@ -2,32 +2,32 @@
 use Rattle.std.proofs.Common.{◌≡◌, ℕ, suc, ◌+◌, ◌<◌, ◌≤◌, List, [], ◌∷◌, length, get_or, Option, Some, None, refl, sym, ◌∙◌, ap, subst, arith}
 use Rattle.std.specs.List.{All}
 use Rattle.std.proofs.lemmas.List.Elements.{All-weaker}
-use Rattle.xa_types.specs.declared.call.Op.{Op}
-use Rattle.xa_types.specs.declared.ids.CallerId.{CallerId}
-use Rattle.xa_types.specs.declared.stamp.Stamp.{Stamp}
-use Rattle.xa_types.specs.Setup.{queue_of}
-use Rattle.xa_events.specs.declared.event.Event.{Event}
-use Rattle.xa_events.specs.declared.event.Event.TheVariants.{Advertise}
-use Rattle.xa_events.specs.Homes.{home_of}
-use Rattle.xa_events.specs.Words.{EachNumbered}
-use Rattle.xa_stamp.specs.declared.home.Stamped.{Stamped}
-use Rattle.xa_lock.specs.declared.pass.LockPass.{LockPass}
-use Rattle.xa_work.specs.Going.{FitEach}
-use Rattle.xa_held.specs.declared.kept_board.BoardNote.{BoardNote}
-use Rattle.xa_held.specs.Joins.{changes_at}
-use Rattle.xa_script.specs.declared.script.Client.{Client}
-use Rattle.xa_server.specs.Served.{StarterShows}
-use Rattle.xa_desk.specs.declared.domain.Domain.{Domain}
-use Rattle.xa_desk.specs.declared.desk.Desk.{Desk}
-use Rattle.xa_desk.specs.Desks.{FitsCalls, IsThere, IsBoardPass, IsAmong, page_in}
-use Rattle.xa_desk.specs.Made.{IsMade}
-use Rattle.xa_desk.specs.Whole.{entries_of}
-use Rattle.xa_clients.specs.declared.working.ClientWorker.{ClientWorker}
-use Rattle.xa_clients.specs.declared.working.ClientWorker.TheVariants as workers
-use Rattle.xa_clients.specs.Ending.{MayWork, HasWorked}
-use Rattle.xa_links.specs.declared.working.ServerWorker.{ServerWorker}
-use Rattle.xa_links.specs.Lives.{ServerShows}
-use Rattle.xa_links.specs.Working.{HasServed, cut_in}
+use Rattle.xa_boot.specs.xa_types.declared.call.Op.{Op}
+use Rattle.xa_boot.specs.xa_types.declared.ids.CallerId.{CallerId}
+use Rattle.xa_boot.specs.xa_types.declared.stamp.Stamp.{Stamp}
+use Rattle.xa_boot.specs.xa_types.Setup.{queue_of}
+use Rattle.xa_boot.specs.xa_events.declared.event.Event.{Event}
+use Rattle.xa_boot.specs.xa_events.declared.event.Event.TheVariants.{Advertise}
+use Rattle.xa_boot.specs.xa_events.Homes.{home_of}
+use Rattle.xa_boot.specs.xa_events.Words.{EachNumbered}
+use Rattle.xa_boot.specs.xa_stamp.declared.home.Stamped.{Stamped}
+use Rattle.xa_boot.specs.xa_lock.declared.pass.LockPass.{LockPass}
+use Rattle.xa_boot.specs.xa_work.Going.{FitEach}
+use Rattle.xa_boot.specs.xa_held.declared.kept_board.BoardNote.{BoardNote}
+use Rattle.xa_boot.specs.xa_held.Joins.{changes_at}
+use Rattle.xa_joined.specs.xa_script.declared.script.Client.{Client}
+use Rattle.xa_boot.specs.xa_server.Served.{StarterShows}
+use Rattle.xa_boot.specs.xa_desk.declared.domain.Domain.{Domain}
+use Rattle.xa_boot.specs.xa_desk.declared.desk.Desk.{Desk}
+use Rattle.xa_boot.specs.xa_desk.Desks.{FitsCalls, IsThere, IsBoardPass, IsAmong, page_in}
+use Rattle.xa_boot.specs.xa_desk.Made.{IsMade}
+use Rattle.xa_boot.specs.xa_desk.Whole.{entries_of}
+use Rattle.xa_boot.specs.xa_clients.declared.working.ClientWorker.{ClientWorker}
+use Rattle.xa_boot.specs.xa_clients.declared.working.ClientWorker.TheVariants as workers
+use Rattle.xa_boot.specs.xa_clients.Ending.{MayWork, HasWorked}
+use Rattle.xa_boot.specs.xa_links.declared.working.ServerWorker.{ServerWorker}
+use Rattle.xa_boot.specs.xa_links.Lives.{ServerShows}
+use Rattle.xa_boot.specs.xa_links.Working.{HasServed, cut_in}
 use Rattle.xa_boot.specs.declared.closer.Closer.{Closer}
 use Rattle.xa_boot.specs.Booting.{IsNewClient, IsNewServer, IsNewCloser, IsBoots, work_of}
 use Rattle.xa_workers.specs.Working.{IsDone, EachDone, IsOver}

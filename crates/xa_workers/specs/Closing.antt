@@ -1,33 +1,33 @@
 -- How the domain itself closes its queues, once the clients have left (this project's own).
 use Rattle.std.specs.Prelude.{◌≡◌, ℕ, ◌+◌, ◌<◌, ◌≤◌, ◌^◌, true, List, length, None, IfSome, slice_index_or}
 use Rattle.std.specs.List.{All, Contains, filter}
-use Rattle.xa_types.specs.declared.stamp.Stamp.{Stamp}
-use Rattle.xa_types.specs.declared.stamp.Worn.{Worn}
-use Rattle.xa_events.specs.declared.event.Event.TheVariants.{Leave}
-use Rattle.xa_events.specs.Homes.{home_of}
-use Rattle.xa_events.specs.Homes.Home.{CallerHome}
-use Rattle.xa_events.specs.Queue.{is_closed}
-use Rattle.xa_events.specs.Words.{EachNumbered}
-use Rattle.xa_stamp.specs.declared.home.Stamped.{Stamped}
-use Rattle.xa_lock.specs.Pages.{StartsWith}
-use Rattle.xa_crew.specs.Crew.{stands_at}
-use Rattle.xa_crew.specs.Seen.{past_in}
-use Rattle.xa_cell.specs.Known.{known, IsSeatOf, IsNew}
-use Rattle.xa_held.specs.Board.{IsSoundBoard}
-use Rattle.xa_held.specs.Joins.{changes_at, events_at}
-use Rattle.xa_held.specs.Kept.{notes_of}
-use Rattle.xa_work.specs.declared.work.Halt.{Halt}
-use Rattle.xa_work.specs.declared.work.Halt.TheVariants as halts
-use Rattle.xa_work.specs.Work.{IsWorkOf}
-use Rattle.xa_desk.specs.declared.domain.Domain.{Domain}
-use Rattle.xa_desk.specs.Desks.{IsAmong, IsBoardPass, IsQueuePass, IsThere, Shows, page_in, page_at}
-use Rattle.xa_desk.specs.Made.{IsMade}
-use Rattle.xa_desk.specs.Whole.{Whole, IsKnown}
-use Rattle.xa_clients.specs.declared.working.ClientWorker.{ClientWorker}
-use Rattle.xa_clients.specs.declared.working.ClientWorker.TheVariants.{Left}
+use Rattle.xa_boot.specs.xa_types.declared.stamp.Stamp.{Stamp}
+use Rattle.xa_boot.specs.xa_types.declared.stamp.Worn.{Worn}
+use Rattle.xa_boot.specs.xa_events.declared.event.Event.TheVariants.{Leave}
+use Rattle.xa_boot.specs.xa_events.Homes.{home_of}
+use Rattle.xa_boot.specs.xa_events.Homes.Home.{CallerHome}
+use Rattle.xa_boot.specs.xa_events.Queue.{is_closed}
+use Rattle.xa_boot.specs.xa_events.Words.{EachNumbered}
+use Rattle.xa_boot.specs.xa_stamp.declared.home.Stamped.{Stamped}
+use Rattle.xa_boot.specs.xa_lock.Pages.{StartsWith}
+use Rattle.xa_boot.specs.xa_crew.Crew.{stands_at}
+use Rattle.xa_boot.specs.xa_crew.Seen.{past_in}
+use Rattle.xa_boot.specs.xa_cell.Known.{known, IsSeatOf, IsNew}
+use Rattle.xa_boot.specs.xa_held.Board.{IsSoundBoard}
+use Rattle.xa_boot.specs.xa_held.Joins.{changes_at, events_at}
+use Rattle.xa_boot.specs.xa_held.Kept.{notes_of}
+use Rattle.xa_boot.specs.xa_work.declared.work.Halt.{Halt}
+use Rattle.xa_boot.specs.xa_work.declared.work.Halt.TheVariants as halts
+use Rattle.xa_boot.specs.xa_work.Work.{IsWorkOf}
+use Rattle.xa_boot.specs.xa_desk.declared.domain.Domain.{Domain}
+use Rattle.xa_boot.specs.xa_desk.Desks.{IsAmong, IsBoardPass, IsQueuePass, IsThere, Shows, page_in, page_at}
+use Rattle.xa_boot.specs.xa_desk.Made.{IsMade}
+use Rattle.xa_boot.specs.xa_desk.Whole.{Whole, IsKnown}
+use Rattle.xa_boot.specs.xa_clients.declared.working.ClientWorker.{ClientWorker}
+use Rattle.xa_boot.specs.xa_clients.declared.working.ClientWorker.TheVariants.{Left}
 use Rattle.xa_boot.specs.declared.closer.Closer.{Closer}
 use Rattle.xa_boot.specs.Booting.{work_of}
-use Rattle.xa_script.specs.declared.script.Client.{Client}
+use Rattle.xa_joined.specs.xa_script.declared.script.Client.{Client}
 use Rattle.xa_workers.specs.Working.{EachDone}
 
 -- the domain itself: its passes are of the domain's locks, that of the board saw the boot and nothing else, its seat has done nothing, and what it noted are

@@ -1,22 +1,22 @@
 -- The workers of a domain behind their work (this project's own).
 use Rattle.std.specs.Prelude.{◌≡◌, ◌<◌, ◌^◌, ℕ, ◌+◌, List, [], ◌∷◌, length, None, IfSome}
-use Rattle.xa_types.specs.declared.call.Op.{Op}
-use Rattle.xa_types.specs.Setup.{queue_of}
-use Rattle.xa_caller.specs.declared.phase.Phase.TheVariants.{Idle}
-use Rattle.xa_script.specs.declared.script.Client.{Client}
-use Rattle.xa_server.specs.Served.{StarterShows}
-use Rattle.xa_desk.specs.declared.domain.Domain.{Domain}
-use Rattle.xa_desk.specs.declared.desk.Desk.{Desk}
-use Rattle.xa_desk.specs.Desks.{IsDesk}
-use Rattle.xa_desk.specs.Halting.{IsStopAt}
-use Rattle.xa_desk.specs.Parting.{IsLeft}
-use Rattle.xa_clients.specs.declared.working.ClientWorker.{ClientWorker}
-use Rattle.xa_clients.specs.declared.working.ClientWorker.TheVariants.{Left}
-use Rattle.xa_clients.specs.declared.working.Ended.{Ended}
-use Rattle.xa_clients.specs.Going.{AllCalls}
-use Rattle.xa_links.specs.declared.working.ServerWorker.{ServerWorker}
-use Rattle.xa_links.specs.Lives.{ServerShows}
-use Rattle.xa_links.specs.Working.{cut_in}
+use Rattle.xa_boot.specs.xa_types.declared.call.Op.{Op}
+use Rattle.xa_boot.specs.xa_types.Setup.{queue_of}
+use Rattle.xa_boot.specs.xa_caller.declared.phase.Phase.TheVariants.{Idle}
+use Rattle.xa_joined.specs.xa_script.declared.script.Client.{Client}
+use Rattle.xa_boot.specs.xa_server.Served.{StarterShows}
+use Rattle.xa_boot.specs.xa_desk.declared.domain.Domain.{Domain}
+use Rattle.xa_boot.specs.xa_desk.declared.desk.Desk.{Desk}
+use Rattle.xa_boot.specs.xa_desk.Desks.{IsDesk}
+use Rattle.xa_boot.specs.xa_desk.Halting.{IsStopAt}
+use Rattle.xa_boot.specs.xa_desk.Parting.{IsLeft}
+use Rattle.xa_boot.specs.xa_clients.declared.working.ClientWorker.{ClientWorker}
+use Rattle.xa_boot.specs.xa_clients.declared.working.ClientWorker.TheVariants.{Left}
+use Rattle.xa_boot.specs.xa_clients.declared.working.Ended.{Ended}
+use Rattle.xa_boot.specs.xa_clients.Going.{AllCalls}
+use Rattle.xa_boot.specs.xa_links.declared.working.ServerWorker.{ServerWorker}
+use Rattle.xa_boot.specs.xa_links.Lives.{ServerShows}
+use Rattle.xa_boot.specs.xa_links.Working.{cut_in}
 use Rattle.xa_joined.specs.Ended.{HasMadeAll}
 
 -- a client whose calls are built: each is a tpcall, and there are fewer than 2^32

@@ -1,21 +1,21 @@
 // The domain itself closes its queues, once the clients have left.
 ghost use Rattle.std.specs.Prelude.{◌≡◌, ◌+◌, ◌<◌, ◌≤◌, ◌^◌, List, length, None, OnOk, IfErr, MatchOption};
 ghost use Rattle.std.specs.List.{Contains};
-ghost use Rattle.xa_clients.specs.declared.working.ClientWorker.{ClientWorker as Worker};
-ghost use Rattle.xa_desk.specs.Desks.{IsDomain};
-ghost use Rattle.xa_script.specs.declared.script.Client.{Client};
+ghost use Rattle.xa_boot.specs.xa_clients.declared.working.ClientWorker.{ClientWorker as Worker};
+ghost use Rattle.xa_boot.specs.xa_desk.Desks.{IsDomain};
+ghost use Rattle.xa_joined.specs.xa_script.declared.script.Client.{Client};
 ghost use Rattle.xa_workers.specs.Working.{EachDone};
 ghost use Rattle.xa_workers.specs.Closing.{IsCloser, HasStopped, IsBehindAll, ShowsFor, AreClosed, Closes, IsWornOut, HasClosed};
 
 use std::mem;
 use std::sync::Wait;
 use xa_boot::Closer;
-use xa_clients::ClientWorker;
-use xa_desk::Domain;
-use xa_held::{AtQueue, close_at};
-use xa_stamp::Noted;
-use xa_types::{CallerId, Stamp, Worn};
-use xa_work::Halt;
+use xa_boot::clients::ClientWorker;
+use xa_boot::desk::Domain;
+use xa_boot::held::{AtQueue, close_at};
+use xa_boot::stamp::Noted;
+use xa_boot::types::{CallerId, Stamp, Worn};
+use xa_boot::work::Halt;
 
 // The greatest stamp of that one and of each client's last one; none where a client stopped before.
 fn last_stamp(seen: Stamp, clients: &[ClientWorker]) -> Option<Stamp>

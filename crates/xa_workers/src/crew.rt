@@ -1,11 +1,11 @@
 // The clients and the servers beside each other.
 ghost use Rattle.std.specs.Prelude.{◌≡◌, ◌<◌, ℕ, map, length, slice_index_or};
 ghost use Rattle.std.specs.List.{All};
-ghost use Rattle.xa_events.specs.Words.{EachNumbered};
-ghost use Rattle.xa_desk.specs.Desks.{IsDomain};
-ghost use Rattle.xa_script.specs.declared.script.Client.{Client as Script};
-ghost use Rattle.xa_clients.specs.Ending.{MayWork, HasWorked};
-ghost use Rattle.xa_links.specs.Working.{MayServe, HasServed};
+ghost use Rattle.xa_boot.specs.xa_events.Words.{EachNumbered};
+ghost use Rattle.xa_boot.specs.xa_desk.Desks.{IsDomain};
+ghost use Rattle.xa_joined.specs.xa_script.declared.script.Client.{Client as Script};
+ghost use Rattle.xa_boot.specs.xa_clients.Ending.{MayWork, HasWorked};
+ghost use Rattle.xa_boot.specs.xa_links.Working.{MayServe, HasServed};
 ghost use Rattle.xa_boot.specs.Booting.{IsNewClient, IsNewServer, IsNewCloser};
 ghost use Rattle.xa_workers.specs.Working.{IsBuiltClient, EachDone, IsOver};
 ghost use Rattle.xa_workers.specs.Closing.{HasClosed};
@@ -16,13 +16,13 @@ use crate::forks::Halting;
 use std::alloc::Global;
 use std::sync::Wait;
 use std::thread::Threads;
+use xa_boot::clients::ClientWorker;
+use xa_boot::desk::Domain;
+use xa_boot::link::{Gate, Link, Starter};
+use xa_boot::links::ServerWorker;
+use xa_boot::work::Halt;
 use xa_boot::{Booted, Closer};
-use xa_clients::ClientWorker;
-use xa_desk::Domain;
-use xa_link::{Gate, Link, Starter};
-use xa_links::ServerWorker;
-use xa_script::Client;
-use xa_work::Halt;
+use xa_joined::script::Client;
 
 // What all workers share.
 #[derive(Drop)]

@@ -8,3 +8,11 @@ mod crew;
 mod forks;
 
 pub use crew::run_all;
+
+// What crates above name of those below.
+pub use xa_boot as boot;
+pub use xa_boot::{
+    caller, cell, clients, desk, events, held, link, links, lock, pipe, queue, server, stamp,
+    types, work,
+};
+pub use xa_joined::script;

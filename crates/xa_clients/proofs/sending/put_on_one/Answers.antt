@@ -1,7 +1,7 @@
 use Rattle.std.proofs.Common.{◌≡◌, ℕ, ◌+◌, ◌-◌, ◌^◌, ◌≤◌, min, None, sym, ◌∙◌, ap, subst, arith}
 use Rattle.std.specs.Prelude.{slice_get}
-use Rattle.xa_types.specs.Found.{FoundRows}
-use Rattle.xa_caller.specs.declared.outcomes.Aimed.TheVariants as aims
+use Rattle.xa_desk.specs.xa_types.Found.{FoundRows}
+use Rattle.xa_desk.specs.xa_caller.declared.outcomes.Aimed.TheVariants as aims
 use Rattle.xa_desk.specs.declared.desk.Desk.{Desk}
 use Rattle.xa_desk.specs.Steps.{IsWhy}
 use Rattle.xa_clients.proofs.Trying.{ends_on, sends_on, back_on, past_why, found_back, aimed_back, tried_back, aimed_on, tried_still, aimed_by}

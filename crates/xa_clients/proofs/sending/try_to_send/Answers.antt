@@ -1,5 +1,5 @@
 use Rattle.std.proofs.Common.{ℕ, ◌+◌, sym, ◌∙◌, ap, subst}
-use Rattle.xa_caller.specs.Caller.{Standing as Caller}
+use Rattle.xa_desk.specs.xa_caller.Caller.{Standing as Caller}
 use Rattle.xa_desk.specs.Found.{HasFound}
 use Rattle.xa_clients.specs.Going.{GoesBy}
 use Rattle.xa_clients.proofs.Going.{goes_trans, sees_on, prepared_on, stopped_on, first_by}

@@ -1,6 +1,6 @@
 use Rattle.std.proofs.Common.{Option, sym, ◌∙◌, ap, subst, OnOk}
 use Rattle.std.specs.Prelude.{IfErr, IfSome}
-use Rattle.xa_work.specs.Work.{Standing as Working}
+use Rattle.xa_desk.specs.xa_work.Work.{Standing as Working}
 use Rattle.xa_desk.specs.declared.stopped.Stopped.{Stopped}
 use Rattle.xa_desk.specs.Halting.{IsStopAt}
 use Rattle.xa_clients.specs.Going.{IsReady, IsStopped}

@@ -1,6 +1,6 @@
 use Rattle.std.proofs.Common.{ℕ, List, [], map, inr, refl, sym, ◌∙◌, ap, subst}
-use Rattle.xa_server.specs.Served.{StarterShows}
-use Rattle.xa_links.specs.Working.{cut_in}
+use Rattle.xa_ending.specs.xa_server.Served.{StarterShows}
+use Rattle.xa_ending.specs.xa_links.Working.{cut_in}
 use Rattle.xa_domain.specs.Serving.{ServeEnds}
 use Rattle.xa_domain.proofs.Nothing.{none_ends}
 use Rattle.xa_domain.proofs.serving.serve_all.Goals as goal

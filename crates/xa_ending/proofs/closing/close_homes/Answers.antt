@@ -1,5 +1,5 @@
 use Rattle.std.proofs.Common.{◌∙◌, set, length, map, refl, ap, arith}
-use Rattle.xa_stamp.specs.Home.{Notes}
+use Rattle.xa_workers.specs.xa_stamp.Home.{Notes}
 use Rattle.xa_ending.proofs.GivenBack.{board_lock, board_count, first_silent, queue_passes, seats_now, seats_of, seats_shut, gives_back, in_order, one_longer, all_longer}
 use Rattle.xa_ending.proofs.closing.close_homes.Goals as goal
 

@@ -1,11 +1,11 @@
 use Rattle.std.proofs.Common.{sym, ◌∙◌, ap, subst}
 use Rattle.std.specs.List.{All}
 use Rattle.std.proofs.lemmas.List.Elements.{All-head, All-rest}
-use Rattle.xa_cell.specs.Known.{IsTicketOf}
-use Rattle.xa_queue.specs.declared.entry.Entry.{Entry}
-use Rattle.xa_queue.specs.Changes.{Remains}
-use Rattle.xa_held.specs.declared.cargo.Cargo.{Cargo}
-use Rattle.xa_caller.specs.declared.cargo.Filling.{Filling}
+use Rattle.xa_workers.specs.xa_cell.Known.{IsTicketOf}
+use Rattle.xa_workers.specs.xa_queue.declared.entry.Entry.{Entry}
+use Rattle.xa_workers.specs.xa_queue.Changes.{Remains}
+use Rattle.xa_workers.specs.xa_held.declared.cargo.Cargo.{Cargo}
+use Rattle.xa_workers.specs.xa_caller.declared.cargo.Filling.{Filling}
 use Rattle.xa_ending.proofs.closing.close_queue.Goals as goal
 
 pub let_go-requires-clause-ticket : goal.let_go-requires-clause-ticket

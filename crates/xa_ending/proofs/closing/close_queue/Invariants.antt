@@ -1,6 +1,6 @@
 use Rattle.std.proofs.Common.{◌≡◌, length}
 use Rattle.std.specs.List.{All}
-use Rattle.xa_cell.specs.Known.{IsTicketOf}
+use Rattle.xa_workers.specs.xa_cell.Known.{IsTicketOf}
 use Rattle.xa_ending.specs.Closing.{IsSilent}
 use Rattle.xa_ending.proofs.closing.close_queue.Given as goal
 

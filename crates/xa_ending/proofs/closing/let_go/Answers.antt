@@ -1,5 +1,5 @@
 use Rattle.std.proofs.Common.{ap}
-use Rattle.xa_server.specs.declared.closing.Closing.{Closing}
+use Rattle.xa_workers.specs.xa_server.declared.closing.Closing.{Closing}
 use Rattle.xa_ending.proofs.Silent.{still_silent}
 use Rattle.xa_ending.proofs.closing.let_go.Goals as goal
 

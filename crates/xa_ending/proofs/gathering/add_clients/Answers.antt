@@ -1,6 +1,6 @@
 use Rattle.std.proofs.Common.{◌≡◌, ◌+◌, List, [], length, refl, sym, ◌∙◌, ap, subst, arith}
 use Rattle.std.proofs.lemmas.List.{nil_from_length}
-use Rattle.xa_clients.specs.declared.working.ClientWorker.{ClientWorker}
+use Rattle.xa_workers.specs.xa_clients.declared.working.ClientWorker.{ClientWorker}
 use Rattle.xa_ending.specs.declared.gathering.Gathered.{Gathered}
 use Rattle.xa_ending.specs.Gathering.{HasWorkerSpace, HasClientsSo}
 use Rattle.xa_ending.proofs.Taking.{no_clients, next_may_end, client_may_add, all_clients, clients_more, less_workers, next_room, one_worker_less}

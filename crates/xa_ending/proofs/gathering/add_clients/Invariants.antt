@@ -1,5 +1,5 @@
 use Rattle.std.proofs.Common.{ℕ, ◌+◌, List, length}
-use Rattle.xa_script.specs.declared.script.Client.{Client}
+use Rattle.xa_workers.specs.xa_script.declared.script.Client.{Client}
 use Rattle.xa_ending.specs.Leaving.{Leaving}
 use Rattle.xa_ending.specs.Gathering.{HasWorkerSpace, IsBeforeClients, HasClientsSo, KeepsServers}
 use Rattle.xa_ending.proofs.gathering.add_clients.Given as goal

@@ -1,7 +1,7 @@
 use Rattle.std.proofs.Common.{◌≡◌, ◌+◌, ◌∷◌, ◌++◌, ◌≤◌, ℕ, List, [], length, map, sym, ◌∙◌, ap, subst, arith}
 use Rattle.std.proofs.lemmas.List.{nil_from_length}
-use Rattle.xa_server.specs.Served.{StarterShows}
-use Rattle.xa_links.specs.declared.working.ServerWorker.{ServerWorker}
+use Rattle.xa_workers.specs.xa_server.Served.{StarterShows}
+use Rattle.xa_workers.specs.xa_links.declared.working.ServerWorker.{ServerWorker}
 use Rattle.xa_ending.specs.declared.gathering.Gathered.{Gathered}
 use Rattle.xa_ending.specs.Leaving.{leaving_of}
 use Rattle.xa_ending.specs.Gathering.{HasServerSpace, HasServersSo}

@@ -1,6 +1,6 @@
 use Rattle.std.proofs.Common.{List, length}
-use Rattle.xa_desk.specs.declared.domain.Domain.{Domain}
-use Rattle.xa_desk.specs.declared.desk.Desk.{Desk}
+use Rattle.xa_workers.specs.xa_desk.declared.domain.Domain.{Domain}
+use Rattle.xa_workers.specs.xa_desk.declared.desk.Desk.{Desk}
 use Rattle.xa_ending.specs.Leaving.{Leaving}
 use Rattle.xa_ending.specs.Gathering.{HasServerSpace, IsBeforeServers, HasServersSo}
 use Rattle.xa_ending.proofs.gathering.add_servers.Given as goal

@@ -1,7 +1,7 @@
 use Rattle.std.proofs.Common.{◌+◌, ℕ, List, length, refl, sym, ◌∙◌, subst, arith}
-use Rattle.xa_server.specs.Served.{StarterShows}
-use Rattle.xa_desk.specs.Desks.{IsBoardPass, IsQueuePass}
-use Rattle.xa_boot.specs.Booting.{work_of}
+use Rattle.xa_workers.specs.xa_server.Served.{StarterShows}
+use Rattle.xa_workers.specs.xa_desk.Desks.{IsBoardPass, IsQueuePass}
+use Rattle.xa_workers.specs.xa_boot.Booting.{work_of}
 use Rattle.xa_ending.specs.declared.gathering.Gathered.{Gathered}
 use Rattle.xa_ending.specs.Leaving.{itself_of}
 use Rattle.xa_ending.specs.Gathering.{HasServerSpace, IsBeforeClients}

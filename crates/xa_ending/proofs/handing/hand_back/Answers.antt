@@ -1,5 +1,5 @@
 use Rattle.std.proofs.Common.{ℕ, List, map, refl, arith}
-use Rattle.xa_server.specs.Served.{StarterShows}
+use Rattle.xa_workers.specs.xa_server.Served.{StarterShows}
 use Rattle.xa_ending.specs.Leaving.{itself_of, leaving_of}
 use Rattle.xa_ending.proofs.Back.{all_servers, all_tokens, all_callers, hands_back}
 use Rattle.xa_ending.proofs.handing.hand_back.Goals as goal

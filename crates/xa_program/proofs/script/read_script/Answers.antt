@@ -1,6 +1,6 @@
 use Rattle.std.proofs.Common.{◌≡◌, ◌≤◌, ℕ, List, length, ap, subst, arith}
 use Rattle.std.specs.Str.Lines.{lines}
-use Rattle.xa_script.specs.Script.{IsScript}
+use Rattle.xa_domain.specs.xa_script.Script.{IsScript}
 use Rattle.xa_program.proofs.Built.{script_built, few_lines}
 use Rattle.xa_program.proofs.script.read_script.Goals as goal
 

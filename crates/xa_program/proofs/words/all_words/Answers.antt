@@ -1,6 +1,6 @@
 use Rattle.std.proofs.Common.{rules, ◌≡◌, ◌++◌, ◌∷◌, [], ◌+◌, ℕ, List, Some, take, sym, subst}
 use Rattle.std.specs.Prelude.{IfSome}
-use Rattle.xa_link.specs.Arguments.{word_at}
+use Rattle.xa_domain.specs.xa_link.Arguments.{word_at}
 use Rattle.xa_program.proofs.Failing.{none_made}
 use Rattle.xa_program.proofs.Given.{taken_none, taken_more, taken_all}
 use Rattle.xa_program.proofs.words.all_words.Goals as goal

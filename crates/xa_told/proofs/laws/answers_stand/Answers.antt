@@ -1,5 +1,5 @@
 use Rattle.std.proofs.lemmas.List.Elements.{All-push}
-use Rattle.xa_stamp.specs.declared.home.Stamped.{Stamped}
+use Rattle.xa_server.specs.xa_stamp.declared.home.Stamped.{Stamped}
 use Rattle.xa_told.specs.Told.{WasTaken}
 use Rattle.xa_told.proofs.Ends.{all_taken}
 use Rattle.xa_told.proofs.laws.answers_stand.Goals as goal

@@ -1,9 +1,9 @@
 use Rattle.std.proofs.Common.{Ok, refl, ◌∙◌, ap, subst}
-use Rattle.xa_lock.specs.Known.{known as page_of}
-use Rattle.xa_caller.specs.declared.cargo.Filling.{Filling}
-use Rattle.xa_held.specs.Kept.{Kept}
-use Rattle.xa_held.specs.Steps.{ClosedAs}
-use Rattle.xa_held.specs.Visits.{Visits}
+use Rattle.xa_boot.specs.xa_lock.Known.{known as page_of}
+use Rattle.xa_boot.specs.xa_caller.declared.cargo.Filling.{Filling}
+use Rattle.xa_boot.specs.xa_held.Kept.{Kept}
+use Rattle.xa_boot.specs.xa_held.Steps.{ClosedAs}
+use Rattle.xa_boot.specs.xa_held.Visits.{Visits}
 use Rattle.xa_workers.proofs.Stepping.{stepped, passed_on, now_closed, looked_closes, looked_worn, noted_closes}
 use Rattle.xa_workers.proofs.closing.close.Goals as goal
 

@@ -1,6 +1,6 @@
 use Rattle.std.proofs.Common.{sym, ◌∙◌, subst, Option}
 use Rattle.std.specs.Prelude.{IfSome}
-use Rattle.xa_work.specs.declared.work.Halt.{Halt}
+use Rattle.xa_boot.specs.xa_work.declared.work.Halt.{Halt}
 use Rattle.xa_workers.specs.Closing.{IsBehindAll, IsHaltBy}
 use Rattle.xa_workers.proofs.Stepping.{seen_closer, closed_shows, has_halted}
 use Rattle.xa_workers.proofs.closing.close_behind.Goals as goal

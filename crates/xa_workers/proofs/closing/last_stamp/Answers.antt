@@ -1,8 +1,8 @@
 use Rattle.std.proofs.Common.{◌≡◌, ◌+◌, ◌∷◌, ◌++◌, [], ℕ, List, max, take, sym, ◌∙◌, ap, subst}
 use Rattle.std.proofs.lemmas.List.{take_all, take_more}
-use Rattle.xa_types.specs.declared.stamp.Stamp.{Stamp}
-use Rattle.xa_clients.specs.declared.working.ClientWorker.{ClientWorker}
-use Rattle.xa_clients.specs.declared.working.ClientWorker.TheVariants.{Left}
+use Rattle.xa_boot.specs.xa_types.declared.stamp.Stamp.{Stamp}
+use Rattle.xa_boot.specs.xa_clients.declared.working.ClientWorker.{ClientWorker}
+use Rattle.xa_boot.specs.xa_clients.declared.working.ClientWorker.TheVariants.{Left}
 use Rattle.xa_workers.proofs.Leaving.{IsGreatest, none_by, greatest_more, behind_all}
 use Rattle.xa_workers.proofs.closing.last_stamp.Goals as goal
 

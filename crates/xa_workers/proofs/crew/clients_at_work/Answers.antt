@@ -2,10 +2,10 @@ use Rattle.std.proofs.Common.{◌≡◌, ◌+◌, ◌<◌, length, get_or, sym, 
 use mir.Syntax.{named}
 use denote.Param.Send.{sendable}
 use Rattle.xa_boot.specs.Booting.{IsNewClient}
-use Rattle.xa_clients.specs.declared.working.ClientWorker.{ClientWorker}
-use Rattle.xa_clients.specs.Ending.{MayWork, HasWorked}
+use Rattle.xa_boot.specs.xa_clients.declared.working.ClientWorker.{ClientWorker}
+use Rattle.xa_boot.specs.xa_clients.Ending.{MayWork, HasWorked}
 use Rattle.std.specs.List.{All}
-use Rattle.xa_desk.specs.Desks.{IsDomain}
+use Rattle.xa_boot.specs.xa_desk.Desks.{IsDomain}
 use Rattle.xa_workers.specs.Working.{IsBuiltClient}
 use Rattle.xa_workers.proofs.Sending.{client_worker_sends}
 use Rattle.xa_workers.proofs.Sharing.{shared_syncs}

@@ -2,9 +2,9 @@ use Rattle.std.proofs.Common.{◌≡◌, length, map, sym, subst}
 use mir.Syntax.{named}
 use denote.Param.Send.{sendable}
 use Rattle.std.specs.List.{All}
-use Rattle.xa_events.specs.Words.{EachNumbered}
-use Rattle.xa_server.specs.Served.{StarterShows}
-use Rattle.xa_desk.specs.Desks.{IsDomain}
+use Rattle.xa_boot.specs.xa_events.Words.{EachNumbered}
+use Rattle.xa_boot.specs.xa_server.Served.{StarterShows}
+use Rattle.xa_boot.specs.xa_desk.Desks.{IsDomain}
 use Rattle.xa_boot.specs.Booting.{IsNewClient, IsNewServer, IsNewCloser}
 use Rattle.xa_workers.specs.Working.{IsBuiltClient, IsOver}
 use Rattle.xa_workers.proofs.Sharing.{shared_syncs, side_sends}

@@ -1,9 +1,9 @@
 use Rattle.std.proofs.Common.{get_or, sym, subst, rules}
 use mir.Syntax.{named}
 use denote.Param.Send.{sendable}
-use Rattle.xa_desk.specs.Desks.{IsDomain}
-use Rattle.xa_server.specs.Served.{StarterShows}
-use Rattle.xa_links.specs.Working.{MayServe, HasServed}
+use Rattle.xa_boot.specs.xa_desk.Desks.{IsDomain}
+use Rattle.xa_boot.specs.xa_server.Served.{StarterShows}
+use Rattle.xa_boot.specs.xa_links.Working.{MayServe, HasServed}
 use Rattle.xa_boot.specs.Booting.{IsNewServer}
 use Rattle.xa_workers.specs.Working.{IsOver}
 use Rattle.xa_workers.proofs.Serving.{server_worker_sends}

@@ -1,7 +1,7 @@
 use Rattle.std.proofs.Common.{List, length, ap, ◌∙◌, arith}
-use Rattle.xa_stamp.specs.declared.home.Stamped.{Stamped}
-use Rattle.xa_work.specs.Work.{Standing as Working}
-use Rattle.xa_caller.specs.declared.phase.Phase.TheVariants.{Idle}
+use Rattle.xa_clients.specs.xa_stamp.declared.home.Stamped.{Stamped}
+use Rattle.xa_clients.specs.xa_work.Work.{Standing as Working}
+use Rattle.xa_clients.specs.xa_caller.declared.phase.Phase.TheVariants.{Idle}
 use Rattle.xa_boot.proofs.Seated.{new_desk}
 use Rattle.xa_boot.proofs.staff.Staff.desk.Goals as goal
 

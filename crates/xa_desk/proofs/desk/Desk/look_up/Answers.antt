@@ -1,5 +1,5 @@
 use Rattle.std.proofs.Common.{Some, refl}
-use Rattle.xa_lock.specs.Known.{known as page_of}
+use Rattle.xa_told.specs.xa_lock.Known.{known as page_of}
 use Rattle.xa_desk.specs.declared.desk.Desk.{Desk}
 use Rattle.xa_desk.proofs.Boarding.{BoardStep}
 use Rattle.xa_desk.proofs.Looking.{looks_as, look_leads, look_found}

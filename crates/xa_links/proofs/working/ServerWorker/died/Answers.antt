@@ -1,7 +1,7 @@
 use Rattle.std.proofs.Common.{refl, sym, ◌∙◌, ap, subst}
-use Rattle.xa_server.specs.declared.slot.ServerSlot.{ServerSlot}
-use Rattle.xa_server.specs.Doings.{is_death}
-use Rattle.xa_server.specs.Changes.{Dies, DiesWorn}
+use Rattle.xa_desk.specs.xa_server.declared.slot.ServerSlot.{ServerSlot}
+use Rattle.xa_desk.specs.xa_server.Doings.{is_death}
+use Rattle.xa_desk.specs.xa_server.Changes.{Dies, DiesWorn}
 use Rattle.xa_desk.specs.Serving.{IsServing}
 use Rattle.xa_links.proofs.Behind.{leads_behind}
 use Rattle.xa_links.proofs.Deaths.{dies_off, dies_worn, told_of, settles_its}

@@ -1,7 +1,7 @@
 use Rattle.std.proofs.Common.{[], inr, refl, sym, ◌∙◌, ap, subst}
-use Rattle.xa_work.specs.Work.{Standing as Working}
-use Rattle.xa_server.specs.declared.slot.ServerSlot.{ServerSlot}
-use Rattle.xa_server.specs.Changes.{Stops}
+use Rattle.xa_desk.specs.xa_work.Work.{Standing as Working}
+use Rattle.xa_desk.specs.xa_server.declared.slot.ServerSlot.{ServerSlot}
+use Rattle.xa_desk.specs.xa_server.Changes.{Stops}
 use Rattle.xa_desk.specs.Serving.{IsServing}
 use Rattle.xa_links.proofs.Behind.{leads_behind}
 use Rattle.xa_links.proofs.Stepping.{still_steps, steps_trans, told_steps, told_on}

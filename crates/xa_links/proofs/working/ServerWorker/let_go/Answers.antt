@@ -1,5 +1,5 @@
 use Rattle.std.proofs.Common.{inl, ap}
-use Rattle.xa_server.specs.declared.slot.ServerSlot.{ServerSlot}
+use Rattle.xa_desk.specs.xa_server.declared.slot.ServerSlot.{ServerSlot}
 use Rattle.xa_links.proofs.Lasting.{ended_tells}
 use Rattle.xa_links.proofs.working.ServerWorker.let_go.Goals as goal
 

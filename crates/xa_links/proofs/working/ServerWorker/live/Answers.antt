@@ -1,5 +1,5 @@
 use Rattle.std.proofs.Common.{[], ap, subst}
-use Rattle.xa_server.specs.Served.{Tries, Counts}
+use Rattle.xa_desk.specs.xa_server.Served.{Tries, Counts}
 use Rattle.xa_desk.specs.declared.stopped.Stopped.TheVariants.{Elsewhere}
 use Rattle.xa_links.proofs.Lasting.{halts_at, in_counted, goes_counted, goes_trans}
 use Rattle.xa_links.specs.Working.{cut_in}

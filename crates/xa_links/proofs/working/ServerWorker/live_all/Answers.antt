@@ -1,5 +1,5 @@
 use Rattle.std.proofs.Common.{[], inr, refl, ◌∙◌, ap, subst, arith}
-use Rattle.xa_server.specs.declared.slot.ServerSlot.{ServerSlot}
+use Rattle.xa_desk.specs.xa_server.declared.slot.ServerSlot.{ServerSlot}
 use Rattle.xa_links.specs.Standing.{OffAs}
 use Rattle.xa_links.proofs.Stepping.{told_steps, told_on}
 use Rattle.xa_links.proofs.Lasting.{at_desk, off_told, may_be, ended_tells, goes_by, goes_trans}

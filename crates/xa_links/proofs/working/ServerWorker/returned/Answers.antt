@@ -1,8 +1,8 @@
 use Rattle.std.proofs.Common.{[], ◌∷◌, inr, refl, sym, ◌∙◌, ap}
 use Rattle.std.proofs.lemmas.List.Elements.{All-nil}
-use Rattle.xa_events.specs.declared.event.Event.TheVariants.{End}
-use Rattle.xa_server.specs.declared.slot.ServerSlot.{ServerSlot}
-use Rattle.xa_server.specs.Doings.{life_in}
+use Rattle.xa_desk.specs.xa_events.declared.event.Event.TheVariants.{End}
+use Rattle.xa_desk.specs.xa_server.declared.slot.ServerSlot.{ServerSlot}
+use Rattle.xa_desk.specs.xa_server.Doings.{life_in}
 use Rattle.xa_links.proofs.Behind.{still_calm}
 use Rattle.xa_links.proofs.Stepping.{halted_own, halted_steps, halted_at, still_serves, told_steps}
 use Rattle.xa_links.proofs.Keeping.{OfLife}

@@ -1,6 +1,6 @@
 use Rattle.std.proofs.Common.{[], ◌∷◌, Ok, refl, ap, subst}
-use Rattle.xa_events.specs.declared.event.Event.TheVariants.{Take}
-use Rattle.xa_server.specs.Doings.{life_in}
+use Rattle.xa_desk.specs.xa_events.declared.event.Event.TheVariants.{Take}
+use Rattle.xa_desk.specs.xa_server.Doings.{life_in}
 use Rattle.xa_links.specs.Steps.{NextFrom}
 use Rattle.xa_links.specs.Standing.{ExchangedAs}
 use Rattle.xa_links.proofs.Behind.{still_calm}

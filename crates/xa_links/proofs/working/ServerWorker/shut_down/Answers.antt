@@ -1,6 +1,6 @@
 use Rattle.std.proofs.Common.{sym, ◌∙◌, subst}
-use Rattle.xa_server.specs.declared.slot.ServerSlot.{ServerSlot}
-use Rattle.xa_server.specs.Changes.{Stops}
+use Rattle.xa_desk.specs.xa_server.declared.slot.ServerSlot.{ServerSlot}
+use Rattle.xa_desk.specs.xa_server.Changes.{Stops}
 use Rattle.xa_desk.specs.Serving.{IsServing}
 use Rattle.xa_links.proofs.Deaths.{shutdown_is, shutdown_not}
 use Rattle.xa_links.proofs.Exchanges.{shut_dies, shuts_down, shuts_worn}

@@ -1,7 +1,7 @@
 use Rattle.std.proofs.Common.{refl, sym, ◌∙◌, ap, subst}
-use Rattle.xa_stamp.specs.Home.{last_stamp}
-use Rattle.xa_crew.specs.Crew.{no_stamp}
-use Rattle.xa_cell.specs.Known.{known}
+use Rattle.xa_caller.specs.xa_stamp.Home.{last_stamp}
+use Rattle.xa_caller.specs.xa_crew.Crew.{no_stamp}
+use Rattle.xa_caller.specs.xa_cell.Known.{known}
 use Rattle.xa_server.specs.Told.{GivenTo, given_by}
 use Rattle.xa_server.proofs.closing.Closing.give.Goals as goal
 use Rattle.xa_server.proofs.closing.Closing.give.Goals.{in-Delivered, in-Dropped}

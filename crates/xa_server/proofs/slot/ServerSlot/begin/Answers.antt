@@ -1,12 +1,12 @@
 use Rattle.std.proofs.Common.{Option, refl, sym, ap, subst}
-use Rattle.xa_types.specs.declared.ids.Generation.{Generation}
-use Rattle.xa_events.specs.declared.event.Taken.{Taken}
-use Rattle.xa_events.specs.declared.event.Event.{Event}
-use Rattle.xa_events.specs.declared.event.Event.TheVariants.{Take}
-use Rattle.xa_events.specs.declared.event.Doing.TheVariants.{Busy}
-use Rattle.xa_queue.specs.declared.entry.Entry.{Entry}
+use Rattle.xa_caller.specs.xa_types.declared.ids.Generation.{Generation}
+use Rattle.xa_caller.specs.xa_events.declared.event.Taken.{Taken}
+use Rattle.xa_caller.specs.xa_events.declared.event.Event.{Event}
+use Rattle.xa_caller.specs.xa_events.declared.event.Event.TheVariants.{Take}
+use Rattle.xa_caller.specs.xa_events.declared.event.Doing.TheVariants.{Busy}
+use Rattle.xa_caller.specs.xa_queue.declared.entry.Entry.{Entry}
 use Rattle.xa_caller.specs.Caller.{Standing as Calling}
-use Rattle.xa_work.specs.Work.{Standing, IsNext, noted}
+use Rattle.xa_caller.specs.xa_work.Work.{Standing, IsNext, noted}
 use Rattle.xa_server.specs.declared.slot.ServerSlot.{ServerSlot}
 use Rattle.xa_server.specs.declared.slot.Last.TheVariants as lasts
 use Rattle.xa_caller.specs.Drafts.{Cargo}

@@ -1,6 +1,6 @@
 use Rattle.std.proofs.Common.{Some, Option, sym, ◌∙◌, ap, subst}
-use Rattle.xa_types.specs.declared.reply.Answer.{Answer}
-use Rattle.xa_queue.specs.declared.entry.Entry.{Entry}
+use Rattle.xa_caller.specs.xa_types.declared.reply.Answer.{Answer}
+use Rattle.xa_caller.specs.xa_queue.declared.entry.Entry.{Entry}
 use Rattle.xa_caller.specs.Drafts.{Cargo}
 use Rattle.xa_server.specs.declared.slot.ServerSlot.{ServerSlot}
 use Rattle.xa_server.specs.Changes.{Stops}

@@ -1,20 +1,20 @@
 use Rattle.std.proofs.Math.Facts.{to_z-of_z}
-use Rattle.xa_events.specs.declared.event.Outcome.TheVariants.{BadReturn}
+use Rattle.xa_caller.specs.xa_events.declared.event.Outcome.TheVariants.{BadReturn}
 use Rattle.std.proofs.Common.{◌≡◌, ℤ, if◌then◌else◌, true, Option, None, Some, refl, sym, ◌∙◌, ap, subst}
-use Rattle.xa_types.specs.declared.reply.Answer.{Answer}
-use Rattle.xa_events.specs.declared.event.Doing.{Doing}
-use Rattle.xa_events.specs.declared.event.Ended.{Ended}
-use Rattle.xa_events.specs.declared.event.Event.TheVariants.{End}
-use Rattle.xa_events.specs.declared.event.Outcome.{Outcome}
-use Rattle.xa_events.specs.Answers.{reply_of}
-use Rattle.xa_events.specs.Caller.{version_of}
-use Rattle.xa_events.specs.Cases.{may_end_so}
-use Rattle.xa_events.specs.Conversation.{connections}
-use Rattle.xa_events.specs.Finishing.{returned, return_by}
-use Rattle.xa_events.specs.Request.Settlement.{EndedBy}
-use Rattle.xa_events.specs.Server.{after_end}
-use Rattle.xa_queue.specs.declared.entry.Entry.{Entry}
-use Rattle.xa_work.specs.Work.{Standing, IsNext, theirs, noted_here}
+use Rattle.xa_caller.specs.xa_types.declared.reply.Answer.{Answer}
+use Rattle.xa_caller.specs.xa_events.declared.event.Doing.{Doing}
+use Rattle.xa_caller.specs.xa_events.declared.event.Ended.{Ended}
+use Rattle.xa_caller.specs.xa_events.declared.event.Event.TheVariants.{End}
+use Rattle.xa_caller.specs.xa_events.declared.event.Outcome.{Outcome}
+use Rattle.xa_caller.specs.xa_events.Answers.{reply_of}
+use Rattle.xa_caller.specs.xa_events.Caller.{version_of}
+use Rattle.xa_caller.specs.xa_events.Cases.{may_end_so}
+use Rattle.xa_caller.specs.xa_events.Conversation.{connections}
+use Rattle.xa_caller.specs.xa_events.Finishing.{returned, return_by}
+use Rattle.xa_caller.specs.xa_events.Request.Settlement.{EndedBy}
+use Rattle.xa_caller.specs.xa_events.Server.{after_end}
+use Rattle.xa_caller.specs.xa_queue.declared.entry.Entry.{Entry}
+use Rattle.xa_caller.specs.xa_work.Work.{Standing, IsNext, theirs, noted_here}
 use Rattle.xa_server.specs.declared.slot.ServerSlot.{ServerSlot}
 use Rattle.xa_server.specs.declared.slot.Last.{Last}
 use Rattle.xa_caller.specs.Drafts.{Cargo}

@@ -1,14 +1,14 @@
 use Rattle.std.proofs.Common.{◌≡◌, true, None, refl, sym, ◌∙◌, ap, subst}
-use Rattle.xa_types.specs.declared.ids.Generation.{Generation}
-use Rattle.xa_events.specs.declared.event.Doing.{Doing}
-use Rattle.xa_events.specs.declared.event.Doing.TheVariants.{Dying}
-use Rattle.xa_events.specs.declared.event.Ended.{Ended}
-use Rattle.xa_events.specs.declared.event.Event.TheVariants.{End}
-use Rattle.xa_events.specs.declared.event.Outcome.{Outcome}
-use Rattle.xa_events.specs.Caller.{version_of}
-use Rattle.xa_events.specs.Cases.{may_end_so, is_starved}
-use Rattle.xa_events.specs.Server.{after_end}
-use Rattle.xa_work.specs.Work.{Standing, IsNext, noted_here}
+use Rattle.xa_caller.specs.xa_types.declared.ids.Generation.{Generation}
+use Rattle.xa_caller.specs.xa_events.declared.event.Doing.{Doing}
+use Rattle.xa_caller.specs.xa_events.declared.event.Doing.TheVariants.{Dying}
+use Rattle.xa_caller.specs.xa_events.declared.event.Ended.{Ended}
+use Rattle.xa_caller.specs.xa_events.declared.event.Event.TheVariants.{End}
+use Rattle.xa_caller.specs.xa_events.declared.event.Outcome.{Outcome}
+use Rattle.xa_caller.specs.xa_events.Caller.{version_of}
+use Rattle.xa_caller.specs.xa_events.Cases.{may_end_so, is_starved}
+use Rattle.xa_caller.specs.xa_events.Server.{after_end}
+use Rattle.xa_caller.specs.xa_work.Work.{Standing, IsNext, noted_here}
 use Rattle.xa_server.specs.declared.slot.ServerSlot.{ServerSlot}
 use Rattle.xa_server.specs.declared.slot.Last.{Last}
 use Rattle.xa_server.specs.Doings.{life_in, last_by, outcome_of}
