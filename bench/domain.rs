@@ -1,8 +1,9 @@
 //! What `xatmi run CONFIG` does for services of the routine ECHO, written by hand: a thread for each client and for each
-//! server, a Mutex and a Condvar for each queue and for each client's reply; the same script, frames and transcript, and the
-//! same events of each call that is answered, in types of the same shape, with their stamps, in the same homes and with the
-//! same merge, and kept as long. Nothing of it is proved, and a server that dies ends the run. So its rows never change, and
-//! a call looks at them without a lock. No queue can be full, since 64 clients have at most one call out each.
+//! server, a Mutex and a Condvar for each queue and for each client's reply, and as many looks before a thread sleeps; the
+//! same script, frames and transcript, and the same events of each call that is answered, in types of the same shape, with
+//! their stamps, in the same homes and with the same merge, and kept as long. Nothing of it is proved, and a server that
+//! dies ends the run. So its rows never change, and a call looks at them without a lock. No queue can be full, since 64
+//! clients have at most one call out each.
 //!
 //! There are QUEUES queues with a server each, a service ECnn on each of them alone, and OTHERS further services on all of
 //! them. Each server is a process of PROGRAM, or of this program where none is given.

@@ -5,6 +5,7 @@ use crate::played::events::{Accepted, Answer, Event, Home, RequestId};
 use std::collections::VecDeque;
 use std::ffi::OsStr;
 use std::sync::{Barrier, Condvar, Mutex, MutexGuard};
+use std::thread;
 
 /// What waits at a queue.
 pub struct Entry {
@@ -20,6 +21,18 @@ struct Line {
     waiting: VecDeque<Entry>,
     takes: u64,
     closed: bool,
+}
+
+// How often who waits looks before it sleeps, as in the measured program. Others run between two looks.
+const LOOKS: usize = 100;
+
+fn look_for(mut has_come: impl FnMut() -> bool) {
+    for _ in 0..LOOKS {
+        if has_come() {
+            return;
+        }
+        thread::yield_now();
+    }
 }
 
 #[derive(Default)]
@@ -45,6 +58,7 @@ impl Queue {
     /// The next request, for which a server waits; none where the queue is closed and nothing waits there.
     pub fn take(&self, seen: &mut u64, server: u16) -> Option<Entry> {
         let is_idle = |line: &mut Line| line.waiting.is_empty() && !line.closed;
+        look_for(|| !is_idle(&mut self.line()));
         let mut line = self.work.wait_while(self.line(), is_idle).unwrap();
         let entry = line.waiting.pop_front()?;
         line.takes += 1;
@@ -84,6 +98,7 @@ impl Cell {
 
     /// Waits for the answer.
     pub fn take(&self) -> Filling {
+        look_for(|| self.filling.lock().unwrap().is_some());
         let filling = self.filling.lock().unwrap();
         self.filled.wait_while(filling, |filling| filling.is_none()).unwrap().take().unwrap()
     }
