@@ -11,7 +11,7 @@ import toml_places
 
 LONGEST = 262_144
 NOT_TOML, UNKNOWN, MISSING, WRONG_TYPE, OUT_OF_RANGE, BAD_NAME = 1, 2, 3, 4, 5, 6
-DOUBLED, NO_SUCH, FIELD_TYPE, TOO_MANY, NO_SERVER, NOT_BUILT = 7, 8, 9, 10, 11, 14
+DOUBLED, NO_SUCH, FIELD_TYPE, TOO_MANY, NO_SERVER = 7, 8, 9, 10, 11
 TABLES = {
     "domain": ("blocktime", "blocks"),
     "shape": ("name", "fields"),
@@ -133,7 +133,7 @@ class Checks:
         yield from self.needed(entry, where, "name", new_name(NAME, earlier))
         yield from self.needed(entry, where, "queue", name_among(self.queues))
         yield from self.optional(entry, where, "program", program)
-        yield from self.optional(entry, where, "restart", restart)
+        yield from self.optional(entry, where, "restart", truth)
         yield from self.optional(entry, where, "maxgen", number(1, 255))
         yield from self.optional(entry, where, "grace", number(1, 2147483647))
 
@@ -217,12 +217,6 @@ def number(least, most):
 def truth(value):
     if value.kind != "boolean":
         yield WRONG_TYPE, f"it is {a(value)}", "true or false, without quotes"
-
-
-def restart(value):
-    yield from truth(value)
-    if value.kind == "boolean" and value.data:
-        yield NOT_BUILT, "no server is started again yet", "false"
 
 
 def text(value, checks, taken):

@@ -9,7 +9,7 @@ use Rattle.xa_types.specs.Configured.{is_within, is_among, are_distinct, is_vali
 use Rattle.xa_types.specs.Name.{is_name}
 use Rattle.xa_config.specs.Faults.{Fault, at_key, expects, in_order, dotted}
 use Rattle.xa_config.specs.Keys.{optional, needed, needed_array, array_of, elements, where_there, must_be_there}
-use Rattle.xa_config.specs.Kinds.{number, restarts, program, new_name, name_among, text_in, number_in, truth_in, list_in, list_of}
+use Rattle.xa_config.specs.Kinds.{number, program, new_name, name_among, text_in, number_in, truth_in, list_in, list_of}
 use Rattle.xa_config.specs.Meaning.{number_at, truth_at, text_at, list_at}
 use Rattle.xa_config.proofs.Loops.{at_element, elements_are}
 
@@ -102,21 +102,6 @@ program_found key (Some (table _)) h = absurd cc
 pub program_good : (place key : List ℕ) (entry : Data) → optional place key program entry ≡ [] → is_valid_program (option_map text_in (get key entry)) ≡ true
 unfolding optional
 program_good place key entry h = program_found (dotted place key) (get key entry) h
-
-restart_found : (key : List ℕ) (found : Option Data) → where_there (λ value. at_key key (restarts value)) found ≡ [] → not (unwrap_or (option_map truth_in found) false) ≡ true
-unfolding restarts
-restart_found key None h = refl
-restart_found key (Some (boolean b)) h = holds (not b) 14 (no_number key _ h)
-restart_found key (Some (string _)) h = absurd cc
-restart_found key (Some (integer _)) h = absurd cc
-restart_found key (Some (float _)) h = absurd cc
-restart_found key (Some (datetime _)) h = absurd cc
-restart_found key (Some (array _)) h = absurd cc
-restart_found key (Some (table _)) h = absurd cc
-
-pub restart_good : (place key : List ℕ) (entry : Data) → optional place key restarts entry ≡ [] → not (truth_at key entry) ≡ true
-unfolding optional truth_at
-restart_good place key entry h = restart_found (dotted place key) (get key entry) h
 
 array_found : (key : List ℕ) (least most : ℕ) (of : List Data → Data → List ℕ) (found : Option Data)
     → must_be_there key (array_of key least most of) found ≡ []

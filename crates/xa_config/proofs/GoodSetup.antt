@@ -17,10 +17,10 @@ use Rattle.xa_types.specs.declared.setup.ServiceSetup.{ServiceSetup}
 use Rattle.xa_config.specs.Faults.{Fault, at_key, expects, in_order, indexed, dotted}
 use Rattle.xa_config.specs.Field.{field_of, is_field, name_part, kind_part, kind_of, sized, number_of_digits}
 use Rattle.xa_config.specs.Keys.{unknown, optional, needed, optional_array, needed_array}
-use Rattle.xa_config.specs.Kinds.{text_in, list_in, field, queue, is_table, number, truth, restarts, program, name, new_name, name_among, kind}
+use Rattle.xa_config.specs.Kinds.{text_in, list_in, field, queue, is_table, number, truth, program, name, new_name, name_among, kind}
 use Rattle.xa_config.specs.Meaning.{text_at, list_at, name_of, names_of, shape_of, queue_of, server_of, service_of, bits_of, accepts_of, domain_number, setup_of}
 use Rattle.xa_config.specs.Tables.{shape_faults, queue_faults, server_faults, service_faults, at_entry, table_faults, is_array_of_tables, domain_keys, domain_faults, rows_faults, unserved, unknown_tables, faults_of}
-use Rattle.xa_config.proofs.Good.{parts, no_number, holds, not_true, and_both, number_good, name_good, reference_good, program_good, restart_good, array_good, all_good, all_distinct, all_map, map_map}
+use Rattle.xa_config.proofs.Good.{parts, no_number, holds, not_true, and_both, number_good, name_good, reference_good, program_good, array_good, all_good, all_distinct, all_map, map_map}
 use Rattle.xa_config.proofs.Loops.{at_element, length_map}
 
 four : (a b c d : Bool) → a ≡ true → b ≡ true → c ≡ true → d ≡ true → (((a && b) && c) && d) ≡ true
@@ -130,7 +130,7 @@ server_faults_are : (queues : List (List ℕ)) (place : List ℕ) (earlier : Lis
     ++ needed place (codes "name") (new_name is_name earlier) server
     ++ needed place (codes "queue") (name_among queues) server
     ++ optional place (codes "program") program server
-    ++ optional place (codes "restart") restarts server
+    ++ optional place (codes "restart") truth server
     ++ optional place (codes "maxgen") (number 1 255) server
     ++ optional place (codes "grace") (number 1 2147483647) server)
 unfolding server_faults
@@ -150,16 +150,6 @@ server_good queues place names entry h =
           (number_good place (codes "maxgen") 1 255 1 entry refl b.1) (number_good place (codes "grace") 1 2147483647 86400 entry refl a.1),
       (name_good place (codes "name") is_name names entry f.1).1,
     )
-
--- a server without a fault doesn't restart
-server_stays : (queues : List (List ℕ)) (place : List ℕ) (names : List (List ℕ)) (entry : Data) → server_faults queues place names entry ≡ []
-    → not (server_of entry).restart ≡ true
-unfolding server_of
-server_stays queues place names entry h =
-    let a = parts _ _ (sym (server_faults_are queues place names entry) ∙ h) in
-    let b = parts _ _ a.0 in
-    let c = parts _ _ b.0 in
-    restart_good place (codes "restart") entry c.1
 
 bits_small : (accepted shapes : List (List ℕ)) → bits_of accepted shapes < 2 ^ length shapes
 unfolding bits_of
@@ -273,16 +263,6 @@ servers_good queues d h =
     (ap are_distinct (map_map server_of (λ (s : ServerSetup). s.name) values)
     ∙ all_distinct (at_entry (codes "server") (server_faults queues)) name_of (λ before x none. (each before x none).1) values t.2)
 
--- of servers without a fault none restarts
-servers_stay : (queues : List (List ℕ)) (d : Data) → table_faults (codes "server") 1 64 (server_faults queues) d ≡ []
-    → list_all (λ (s : ServerSetup). not s.restart) (map server_of (list_at (codes "server") d)) ≡ true
-servers_stay queues d h =
-    let t = table_good (codes "server") 1 64 (server_faults queues) d h in
-    let values = list_at (codes "server") d in
-    all_map server_of (λ (s : ServerSetup). not s.restart) values
-    ∙ all_good (at_entry (codes "server") (server_faults queues)) (λ x. not (server_of x).restart)
-    (λ before x none. server_stays queues (indexed (codes "server") (length before)) (names_of before) x none) [] values t.2
-
 fold_map : {A : Type 0} (f : Data → A) (g : A → ℕ) (h : Data → ℕ) → ((d : Data) → g (f d) ≡ h d) → (ds : List Data) (n : ℕ)
     → fold (λ a x. a + g x) n (map f ds) ≡ fold (λ a x. a + h x) n ds
 fold_map f g h same [] n = refl
@@ -386,13 +366,3 @@ setup_is_good d h =
     (ap (λ named. list_all (is_among named) (map (λ (q : QueueSetup). q.name) (map queue_of queues))) (queues_served servers)
     ∙ ap (list_all (is_among (map (text_at (codes "queue") []) servers))) (queue_names_are queues)
     ∙ served_good (map (text_at (codes "queue") []) servers) 0 (names_of queues) a.1)
-
--- and so of the servers of a setup that a document without a fault says
-pub setup_stays : (d : Data) → faults_of d ≡ [] → list_all (λ (s : ServerSetup). not s.restart) (setup_of d).servers ≡ true
-unfolding setup_of
-setup_stays d h =
-    let a = parts _ _ (sym (faults_of_are d) ∙ h) in
-    let b = parts _ _ a.0 in
-    let c = parts _ _ b.0 in
-    let e = parts _ _ c.0 in
-    servers_stay (names_of (list_at (codes "queue") d)) d e.1

@@ -17,7 +17,7 @@ use Rattle.xa_config.specs.Faults.{Fault, fault, at_key, expects, indexed}
 use Rattle.xa_config.specs.Meaning.{list_at, names_of, text_at, shape_of, queue_of, service_of, server_of, domain_number, setup_of}
 use Rattle.xa_config.specs.Tables.{unknown_tables, domain_faults, table_faults, shape_faults, queue_faults, server_faults, service_faults, rows_faults, unserved, faults_of}
 use Rattle.xa_config.specs.Document.{Says, Reads, TellsFirst, NamesFirstFault}
-use Rattle.xa_config.proofs.GoodSetup.{rows_same, queues_served, setup_is_good, setup_stays}
+use Rattle.xa_config.proofs.GoodSetup.{rows_same, queues_served, setup_is_good}
 use Rattle.xa_config.proofs.Tells.{tells_front}
 use Rattle.xa_config.proofs.Unknown.{any_map}
 use Rattle.xa_config.proofs.Whole.{paired, both_kept}
@@ -172,11 +172,6 @@ refuses octets d value (Err NoMemory) said read = tt
 pub configures : (d : Data) (result : Result Setup ConfigRefused) → Reads (faults_of d) (setup_of d) result → IfOk result (λ setup. is_configured setup ≡ true)
 configures d (Ok setup) read = ap is_configured read.1 ∙ setup_is_good d read.0
 configures d (Err refusal) read = tt
-
-pub restarts_none : (d : Data) (result : Result Setup ConfigRefused) → Reads (faults_of d) (setup_of d) result
-    → IfOk result (λ setup. list_all (λ (s : ServerSetup). not s.restart) setup.servers ≡ true)
-restarts_none d (Ok setup) read = ap (λ (x : Setup). list_all (λ (s : ServerSetup). not s.restart) x.servers) read.1 ∙ setup_stays d read.0
-restarts_none d (Err refusal) read = tt
 
 abbrev pub setup_with : ℕ → ℕ → List ShapeSetup → List QueueSetup → List ServerSetup → List ServiceSetup → Setup
 setup_with block_time blocks shapes queues servers services =

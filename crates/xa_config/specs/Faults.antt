@@ -38,10 +38,6 @@ too_many = 10
 abbrev pub no_server : ℕ
 no_server = 11
 
--- a server that restarts
-abbrev pub not_built : ℕ
-not_built = 14
-
 -- a fault: its number, and the octets of its key
 pub record Fault : Type 0 where
   pub number : ℕ

@@ -5,7 +5,7 @@ use Rattle.std.specs.Str.{bytes_eq}
 use Rattle.toml.specs.Data.{Data, string, integer, boolean, array, table, Items, no_items, item}
 use Rattle.xa_types.specs.Configured.{is_within, is_among}
 use Rattle.xa_types.specs.Name.{is_name}
-use Rattle.xa_config.specs.Faults.{expects, wrong_type, out_of_range, bad_name, doubled, no_such, field_type, not_built}
+use Rattle.xa_config.specs.Faults.{expects, wrong_type, out_of_range, bad_name, doubled, no_such, field_type}
 use Rattle.xa_config.specs.Field.{is_field, name_part}
 
 abbrev pub list_of : Items → List Data
@@ -42,11 +42,6 @@ number least most _ = wrong_type ∷ []
 unfoldable pub truth : Data → List ℕ
 truth (boolean b) = []
 truth _ = wrong_type ∷ []
-
--- a truth value, of which `true` isn't built
-unfoldable pub restarts : Data → List ℕ
-restarts (boolean b) = expects (not b) not_built
-restarts _ = wrong_type ∷ []
 
 -- a text, of which that is asked
 abbrev pub text : (List ℕ → List ℕ) → Data → List ℕ

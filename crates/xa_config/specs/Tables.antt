@@ -5,7 +5,7 @@ use Rattle.toml.specs.Data.{Data, array, get}
 use Rattle.xa_types.specs.Configured.{is_among}
 use Rattle.xa_types.specs.Name.{is_name, is_identifier}
 use Rattle.xa_config.specs.Faults.{Fault, expects, at_key, indexed, in_order, unknown_key, missing_key, wrong_type, too_many, no_server}
-use Rattle.xa_config.specs.Kinds.{is_table, list_of, number, truth, restarts, program, name, new_name, name_among, field, queue, kind}
+use Rattle.xa_config.specs.Kinds.{is_table, list_of, number, truth, program, name, new_name, name_among, field, queue, kind}
 use Rattle.xa_config.specs.Keys.{unknown, unknown_in, optional, needed, optional_array, needed_array}
 use Rattle.xa_config.specs.Meaning.{text_at, list_at, names_of}
 
@@ -41,7 +41,7 @@ server_faults queues place earlier server =
     ++ needed place (codes "name") (new_name is_name earlier) server
     ++ needed place (codes "queue") (name_among queues) server
     ++ optional place (codes "program") program server
-    ++ optional place (codes "restart") restarts server
+    ++ optional place (codes "restart") truth server
     ++ optional place (codes "maxgen") (number 1 255) server
     ++ optional place (codes "grace") (number 1 2147483647) server
 

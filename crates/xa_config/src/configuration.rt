@@ -132,12 +132,10 @@ fn setup_of(alloc: Global, document: &Value) -> Result<Setup, ConfigRefused>
 /// `Ok` is what a document without a fault says, and comes for each. A `Fault` is the first in the order of checks:
 /// whether the octets are a document; unknown tables; then `domain`, `shape`, `queue`, `server` and `service`, of each
 /// the table, then each entry, of it the keys in the order of the setup's fields; then the number of rows; then the
-/// queues without a server. `NoMemory` may come at any time. No server of a setup that is read restarts, since one that
-/// does is fault 14.
+/// queues without a server. `NoMemory` may come at any time.
 pub fn read(alloc: Global, octets: &[u8]) -> Result<Setup, ConfigRefused>
     ensures found { IfOk result (IsConfiguration octets.now) }
     ensures configured { IfOk result (λ setup. is_configured setup ≡ true) }
-    ensures restarts { IfOk result (λ setup. list_all (λ s. not s.restart) setup.servers ≡ true) }
     ensures refused { IfErr result (NamesFirstFault octets.now) }
 {
     let document = parse(alloc, octets)?;

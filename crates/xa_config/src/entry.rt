@@ -7,7 +7,7 @@ ghost use Rattle.xa_types.specs.Name.{is_name, is_identifier};
 ghost use Rattle.xa_config.specs.Document.{TellsFirst, Reads};
 ghost use Rattle.xa_config.specs.Faults.{fault, dotted, indexed};
 ghost use Rattle.xa_config.specs.Keys.{optional, needed, unknown, array_of, elements, needed_array};
-ghost use Rattle.xa_config.specs.Kinds.{number, truth, restarts, name, new_name, name_among, program, text_in, list_in};
+ghost use Rattle.xa_config.specs.Kinds.{number, truth, name, new_name, name_among, program, text_in, list_in};
 ghost use Rattle.xa_config.specs.Meaning.{number_at, truth_at, text_at, list_at};
 
 use crate::document::{Value, items, member, unknown_key};
@@ -146,21 +146,6 @@ impl Entry<'_> {
         match member(self.table, key) {
             None => Ok(false),
             Some(value) => match kinds::truth(value) {
-                Ok(found) => Ok(found),
-                Err(number) => Err(self.refuse(number, key)),
-            },
-        }
-    }
-
-    /// Whether a server restarts, which isn't built.
-    #[tactic(auto, unfolding(crate::specs::Keys::optional, crate::specs::Meaning::truth_at))]
-    pub fn restarts(&self, key: &str) -> Result<bool, ConfigRefused>
-        ensures { Reads (optional self.now.place.now key.now restarts (view self.now.table.now))
-            (truth_at key.now (view self.now.table.now)) result }
-    {
-        match member(self.table, key) {
-            None => Ok(false),
-            Some(value) => match kinds::restarts(value) {
                 Ok(found) => Ok(found),
                 Err(number) => Err(self.refuse(number, key)),
             },

@@ -8,11 +8,11 @@ ghost use Rattle.xa_types.specs.Configured.{is_among};
 ghost use Rattle.xa_types.specs.Name.{is_name, is_identifier};
 ghost use Rattle.xa_config.specs.Document.{Judges, first};
 ghost use Rattle.xa_config.specs.Field.{field_of};
-ghost use Rattle.xa_config.specs.Kinds.{number, truth, restarts, program, name, new_name, name_among, field, queue, text_in, number_in, truth_in};
+ghost use Rattle.xa_config.specs.Kinds.{number, truth, program, name, new_name, name_among, field, queue, text_in, number_in, truth_in};
 
 use crate::document::{Value, text};
 use crate::field::{field_of, identifier};
-use crate::refusal::{BAD_NAME, DOUBLED, FIELD_TYPE, NO_SUCH, NOT_BUILT, OUT_OF_RANGE, WRONG_TYPE};
+use crate::refusal::{BAD_NAME, DOUBLED, FIELD_TYPE, NO_SUCH, OUT_OF_RANGE, WRONG_TYPE};
 use xa_types::{FieldSetup, Name};
 
 /// What the elements of an array are read as, each beside those before it.
@@ -53,18 +53,6 @@ pub fn truth(value: &Value) -> Result<bool, u8>
 {
     match value.as_bool() {
         Some(found) => Ok(found),
-        None => Err(WRONG_TYPE),
-    }
-}
-
-/// Whether a server restarts, which isn't built.
-#[tactic(auto, unfolding(crate::specs::Kinds::restarts))]
-pub fn restarts(value: &Value) -> Result<bool, u8>
-    ensures { Judges (restarts (view value.now)) (truth_in (view value.now)) result }
-{
-    match value.as_bool() {
-        Some(true) => Err(NOT_BUILT),
-        Some(false) => Ok(false),
         None => Err(WRONG_TYPE),
     }
 }

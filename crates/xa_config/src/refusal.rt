@@ -22,7 +22,6 @@ use xa_types::{NoMemory, Octets};
 /// | 9 | a field's text that isn't `NAME KIND` |
 /// | 10 | too many entries of a table, or more than 256 rows |
 /// | 11 | a queue that no server names |
-/// | 14 | a server that restarts, which isn't built |
 #[derive(Debug, Drop)]
 pub enum ConfigRefused {
     Fault { number: u8, key: Octets },
@@ -59,8 +58,6 @@ pub const FIELD_TYPE: u8 = 9;
 pub const TOO_MANY: u8 = 10;
 
 pub const NO_SERVER: u8 = 11;
-
-pub const NOT_BUILT: u8 = 14;
 
 /// `server[0].queue`.
 pub fn dotted(alloc: Global, table: &[u8], key: &[u8]) -> Result<Octets, NoMemory>

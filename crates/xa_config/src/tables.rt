@@ -106,7 +106,7 @@ impl Rows for Servers<'_> {
         let name = entry.new_name("name", earlier)?;
         let queue = entry.name_among("queue", self.queues)?;
         let program = entry.program("program")?;
-        let restart = entry.restarts("restart")?;
+        let restart = entry.truth("restart")?;
         let maxgen = entry.number("maxgen", 1, 255, 1)?;
         let grace = entry.number("grace", 1, 2_147_483_647, 86_400)?;
         Ok(ServerSetup {

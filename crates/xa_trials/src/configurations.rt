@@ -37,7 +37,7 @@ const ONCE: &[u8] = b"client a\ncall ECHO none\n";
 // The configuration, the script with its faults, how it ends, and what is written.
 type Row = (&'static [u8], Script<'static>, End, &'static [u8]);
 
-static ROWS: [Row; 21] = [
+static ROWS: [Row; 20] = [
     (ONE, (b"client a\n", &[], &[]), End::Done, b""),
     // Clients without calls before and behind one with a call.
     (
@@ -169,12 +169,6 @@ static ROWS: [Row; 21] = [
         b"[[queue]]\nname = \"Q\"\n[[queue]]\nname = \"P\"\n[[server]]\nname = \"S\"\nqueue = \"P\"\n",
         (ONCE, &[], &[]),
         End::ConfigFault(11, "queue[0]"),
-        b"",
-    ),
-    (
-        b"[[queue]]\nname = \"Q\"\n[[server]]\nname = \"S\"\nqueue = \"Q\"\nrestart = true\n",
-        (ONCE, &[], &[]),
-        End::ConfigFault(14, "server[0].restart"),
         b"",
     ),
 ];

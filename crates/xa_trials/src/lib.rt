@@ -15,6 +15,8 @@ mod lives;
 #[cfg(test)]
 mod processes;
 #[cfg(test)]
+mod restarts;
+#[cfg(test)]
 mod rows;
 #[cfg(test)]
 mod running;

@@ -145,17 +145,37 @@ fn link_of(alloc: Global, said: &[&[u8]], faults: [&[u64]; 3]) -> Option<MemoryL
     Some(MemoryLink::new(source, sink_of(alloc, writes, idle, 5)?))
 }
 
-fn one_server(alloc: Global, life: Option<MemoryLink>) -> Option<MemoryYard> {
-    let lives = Vec::from_array(alloc, [life]).ok()?;
+fn one_server(alloc: Global, lives: Vec<Option<MemoryLink>>) -> Option<MemoryYard> {
     Some(MemoryYard::new(alloc, Vec::from_array(alloc, [lives]).ok()?))
 }
 
-/// A yard whose first server alone can be started, where there is such a life.
-pub fn yard_of(alloc: Global, life: Option<&[&[u8]]>, faults: [&[u64]; 3]) -> Option<MemoryYard> {
+fn life_of(
+    alloc: Global,
+    life: Option<&[&[u8]]>,
+    faults: [&[u64]; 3],
+) -> Option<Option<MemoryLink>> {
     match life {
-        Some(said) => one_server(alloc, Some(link_of(alloc, said, faults)?)),
-        None => one_server(alloc, None),
+        Some(said) => Some(Some(link_of(alloc, said, faults)?)),
+        None => Some(None),
     }
+}
+
+/// A yard whose first server alone can be started, and says this in its lives; a life that is none is a start that fails.
+pub fn lives_of(
+    alloc: Global,
+    lives: &[Option<&[&[u8]]>],
+    faults: [&[u64]; 3],
+) -> Option<MemoryYard> {
+    let mut links = Vec::new(alloc);
+    for life in lives {
+        links.push(life_of(alloc, *life, faults)?).ok()?;
+    }
+    one_server(alloc, links)
+}
+
+/// The same with one life.
+pub fn yard_of(alloc: Global, life: Option<&[&[u8]]>, faults: [&[u64]; 3]) -> Option<MemoryYard> {
+    lives_of(alloc, &[life], faults)
 }
 
 fn is_served<R: Runtime>(rt: &R, yard: &mut MemoryYard, script: &[u8], wrote: &[&[u8]]) -> bool {
