@@ -8,7 +8,7 @@ use Rattle.std.specs.Str.{bytes_eq}
 use Rattle.xa_types.specs.Name.{IsName}
 use Rattle.xa_types.specs.declared.data.Data.{Data}
 use Rattle.xa_types.specs.declared.data.Data.TheVariants.{Absent, Struct}
-use Rattle.xa_types.specs.declared.call.Rval.TheVariants.{Success, Fail}
+use Rattle.xa_types.specs.declared.call.Rval.TheVariants.{Success, Fail, Exit}
 use Rattle.xa_frame.specs.declared.frame.Frame.{Frame}
 use Rattle.xa_frame.specs.declared.frame.Body.{Body}
 use Rattle.xa_frame.specs.declared.frame.Body.TheVariants.{Ready, Return, Forward, Invoke}
@@ -17,7 +17,7 @@ use Rattle.xa_frame.proofs.FrameLemmas.{all_spelled-push}
 use Rattle.xa_child.specs.declared.child.Said.{Said}
 use Rattle.xa_child.specs.Entry.{is_entry, account, amount, booked}
 use Rattle.xa_child.specs.Said.{frame_of, all_said}
-use Rattle.xa_child.specs.Child.{ChildState, admits, admits_all, after, after_all, answer, answer_body, counted, said, greeting, returned, transferred, accounted, no_entry, next, is_die}
+use Rattle.xa_child.specs.Child.{ChildState, admits, admits_all, after, after_all, answer, answer_body, counted, said, greeting, returned, transferred, accounted, no_entry, next, followed, is_die, is_exit}
 
 pub admits_all-append : (s : ChildState) (xs ys : List Frame) → admits_all s (xs ++ ys) ≡ (admits_all s xs && admits_all (after_all s xs) ys)
 admits_all-append s [] ys = refl
@@ -72,16 +72,17 @@ unfolding accounted
 accounted_body (Struct subtype octets) h = accounted_if (is_entry subtype octets) (int_lt (amount octets) (pos 1)) subtype octets h
 accounted_body payload h = no_entry_body
 
-returned_if : (echo len fail transfer acct : Bool) (payload : Data) → IsData payload → IsBody (if echo then Return Success (pos 0) payload else (if len then Return Success (pos (counted payload)) Absent else (if fail then Return Fail (pos 7) payload else (if transfer then transferred payload else (if acct then accounted payload else Return Fail (pos 99) Absent)))))
-returned_if true len fail transfer acct payload h = search rules
-returned_if false true fail transfer acct payload h = search rules
-returned_if false false true transfer acct payload h = search rules
-returned_if false false false true acct payload h = transferred_body payload h
-returned_if false false false false true payload h = accounted_body payload h
-returned_if false false false false false payload h = search rules
+returned_if : (echo len fail exit transfer acct : Bool) (payload : Data) → IsData payload → IsBody (if echo then Return Success (pos 0) payload else (if len then Return Success (pos (counted payload)) Absent else (if fail then Return Fail (pos 7) payload else (if exit then Return Exit (pos 1) Absent else (if transfer then transferred payload else (if acct then accounted payload else Return Fail (pos 99) Absent))))))
+returned_if true len fail exit transfer acct payload h = search rules
+returned_if false true fail exit transfer acct payload h = search rules
+returned_if false false true exit transfer acct payload h = search rules
+returned_if false false false true transfer acct payload h = search rules
+returned_if false false false false true acct payload h = transferred_body payload h
+returned_if false false false false false true payload h = accounted_body payload h
+returned_if false false false false false false payload h = search rules
 
 returned_body : (routine : List ℕ) (payload : Data) → IsData payload → IsBody (returned routine payload)
-returned_body routine payload h = returned_if (bytes_eq routine (codes "ECHO")) (bytes_eq routine (codes "LEN")) (bytes_eq routine (codes "FAIL")) (bytes_eq routine (codes "TRANSFER")) (bytes_eq routine (codes "ACCT")) payload h
+returned_body routine payload h = returned_if (bytes_eq routine (codes "ECHO")) (bytes_eq routine (codes "LEN")) (bytes_eq routine (codes "FAIL")) (is_exit routine) (bytes_eq routine (codes "TRANSFER")) (bytes_eq routine (codes "ACCT")) payload h
 
 -- what is said to a frame that has a spelling has one
 served_spelling : (b : Bool) (fs : List Frame) → All HasSpelling fs → All HasSpelling (if b then [] else fs)
@@ -94,21 +95,28 @@ two_spellings f g h k = All-cons HasSpelling f (g ∷ []) h (All-cons HasSpellin
 pub next_spelling : HasSpelling next
 next_spelling = record { tag = omega arith; body = tt }
 
+followed_spelling : (f : Frame) → HasSpelling f → (last : Bool) → All HasSpelling (f ∷ followed last)
+followed_spelling f h true = All-cons HasSpelling f [] h (All-nil HasSpelling)
+followed_spelling f h false = two_spellings f next h next_spelling
+
 answer_spelling : (tag : ℕ) (body : Body) → tag < 2 ^ 32 → IsBody body → All HasSpelling (answer_body tag body)
 answer_spelling tag (Invoke service routine mode payload) low h =
     let first : HasSpelling (record { tag = tag; body = returned routine payload }) = record { tag = low; body = returned_body routine payload h.2 } in
-    served_spelling (is_die routine) _ (two_spellings _ next first next_spelling)
+    served_spelling (is_die routine) _ (followed_spelling _ first (is_exit routine))
 answer_spelling tag body low h = All-nil HasSpelling
 
 pub spelling-answer : (f : Frame) → HasSpelling f → All HasSpelling (answer f)
 spelling-answer f h = answer_spelling f.tag f.body h.tag h.body
 
--- what is said to an INVOKE, and NEXT
+-- what is said to an INVOKE, and what follows it
 pub said_spelling : (said : Said) (f : Frame) → HasSpelling f → all_said (Some said) ≡ answer f → HasSpelling (frame_of said)
-said_spelling said f h is = All-head HasSpelling (frame_of said) (next ∷ []) (subst (All HasSpelling) (sym is) (spelling-answer f h))
+said_spelling said f h is = All-head HasSpelling (frame_of said) (followed said.last) (subst (All HasSpelling) (sym is) (spelling-answer f h))
 
-pub spelled-said : (due : List ℕ) (said : Said) → (due ++ spelled (frame_of said)) ++ spelled next ≡ due ++ all_spelled (all_said (Some said))
-spelled-said due said = append_assoc due (spelled (frame_of said)) (spelled next) ∙ ap (λ z. due ++ (spelled (frame_of said) ++ z)) (sym (append-nil (spelled next)))
+pub spelled-said : (due : List ℕ) (said : Said) → (due ++ spelled (frame_of said)) ++ all_spelled (followed said.last) ≡ due ++ all_spelled (all_said (Some said))
+spelled-said due said = append_assoc due (spelled (frame_of said)) (all_spelled (followed said.last))
+
+pub spelled_next : (due : List ℕ) → due ++ spelled next ≡ due ++ all_spelled (followed false)
+spelled_next due = ap (λ z. due ++ z) (sym (append-nil (spelled next)))
 
 pub ready_spelling : (name : List ℕ) → IsName name → HasSpelling (record { tag = 0; body = Ready name })
 ready_spelling name h = record { tag = omega arith; body = h }

@@ -3,7 +3,7 @@ use Rattle.std.specs.Prelude.{ℕ, ◌+◌, ◌-◌, ◌%◌, ◌^◌, min, ◌=
 use Rattle.std.specs.Str.{bytes_eq}
 use Rattle.xa_types.specs.declared.data.Data.{Data}
 use Rattle.xa_types.specs.declared.data.Data.TheVariants.{Absent, Octet, Struct}
-use Rattle.xa_types.specs.declared.call.Rval.TheVariants.{Success, Fail}
+use Rattle.xa_types.specs.declared.call.Rval.TheVariants.{Success, Fail, Exit}
 use Rattle.xa_frame.specs.declared.frame.Frame.{Frame}
 use Rattle.xa_frame.specs.declared.frame.Body.{Body}
 use Rattle.xa_frame.specs.declared.frame.Body.TheVariants.{Ready, Next, Return, Forward, Invoke, Shutdown}
@@ -65,15 +65,21 @@ unfoldable pub accounted : Data → Body
 accounted (Struct subtype octets) = if is_entry subtype octets then accounted_entry subtype octets else no_entry
 accounted payload = no_entry
 
--- What a routine says. LEN counts the octets of its request's data; ECHO and FAIL give that data back; 99 says that there is no such routine.
+-- the routine EXIT, whose RETURN ends the child
+abbrev pub is_exit : List ℕ → Bool
+is_exit routine = bytes_eq routine (codes "EXIT")
+
+-- What a routine says. LEN counts the octets of its request's data; ECHO and FAIL give that data back; EXIT returns with TPEXIT; 99 says that there is no
+-- such routine.
 abbrev pub returned : List ℕ → Data → Body
 returned routine payload =
     if bytes_eq routine (codes "ECHO") then Return Success (pos 0) payload
     else (if bytes_eq routine (codes "LEN") then Return Success (pos (counted payload)) Absent
     else (if bytes_eq routine (codes "FAIL") then Return Fail (pos 7) payload
+    else (if is_exit routine then Return Exit (pos 1) Absent
     else (if bytes_eq routine (codes "TRANSFER") then transferred payload
     else (if bytes_eq routine (codes "ACCT") then accounted payload
-    else Return Fail (pos 99) Absent))))
+    else Return Fail (pos 99) Absent)))))
 
 -- the routine DIE, which returns nothing and ends the child
 abbrev pub is_die : List ℕ → Bool
@@ -83,9 +89,14 @@ is_die routine = bytes_eq routine (codes "DIE")
 abbrev pub next : Frame
 next = record { tag = 0; body = Next }
 
--- to an INVOKE with that tag: the RETURN or FORWARD with it, and NEXT; DIE says nothing
+-- what follows the RETURN or FORWARD of a routine: NEXT, but for EXIT
+abbrev pub followed : Bool → List Frame
+followed true = []
+followed false = next ∷ []
+
+-- to an INVOKE with that tag: the RETURN or FORWARD with it, and NEXT; EXIT says no NEXT, and DIE nothing
 abbrev pub served : ℕ → List ℕ → Data → List Frame
-served tag routine payload = if is_die routine then [] else (record { tag = tag; body = returned routine payload }) ∷ next ∷ []
+served tag routine payload = if is_die routine then [] else (record { tag = tag; body = returned routine payload }) ∷ followed (is_exit routine)
 
 abbrev pub answer_body : ℕ → Body → List Frame
 answer_body tag (Invoke service routine mode payload) = served tag routine payload
@@ -96,11 +107,11 @@ abbrev pub answer : Frame → List Frame
 answer f = answer_body f.tag f.body
 
 abbrev pub after_body : ChildState → Body → ChildState
-after_body s (Invoke service routine mode payload) = record { invocations = following s.invocations; ended = is_die routine }
+after_body s (Invoke service routine mode payload) = record { invocations = following s.invocations; ended = is_die routine || is_exit routine }
 after_body s Shutdown = record { invocations = s.invocations; ended = true }
 after_body s body = s
 
--- the child after a frame that it admits: SHUTDOWN and DIE end it
+-- the child after a frame that it admits: SHUTDOWN, DIE and EXIT end it
 abbrev pub after : ChildState → Frame → ChildState
 after s f = after_body s f.body
 

@@ -9,7 +9,7 @@ use Rattle.xa_frame.specs.declared.frame.Body.TheVariants.{Return}
 use Rattle.xa_child.specs.declared.routines.Outcome.{Outcome}
 use Rattle.xa_child.specs.declared.routines.Outcome.TheVariants.{Returned, Made}
 use Rattle.xa_child.specs.declared.child.Said.{Said}
-use Rattle.xa_child.specs.Child.{next}
+use Rattle.xa_child.specs.Child.{followed}
 
 -- the data of its request, or absent data
 abbrev pub data_of : Option (Bor Data) → Data
@@ -25,7 +25,7 @@ body_of (Made body) = body
 abbrev pub frame_of : Said → Frame
 frame_of said = record { tag = said.tag; body = body_of said.outcome }
 
--- nothing is said, or that frame and NEXT
+-- nothing is said, or that frame and, if it isn't the last, NEXT
 abbrev pub all_said : Option Said → List Frame
 all_said None = []
-all_said (Some said) = frame_of said ∷ next ∷ []
+all_said (Some said) = frame_of said ∷ followed said.last

@@ -1,10 +1,10 @@
 // A server's program, frame by frame.
 ghost use Rattle.std.specs.Prelude.{◌≡◌, ◌↔◌, ◌∷◌, [], true, false, IfOk, OnOk, OnErr, IsErrOf};
-ghost use Rattle.xa_child.specs.Child.{begun, following, greeting, admits, answer, after, next};
+ghost use Rattle.xa_child.specs.Child.{begun, following, followed, greeting, admits, answer, after, next};
 ghost use Rattle.xa_child.specs.Said.{frame_of, all_said};
 ghost use Rattle.xa_child.specs.declared.child.ChildRefused.TheVariants as refusals;
 
-use crate::routines::{Outcome, body_of, is_die, said_by};
+use crate::routines::{Outcome, body_of, is_die, is_exit, said_by};
 use std::alloc::Global;
 use std::marker::Model;
 use xa_frame::{Body, Frame};
@@ -41,14 +41,15 @@ impl From<NoMemory> for ChildRefused {
     }
 }
 
-/// What is said to an INVOKE: its tag, and what its routine says.
+/// What is said to an INVOKE: its tag, what its routine says, and whether that is the last of this life.
 #[derive(Drop)]
 pub struct Said<'a> {
     pub tag: u32,
     pub outcome: Outcome<'a>,
+    pub last: bool,
 }
 
-/// The frame behind each RETURN and FORWARD.
+/// The frame behind each RETURN and FORWARD but the last.
 pub fn next() -> Frame
     ensures { result ≡ next }
 {
@@ -58,7 +59,7 @@ pub fn next() -> Frame
     }
 }
 
-/// What is said to a frame that the program admits: nothing, or this frame and then NEXT.
+/// What is said to a frame that the program admits: nothing, or this frame and then NEXT, unless it is the last.
 pub fn said_to(alloc: Global, frame: &Frame) -> Result<Option<Said<'_>>, NoMemory>
     ensures { IfOk result (λ said. all_said said ≡ answer frame.now) }
 {
@@ -68,6 +69,7 @@ pub fn said_to(alloc: Global, frame: &Frame) -> Result<Option<Said<'_>>, NoMemor
             Ok(Some(Said {
                 tag: frame.tag,
                 outcome,
+                last: is_exit(routine),
             }))
         }
         Body::Invoke(..)
@@ -85,7 +87,10 @@ fn answer(alloc: Global, frame: &Frame) -> Result<Vec<Frame>, NoMemory>
     ensures { IfOk result (λ frames. frames.items ≡ answer frame.now) }
 {
     match said_to(alloc, frame)? {
-        Some(said) => with_next(alloc, copied(alloc, said)?),
+        Some(said) => {
+            let last = said.last;
+            followed(alloc, copied(alloc, said)?, last)
+        }
         None => Ok(Vec::new(alloc)),
     }
 }
@@ -97,11 +102,25 @@ fn with_next(alloc: Global, frame: Frame) -> Result<Vec<Frame>, NoMemory>
     Ok(Vec::from_array(alloc, [frame, next()])?)
 }
 
+// That frame and, if it isn't the last, NEXT.
+fn followed(alloc: Global, frame: Frame, last: bool) -> Result<Vec<Frame>, NoMemory>
+    ensures { IfOk result (λ frames. frames.items ≡ frame ∷ followed last) }
+{
+    if last {
+        return Ok(Vec::from_array(alloc, [frame])?);
+    }
+    with_next(alloc, frame)
+}
+
 // What is said as a frame, with a copy of data that stays where it is.
 fn copied(alloc: Global, said: Said) -> Result<Frame, NoMemory>
     ensures { IfOk result (λ frame. frame ≡ frame_of said.entry) }
 {
-    let Said { tag, outcome } = said;
+    let Said {
+        tag,
+        outcome,
+        last: _,
+    } = said;
     let body = body_of(alloc, outcome)?;
     Ok(Frame { tag, body })
 }
@@ -161,7 +180,7 @@ impl Child {
         match &frame.body {
             Body::Invoke(_, routine, ..) => {
                 self.invocations = self.following();
-                self.ended = is_die(routine);
+                self.ended = is_die(routine) || is_exit(routine);
             }
             Body::Shutdown => self.ended = true,
             Body::Ready(_)

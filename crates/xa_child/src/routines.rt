@@ -2,7 +2,7 @@
 ghost use Rattle.std.specs.Prelude.{◌≡◌, ◌++◌, codes, length, pos, IfOk};
 ghost use Rattle.std.specs.Str.{bytes_eq};
 ghost use Rattle.xa_frame.specs.declared.frame.Body.TheVariants.{Return};
-ghost use Rattle.xa_child.specs.Child.{accounted, counted, is_die, returned, transferred};
+ghost use Rattle.xa_child.specs.Child.{accounted, counted, is_die, is_exit, returned, transferred};
 ghost use Rattle.xa_child.specs.Entry.{booked, is_entry};
 ghost use Rattle.xa_child.specs.Said.{body_of, data_of};
 
@@ -19,6 +19,9 @@ const NO_ACCOUNT: i32 = 3;
 
 /// The code of both for data that is no `entry`.
 const NO_ENTRY: i32 = 4;
+
+/// The code of the routine EXIT.
+const EXITED: i32 = 1;
 
 /// The code of the routine FAIL.
 const FAILED: i32 = 7;
@@ -45,6 +48,12 @@ pub fn is_die(routine: &Name) -> bool
     ensures { result ≡ is_die routine.now }
 {
     is(routine, b"DIE")
+}
+
+pub fn is_exit(routine: &Name) -> bool
+    ensures { result ≡ is_exit routine.now }
+{
+    is(routine, b"EXIT")
 }
 
 // How many octets the data has, as a code.
@@ -125,6 +134,9 @@ pub fn said_by<'a>(
     }
     if is(routine, b"FAIL") {
         return Ok(Outcome::Returned(Rval::Fail, FAILED, Some(payload)));
+    }
+    if is_exit(routine) {
+        return Ok(Outcome::Returned(Rval::Exit, EXITED, None));
     }
     if is(routine, b"TRANSFER") {
         return transfer(alloc, payload);

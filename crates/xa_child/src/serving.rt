@@ -2,7 +2,7 @@
 ghost use Rattle.std.specs.Prelude.{◌≡◌, ◌<◌, ◌^◌, ◌++◌, IfOk, OnOk};
 ghost use Rattle.std.specs.List.{All};
 ghost use Rattle.xa_frame.specs.Spelling.{all_spelled, spelled, HasSpelling};
-ghost use Rattle.xa_child.specs.Child.{answer};
+ghost use Rattle.xa_child.specs.Child.{answer, followed};
 ghost use Rattle.xa_child.specs.Said.{frame_of};
 ghost use Rattle.xa_child.specs.Serving.{StepsTo, TakesUpTo, Answers};
 
@@ -62,6 +62,17 @@ fn spell_said(said: Said, due: &mut Vec<u8>) -> Result<(), NoMemory>
     }
 }
 
+// Adds what follows it: NEXT, unless it was the last.
+#[tactic(auto, using(crate::proofs::Frames::spelled_next))]
+fn spell_followed(last: bool, due: &mut Vec<u8>) -> Result<(), NoMemory>
+    ensures { OnOk result (due.new.items ≡ due.old.items ++ all_spelled (followed last)) }
+{
+    if last {
+        return Ok(());
+    }
+    append(due, &next())
+}
+
 // Adds what is said to a frame that the program admits.
 fn spell_answer(alloc: Global, frame: &Frame, due: &mut Vec<u8>) -> Result<(), NoMemory>
     requires { HasSpelling frame.now }
@@ -70,8 +81,9 @@ fn spell_answer(alloc: Global, frame: &Frame, due: &mut Vec<u8>) -> Result<(), N
     let Some(said) = said_to(alloc, frame)? else {
         return Ok(());
     };
+    let last = said.last;
     spell_said(said, due)?;
-    append(due, &next())
+    spell_followed(last, due)
 }
 
 impl Serving {

@@ -13,7 +13,7 @@ const GREETING: &[u8] = b"XA\x01\x01\0\0\0\x06\0\0\0\0\x05TEST1XA\x01\x02\0\0\0\
 // The words, the script with its faults, how it ends, and what is written.
 type Row = (&'static [&'static str], Script<'static>, End, &'static [u8]);
 
-static ROWS: [Row; 26] = [
+static ROWS: [Row; 27] = [
     (&[], NONE, End::Usage, b""),
     (&["run"], NONE, End::Usage, b""),
     (&["run", "-c"], NONE, End::Usage, b""),
@@ -112,6 +112,12 @@ static ROWS: [Row; 26] = [
         (b"client a\ncall DIE none\ncall DIE none\n", &[], &[]),
         End::Done,
         b"a 1 TPESVCERR\na 2 TPENOENT\n",
+    ),
+    (
+        &["play", "EXIT"],
+        (b"client a\ncall EXIT none\ncall EXIT none\n", &[], &[]),
+        End::Done,
+        b"a 1 TPESVCFAIL 1 none\na 2 TPENOENT\n",
     ),
 ];
 

@@ -22,6 +22,11 @@ const TWO: &[u8] = b"[[queue]]\nname = \"P\"\n[[queue]]\nname = \"Q\"\n\
     [[service]]\nname = \"DIE\"\nqueues = [\"P\", \"Q\"]\n\
     [[service]]\nname = \"ECHO\"\nqueues = [\"Q\"]\n";
 
+// A server that has two lives.
+const TWICE: &[u8] = b"[[queue]]\nname = \"Q\"\n\
+    [[server]]\nname = \"S\"\nqueue = \"Q\"\nrestart = true\nmaxgen = 2\n\
+    [[service]]\nname = \"EXIT\"\nqueues = [\"Q\"]\n";
+
 // A shape, and services that take octets alone, or all kinds.
 const TYPED: &[u8] = b"[[shape]]\nname = \"entry\"\n\
     fields = [\"account int\", \"amount long\", \"memo string 16\"]\n\
@@ -37,7 +42,7 @@ const ONCE: &[u8] = b"client a\ncall ECHO none\n";
 // The configuration, the script with its faults, how it ends, and what is written.
 type Row = (&'static [u8], Script<'static>, End, &'static [u8]);
 
-static ROWS: [Row; 20] = [
+static ROWS: [Row; 21] = [
     (ONE, (b"client a\n", &[], &[]), End::Done, b""),
     // Clients without calls before and behind one with a call.
     (
@@ -129,6 +134,16 @@ static ROWS: [Row; 20] = [
         ),
         End::Done,
         b"a 1 TPESVCERR\na 2 TPESVCERR\na 3 OK 0 none\na 4 TPESVCERR\na 5 TPENOENT\n",
+    ),
+    (
+        TWICE,
+        (
+            b"client a\ncall EXIT none\ncall EXIT none\ncall EXIT none\n",
+            &[],
+            &[],
+        ),
+        End::Done,
+        b"a 1 TPESVCFAIL 1 none\na 2 TPESVCFAIL 1 none\na 3 TPENOENT\n",
     ),
     (ONE, (ONCE, &[1], &[]), End::ScriptRead, b""),
     (ONE, (ONCE, &[], &[2]), End::WriteFault, b"a 1 O"),

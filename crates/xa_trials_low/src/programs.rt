@@ -79,11 +79,13 @@ enum Piece {
     Struct(&'static [u8], &'static [u8]),
 }
 
-// What a routine says: RETURN of TPSUCCESS, RETURN of TPFAIL with a code, or FORWARD to a service.
+// What a routine says: RETURN of TPSUCCESS, RETURN of TPFAIL with a code, RETURN of TPEXIT with a code and nothing behind
+// it, or FORWARD to a service.
 #[derive(Clone, Copy)]
 enum Saying {
     Succeeds(Piece),
     Fails(i32, Option<Piece>),
+    Exits(i32),
     Forwards(&'static [u8], Piece),
 }
 
@@ -157,7 +159,7 @@ const TEXT: Piece = Piece::Octet(b"\0\0\0\x07\0\0\0\0\0\0\0\xfarent\0\0\0\0\0\0\
 // A routine, the data of its request, and what it says.
 type Routine = (&'static [u8], Option<Piece>, Saying);
 
-static ROUTINES: [Routine; 24] = [
+static ROUTINES: [Routine; 26] = [
     (b"ACCT", Some(RENT), Saying::Succeeds(BOOKED)),
     (b"ACCT", Some(LEAST), Saying::Succeeds(LEAST_BOOKED)),
     (b"ACCT", Some(NOTHING), Saying::Fails(2, Some(NOTHING))),
@@ -184,6 +186,8 @@ static ROUTINES: [Routine; 24] = [
     (b"TRANSFER", None, Saying::Fails(4, None)),
     (b"ECHO", Some(VOID), Saying::Succeeds(VOID)),
     (b"FAIL", Some(TEXT), Saying::Fails(7, Some(TEXT))),
+    (b"EXIT", Some(TEXT), Saying::Exits(1)),
+    (b"EXIT", None, Saying::Exits(1)),
     (b"ACC", Some(RENT), Saying::Fails(99, None)),
     (b"TRANSFERS", Some(RENT), Saying::Fails(99, None)),
 ];
@@ -218,6 +222,9 @@ fn is_said(body: &Body, saying: Saying) -> bool {
         (Body::Return(Rval::Fail, code, payload), Saying::Fails(number, want)) => {
             *code == number && is_piece(payload, want)
         }
+        (Body::Return(Rval::Exit, code, payload), Saying::Exits(number)) => {
+            *code == number && is_piece(payload, None)
+        }
         (Body::Forward(service, payload), Saying::Forwards(name, want)) => {
             service.slice() == name && is_piece(payload, Some(want))
         }
@@ -232,10 +239,13 @@ fn is_next(frame: &Frame) -> bool {
     }
 }
 
-// Whether it is said with the tag 1, and NEXT behind it.
+// Whether it is said with the tag 1, and NEXT behind it, but for EXIT.
 fn are_said(said: &[Frame], saying: Saying) -> bool {
-    match said {
-        [first, last] => first.tag == 1 && is_said(&first.body, saying) && is_next(last),
+    match (said, saying) {
+        ([only], Saying::Exits(_)) => only.tag == 1 && is_said(&only.body, saying),
+        ([first, last], Saying::Succeeds(_) | Saying::Fails(..) | Saying::Forwards(..)) => {
+            first.tag == 1 && is_said(&first.body, saying) && is_next(last)
+        }
         _ => false,
     }
 }
