@@ -138,44 +138,37 @@ fn octets_of(alloc: Global, said: &[&[u8]]) -> Option<Vec<u8>> {
     Some(octets)
 }
 
+/// What a program says in a life, and the reads and writes of its link that fail and the writes that take nothing.
+pub type Life<'a> = (&'a [&'a [u8]], [&'a [u64]; 3]);
+
 // The link of a life, whose reads give 13 octets at most, and writes take 5.
-fn link_of(alloc: Global, said: &[&[u8]], faults: [&[u64]; 3]) -> Option<MemoryLink> {
-    let [reads, writes, idle] = faults;
+fn link_of(alloc: Global, (said, [reads, writes, idle]): Life<'_>) -> Option<MemoryLink> {
     let source = source_of(alloc, &octets_of(alloc, said)?, reads, 13)?;
     Some(MemoryLink::new(source, sink_of(alloc, writes, idle, 5)?))
 }
 
-fn one_server(alloc: Global, lives: Vec<Option<MemoryLink>>) -> Option<MemoryYard> {
-    Some(MemoryYard::new(alloc, Vec::from_array(alloc, [lives]).ok()?))
-}
-
-fn life_of(
-    alloc: Global,
-    life: Option<&[&[u8]]>,
-    faults: [&[u64]; 3],
-) -> Option<Option<MemoryLink>> {
+fn start_of(alloc: Global, life: Option<Life<'_>>) -> Option<Option<MemoryLink>> {
     match life {
-        Some(said) => Some(Some(link_of(alloc, said, faults)?)),
+        Some(life) => Some(Some(link_of(alloc, life)?)),
         None => Some(None),
     }
 }
 
-/// A yard whose first server alone can be started, and says this in its lives; a life that is none is a start that fails.
-pub fn lives_of(
-    alloc: Global,
-    lives: &[Option<&[&[u8]]>],
-    faults: [&[u64]; 3],
-) -> Option<MemoryYard> {
+/// A yard whose first server alone can be started, and has these lives; one that is none is a start that fails.
+pub fn lives_of(alloc: Global, lives: &[Option<Life<'_>>]) -> Option<MemoryYard> {
     let mut links = Vec::new(alloc);
     for life in lives {
-        links.push(life_of(alloc, *life, faults)?).ok()?;
+        links.push(start_of(alloc, *life)?).ok()?;
     }
-    one_server(alloc, links)
+    Some(MemoryYard::new(alloc, Vec::from_array(alloc, [links]).ok()?))
 }
 
 /// The same with one life.
 pub fn yard_of(alloc: Global, life: Option<&[&[u8]]>, faults: [&[u64]; 3]) -> Option<MemoryYard> {
-    lives_of(alloc, &[life], faults)
+    match life {
+        Some(said) => lives_of(alloc, &[Some((said, faults))]),
+        None => lives_of(alloc, &[None]),
+    }
 }
 
 fn is_served<R: Runtime>(rt: &R, yard: &mut MemoryYard, script: &[u8], wrote: &[&[u8]]) -> bool {

@@ -176,7 +176,8 @@ fn starts(rt: &HostRuntime, program: Option<&str>, steps: Option<&[Step]>) -> bo
     }
 }
 
-fn count_descriptors(rt: &HostRuntime) -> Option<usize> {
+/// How many descriptors are open.
+pub fn count_descriptors(rt: &HostRuntime) -> Option<usize> {
     Some(fs::read_dir(rt, "/proc/self/fd").ok()?.count())
 }
 

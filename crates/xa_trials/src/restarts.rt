@@ -1,24 +1,42 @@
-//! Servers in memory that are started again (Tuxedo, RESTART and MAXGEN), and what each call is told of their lives.
-use crate::lives::{NEXT, READY, SOUND, SUCCESS, lives_of};
+//! Servers in memory that are started again (Tuxedo, RESTART, MAXGEN and GRACE): what each call is told, and what is noted
+//! of their lives.
+use crate::lives::{Life, NEXT, READY, SOUND, SUCCESS, lives_of};
 use crate::rows::none_fails;
 use crate::running::{End, Runtime, run_of};
-use xa_link::{MemoryYard, OpenGate};
+use xa_report::events::{Event, StopCause};
+use xa_report::link::{MemoryYard, OpenGate};
 
+// The clock stands at 0, so each start counts by each GRACE.
 const TWO_STARTS: &[u8] =
-    b"[[queue]]\nname = \"Q\"\n[[server]]\nname = \"S\"\nqueue = \"Q\"\nrestart = true\nmaxgen = 2\n[[service]]\nname = \"ECHO\"\nqueues = [\"Q\"]\n";
+    b"[[queue]]\nname = \"Q\"\n[[server]]\nname = \"S\"\nqueue = \"Q\"\nrestart = true\nmaxgen = 2\ngrace = 1\n[[service]]\nname = \"ECHO\"\nqueues = [\"Q\"]\n";
 
 const THREE_STARTS: &[u8] =
     b"[[queue]]\nname = \"Q\"\n[[server]]\nname = \"S\"\nqueue = \"Q\"\nrestart = true\nmaxgen = 3\n[[service]]\nname = \"ECHO\"\nqueues = [\"Q\"]\n";
 
+const NO_RESTART: &[u8] =
+    b"[[queue]]\nname = \"Q\"\n[[server]]\nname = \"S\"\nqueue = \"Q\"\nmaxgen = 3\n[[service]]\nname = \"ECHO\"\nqueues = [\"Q\"]\n";
+
 const EXIT: &[u8] = b"XA\x01\x04\0\0\0\x06\0\0\0\x01\x02\0\0\0\x01\0";
 
-const LETTER: &[u8] = b"XA\x01\x04\0\0\0\x0b\0\0\0\x01\0\0\0\0\0\x01\0\0\0\x01k";
+// RETURNs of one letter to the first invocation, and one that is cut short behind eleven octets.
+const K: &[u8] = b"XA\x01\x04\0\0\0\x0b\0\0\0\x01\0\0\0\0\0\x01\0\0\0\x01k";
 
-const DIES: Option<&[&[u8]]> = Some(&[READY, NEXT]);
+const X: &[u8] = b"XA\x01\x04\0\0\0\x0b\0\0\0\x01\0\0\0\0\0\x01\0\0\0\x01x";
 
-const EXITS: Option<&[&[u8]]> = Some(&[READY, NEXT, EXIT]);
+const Y: &[u8] = b"XA\x01\x04\0\0\0\x0b\0\0\0\x01\0\0\0\0\0\x01\0\0\0\x01y";
 
-const ANSWERS: Option<&[&[u8]]> = Some(&[READY, NEXT, SUCCESS, NEXT]);
+const SHORT: &[u8] = b"XA\x01\x04\0\0\0\x0b\0\0\0";
+
+const DIES: Option<Life<'static>> = Some((&[READY, NEXT], SOUND));
+
+const EXITS: Option<Life<'static>> = Some((&[READY, NEXT, EXIT], SOUND));
+
+const ANSWERS: Option<Life<'static>> = Some((&[READY, NEXT, SUCCESS, NEXT], SOUND));
+
+// Its first INVOKE or SHUTDOWN can't be written.
+const DEAF: Option<Life<'static>> = Some((&[READY, NEXT], [&[], &[1], &[]]));
+
+const NONE: &[u8] = b"client a\n";
 
 const ONE: &[u8] = b"client a\ncall ECHO text \"k\"\n";
 
@@ -26,80 +44,203 @@ const TWO: &[u8] = b"client a\ncall ECHO none\ncall ECHO none\n";
 
 const THREE: &[u8] = b"client a\ncall ECHO none\ncall ECHO none\ncall ECHO none\n";
 
-// The configuration, the script, what the program says in each life or `None` where it can't be started, and the
-// transcript.
+const FIVE: &[u8] = b"client a\ncall ECHO text \"x\"\ncall ECHO text \"y\"\ncall ECHO text \"z\"\n\
+    call ECHO text \"w\"\ncall ECHO none\n";
+
+// What is noted of the server: its starts by their generations, the ends of its lives, and that it is given up.
+#[derive(Clone, Copy, PartialEq, Eq)]
+enum Noted {
+    Start(u64),
+    StartFailed(u64),
+    Stop(StopCause),
+    Gone,
+}
+
+const ENDED: Noted = Noted::Stop(StopCause::EndOfInput);
+
+const EXITED: Noted = Noted::Stop(StopCause::Exit);
+
+const SHUT: Noted = Noted::Stop(StopCause::Shutdown);
+
+const UNHEARD: Noted = Noted::Stop(StopCause::WriteFault);
+
+// The configuration, the script, the server's lives or `None` where it can't be started, the transcript, and what is noted.
 type Row = (
     &'static [u8],
     &'static [u8],
-    &'static [Option<&'static [&'static [u8]]>],
+    &'static [Option<Life<'static>>],
     &'static [u8],
+    &'static [Noted],
 );
 
-static ROWS: [Row; 7] = [
+static ROWS: [Row; 12] = [
     // Two starts that fail count.
     (
         THREE_STARTS,
         ONE,
-        &[None, None, Some(&[READY, NEXT, LETTER, NEXT])],
+        &[None, None, Some((&[READY, NEXT, K, NEXT], SOUND))],
         b"a 1 OK 0 octet 6b\n",
+        &[
+            Noted::StartFailed(1),
+            Noted::StartFailed(2),
+            Noted::Start(3),
+            SHUT,
+        ],
     ),
-    (TWO_STARTS, ONE, &[None, None, ANSWERS], b"a 1 TPENOENT\n"),
-    // The last life is found gone with the rows of its queue.
+    (
+        TWO_STARTS,
+        ONE,
+        &[None, None, ANSWERS],
+        b"a 1 TPENOENT\n",
+        &[Noted::StartFailed(1), Noted::StartFailed(2), Noted::Gone],
+    ),
+    // Who is told of the last life finds no row of the queue.
     (
         TWO_STARTS,
         THREE,
         &[EXITS, EXITS, ANSWERS],
         b"a 1 TPESVCFAIL 1 none\na 2 TPESVCFAIL 1 none\na 3 TPENOENT\n",
+        &[
+            Noted::Start(1),
+            EXITED,
+            Noted::Start(2),
+            EXITED,
+            Noted::Gone,
+        ],
     ),
     (
         TWO_STARTS,
         THREE,
         &[DIES, DIES, ANSWERS],
         b"a 1 TPESVCERR\na 2 TPESVCERR\na 3 TPENOENT\n",
+        &[Noted::Start(1), ENDED, Noted::Start(2), ENDED, Noted::Gone],
+    ),
+    (
+        TWO_STARTS,
+        FIVE,
+        &[
+            Some((&[READY, NEXT, SHORT], SOUND)),
+            Some((&[READY, NEXT, Y, NEXT], SOUND)),
+        ],
+        b"a 1 TPESVCERR\na 2 OK 0 octet 79\na 3 TPESVCERR\na 4 TPENOENT\na 5 TPENOENT\n",
+        &[Noted::Start(1), ENDED, Noted::Start(2), ENDED, Noted::Gone],
+    ),
+    // Without RESTART there is one life, whatever MAXGEN is.
+    (
+        NO_RESTART,
+        TWO,
+        &[DIES, ANSWERS],
+        b"a 1 TPESVCERR\na 2 TPENOENT\n",
+        &[Noted::Start(1), ENDED, Noted::Gone],
     ),
     (
         TWO_STARTS,
         TWO,
         &[DIES, ANSWERS],
         b"a 1 TPESVCERR\na 2 OK 0 none\n",
+        &[Noted::Start(1), ENDED, Noted::Start(2), SHUT],
     ),
-    // A life that ends behind its answer, and one that never greets.
+    // A life that ends behind its answer, without the NEXT that is due, and one that never greets.
+    (
+        TWO_STARTS,
+        b"client a\ncall ECHO text \"x\"\n",
+        &[
+            Some((&[READY, NEXT, X], SOUND)),
+            Some((&[READY, NEXT], SOUND)),
+        ],
+        b"a 1 OK 0 octet 78\n",
+        &[Noted::Start(1), ENDED, Noted::Start(2), SHUT],
+    ),
     (
         TWO_STARTS,
         TWO,
-        &[Some(&[READY, NEXT, SUCCESS]), ANSWERS],
+        &[Some((&[READY, NEXT, SUCCESS], SOUND)), ANSWERS],
         b"a 1 OK 0 none\na 2 OK 0 none\n",
+        &[Noted::Start(1), ENDED, Noted::Start(2), SHUT],
     ),
     (
         THREE_STARTS,
         TWO,
-        &[Some(&[READY]), DIES, ANSWERS],
+        &[Some((&[READY], SOUND)), DIES, ANSWERS],
         b"a 1 TPESVCERR\na 2 OK 0 none\n",
+        &[
+            Noted::Start(1),
+            ENDED,
+            Noted::Start(2),
+            ENDED,
+            Noted::Start(3),
+            SHUT,
+        ],
+    ),
+    // One whose SHUTDOWN can't be written is started again, though its queue is closed then.
+    (
+        TWO_STARTS,
+        NONE,
+        &[DEAF, Some((&[READY, NEXT], SOUND))],
+        b"",
+        &[Noted::Start(1), UNHEARD, Noted::Start(2), SHUT],
+    ),
+    (
+        TWO_STARTS,
+        NONE,
+        &[DEAF, DEAF, ANSWERS],
+        b"",
+        &[
+            Noted::Start(1),
+            UNHEARD,
+            Noted::Start(2),
+            UNHEARD,
+            Noted::Gone,
+        ],
     ),
 ];
 
+fn noted_of(event: &Event) -> Option<Noted> {
+    match event {
+        Event::Start(started) => Some(Noted::Start(started.generation.0)),
+        Event::StartFailed(started) => Some(Noted::StartFailed(started.generation.0)),
+        Event::Stop(stopped) => Some(Noted::Stop(stopped.cause)),
+        Event::Gone(_) => Some(Noted::Gone),
+        _ => None,
+    }
+}
+
+fn are_noted(history: &[Event], wanted: &[Noted]) -> bool {
+    let mut left = wanted.iter();
+    for event in history {
+        if let Some(noted) = noted_of(event) {
+            match left.next() {
+                Some(want) if *want == noted => {}
+                _ => return false,
+            }
+        }
+    }
+    left.next().is_none()
+}
+
 fn is_served<R: Runtime>(
     rt: &R,
-    config: &[u8],
-    script: &[u8],
     yard: &mut MemoryYard,
-    wrote: &[u8],
+    (config, script, _, wrote, noted): Row,
 ) -> bool {
-    run_of(
+    let files: [(&[u8], &[u8]); 1] = [(b"c", config)];
+    match run_of(
         rt,
-        &["run", "c.toml"],
-        (&[(b"c.toml", config)], &[]),
+        &["run", "c"],
+        (&files, &[]),
         (script, &[], &[]),
         yard,
         &OpenGate,
         (End::Done, &[wrote]),
-    )
-    .is_some()
+    ) {
+        Some((history, _)) => are_noted(&history, noted),
+        None => false,
+    }
 }
 
-fn serves<R: Runtime>(rt: &R, (config, script, lives, wrote): Row) -> bool {
-    match lives_of(rt.alloc(), lives, SOUND) {
-        Some(mut yard) => is_served(rt, config, script, &mut yard, wrote),
+fn serves<R: Runtime>(rt: &R, row: Row) -> bool {
+    match lives_of(rt.alloc(), row.2) {
+        Some(mut yard) => is_served(rt, &mut yard, row),
         None => false,
     }
 }

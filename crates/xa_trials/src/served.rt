@@ -1,4 +1,5 @@
 //! Whole runs with real processes: what each call is told where servers end, fail or can't be started, and what is left.
+use crate::processes::count_descriptors;
 use crate::rows::none_fails;
 use crate::running::{Runtime, is_among, source_of, words_of};
 use crate::statuses::are_lives_told;
@@ -59,11 +60,13 @@ fn set_up(rt: &HostRuntime, words: &[&str], script: &str) -> Option<Stage> {
     })
 }
 
-// What a run by so many processes may print, and the line of a life that failed; without one, any may be said.
+// What a run by so many processes, with so many starts that fail, may print, and the line of a life that failed; without
+// one, any may be said.
 #[derive(Clone, Copy)]
 struct Want {
     wrote: &'static [&'static [u8]],
     count: usize,
+    refused: usize,
     ended: Option<&'static str>,
 }
 
@@ -88,6 +91,14 @@ fn are_so_many<T>(servers: &[Vec<T>], count: usize) -> bool {
     left == 0
 }
 
+// How many starts failed.
+fn refused_in(history: &[Event]) -> usize {
+    history
+        .iter()
+        .filter(|event| matches!(**event, Event::StartFailed(_)))
+        .count()
+}
+
 // Whether the command is done so.
 fn prints<R: Runtime, G: Gate>(rt: &R, stage: &mut Stage, gate: &G, want: Want) -> bool {
     let Outcome {
@@ -109,7 +120,8 @@ fn prints<R: Runtime, G: Gate>(rt: &R, stage: &mut Stage, gate: &G, want: Want) 
     );
     let printed = is_among(stage.out.taken(), want.wrote);
     let done = status.number() == 0 && are_so_many(lives.as_slice(), want.count);
-    printed && done && is_told(rt.alloc(), history.as_slice(), want.ended)
+    let refused = refused_in(history.as_slice()) == want.refused;
+    printed && done && refused && is_told(rt.alloc(), history.as_slice(), want.ended)
 }
 
 /// Whether the file has that text.
@@ -269,6 +281,7 @@ fn fails_so<R: Runtime>(threads: &R, rt: &HostRuntime, (server, wrote, ended, en
     let want = Want {
         wrote,
         count: 1,
+        refused: 0,
         ended,
     };
     for command in COMMANDS {
@@ -292,6 +305,76 @@ fn first_not_ended<R: Runtime>(threads: &R, rt: &HostRuntime) -> Option<usize> {
 fn a_server_that_fails_is_ended(rt: HostRuntime) {
     assert!(rt; fs::write(&rt, "config", ONE).is_ok());
     none_fails(&rt, first_not_ended(&rt, &rt));
+    assert!(rt; remove(&rt, &["config", "server"]));
+}
+
+// ---- a server that is started again
+
+// It may be started as often as a server ever may.
+const OFTEN: &str = "[[queue]]\nname = \"Q\"\n\
+                     [[server]]\nname = \"S\"\nqueue = \"Q\"\nrestart = true\nmaxgen = 255\nprogram = \"/bin/sh\"\n\
+                     [[service]]\nname = \"ECHO\"\nqueues = [\"Q\"]\n";
+
+// The program isn't there.
+const NOWHERE: &str = "[[queue]]\nname = \"Q\"\n\
+                       [[server]]\nname = \"S\"\nqueue = \"Q\"\nrestart = true\nmaxgen = 20\nprogram = \"./no-such-program\"\n\
+                       [[service]]\nname = \"ECHO\"\nqueues = [\"Q\"]\n";
+
+// The configuration, what the server does, what is printed, and how many of its starts come about and fail.
+type Often = (
+    &'static str,
+    &'static str,
+    &'static [&'static [u8]],
+    usize,
+    usize,
+);
+
+static OFTEN_ROWS: [Often; 4] = [
+    (OFTEN, "exit", NEVER, 255, 0),
+    (NOWHERE, "", NEVER, 0, 20),
+    (
+        OFTEN,
+        "greet $1; take",
+        &[b"a 1 TPESVCERR\na 2 TPESVCERR\n"],
+        3,
+        0,
+    ),
+    (
+        OFTEN,
+        "greet $1; take; leave",
+        &[b"a 1 TPESVCFAIL 1 none\na 2 TPESVCFAIL 1 none\n"],
+        3,
+        0,
+    ),
+];
+
+fn is_started_so<R: Runtime>(threads: &R, rt: &HostRuntime, row: Often) -> bool {
+    let (config, server, wrote, count, refused) = row;
+    let want = Want {
+        wrote,
+        count,
+        refused,
+        ended: None,
+    };
+    fs::write(rt, "config", config).is_ok()
+        && write_server(rt, server)
+        && serves(threads, rt, ["run", "config"], TWICE, &OpenGate, want)
+}
+
+fn first_not_started_so<R: Runtime>(threads: &R, rt: &HostRuntime) -> Option<usize> {
+    for (place, row) in OFTEN_ROWS.iter().enumerate() {
+        if !is_started_so(threads, rt, *row) {
+            return Some(place);
+        }
+    }
+    None
+}
+
+#[test]
+fn a_server_is_started_as_often_as_it_may(rt: HostRuntime) {
+    let before = count_descriptors(&rt);
+    none_fails(&rt, first_not_started_so(&rt, &rt));
+    assert!(rt; before.is_some() && count_descriptors(&rt) == before);
     assert!(rt; remove(&rt, &["config", "server"]));
 }
 
@@ -361,6 +444,7 @@ fn first_not_outlived<R: Runtime>(threads: &R, rt: &HostRuntime) -> Option<usize
     let want = Want {
         wrote: PAIRED,
         count: 2,
+        refused: 0,
         ended: None,
     };
     for (place, end) in ENDS.iter().enumerate() {
@@ -391,6 +475,7 @@ fn serves_both_at_once<R: Runtime>(threads: &R, rt: &HostRuntime) -> bool {
     let want = Want {
         wrote: &[b"a 1 OK 0 none\nb 1 OK 0 none\n"],
         count: 2,
+        refused: 0,
         ended: None,
     };
     fs::write(rt, "config", PAIR).is_ok()
@@ -419,6 +504,7 @@ fn serves_one_of_three<R: Runtime>(threads: &R, rt: &HostRuntime) -> bool {
     let want = Want {
         wrote: &[b"a 1 TPENOENT\na 2 TPENOENT\na 3 OK 0 none\n"],
         count: 1,
+        refused: 2,
         ended: None,
     };
     fs::write(rt, "config", THREE).is_ok()
