@@ -23,8 +23,7 @@ IDLE = {
     "blocktime": "no call lapses yet",
     "blocks": "no room is counted yet",
     "group": "nothing is grouped yet",
-    "maxgen": "no server is started again yet",
-    "grace": "no server is started again yet",
+    "grace": "nothing moves the clock yet, so each start counts",
 }
 NAME = re.compile(rb"(?!\.)[\x21-\x7e]{1,31}")
 IDENTIFIER = re.compile(rb"[A-Za-z][A-Za-z0-9_]{0,30}")
