@@ -1,7 +1,7 @@
 -- How a caller is kept: with more room at its home, and with its cells.
-use Rattle.std.proofs.Common.{◌≡◌, ◌≢◌, ℕ, zero, suc, ◌+◌, ◌<◌, ◌≤◌, max, List, [], ◌∷◌, ◌++◌, length, refl, sym, ◌∙◌, ap, subst, arith, ⊎_elim, Result, Ok, Err, true}
+use Rattle.std.proofs.Common.{◌≡◌, ◌≢◌, ℕ, zero, suc, ◌+◌, ◌<◌, ◌≤◌, max, List, [], ◌∷◌, ◌++◌, length, refl, sym, ◌∙◌, ap, subst, arith, ⊎_elim, Result, Ok, Err, Option, Bool, ℤ, true}
 use Rattle.std.proofs.lemmas.Bool.{false≢true}
-use Rattle.std.specs.Prelude.{OnErr, is_err, slice_set}
+use Rattle.std.specs.Prelude.{OnOk, OnErr, is_err, slice_set}
 use Rattle.xa_types.specs.declared.ids.CallerId.{CallerId}
 use Rattle.xa_types.specs.declared.ids.RequestId.{RequestId}
 use Rattle.xa_types.specs.declared.setup.Setup.{Setup}
@@ -23,21 +23,25 @@ use Rattle.xa_caller.specs.declared.phase.Phase.TheVariants.{Idle, Prepared, Sen
 use Rattle.xa_caller.specs.Kept.{Holds, IsSeated, IsKept}
 use Rattle.xa_caller.proofs.Next.{some_limit}
 
-holds-more : (setup : Setup) (id : CallerId) (room more op sent least : ℕ) (phase : Phase) → Holds setup id room op sent least phase → Holds setup id (max room more) op sent least phase
-holds-more setup id room more op sent least Idle h = tt
-holds-more setup id room more op sent least (Prepared draft) h = let some = h.0 in (omega (arith, some), h.1)
-holds-more setup id room more op sent least (Sent out) h = let some = h.0 in (omega (arith, some), h.1, h.2)
-holds-more setup id room more op sent least (Lost request) h = tt
+holds-more : (setup : Setup) (id : CallerId) (room more op sent least : ℕ) (priority : Option (Bool × ℤ)) (phase : Phase) → Holds setup id room op sent least priority phase → Holds setup id (max room more) op sent least priority phase
+holds-more setup id room more op sent least priority Idle h = tt
+holds-more setup id room more op sent least priority (Prepared draft) h = let some = h.0 in (omega (arith, some), h.1)
+holds-more setup id room more op sent least priority (Sent out) h = let some = h.0 in (omega (arith, some), h.1, h.2)
+holds-more setup id room more op sent least priority (Lost request) h = tt
 
 pub more_room : (c : Inside) (w : Working) (more : ℕ) → IsKept c → w ≡ record c.work { room = max c.work.room more } → IsKept (record c { work = w })
 more_room c w more i is =
     subst (λ (v : Working). IsKept (record c { work = v })) (sym is) (record {
       sound = record { reads = i.sound.reads };
-      holds = holds-more c.work.setup c.work.id c.work.room more c.op c.sent c.least c.phase i.holds;
+      holds = holds-more c.work.setup c.work.id c.work.room more c.op c.sent c.least c.priority c.phase i.holds;
       places = i.places;
       seated = i.seated;
       few = i.few;
     })
+
+pub reserved : {X Y : Type 0} (c : Inside) (w : Working) (more : ℕ) (r : Result X Y) → IsKept c → OnOk r (w ≡ record c.work { room = max c.work.room more }) → OnErr r (w ≡ c.work) → IsKept (record c { work = w })
+reserved c w more (Ok x) i ok kept = more_room c w more i ok
+reserved c w more (Err y) i ok kept = subst (λ (v : Working). IsKept (record c { work = v })) (sym kept) i
 
 pub on_err : {X Y P : Type 0} (r : Result X Y) → is_err r ≡ true → OnErr r P → P
 on_err (Ok x) failed holds = absurd (false≢true failed)

@@ -4,7 +4,6 @@ pub mod Keeping
 pub mod Unsent
 pub mod Sound
 pub mod Tickets
-
 -- what crates above cite of the lemmas of those below
 pub use Rattle.xa_types.proofs as xa_types
 pub use Rattle.xa_events.proofs as xa_events

@@ -1,5 +1,5 @@
 -- Of each event that a caller notes: it meets what is asked of the caller's own events.
-use Rattle.std.proofs.Common.{false, ◌≡◌, ℕ, ◌+◌, ◌<◌, ◌≤◌, if◌then◌else◌, ◌||◌, not, Bool, true, List, [], ◌∷◌, length, Option, Some, None, inl, inr, refl, sym, ◌∙◌, ap, subst, arith}
+use Rattle.std.proofs.Common.{false, ◌≡◌, ℕ, ◌+◌, ◌<◌, ◌≤◌, if◌then◌else◌, ◌||◌, not, Bool, ℤ, true, List, [], ◌∷◌, length, Option, Some, None, inl, inr, refl, sym, ◌∙◌, ap, subst, arith}
 use Rattle.std.specs.List.{All, find}
 use Rattle.std.proofs.lemmas.List.Elements.{All-head, All-tail, All-weaker}
 use Rattle.std.specs.Prelude.{slice_get}
@@ -13,11 +13,13 @@ use Rattle.xa_types.specs.declared.row.Row.{Row}
 use Rattle.xa_types.specs.declared.setup.Setup.{Setup}
 use Rattle.xa_types.specs.declared.setup.ServiceSetup.{ServiceSetup}
 use Rattle.xa_types.specs.Kind.{is_sound, is_accepted}
+use Rattle.xa_types.specs.Priority.{priority_of}
 use Rattle.xa_types.specs.Rows.{row_for, row_with}
 use Rattle.xa_types.specs.Setup.{service_named}
-use Rattle.xa_events.specs.declared.event.Event.TheVariants.{Accept, Answer, Refuse, Leave}
+use Rattle.xa_events.specs.declared.event.Event.TheVariants.{Accept, Answer, Refuse, Leave, Priority}
 use Rattle.xa_events.specs.declared.event.Accepted.{Accepted}
 use Rattle.xa_events.specs.declared.event.Replied.{Replied}
+use Rattle.xa_events.specs.declared.event.Prioritized.{Prioritized}
 use Rattle.xa_events.specs.declared.event.Refused.{Refused as RefusedCall}
 use Rattle.xa_events.specs.Caller.{is_client, is_active, descriptor_limit, accepted, last_op, just_accepted, least_version, open_descriptors, next_priority}
 use Rattle.xa_events.specs.Cases.{IsNextCall, HasRoom, asked_priority, priority_by, ShowsItself, IsOwnEvidence}
@@ -61,12 +63,18 @@ some_limit clients caller = elim (cases_Bool (is_client clients caller)) [
   | inr n ↦ subst (λ n. 0 < n) (sym (ap (λ b. if b then 50 else 16) n)) (omega arith)
 ]
 
-unset_now : (c : Standing) → IsSound c → next_priority c.work.clients c.work.id.0 (theirs c.work) ≡ None
+set_now : (c : Standing) → IsSound c → next_priority c.work.clients c.work.id.0 (theirs c.work) ≡ c.priority
 unfolding next_priority
-unset_now c sound = sound.reads.unset
+set_now c sound = sound.reads.set
+
+pub sets_next : (c : Standing) → IsSound c → MayCall c → (p : Prioritized) → p.by ≡ c.work.id → p.op ≡ c.op + 1 → IsNext c.work (Priority p)
+sets_next c sound may p by next = record {
+  its = ap (λ (id : CallerId). id.0) by;
+  met = record { call = subst (λ (id : CallerId). IsNextCall c.work.clients id.0 p.op (theirs c.work)) (sym by) (next_call c sound may p.op next) };
+}
 
 pub accepts_next : (c : Standing) → IsSound c → MayCall c → (a : Accepted) → a.by ≡ c.work.id → a.op ≡ c.op + 1 → a.request ≡ record { caller = c.work.id; number = c.sent + 1 } → a.mode ≡ Reply → is_sound c.work.setup a.payload ≡ true → c.least ≤ a.version
-    → a.priority ≡ priority_by c.work.setup a.service None → open_in c.phase ≡ [] → IsNext c.work (Accept a)
+    → a.priority ≡ priority_by c.work.setup a.service c.priority → open_in c.phase ≡ [] → IsNext c.work (Accept a)
 accepts_next c sound may a by next mine mode fine recent priority none =
     let w : Working = c.work in
     let floor = sound.reads.floor in
@@ -80,7 +88,7 @@ accepts_next c sound may a by next mine mode fine recent priority none =
         room = subst (λ (m : Mode). HasRoom w.clients a.by.0 m (theirs w)) (sym mode) (subst (λ (id : CallerId). HasRoom w.clients id.0 Reply (theirs w)) (sym by) room);
         sound = fine;
         not_older = subst (λ (id : CallerId). least_version w.setup w.clients id.0 (theirs w) ≤ a.version) (sym by) (omega (arith, floor, recent));
-        priority = priority ∙ ap (priority_by w.setup a.service) (sym (ap (λ (m : Mode). asked_priority w.clients a.by.0 m (theirs w)) mode ∙ subst (λ (id : CallerId). next_priority w.clients id.0 (theirs w) ≡ None) (sym by) (unset_now c sound)));
+        priority = priority ∙ ap (priority_by w.setup a.service) (sym (ap (λ (m : Mode). asked_priority w.clients a.by.0 m (theirs w)) mode ∙ subst (λ (id : CallerId). next_priority w.clients id.0 (theirs w) ≡ c.priority) (sym by) (set_now c sound)));
       };
     }
 
@@ -111,10 +119,10 @@ same_priority : (setup : Setup) (service : List ℕ) (configured : Option Servic
 same_priority setup service None row is = (ap (λ (r : Row). r.service) is, ap (λ (r : Row). r.priority) is)
 same_priority setup service (Some configured) row is = (ap (λ (r : Row). r.service) is, ap (λ (r : Row). r.priority) is)
 
-pub row-priority : (setup : Setup) (service : List ℕ) (row : Row) → row ≡ row_for setup service row.queue.0 row.routine → row.priority ≡ priority_by setup row.service None
-row-priority setup service row is =
+pub row-priority : (setup : Setup) (service : List ℕ) (row : Row) (asked : Option (Bool × ℤ)) → row ≡ row_for setup service row.queue.0 row.routine → priority_of row.priority asked ≡ priority_by setup row.service asked
+row-priority setup service row asked is =
     let both = same_priority setup service (service_named setup service) row is in
-    both.1 ∙ ap (λ (s : List ℕ). (row_for setup s 0 []).priority) (sym both.0)
+    ap (λ n. priority_of n asked) (both.1 ∙ ap (λ (s : List ℕ). (row_for setup s 0 []).priority) (sym both.0))
 
 -- what is found among a list has what all have
 pub found-all : {X : Type 0} (p : X → Bool) (P : X → Type 0) (xs : List X) (x : X) → find p xs ≡ Some x → All P xs → P x

@@ -1,21 +1,22 @@
 -- A caller's tables are what its events say also with one event more: a lemma for each kind of event.
-use Rattle.std.proofs.Common.{◌≡◌, ℕ, ◌+◌, ◌<◌, ◌≤◌, ◌==◌, ◌&&◌, if◌then◌else◌, true, false, not, cond, List, [], ◌∷◌, ◌++◌, Option, Some, None, inl, refl, sym, ◌∙◌, ap, subst, arith, eq-eqb}
+use Rattle.std.proofs.Common.{◌≡◌, ℕ, ◌+◌, ◌<◌, ◌≤◌, ◌==◌, ◌&&◌, if◌then◌else◌, true, false, not, cond, Bool, ℤ, List, [], ◌∷◌, ◌++◌, Option, Some, None, inl, refl, sym, ◌∙◌, ap, subst, arith, eq-eqb}
 use Rattle.std.specs.Prelude.{nat_lt, IfSome}
 use Rattle.std.proofs.lemmas.Bool.{and_from, lt-ltb}
 use Rattle.xa_types.specs.declared.setup.Setup.{Setup}
 use Rattle.xa_types.specs.declared.call.Mode.TheVariants.{Reply}
 use Rattle.xa_events.specs.declared.event.Event.{Event}
-use Rattle.xa_events.specs.declared.event.Event.TheVariants.{Accept, Answer, Refuse, Start, StartFailed, End, Stop, Take, Gone}
+use Rattle.xa_events.specs.declared.event.Event.TheVariants.{Accept, Answer, Refuse, Priority, Start, StartFailed, End, Stop, Take, Gone}
 use Rattle.xa_events.specs.State.{caller_of}
 use Rattle.xa_events.specs.declared.event.Accepted.{Accepted}
 use Rattle.xa_events.specs.declared.event.Replied.{Replied}
+use Rattle.xa_events.specs.declared.event.Prioritized.{Prioritized}
 use Rattle.xa_events.specs.declared.event.Refused.{Refused as RefusedCall}
 use Rattle.xa_events.specs.Words.{added, without}
 use Rattle.xa_events.specs.Board.{boot}
 use Rattle.xa_events.specs.Homes.{worker_of, home_of, at_home}
 use Rattle.xa_events.specs.Homes.Home.{CallerHome}
 use Rattle.xa_caller.specs.Serving.{IsOfServer, IsAtQueue, version_ended, raised}
-use Rattle.xa_events.specs.Caller.{op_of, accepted_in, version_in, wants_reply, newest_call, accepted, open_descriptors, versions, ticks, has_left, is_leaving, version_of}
+use Rattle.xa_events.specs.Caller.{op_of, accepted_in, version_in, wants_reply, newest_call, accepted, open_descriptors, versions, ticks, has_left, is_leaving, version_of, priority_asked}
 use Rattle.xa_events.specs.Conversation.{connections, closes_connection}
 use Rattle.xa_types.specs.declared.ids.RequestId.{RequestId}
 use Rattle.xa_events.specs.Local.{worker_events}
@@ -62,9 +63,9 @@ least_rises (Some v) least recent = recent
 
 -- ---- one event more, by its kind
 
-pub reads_refused : (setup : Setup) (clients worker : ℕ) (r : RefusedCall) (view : CallerView) (op n least : ℕ) (phase : Phase) → r.by.0 ≡ worker → 0 < r.op → IfSome (version_in r.evidence) (λ v. least ≤ v) → phase ≡ Idle
-    → Reads setup view op n least phase → Reads setup (caller_after clients worker (Refuse r) view) r.op n (least_by (version_in r.evidence) least) phase
-reads_refused setup clients worker r view op n least phase by above recent idle reads =
+pub reads_refused : (setup : Setup) (clients worker : ℕ) (r : RefusedCall) (view : CallerView) (op n least : ℕ) (priority : Option (Bool × ℤ)) (phase : Phase) → r.by.0 ≡ worker → 0 < r.op → IfSome (version_in r.evidence) (λ v. least ≤ v) → phase ≡ Idle
+    → Reads setup view op n least priority phase → Reads setup (caller_after clients worker (Refuse r) view) r.op n (least_by (version_in r.evidence) least) priority phase
+reads_refused setup clients worker r view op n least priority phase by above recent idle reads =
     let is_call = is_numbered worker r.by.0 r.op by above in
     let low = reads.floor in
     let rises = least_rises (version_in r.evidence) least recent in
@@ -76,13 +77,13 @@ reads_refused setup clients worker r view op n least phase by above recent idle 
       floor = greatest_one_more view.versions _ (boot setup) (least_by (version_in r.evidence) least) (λ v is. let one = ap (λ o. least_by o least) (if_some (r.by.0 == worker) (version_in r.evidence) v is).1 in omega (arith, one)) (omega (arith, low, rises));
       stands = reads.stands;
       stays = reads.stays;
-      unset = reads.unset;
+      set = reads.set;
       unconnected = ap (without (closes_connection worker (Refuse r))) reads.unconnected ∙ without_none (closes_connection worker (Refuse r));
     }
 
-pub reads_accepted : (setup : Setup) (clients worker : ℕ) (a : Accepted) (view : CallerView) (op n least op' m : ℕ) (phase phase' : Phase) (sent : Open) → a.by.0 ≡ worker → 0 < a.op → a.mode ≡ Reply → a.op ≡ op' → a.version ≡ m → least ≤ m → a.request ≡ sent.request → open_in phase ≡ [] → phase' ≡ Sent sent
-    → Reads setup view op n least phase → Reads setup (caller_after clients worker (Accept a) view) op' (n + 1) m phase'
-reads_accepted setup clients worker a view op n least op' m phase phase' sent by above mode of version recent same none is reads =
+pub reads_accepted : (setup : Setup) (clients worker : ℕ) (a : Accepted) (view : CallerView) (op n least op' m : ℕ) (priority : Option (Bool × ℤ)) (phase phase' : Phase) (sent : Open) → a.by.0 ≡ worker → 0 < a.op → a.mode ≡ Reply → a.op ≡ op' → a.version ≡ m → least ≤ m → a.request ≡ sent.request → open_in phase ≡ [] → phase' ≡ Sent sent
+    → Reads setup view op n least priority phase → Reads setup (caller_after clients worker (Accept a) view) op' (n + 1) m None phase'
+reads_accepted setup clients worker a view op n least op' m priority phase phase' sent by above mode of version recent same none is reads =
     let is_call = is_numbered worker a.by.0 a.op by above in
     let low = reads.floor in
     record {
@@ -94,13 +95,13 @@ reads_accepted setup clients worker a view op n least op' m phase phase' sent by
       floor = greatest_one_more view.versions _ (boot setup) m (λ v given. let one = (if_some (a.by.0 == worker) (Some a.version) v given).1 in omega (arith, version, some_is one)) (omega (arith, low, recent));
       stands = reads.stands;
       stays = reads.stays;
-      unset = rw (eq-eqb a.by.0 worker by, mode) refl;
+      set = rw (eq-eqb a.by.0 worker by, mode) refl;
       unconnected = rw (eq-eqb a.by.0 worker by, mode) reads.unconnected;
     }
 
-pub reads_answered : (setup : Setup) (clients worker : ℕ) (a : Replied) (view : CallerView) (op n least : ℕ) (phase phase' : Phase) (sent : Open) → a.by.0 ≡ worker → 0 < a.op → a.op ≡ op → a.request ≡ sent.request → phase ≡ Sent sent → phase' ≡ Idle
-    → Reads setup view op n least phase → Reads setup (caller_after clients worker (Answer a) view) op n least phase'
-reads_answered setup clients worker a view op n least phase phase' sent by above of same is idle reads =
+pub reads_answered : (setup : Setup) (clients worker : ℕ) (a : Replied) (view : CallerView) (op n least : ℕ) (priority : Option (Bool × ℤ)) (phase phase' : Phase) (sent : Open) → a.by.0 ≡ worker → 0 < a.op → a.op ≡ op → a.request ≡ sent.request → phase ≡ Sent sent → phase' ≡ Idle
+    → Reads setup view op n least priority phase → Reads setup (caller_after clients worker (Answer a) view) op n least priority phase'
+reads_answered setup clients worker a view op n least priority phase phase' sent by above of same is idle reads =
     let is_call = is_numbered worker a.by.0 a.op by above in
     record {
       called = ap (λ b. op_of (newer b (Answer a) view.called)) is_call ∙ of;
@@ -111,7 +112,7 @@ reads_answered setup clients worker a view op n least phase phase' sent by above
       floor = reads.floor;
       stands = reads.stands;
       stays = reads.stays;
-      unset = reads.unset;
+      set = reads.set;
       unconnected = reads.unconnected;
     }
 
@@ -120,14 +121,14 @@ raised_to None least = omega arith
 raised_to (Some v) least = omega arith
 
 -- an event of the caller's server
-pub reads_served : (setup : Setup) (clients worker : ℕ) (e : Event) (view : CallerView) (op n least : ℕ) (phase : Phase) → IsOfServer e → Reads setup view op n least phase → Reads setup (caller_after clients worker e view) op n (raised (version_ended e) least) phase
-reads_served setup clients worker (Start b) view op n least phase kind r =
-    record { called = r.called; just = r.just; accepted = r.accepted; descriptors = r.descriptors; floor = r.floor; stands = r.stands; stays = r.stays; unset = r.unset; unconnected = r.unconnected }
-reads_served setup clients worker (StartFailed b) view op n least phase kind r =
-    record { called = r.called; just = r.just; accepted = r.accepted; descriptors = r.descriptors; floor = r.floor; stands = r.stands; stays = r.stays; unset = r.unset; unconnected = r.unconnected }
-reads_served setup clients worker (Stop x) view op n least phase kind r =
-    record { called = r.called; just = r.just; accepted = r.accepted; descriptors = r.descriptors; floor = r.floor; stands = r.stands; stays = r.stays; unset = r.unset; unconnected = r.unconnected }
-reads_served setup clients worker (End e) view op n least phase kind r =
+pub reads_served : (setup : Setup) (clients worker : ℕ) (e : Event) (view : CallerView) (op n least : ℕ) (priority : Option (Bool × ℤ)) (phase : Phase) → IsOfServer e → Reads setup view op n least priority phase → Reads setup (caller_after clients worker e view) op n (raised (version_ended e) least) priority phase
+reads_served setup clients worker (Start b) view op n least priority phase kind r =
+    record { called = r.called; just = r.just; accepted = r.accepted; descriptors = r.descriptors; floor = r.floor; stands = r.stands; stays = r.stays; set = r.set; unconnected = r.unconnected }
+reads_served setup clients worker (StartFailed b) view op n least priority phase kind r =
+    record { called = r.called; just = r.just; accepted = r.accepted; descriptors = r.descriptors; floor = r.floor; stands = r.stands; stays = r.stays; set = r.set; unconnected = r.unconnected }
+reads_served setup clients worker (Stop x) view op n least priority phase kind r =
+    record { called = r.called; just = r.just; accepted = r.accepted; descriptors = r.descriptors; floor = r.floor; stands = r.stands; stays = r.stays; set = r.set; unconnected = r.unconnected }
+reads_served setup clients worker (End e) view op n least priority phase kind r =
     let low = r.floor in
     let rises = raised_to (version_of e.outcome) least in
     record {
@@ -138,18 +139,35 @@ reads_served setup clients worker (End e) view op n least phase kind r =
       floor = greatest_one_more view.versions _ (boot setup) (raised (version_of e.outcome) least) (λ v is. let one = ap (λ o. raised o least) (if_some (caller_of clients e.server.0 == worker) (version_of e.outcome) v is).1 in omega (arith, one)) (omega (arith, low, rises));
       stands = r.stands;
       stays = r.stays;
-      unset = r.unset;
+      set = r.set;
       unconnected = r.unconnected;
     }
-reads_served setup clients worker _ view op n least phase kind r = absurd kind
+reads_served setup clients worker _ view op n least priority phase kind r = absurd kind
+
+-- the caller set the priority of its next request
+pub reads_set : (setup : Setup) (clients worker : ℕ) (p : Prioritized) (view : CallerView) (op n least : ℕ) (priority : Option (Bool × ℤ)) (phase : Phase) → p.by.0 ≡ worker → 0 < p.op → phase ≡ Idle
+    → Reads setup view op n least priority phase → Reads setup (caller_after clients worker (Priority p) view) p.op n least (Some (p.absolute, p.amount)) phase
+reads_set setup clients worker p view op n least priority phase by above idle reads =
+    let is_call = is_numbered worker p.by.0 p.op by above in
+    record {
+      called = ap (λ b. op_of (newer b (Priority p) view.called)) is_call;
+      just = ap (λ b. accepted_in (newer b (Priority p) view.called)) is_call ∙ sym (ap just_in idle);
+      accepted = reads.accepted;
+      descriptors = reads.descriptors;
+      floor = reads.floor;
+      stands = reads.stands;
+      stays = reads.stays;
+      set = ap (λ b. priority_asked (newer b (Priority p) view.set)) (eq-eqb p.by.0 worker by);
+      unconnected = reads.unconnected;
+    }
 
 -- one that stands at the server's queue
-pub reads_aside : (setup : Setup) (clients worker : ℕ) (e : Event) (view : CallerView) (op n least : ℕ) (phase : Phase) → IsAtQueue e → Reads setup view op n least phase → Reads setup (caller_after clients worker e view) op n least phase
-reads_aside setup clients worker (Take t) view op n least phase kind r =
-    record { called = r.called; just = r.just; accepted = r.accepted; descriptors = r.descriptors; floor = r.floor; stands = r.stands; stays = r.stays; unset = r.unset; unconnected = r.unconnected }
-reads_aside setup clients worker (Gone s) view op n least phase kind r =
-    record { called = r.called; just = r.just; accepted = r.accepted; descriptors = r.descriptors; floor = r.floor; stands = r.stands; stays = r.stays; unset = r.unset; unconnected = r.unconnected }
-reads_aside setup clients worker _ view op n least phase kind r = absurd kind
+pub reads_aside : (setup : Setup) (clients worker : ℕ) (e : Event) (view : CallerView) (op n least : ℕ) (priority : Option (Bool × ℤ)) (phase : Phase) → IsAtQueue e → Reads setup view op n least priority phase → Reads setup (caller_after clients worker e view) op n least priority phase
+reads_aside setup clients worker (Take t) view op n least priority phase kind r =
+    record { called = r.called; just = r.just; accepted = r.accepted; descriptors = r.descriptors; floor = r.floor; stands = r.stands; stays = r.stays; set = r.set; unconnected = r.unconnected }
+reads_aside setup clients worker (Gone s) view op n least priority phase kind r =
+    record { called = r.called; just = r.just; accepted = r.accepted; descriptors = r.descriptors; floor = r.floor; stands = r.stands; stays = r.stays; set = r.set; unconnected = r.unconnected }
+reads_aside setup clients worker _ view op n least priority phase kind r = absurd kind
 
 -- where these events stand
 pub served_here : (setup : Setup) (clients worker : ℕ) (e : Event) → IsOfServer e → worker_of clients e ≡ worker → home_of setup clients e ≡ CallerHome worker
@@ -165,35 +183,35 @@ aside_elsewhere setup clients worker (Gone s) kind = refl
 aside_elsewhere setup clients worker _ kind = absurd kind
 
 -- before any event
-pub reads_nothing : (w : Working) (least : ℕ) → w.own ≡ [] → boot w.setup ≤ least → Reads w.setup (view_of w) 0 0 least Idle
+pub reads_nothing : (w : Working) (least : ℕ) → w.own ≡ [] → boot w.setup ≤ least → Reads w.setup (view_of w) 0 0 least None Idle
 unfolding newest_call accepted open_descriptors versions ticks has_left is_leaving connections
 reads_nothing w least none low =
-    subst (λ (own : List Stamped). Reads w.setup (caller_view w.clients w.id.0 (worker_events w.clients w.id.0 (past_in own))) 0 0 least Idle) (sym none)
-    (record { called = refl; just = refl; accepted = refl; descriptors = refl; floor = low; stands = refl; stays = refl; unset = refl; unconnected = refl })
+    subst (λ (own : List Stamped). Reads w.setup (caller_view w.clients w.id.0 (worker_events w.clients w.id.0 (past_in own))) 0 0 least None Idle) (sym none)
+    (record { called = refl; just = refl; accepted = refl; descriptors = refl; floor = low; stands = refl; stays = refl; set = refl; unconnected = refl })
 
 -- a request that is prepared changes nothing of them
-pub reads_prepared : (setup : Setup) (view : CallerView) (op n least : ℕ) (phase phase' : Phase) (draft : Draft) → phase ≡ Idle → phase' ≡ Prepared draft → Reads setup view op n least phase → Reads setup view op n least phase'
-reads_prepared setup view op n least phase phase' draft idle is reads =
-    let r = subst (Reads setup view op n least) idle reads in
-    subst (Reads setup view op n least) (sym is) (record { called = r.called; just = r.just; accepted = r.accepted; descriptors = r.descriptors; floor = r.floor; stands = r.stands; stays = r.stays; unset = r.unset; unconnected = r.unconnected })
+pub reads_prepared : (setup : Setup) (view : CallerView) (op n least : ℕ) (priority : Option (Bool × ℤ)) (phase phase' : Phase) (draft : Draft) → phase ≡ Idle → phase' ≡ Prepared draft → Reads setup view op n least priority phase → Reads setup view op n least priority phase'
+reads_prepared setup view op n least priority phase phase' draft idle is reads =
+    let r = subst (Reads setup view op n least priority) idle reads in
+    subst (Reads setup view op n least priority) (sym is) (record { called = r.called; just = r.just; accepted = r.accepted; descriptors = r.descriptors; floor = r.floor; stands = r.stands; stays = r.stays; set = r.set; unconnected = r.unconnected })
 
 -- nor does one that is aimed anew
-pub reads_redrawn : (setup : Setup) (view : CallerView) (op n least : ℕ) (phase phase' : Phase) (draft redrawn : Draft) → phase ≡ Prepared draft → phase' ≡ Prepared redrawn → Reads setup view op n least phase → Reads setup view op n least phase'
-reads_redrawn setup view op n least phase phase' draft redrawn was is reads =
-    let r = subst (Reads setup view op n least) was reads in
-    subst (Reads setup view op n least) (sym is) (record { called = r.called; just = r.just; accepted = r.accepted; descriptors = r.descriptors; floor = r.floor; stands = r.stands; stays = r.stays; unset = r.unset; unconnected = r.unconnected })
+pub reads_redrawn : (setup : Setup) (view : CallerView) (op n least : ℕ) (priority : Option (Bool × ℤ)) (phase phase' : Phase) (draft redrawn : Draft) → phase ≡ Prepared draft → phase' ≡ Prepared redrawn → Reads setup view op n least priority phase → Reads setup view op n least priority phase'
+reads_redrawn setup view op n least priority phase phase' draft redrawn was is reads =
+    let r = subst (Reads setup view op n least priority) was reads in
+    subst (Reads setup view op n least priority) (sym is) (record { called = r.called; just = r.just; accepted = r.accepted; descriptors = r.descriptors; floor = r.floor; stands = r.stands; stays = r.stays; set = r.set; unconnected = r.unconnected })
 
 -- nor does an answer that is lost
-pub reads_lost : (setup : Setup) (view : CallerView) (op n least : ℕ) (phase phase' : Phase) (sent : Open) → phase ≡ Sent sent → phase' ≡ Lost sent.request → Reads setup view op n least phase → Reads setup view op n least phase'
-reads_lost setup view op n least phase phase' sent was is reads =
-    let r = subst (Reads setup view op n least) was reads in
-    subst (Reads setup view op n least) (sym is) (record { called = r.called; just = r.just; accepted = r.accepted; descriptors = r.descriptors; floor = r.floor; stands = r.stands; stays = r.stays; unset = r.unset; unconnected = r.unconnected })
+pub reads_lost : (setup : Setup) (view : CallerView) (op n least : ℕ) (priority : Option (Bool × ℤ)) (phase phase' : Phase) (sent : Open) → phase ≡ Sent sent → phase' ≡ Lost sent.request → Reads setup view op n least priority phase → Reads setup view op n least priority phase'
+reads_lost setup view op n least priority phase phase' sent was is reads =
+    let r = subst (Reads setup view op n least priority) was reads in
+    subst (Reads setup view op n least priority) (sym is) (record { called = r.called; just = r.just; accepted = r.accepted; descriptors = r.descriptors; floor = r.floor; stands = r.stands; stays = r.stays; set = r.set; unconnected = r.unconnected })
 
 -- nor does one that no queue took
-pub reads_unsent : (setup : Setup) (view : CallerView) (op n least : ℕ) (phase phase' : Phase) (draft : Draft) → phase ≡ Prepared draft → phase' ≡ Idle → Reads setup view op n least phase → Reads setup view op n least phase'
-reads_unsent setup view op n least phase phase' draft was is reads =
-    let r = subst (Reads setup view op n least) was reads in
-    subst (Reads setup view op n least) (sym is) (record { called = r.called; just = r.just; accepted = r.accepted; descriptors = r.descriptors; floor = r.floor; stands = r.stands; stays = r.stays; unset = r.unset; unconnected = r.unconnected })
+pub reads_unsent : (setup : Setup) (view : CallerView) (op n least : ℕ) (priority : Option (Bool × ℤ)) (phase phase' : Phase) (draft : Draft) → phase ≡ Prepared draft → phase' ≡ Idle → Reads setup view op n least priority phase → Reads setup view op n least priority phase'
+reads_unsent setup view op n least priority phase phase' draft was is reads =
+    let r = subst (Reads setup view op n least priority) was reads in
+    subst (Reads setup view op n least priority) (sym is) (record { called = r.called; just = r.just; accepted = r.accepted; descriptors = r.descriptors; floor = r.floor; stands = r.stands; stays = r.stays; set = r.set; unconnected = r.unconnected })
 
 pub stops_from : (setup : Setup) (op : ℕ) (payload : Data) (found : FoundRows) (stop : StopOf) (new old : Standing) → find (λ (row : Row). is_accepted setup row.accepts (kind_of payload)) found.rows ≡ None → TurnsDown op found stop new old → StopsAs setup op payload found stop new old
 stops_from setup op payload found (Refused stamp) new old none turned = inl (none, turned)

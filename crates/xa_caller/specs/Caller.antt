@@ -1,5 +1,5 @@
 -- A caller as it stands: its work, and what it keeps of it (XATMI, tpcall; that a caller has a number and stamps is this project's own).
-use Rattle.std.specs.Prelude.{◌≡◌, ◌⊎◌, ℕ, ◌≤◌, true, false, List, [], None}
+use Rattle.std.specs.Prelude.{◌≡◌, ◌⊎◌, ℕ, ℤ, ◌≤◌, Bool, true, false, List, [], Option}
 use Rattle.std.specs.List.{All}
 use Rattle.xa_types.specs.declared.row.Row.{Row}
 use Rattle.xa_types.specs.declared.setup.Setup.{Setup}
@@ -15,17 +15,19 @@ use Rattle.xa_caller.specs.declared.phase.Phase.{Phase}
 use Rattle.xa_caller.specs.Phases.{just_in, open_in}
 
 -- what a caller is, a client or the caller of a server: its work, its seat among the reply cells, the number of its last call, how many requests of it were accepted, the least
--- version of the board that it may still read, and where its call stands; it hasn't left, set no priority and begun no conversation
+-- version of the board that it may still read, the priority that it set for its next request, absolute or to be added to the service's own, if it set one,
+-- and where its call stands; it hasn't left and begun no conversation
 pub record Standing : Type 0 where
   pub work : Working
   pub seat : Seat Filling
   pub op : ℕ
   pub sent : ℕ
   pub least : ℕ
+  pub priority : Option (Bool × ℤ)
   pub phase : Phase
 
 -- the tables are what is read off the caller's events
-pub record Reads (setup : Setup) (view : CallerView) (op sent least : ℕ) (phase : Phase) : Type 0 where
+pub record Reads (setup : Setup) (view : CallerView) (op sent least : ℕ) (priority : Option (Bool × ℤ)) (phase : Phase) : Type 0 where
   pub called : op_of view.called ≡ op
   pub just : accepted_in view.called ≡ just_in phase
   pub accepted : view.accepted ≡ sent
@@ -33,7 +35,7 @@ pub record Reads (setup : Setup) (view : CallerView) (op sent least : ℕ) (phas
   pub floor : greatest (boot setup) view.versions ≤ least
   pub stands : view.left ≡ false
   pub stays : view.leaving ≡ false
-  pub unset : priority_asked view.set ≡ None
+  pub set : priority_asked view.set ≡ priority
   pub unconnected : view.connections ≡ []
 
 -- what is read off all that a worker noted
@@ -42,7 +44,7 @@ view_of w = caller_view w.clients w.id.0 (theirs w)
 
 -- what holds of each caller: its tables are what its events say
 pub record IsSound (c : Standing) : Type 0 where
-  pub reads : Reads c.work.setup (view_of c.work) c.op c.sent c.least c.phase
+  pub reads : Reads c.work.setup (view_of c.work) c.op c.sent c.least c.priority c.phase
 
 -- it may make a call: it is a client, or its server has a request in hand
 abbrev pub MayCall : Standing → Type 0

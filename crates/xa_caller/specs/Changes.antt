@@ -1,5 +1,5 @@
 -- What each call of a caller leaves (this project's own).
-use Rattle.std.specs.Prelude.{◌≡◌, ◌≢◌, ◌⊎◌, ℕ, ◌+◌, ◌-◌, ◌≤◌, ◌^◌, max, true, false, Option, Some, None, IsSome, Result, Ok, Err, [], ◌∷◌}
+use Rattle.std.specs.Prelude.{◌≡◌, ◌≢◌, ◌⊎◌, ℕ, ℤ, Bool, ◌+◌, ◌-◌, ◌≤◌, ◌^◌, max, true, false, Option, Some, None, IsSome, Result, Ok, Err, [], ◌∷◌}
 use Rattle.std.specs.List.{find, Contains}
 use Rattle.xa_types.specs.declared.stamp.Stamp.{Stamp}
 use Rattle.xa_types.specs.declared.data.Data.{Data}
@@ -10,7 +10,7 @@ use Rattle.xa_types.specs.declared.row.Row.{Row}
 use Rattle.xa_types.specs.Found.{FoundRows}
 use Rattle.xa_types.specs.Kind.{kind_of, is_accepted}
 use Rattle.xa_events.specs.declared.event.Event.{Event}
-use Rattle.xa_events.specs.declared.event.Event.TheVariants.{Accept, Answer, Refuse, Leave}
+use Rattle.xa_events.specs.declared.event.Event.TheVariants.{Accept, Answer, Refuse, Leave, Priority}
 use Rattle.xa_events.specs.declared.event.Evidence.{Evidence}
 use Rattle.xa_events.specs.declared.event.Evidence.TheVariants.{Version, Cells}
 use Rattle.xa_types.specs.declared.setup.Setup.{Setup}
@@ -57,6 +57,12 @@ refused op fault evidence c = Refuse (record { by = c.work.id; op = op; fault = 
 abbrev pub Refuses : ℕ → Fault → Evidence → Stamp → Standing → Standing → Type 0
 Refuses op fault evidence stamp new old = Notes stamp (refused op fault evidence old) (record old { op = op; least = least_by (version_in evidence) old.least }) new
 
+-- ---- set_priority
+
+-- the caller set the priority of its next request, absolute or to be added to the service's own
+abbrev pub SetsPriority : ℕ → Bool → ℤ → Stamp → Standing → Standing → Type 0
+SetsPriority op absolute amount stamp new old = Notes stamp (Priority (record { by = old.work.id; op = op; absolute = absolute; amount = amount })) (record old { op = op; priority = Some (absolute, amount) }) new
+
 -- ---- leave
 
 -- a client leaves with the next stamp, or, where memory or stamps came to their end, without an event; the caller of a server leaves without one
@@ -78,9 +84,9 @@ pub record Prepares (setup : Setup) (cells : CellsOf Filling) (op : ℕ) (payloa
   pub chosen : find (λ (row : Row). is_accepted setup row.accepts (kind_of payload)) found.rows ≡ Some row
   pub draft : Draft
   pub drawn : draft ≡ record { asked = record { request = record { caller = old.work.id; number = old.sent + 1 }; place = draft.asked.place }; op = op; version = found.version; event = draft.event }
-  pub event : prepared.event ≡ Accept (accepted_by op (record { caller = old.work.id; number = old.sent + 1 }) found.version row payload)
+  pub event : prepared.event ≡ Accept (accepted_by op (record { caller = old.work.id; number = old.sent + 1 }) found.version row old.priority payload)
   pub drafted : draft.event.value ≡ prepared.event
-  pub entry : prepared.entry ≡ entry_by (record { caller = old.work.id; number = old.sent + 1 }) row payload prepared.entry.cargo.ticket
+  pub entry : prepared.entry ≡ entry_by (record { caller = old.work.id; number = old.sent + 1 }) row old.priority payload prepared.entry.cargo.ticket
   pub began : Began cells (record { caller = old.work.id; number = old.sent + 1 }) old.seat new.seat draft.asked.place prepared.entry.cargo.ticket
   pub made : new ≡ record old { work = record old.work { room = max old.work.room 1 }; seat = new.seat; phase = Prepared draft }
 
@@ -109,11 +115,11 @@ StopsAs setup op payload found (stops.Halt halt) new old = HaltsAt old.work.stam
 
 -- ---- sent
 
--- the request was accepted as it was drafted, with that stamp
+-- the request was accepted as it was drafted, with that stamp, and what was set for its priority is set no more
 pub record Sends (stamp : Stamp) (new old : Standing) : Type 0 where
   pub draft : Draft
   pub was : old.phase ≡ Prepared draft
-  pub made : new ≡ record old { work = noted (record { stamp = stamp; event = draft.event.value }) old.work; op = draft.op; sent = old.sent + 1; least = draft.version; phase = Sent draft.asked }
+  pub made : new ≡ record old { work = noted (record { stamp = stamp; event = draft.event.value }) old.work; op = draft.op; sent = old.sent + 1; least = draft.version; priority = None; phase = Sent draft.asked }
 
 -- ---- reply
 

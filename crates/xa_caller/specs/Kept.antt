@@ -1,5 +1,5 @@
 -- How a caller is kept. No public contract rests on this file.
-use Rattle.std.specs.Prelude.{◌≡◌, ℕ, ◌+◌, ◌<◌, ◌≤◌, true, [], None}
+use Rattle.std.specs.Prelude.{◌≡◌, ℕ, ℤ, ◌+◌, ◌<◌, ◌≤◌, Bool, true, [], Option}
 use Rattle.xa_types.specs.declared.ids.CallerId.{CallerId}
 use Rattle.xa_types.specs.declared.setup.Setup.{Setup}
 use Rattle.xa_types.specs.declared.call.Mode.TheVariants.{Reply}
@@ -21,10 +21,10 @@ use Rattle.xa_caller.specs.Phases.{places_in}
 use Rattle.xa_caller.specs.Caller.{Standing, IsSound}
 
 abbrev pub standing_of : Inside → Standing
-standing_of c = record { work = c.work; seat = c.seat; op = c.op; sent = c.sent; least = c.least; phase = c.phase }
+standing_of c = record { work = c.work; seat = c.seat; op = c.op; sent = c.sent; least = c.least; priority = c.priority; phase = c.phase }
 
 -- the draft is of the caller's next request
-pub record IsDraft (setup : Setup) (id : CallerId) (op sent least : ℕ) (draft : Draft) : Type 0 where
+pub record IsDraft (setup : Setup) (id : CallerId) (op sent least : ℕ) (priority : Option (Bool × ℤ)) (draft : Draft) : Type 0 where
   pub accepted : Accepted
   pub is : draft.event.value ≡ Accept accepted
   pub by : accepted.by ≡ id
@@ -36,7 +36,7 @@ pub record IsDraft (setup : Setup) (id : CallerId) (op sent least : ℕ) (draft 
   pub sound : is_sound setup accepted.payload ≡ true
   pub version : accepted.version ≡ draft.version
   pub recent : least ≤ draft.version
-  pub priority : accepted.priority ≡ priority_by setup accepted.service None
+  pub priority_is : accepted.priority ≡ priority_by setup accepted.service priority
 
 -- the caller has as many cells as it may have descriptors, and those where no place is open are free
 pub record IsSeated (clients : ℕ) (id : CallerId) (seat : Seat Filling) : Type 0 where
@@ -44,15 +44,15 @@ pub record IsSeated (clients : ℕ) (id : CallerId) (seat : Seat Filling) : Type
   pub free : (k : ℕ) → seat.first ≤ k → k < seat.first + seat.count → (at k (known seat)).asked ≡ [] → 1 ≤ (at k (known seat)).settled
 
 -- what holds of where the call stands: a draft is of the next request, and a request is the caller's own, with room for its answer
-abbrev pub Holds : Setup → CallerId → ℕ → ℕ → ℕ → ℕ → Phase → Type 0
-Holds setup id room op sent least Idle = Unit {0}
-Holds setup id room op sent least (Prepared draft) = (1 ≤ room) × IsDraft setup id op sent least draft
-Holds setup id room op sent least (Sent sent') = (1 ≤ room) × (sent'.request.caller ≡ id) × (1 ≤ op)
-Holds setup id room op sent least (Lost request) = Unit {0}
+abbrev pub Holds : Setup → CallerId → ℕ → ℕ → ℕ → ℕ → Option (Bool × ℤ) → Phase → Type 0
+Holds setup id room op sent least priority Idle = Unit {0}
+Holds setup id room op sent least priority (Prepared draft) = (1 ≤ room) × IsDraft setup id op sent least priority draft
+Holds setup id room op sent least priority (Sent sent') = (1 ≤ room) × (sent'.request.caller ≡ id) × (1 ≤ op)
+Holds setup id room op sent least priority (Lost request) = Unit {0}
 
 pub record IsKept (c : Inside) : Type 0 where
   pub sound : IsSound (standing_of c)
-  pub holds : Holds c.work.setup c.work.id c.work.room c.op c.sent c.least c.phase
+  pub holds : Holds c.work.setup c.work.id c.work.room c.op c.sent c.least c.priority c.phase
   pub places : OpenAre (places_in c.phase) (known c.seat)
   pub seated : IsSeated c.work.clients c.work.id c.seat
   pub few : c.sent ≤ c.work.stamp.0

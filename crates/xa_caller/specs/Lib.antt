@@ -5,7 +5,6 @@ pub mod Changes
 pub mod Kept
 pub mod Serving
 pub mod Unsent
-
 -- what crates above cite of the definitions of those below
 pub use Rattle.xa_types.specs as xa_types
 pub use Rattle.xa_events.specs as xa_events

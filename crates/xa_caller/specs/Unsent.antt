@@ -1,6 +1,6 @@
 -- What a check leaves, and what becomes of a request that a queue did not take (XATMI, TPEINVAL, TPESYSTEM and TPEBLOCK of tpcall; their order is
 -- this project's own).
-use Rattle.std.specs.Prelude.{◌≡◌, ℕ, ◌<◌, Bool, true, false, List, Option, Some, None, Result, Ok, Err, slice_get}
+use Rattle.std.specs.Prelude.{◌≡◌, ℕ, ℤ, ◌<◌, Bool, true, false, List, Option, Some, None, Result, Ok, Err, slice_get}
 use Rattle.xa_types.specs.declared.fault.Fault.{Fault}
 use Rattle.xa_types.specs.declared.fault.Fault.TheVariants.{Inval, System, Block}
 use Rattle.xa_types.specs.declared.row.Row.{Row}
@@ -44,15 +44,15 @@ ChecksAs op (stops.Halt halt) new old = HaltsAt old.work.stamp halt × (new ≡ 
 -- ---- aim
 
 -- the entry by another row
-abbrev pub aimed_at : Entry Cargo → Row → Entry Cargo
-aimed_at entry row = entry_by entry.request row entry.cargo.invocation.payload entry.cargo.ticket
+abbrev pub aimed_at : Entry Cargo → Row → Option (Bool × ℤ) → Entry Cargo
+aimed_at entry row asked = entry_by entry.request row asked entry.cargo.invocation.payload entry.cargo.ticket
 
 -- the request is aimed by that row
 pub record AimsAt (row : Row) (entry aimed : Entry Cargo) (event : Event) (new old : Standing) : Type 0 where
   pub draft : Draft
   pub was : old.phase ≡ Prepared draft
-  pub entered : aimed ≡ aimed_at entry row
-  pub accepted : event ≡ Accept (accepted_by draft.op draft.asked.request draft.version row entry.cargo.invocation.payload)
+  pub entered : aimed ≡ aimed_at entry row old.priority
+  pub accepted : event ≡ Accept (accepted_by draft.op draft.asked.request draft.version row old.priority entry.cargo.invocation.payload)
   pub redrawn : Draft
   pub same : redrawn ≡ record draft { event = redrawn.event }
   pub drafted : redrawn.event.value ≡ event

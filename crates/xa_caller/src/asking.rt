@@ -106,7 +106,14 @@ impl Caller {
             version,
             event: _,
         } = draft_in(take_out(&mut self.phase));
-        let event = Event::Accept(accepted_by(op, asked.request, version, &row, payload));
+        let event = Event::Accept(accepted_by(
+            op,
+            asked.request,
+            version,
+            &row,
+            self.priority,
+            payload,
+        ));
         let event_noted = Snapshot::of(&event);
         set(
             &mut self.phase,
@@ -117,7 +124,7 @@ impl Caller {
                 event: event_noted,
             }),
         );
-        Aimed::At(aimed_at(entry, &row), event)
+        Aimed::At(aimed_at(entry, &row, self.priority), event)
     }
 
     // The cell of the request that was prepared is given back, and its data dropped.
@@ -183,9 +190,9 @@ impl Caller {
     }
 }
 
-// The entry with another row.
-fn aimed_at(entry: Entry<Cargo>, row: &Row) -> Entry<Cargo>
-    ensures { result ≡ aimed_at entry row.now }
+// The entry with another row, and the priority that was asked for.
+fn aimed_at(entry: Entry<Cargo>, row: &Row, asked: Option<(bool, i32)>) -> Entry<Cargo>
+    ensures { result ≡ aimed_at entry row.now asked }
 {
     let Entry {
         request,
@@ -200,7 +207,7 @@ fn aimed_at(entry: Entry<Cargo>, row: &Row) -> Entry<Cargo>
     } = invocation;
     Entry {
         request,
-        priority: priority(row.priority, None),
+        priority: priority(row.priority, asked),
         cargo: Cargo {
             ticket,
             invocation: Invocation {

@@ -36,7 +36,7 @@ use std::marker::Model;
 use std::mem;
 use std::snapshot::Snapshot;
 use xa_cell::{Cells, Look, Seat, Ticket};
-use xa_events::{Accepted, Event, Evidence, Refused, Replied};
+use xa_events::{Accepted, Event, Evidence, Prioritized, Refused, Replied};
 use xa_held::Invocation;
 use xa_queue::Entry;
 use xa_route::priority;
@@ -59,6 +59,8 @@ pub struct Caller {
     pub(crate) op: u32,
     pub(crate) sent: u64,
     pub(crate) least: u64,
+    // What it set for the priority of its next request: absolute, or to be added to the service's own.
+    pub(crate) priority: Option<(bool, i32)>,
     pub(crate) phase: Phase,
 }
 
@@ -114,9 +116,10 @@ pub(crate) fn accepted_by(
     request: RequestId,
     version: u64,
     row: &Row,
+    asked: Option<(bool, i32)>,
     payload: Data,
 ) -> Accepted
-    ensures { result ≡ accepted_by op request version row.now payload }
+    ensures { result ≡ accepted_by op request version row.now asked payload }
 {
     Accepted {
         by: request.caller,
@@ -126,7 +129,7 @@ pub(crate) fn accepted_by(
         service: row.service,
         queue: row.queue,
         routine: row.routine,
-        priority: priority(row.priority, None),
+        priority: priority(row.priority, asked),
         mode: Mode::Reply,
         payload,
     }
@@ -135,14 +138,15 @@ pub(crate) fn accepted_by(
 pub(crate) fn entry_by(
     request: RequestId,
     row: &Row,
+    asked: Option<(bool, i32)>,
     payload: Data,
     ticket: Ticket<Filling>,
 ) -> Entry<Cargo>
-    ensures { result ≡ entry_by request row.now payload ticket }
+    ensures { result ≡ entry_by request row.now asked payload ticket }
 {
     Entry {
         request,
-        priority: priority(row.priority, None),
+        priority: priority(row.priority, asked),
         cargo: Cargo {
             ticket,
             invocation: Invocation {
@@ -169,13 +173,14 @@ fn draft_by(
     request: RequestId,
     version: u64,
     row: &Row,
+    asked: Option<(bool, i32)>,
     copies: Copies,
 ) -> Result<Drafted, u32>
     requires { IsSeatOf cells.now seat.old }
     ensures cells { SameSeat cells.now seat.old seat.new }
     ensures draft { IfOk result (λ made. made.draft ≡ record { asked = record { request = request; place = made.draft.asked.place }; op = op; version = version; event = made.draft.event }) }
-    ensures event { IfOk result (λ made. (made.draft.event.value ≡ made.event) × (made.event ≡ Accept (accepted_by op request version row.now copies.sent))) }
-    ensures entry { IfOk result (λ made. made.entry ≡ entry_by request row.now copies.kept made.entry.cargo.ticket) }
+    ensures event { IfOk result (λ made. (made.draft.event.value ≡ made.event) × (made.event ≡ Accept (accepted_by op request version row.now asked copies.sent))) }
+    ensures entry { IfOk result (λ made. made.entry ≡ entry_by request row.now asked copies.kept made.entry.cargo.ticket) }
     ensures began { IfOk result (λ made. Began cells.now request seat.old seat.new made.draft.asked.place made.entry.cargo.ticket) }
     ensures opens { IfOk result (λ made. Opens made.draft.asked.place.cell request (known seat.old) (known seat.new)) }
     ensures full { IfErr result (λ count. (count ≡ seat.old.count) × AllTaken seat.old seat.new × Stand (known seat.old) (known seat.new)) }
@@ -184,7 +189,7 @@ fn draft_by(
     match cells.begin(seat, request) {
         Err(full) => Err(full.0),
         Ok((place, ticket)) => {
-            let event = Event::Accept(accepted_by(op, request, version, row, sent));
+            let event = Event::Accept(accepted_by(op, request, version, row, asked, sent));
             let draft = Draft {
                 asked: Open { request, place },
                 op,
@@ -193,7 +198,7 @@ fn draft_by(
             };
             Ok(Drafted {
                 draft,
-                entry: entry_by(request, row, kept, ticket),
+                entry: entry_by(request, row, asked, kept, ticket),
                 event,
             })
         }
@@ -264,7 +269,7 @@ fn give_up(cells: &Cells<Filling>, seat: &mut Seat<Filling>, phase: Phase)
 
 impl Caller {
     ghost use Rattle.xa_caller.specs.Caller.{IsSound, MayCall, AreRowsOf};
-    ghost use Rattle.xa_caller.specs.Changes.{Refuses, Prepares, StopsAs, TurnsDown, Sends, StepsAs, LeavesAs};
+    ghost use Rattle.xa_caller.specs.Changes.{Refuses, SetsPriority, Prepares, StopsAs, TurnsDown, Sends, StepsAs, LeavesAs};
 
     /// A caller that has noted nothing. It reads no version of the board before `least`, which the boot had made.
     pub fn new(work: Work, seat: Seat<Filling>, least: u64) -> Caller
@@ -272,7 +277,7 @@ impl Caller {
         requires seat { IsNew seat.first seat.count (known seat) }
         requires least { boot work.setup ≤ least }
         requires cells { seat.count ≡ descriptor_limit work.clients work.id.0 }
-        ensures { result ≡ record { work = work; seat = seat; op = 0; sent = 0; least = least; phase = phases.Idle } }
+        ensures { result ≡ record { work = work; seat = seat; op = 0; sent = 0; least = least; priority = None; phase = phases.Idle } }
     {
         Caller {
             work,
@@ -280,6 +285,7 @@ impl Caller {
             op: 0,
             sent: 0,
             least,
+            priority: None,
             phase: Phase::Idle,
         }
     }
@@ -352,6 +358,27 @@ impl Caller {
         Ok(stamp)
     }
 
+    /// It sets the priority of its next request, and of no other: absolute, or to be added to the service's own.
+    pub fn set_priority(&mut self, op: u32, absolute: bool, amount: i32) -> Result<Stamp, Halt>
+        requires active { MayCall self.old }
+        requires idle { self.old.phase ≡ phases.Idle }
+        requires turn { op ≡ self.old.op + 1 }
+        ensures ok { IfOk result (λ stamp. SetsPriority op absolute amount stamp self.new self.old) }
+        ensures halted { IfErr result (HaltsAt self.old.work.stamp) }
+        ensures kept { OnErr result (self.new ≡ self.old) }
+    {
+        let prioritized = Prioritized {
+            by: self.work.id(),
+            op,
+            absolute,
+            amount,
+        };
+        let stamp = self.work.note_anew(Event::Priority(prioritized))?;
+        self.op = op;
+        self.priority = Some((absolute, amount));
+        Ok(stamp)
+    }
+
     /// Makes a request for its next call, by the first of the rows that were found whose service accepts the kind of the
     /// data, with a cell for its reply. There is room for the answer then.
     pub fn prepare(
@@ -393,6 +420,7 @@ impl Caller {
             request,
             found.version,
             &row,
+            self.priority,
             copies,
         ) {
             Err(full) => Err(stop(self.refuse(op, Fault::Limit, Evidence::Cells(full)))),
@@ -458,6 +486,7 @@ impl Caller {
         self.op = op;
         self.sent += 1;
         self.least = version;
+        self.priority = None;
         set(&mut self.phase, Phase::Sent(asked));
     }
 
@@ -517,6 +546,7 @@ impl Caller {
             op: _,
             sent: _,
             least: _,
+            priority: _,
             phase,
         } = self;
         give_up(cells, &mut seat, phase);
@@ -540,6 +570,7 @@ impl Caller {
             op: _,
             sent: _,
             least: _,
+            priority: _,
             phase,
         } = self;
         end(phase);

@@ -1,5 +1,5 @@
 //! What a request that a caller makes has of what was asked.
-ghost use Rattle.std.specs.Prelude.{◌≡◌, ℕ, List, Some, slice_get, false};
+ghost use Rattle.std.specs.Prelude.{◌≡◌, ℕ, ℤ, Bool, List, Option, Some, slice_get, false};
 ghost use Rattle.std.specs.List.{find};
 ghost use Rattle.xa_types.specs.declared.call.Ask.{Ask};
 ghost use Rattle.xa_types.specs.declared.call.Mode.TheVariants.{Reply};
@@ -19,8 +19,9 @@ pub fn chosen_is_first()
         → find (λ (one : Row). is_accepted setup one.accepts (kind_of payload)) rows ≡ Some row → slice_get rows 0 ≡ Some row }
 {}
 
-/// The event that accepts a request is one of its tpcall, by whichever row of the service.
+/// The event that accepts a request is one of its tpcall, by whichever row of the service and with
+/// whichever priority.
 pub fn request_is_as_asked()
-    ensures { (setup : Setup) (ask : Ask) (op version : ℕ) (request : RequestId) (row : Row) → is_invalid_call setup ask ≡ false → row ≡ row_for setup ask.service row.queue.0 row.routine
-        → AskSent (is_invalid_call setup ask) Reply ask (accepted_by op request version row ask.payload) }
+    ensures { (setup : Setup) (ask : Ask) (op version : ℕ) (request : RequestId) (row : Row) (asked : Option (Bool × ℤ)) → is_invalid_call setup ask ≡ false → row ≡ row_for setup ask.service row.queue.0 row.routine
+        → AskSent (is_invalid_call setup ask) Reply ask (accepted_by op request version row asked ask.payload) }
 {}

@@ -31,17 +31,17 @@ invariant_of-self c =
     let w : Working = c.self.inside.work in
     let draft : Draft = c.draft_in-op.result in
     let was : s.phase ≡ Prepared draft = sym c.take_out.ensures.0 ∙ c.draft_in-op.ensures in
-    let held = subst (Holds w.setup w.id w.room s.op s.sent s.least) was i.holds in
+    let held = subst (Holds w.setup w.id w.room s.op s.sent s.least s.priority) was i.holds in
     let d = held.1 in
     let redrawn : Draft = record draft { event = c.of-event_noted.result } in
     let now : c.set.new.phase ≡ Prepared redrawn = c.set.ensures in
     let row : Row = c.in-Some.row in
-    let a : Accepted = accepted_by draft.op draft.asked.request draft.version row c.in-Ok.payload in
+    let a : Accepted = accepted_by draft.op draft.asked.request draft.version row s.priority c.in-Ok.payload in
     let rows = subst (λ (t : Standing). AreRowsOf t.work.setup c.args.entry.cargo.invocation.service c.args.found.now.rows) (sym c.self.view_is) c.requires.rows in
     let all = at-all (λ (r : Row). r ≡ row_for w.setup c.args.entry.cargo.invocation.service r.queue.0 r.routine) c.args.found.now.rows c.args.attempt row (sym c.row_at.ensures ∙ c.in-Some.is) rows in
     record {
-      sound = record { reads = reads_redrawn w.setup _ s.op s.sent s.least s.phase c.set.new.phase draft redrawn was now i.sound.reads };
-      holds = subst (Holds w.setup w.id w.room s.op s.sent s.least) (sym now) (
+      sound = record { reads = reads_redrawn w.setup _ s.op s.sent s.least s.priority s.phase c.set.new.phase draft redrawn was now i.sound.reads };
+      holds = subst (Holds w.setup w.id w.room s.op s.sent s.least s.priority) (sym now) (
         held.0,
         record {
           accepted = a;
@@ -55,7 +55,7 @@ invariant_of-self c =
           sound = ap (is_sound w.setup) c.in-Ok.ensures ∙ subst (λ (t : Standing). is_sound t.work.setup c.args.entry.cargo.invocation.payload ≡ true) (sym c.self.view_is) c.requires.sound;
           version = refl;
           recent = d.recent;
-          priority = row-priority w.setup c.args.entry.cargo.invocation.service row all;
+          priority_is = row-priority w.setup c.args.entry.cargo.invocation.service row s.priority all;
         },
       );
       places = subst (λ p. OpenAre (places_in p) (known c.self.inside.seat)) (sym now) (subst (λ p. OpenAre (places_in p) (known c.self.inside.seat)) was i.places);
@@ -74,7 +74,7 @@ returns-clause-aims c =
         draft = draft;
         was = sym c.take_out.ensures.0 ∙ c.draft_in-op.ensures;
         entered = c.aimed_at.ensures;
-        accepted = ap Accept c.accepted_by.ensures ∙ ap (λ (p : Data). Accept (accepted_by draft.op draft.asked.request draft.version c.in-Some.row p)) c.in-Ok.ensures;
+        accepted = ap Accept c.accepted_by.ensures ∙ ap (λ (p : Data). Accept (accepted_by draft.op draft.asked.request draft.version c.in-Some.row s.priority p)) c.in-Ok.ensures;
         redrawn = redrawn;
         same = refl;
         drafted = c.of-event_noted.ensures;
@@ -83,4 +83,4 @@ returns-clause-aims c =
     )
 
 pub returns-clause-right : goal.returns-clause-right
-returns-clause-right c cells right = subst (IsRight cells) (sym c.aimed_at.ensures) (right_aimed cells c.args.entry c.in-Some.row right)
+returns-clause-right c cells right = subst (IsRight cells) (sym c.aimed_at.ensures) (right_aimed cells c.args.entry c.in-Some.row c.self.inside.priority right)

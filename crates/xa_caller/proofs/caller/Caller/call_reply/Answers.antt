@@ -34,7 +34,7 @@ invariant_of-self-in-Ok c =
     let sent : Open = c.sent_in-open.result in
     let was : s.phase ≡ Sent sent = sym c.take_out.ensures.0 ∙ c.sent_in-open.ensures in
     let idle : c.take_out.new.phase ≡ Idle = c.take_out.ensures.1 in
-    let held = subst (Holds w.setup w.id w.room s.op s.sent s.least) was i.holds in
+    let held = subst (Holds w.setup w.id w.room s.op s.sent s.least s.priority) was i.holds in
     let a : Replied = record { by = c.id.result; op = s.op; request = sent.request; answer = c.told.result } in
     let x : Stamped = record { stamp = c.in-Ok.stamp; event = Answer a } in
     let w1 : Working = record (seeing c.take-answer.result.stamp w) { room = w.room - 1 } in
@@ -44,10 +44,10 @@ invariant_of-self-in-Ok c =
     let higher = ap (λ (v : Working). v.stamp.0) made in
     record {
       sound = subst (λ (v : Working). IsSound (record s { work = v; seat = c.take-answer.new.seat; phase = c.take_out.new.phase })) (sym made) (record {
-        reads = subst (λ (view : CallerView). Reads w.setup view s.op s.sent s.least c.take_out.new.phase) (sym (view-more w1 x by))
-            (reads_answered w.setup w.clients w.id.0 a (view_of w) s.op s.sent s.least s.phase c.take_out.new.phase sent by held.2 refl refl was idle i.sound.reads);
+        reads = subst (λ (view : CallerView). Reads w.setup view s.op s.sent s.least s.priority c.take_out.new.phase) (sym (view-more w1 x by))
+            (reads_answered w.setup w.clients w.id.0 a (view_of w) s.op s.sent s.least s.priority s.phase c.take_out.new.phase sent by held.2 refl refl was idle i.sound.reads);
       });
-      holds = subst (Holds c.note.new.self.setup c.note.new.self.id c.note.new.self.room s.op s.sent s.least) (sym idle) tt;
+      holds = subst (Holds c.note.new.self.setup c.note.new.self.id c.note.new.self.room s.op s.sent s.least s.priority) (sym idle) tt;
       places = subst (λ p. OpenAre (places_in p) (known c.take-answer.new.seat)) (sym idle)
           (one_less_open [] [] sent.request c.look.new.seat (still_open (subst (λ p. OpenAre (places_in p) (known c.self.inside.seat)) was i.places) c.look.ensures.open) c.take-answer.ensures.shut);
       seated = subst (λ (v : Working). IsSeated v.clients v.id c.take-answer.new.seat) (sym made)
@@ -95,8 +95,8 @@ invariant_of-self-in-Err c =
     let made : c.note.new.self ≡ w1 = c.in-Err.ensures.kept ∙ c.saw.ensures in
     let higher = ap (λ (v : Working). v.stamp.0) made in
     record {
-      sound = subst (λ (v : Working). IsSound (record s { work = v; seat = c.take-answer.new.seat; phase = c.set-in-Err.new.phase })) (sym made) (record { reads = reads_lost w.setup (view_of w) s.op s.sent s.least s.phase c.set-in-Err.new.phase sent was lost i.sound.reads });
-      holds = subst (Holds c.note.new.self.setup c.note.new.self.id c.note.new.self.room s.op s.sent s.least) (sym lost) tt;
+      sound = subst (λ (v : Working). IsSound (record s { work = v; seat = c.take-answer.new.seat; phase = c.set-in-Err.new.phase })) (sym made) (record { reads = reads_lost w.setup (view_of w) s.op s.sent s.least s.priority s.phase c.set-in-Err.new.phase sent was lost i.sound.reads });
+      holds = subst (Holds c.note.new.self.setup c.note.new.self.id c.note.new.self.room s.op s.sent s.least s.priority) (sym lost) tt;
       places = subst (λ p. OpenAre (places_in p) (known c.take-answer.new.seat)) (sym lost)
           (one_less_open [] [] sent.request c.look.new.seat (still_open (subst (λ p. OpenAre (places_in p) (known c.self.inside.seat)) was i.places) c.look.ensures.open) c.take-answer.ensures.shut);
       seated = subst (λ (v : Working). IsSeated v.clients v.id c.take-answer.new.seat) (sym made)
@@ -137,8 +137,8 @@ invariant_of-self-in_default c =
     let was : s.phase ≡ Sent sent = sym c.take_out.ensures.0 ∙ c.sent_in-open.ensures in
     let lost : c.set-in_default.new.phase ≡ Lost sent.request = c.set-in_default.ensures in
     record {
-      sound = record { reads = reads_lost w.setup (view_of w) s.op s.sent s.least s.phase c.set-in_default.new.phase sent was lost i.sound.reads };
-      holds = subst (Holds w.setup w.id w.room s.op s.sent s.least) (sym lost) tt;
+      sound = record { reads = reads_lost w.setup (view_of w) s.op s.sent s.least s.priority s.phase c.set-in_default.new.phase sent was lost i.sound.reads };
+      holds = subst (Holds w.setup w.id w.room s.op s.sent s.least s.priority) (sym lost) tt;
       places = subst (λ p. OpenAre (places_in p) (known c.take-answer.new.seat)) (sym lost)
           (one_less_open [] [] sent.request c.look.new.seat (still_open (subst (λ p. OpenAre (places_in p) (known c.self.inside.seat)) was i.places) c.look.ensures.open) c.take-answer.ensures.shut);
       seated = seated-but c.args.cells.now w.clients w.id c.look.new.seat c.take-answer.new.seat c.take-answer.ensures.seat (seated-stand c.args.cells.now w.clients w.id c.self.inside.seat c.look.new.seat c.look.ensures.seat i.seated c.look.ensures.open) sent.place.cell

@@ -24,8 +24,8 @@ invariant_of-self c =
     let are : OpenAre ((cell, draft.asked.request) ∷ []) (known c.self.inside.seat) = subst (λ p. OpenAre (places_in p) (known c.self.inside.seat)) was i.places in
     let asked = are.asked cell ∙ ap (λ b. cond b (draft.asked.request ∷ []) []) (eq-eqb cell cell refl) in
     record {
-      sound = record { reads = reads_unsent w.setup _ s.op s.sent s.least s.phase c.take_out.new.phase draft was idle i.sound.reads };
-      holds = subst (Holds w.setup w.id w.room s.op s.sent s.least) (sym idle) tt;
+      sound = record { reads = reads_unsent w.setup _ s.op s.sent s.least s.priority s.phase c.take_out.new.phase draft was idle i.sound.reads };
+      holds = subst (Holds w.setup w.id w.room s.op s.sent s.least s.priority) (sym idle) tt;
       places = subst (λ p. OpenAre (places_in p) (known c.withdraw.new.seat)) (sym idle) (one_less_open [] [] draft.asked.request c.self.inside.seat are c.withdraw.ensures.shut);
       seated = seated-but c.args.cells.now w.clients w.id c.self.inside.seat c.withdraw.new.seat c.withdraw.ensures.seat i.seated cell
           (λ none. settled-withdrawn cell draft.asked.request (known c.self.inside.seat) (known c.withdraw.new.seat) asked c.withdraw.ensures.known) c.withdraw.ensures.shut.others;

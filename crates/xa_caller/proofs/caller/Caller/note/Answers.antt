@@ -22,10 +22,10 @@ invariant_of-self-2 c =
     let higher = ap (λ (v : Working). v.stamp.0) made in
     record {
       sound = subst (λ (v : Working). IsSound (record s { work = v; least = c.raised-least.result })) (sym made) (record {
-        reads = subst (λ n. Reads w.setup (view_of (noted_here x w)) s.op s.sent n s.phase) (sym least)
-            (subst (λ (view : CallerView). Reads w.setup view s.op s.sent (raised (version_ended c.args.event) s.least) s.phase) (sym (view-more w x next.its)) (reads_served w.setup w.clients w.id.0 c.args.event (view_of w) s.op s.sent s.least s.phase c.requires.kind i.sound.reads));
+        reads = subst (λ n. Reads w.setup (view_of (noted_here x w)) s.op s.sent n s.priority s.phase) (sym least)
+            (subst (λ (view : CallerView). Reads w.setup view s.op s.sent (raised (version_ended c.args.event) s.least) s.priority s.phase) (sym (view-more w x next.its)) (reads_served w.setup w.clients w.id.0 c.args.event (view_of w) s.op s.sent s.least s.priority s.phase c.requires.kind i.sound.reads));
       });
-      holds = subst (Holds c.note.new.self.setup c.note.new.self.id c.note.new.self.room s.op s.sent c.raised-least.result) (sym idle) tt;
+      holds = subst (Holds c.note.new.self.setup c.note.new.self.id c.note.new.self.room s.op s.sent c.raised-least.result s.priority) (sym idle) tt;
       places = i.places;
       seated = subst (λ (v : Working). IsSeated v.clients v.id s.seat) (sym made) i.seated;
       few = omega (arith, i.few, higher, c.in_ok-stamp.ensures.stamp);

@@ -21,9 +21,9 @@ invariant_of-self c =
     let higher = ap (λ (v : Working). v.stamp.0) made in
     record {
       sound = subst (λ (v : Working). IsSound (record s { work = v })) (sym made) (record {
-        reads = subst (λ (view : CallerView). Reads w.setup view s.op s.sent s.least s.phase) (sym (view-more w x next.its)) (reads_aside w.setup w.clients w.id.0 e (view_of w) s.op s.sent s.least s.phase c.requires.kind i.sound.reads);
+        reads = subst (λ (view : CallerView). Reads w.setup view s.op s.sent s.least s.priority s.phase) (sym (view-more w x next.its)) (reads_aside w.setup w.clients w.id.0 e (view_of w) s.op s.sent s.least s.priority s.phase c.requires.kind i.sound.reads);
       });
-      holds = subst (λ (v : Working). Holds v.setup v.id v.room s.op s.sent s.least s.phase) (sym made) i.holds;
+      holds = subst (λ (v : Working). Holds v.setup v.id v.room s.op s.sent s.least s.priority s.phase) (sym made) i.holds;
       places = i.places;
       seated = subst (λ (v : Working). IsSeated v.clients v.id s.seat) (sym made) i.seated;
       few = omega (arith, i.few, higher, later);

@@ -12,8 +12,9 @@ use Rattle.xa_caller.specs.Phases.{places_in}
 use Rattle.xa_caller.specs.Caller.{Standing, IsSound, view_of}
 use Rattle.xa_caller.specs.Kept.{standing_of, Holds, IsSeated, IsKept}
 use Rattle.xa_caller.proofs.Keeping.{more_room, on_err, seated-stand, seated-but, finds_free}
-use Rattle.std.proofs.Common.{max, None}
+use Rattle.std.proofs.Common.{max}
 use Rattle.xa_types.specs.declared.row.Row.{Row}
+use Rattle.xa_types.specs.Priority.{priority_of}
 use Rattle.xa_types.specs.Rows.{row_for}
 use Rattle.xa_events.specs.Cases.{priority_by}
 use Rattle.xa_caller.proofs.Next.{row-priority, found-all, sound_ask}
@@ -63,7 +64,7 @@ invariant_of-self-in-Err c =
     let same = ap (λ (v : Working). v.stamp.0) made in
     record {
       sound = subst (λ (v : Working). IsSound (record s { work = v; seat = c.draft_by.new.seat })) (sym made) (record { reads = i.sound.reads });
-      holds = subst (Holds c.reserve.new.self.setup c.reserve.new.self.id c.reserve.new.self.room s.op s.sent s.least) (sym idle) tt;
+      holds = subst (Holds c.reserve.new.self.setup c.reserve.new.self.id c.reserve.new.self.room s.op s.sent s.least s.priority) (sym idle) tt;
       places = still_open i.places c.in-Err.ensures.full.2;
       seated = subst (λ (v : Working). IsSeated v.clients v.id c.draft_by.new.seat) (sym made) (seated-stand c.args.cells.now w.clients w.id c.self.inside.seat c.draft_by.new.seat c.draft_by.ensures.cells i.seated c.in-Err.ensures.full.2);
       few = omega (arith, i.few, same);
@@ -89,10 +90,10 @@ invariant_of-self-in-Ok-draft_by c =
     let drawn : drafted.draft.version ≡ c.found.inside.version = ap (λ (d : Draft). d.version) e.draft in
     let asked : drafted.draft.asked.request ≡ request = ap (λ (d : Draft). d.asked.request) e.draft in
     let sent : Data = c.in-Ok.copies.sent in
-    let a : Accepted = accepted_by c.args.op request c.found.inside.version c.in-Some.row sent in
+    let a : Accepted = accepted_by c.args.op request c.found.inside.version c.in-Some.row s.priority sent in
     record {
-      sound = subst (λ (v : Working). IsSound (record s { work = v; seat = c.draft_by.new.seat; phase = c.set.new.phase })) (sym made) (record { reads = reads_prepared w.setup (view_of w) s.op s.sent s.least s.phase c.set.new.phase drafted.draft idle now i.sound.reads });
-      holds = subst (λ (v : Working). Holds v.setup v.id v.room s.op s.sent s.least c.set.new.phase) (sym made) (subst (Holds w.setup w.id (max w.room 1) s.op s.sent s.least) (sym now) (
+      sound = subst (λ (v : Working). IsSound (record s { work = v; seat = c.draft_by.new.seat; phase = c.set.new.phase })) (sym made) (record { reads = reads_prepared w.setup (view_of w) s.op s.sent s.least s.priority s.phase c.set.new.phase drafted.draft idle now i.sound.reads });
+      holds = subst (λ (v : Working). Holds v.setup v.id v.room s.op s.sent s.least s.priority c.set.new.phase) (sym made) (subst (Holds w.setup w.id (max w.room 1) s.op s.sent s.least s.priority) (sym now) (
         omega arith,
         record {
           accepted = a;
@@ -106,7 +107,7 @@ invariant_of-self-in-Ok-draft_by c =
           sound = ap (is_sound w.setup) c.in-Ok.ensures.0 ∙ ap (λ (t : Setup). is_sound t c.args.ask.now.payload) setup ∙ sound_ask c.args.setup.now c.args.ask.now c.requires.valid;
           version = sym drawn;
           recent = omega (arith, low, c.requires.recent, version, drawn);
-          priority = subst (λ (t : Setup). c.in-Some.row.priority ≡ priority_by t c.in-Some.row.service None) (sym setup) (row-priority c.args.setup.now c.args.ask.now.service c.in-Some.row (found-all (λ (row : Row). is_accepted c.args.setup.now row.accepts (kind_of c.args.ask.now.payload)) (λ (row : Row). row ≡ row_for c.args.setup.now c.args.ask.now.service row.queue.0 row.routine) c.args.found.now.rows c.in-Some.row (sym c.first_row.ensures ∙ c.in-Some.is) c.requires.rows));
+          priority_is = subst (λ (t : Setup). priority_of c.in-Some.row.priority s.priority ≡ priority_by t c.in-Some.row.service s.priority) (sym setup) (row-priority c.args.setup.now c.args.ask.now.service c.in-Some.row s.priority (found-all (λ (row : Row). is_accepted c.args.setup.now row.accepts (kind_of c.args.ask.now.payload)) (λ (row : Row). row ≡ row_for c.args.setup.now c.args.ask.now.service row.queue.0 row.routine) c.args.found.now.rows c.in-Some.row (sym c.first_row.ensures ∙ c.in-Some.is) c.requires.rows));
         },
       ));
       places = subst (λ p. OpenAre (places_in p) (known c.draft_by.new.seat)) (sym now)
@@ -125,7 +126,7 @@ returns-in-Ok-draft_by-clause-ok c =
     let e = c.in-Ok-draft_by.ensures in
     let m : RequestId = record { caller = w.id; number = s.sent + 1 } in
     let mine : c.next_request-request.result ≡ m = c.next_request-request.ensures ∙ ap (λ (v : Working). record { caller = v.id; number = s.sent + 1 }) made in
-    let event : RequestId → ℕ → Data → Event = λ r v d. Accept (accepted_by c.args.op r v c.in-Some.row d) in
+    let event : RequestId → ℕ → Data → Event = λ r v d. Accept (accepted_by c.args.op r v c.in-Some.row s.priority d) in
     let drawn : RequestId → ℕ → Draft = λ r v. record { asked = record { request = r; place = drafted.draft.asked.place }; op = c.args.op; version = v; event = drafted.draft.event } in
     let seat = c.draft_by.new.seat in
     subst (Prepares c.args.setup.now c.args.cells.now c.args.op c.args.ask.now.payload c.args.found.now _ _) c.self.view_is (record {
@@ -135,11 +136,11 @@ returns-in-Ok-draft_by-clause-ok c =
       drawn = e.draft ∙ ap (λ (r : RequestId). drawn r c.found.inside.version) mine ∙ ap (λ (f : FoundRows). drawn m f.version) c.found.view_is;
       event = e.event.1 ∙ ap (λ r. event r c.found.inside.version c.in-Ok.copies.sent) mine ∙ ap (λ (f : FoundRows). event m f.version c.in-Ok.copies.sent) c.found.view_is ∙ ap (event m c.args.found.now.version) c.in-Ok.ensures.0;
       drafted = e.event.0;
-      entry = e.entry ∙ ap (λ r. entry_by r c.in-Some.row c.in-Ok.copies.kept drafted.entry.cargo.ticket) mine ∙ ap (λ d. entry_by m c.in-Some.row d drafted.entry.cargo.ticket) c.in-Ok.ensures.1;
+      entry = e.entry ∙ ap (λ r. entry_by r c.in-Some.row s.priority c.in-Ok.copies.kept drafted.entry.cargo.ticket) mine ∙ ap (λ d. entry_by m c.in-Some.row s.priority d drafted.entry.cargo.ticket) c.in-Ok.ensures.1;
       began = subst (λ r. Began c.args.cells.now r s.seat seat drafted.draft.asked.place drafted.entry.cargo.ticket) mine e.began;
       made = ap (λ (v : Working). record s { work = v; seat = seat; phase = c.set.new.phase }) made ∙ ap (λ (p : Phase). record s { work = record w { room = max w.room 1 }; seat = seat; phase = p }) c.set.ensures;
     })
 
 pub returns-in-Ok-draft_by-clause-right : goal.returns-in-Ok-draft_by-clause-right
-returns-in-Ok-draft_by-clause-right c = right_begun c.args.cells.now c.next_request-request.result c.in-Some.row c.in-Ok.copies.kept c.self.inside.seat c.draft_by.new.seat c.in-Ok-draft_by.drafted.draft.asked.place c.in-Ok-draft_by.drafted.entry c.in-Ok-draft_by.ensures.entry c.in-Ok-draft_by.ensures.began
+returns-in-Ok-draft_by-clause-right c = right_begun c.args.cells.now c.next_request-request.result c.in-Some.row c.self.inside.priority c.in-Ok.copies.kept c.self.inside.seat c.draft_by.new.seat c.in-Ok-draft_by.drafted.draft.asked.place c.in-Ok-draft_by.drafted.entry c.in-Ok-draft_by.ensures.entry c.in-Ok-draft_by.ensures.began
     (subst IsData (sym c.in-Ok.ensures.1) (sound_is_data c.args.setup.now c.args.ask.now.payload c.requires.setup.1 (sound_ask c.args.setup.now c.args.ask.now c.requires.valid)))

@@ -38,11 +38,11 @@ invariant_of-self-2 c =
     let higher = ap (λ (v : Working). v.stamp.0) made in
     record {
       sound = subst (λ (v : Working). IsSound (record s { work = v; op = c.args.op; least = c.least_by-least.result })) (sym made) (record {
-        reads = subst (λ least. Reads w.setup (view_of (noted x w)) c.args.op s.sent least s.phase) (sym c.least_by-least.ensures)
-            (subst (λ (view : CallerView). Reads w.setup view c.args.op s.sent (least_by (version_in c.args.evidence) s.least) s.phase) (sym (view-more w x by))
-            (reads_refused w.setup w.clients w.id.0 r (view_of w) s.op s.sent s.least s.phase by (omega (arith, c.requires.turn)) recent idle i.sound.reads));
+        reads = subst (λ least. Reads w.setup (view_of (noted x w)) c.args.op s.sent least s.priority s.phase) (sym c.least_by-least.ensures)
+            (subst (λ (view : CallerView). Reads w.setup view c.args.op s.sent (least_by (version_in c.args.evidence) s.least) s.priority s.phase) (sym (view-more w x by))
+            (reads_refused w.setup w.clients w.id.0 r (view_of w) s.op s.sent s.least s.priority s.phase by (omega (arith, c.requires.turn)) recent idle i.sound.reads));
       });
-      holds = subst (Holds c.note_anew.new.self.setup c.note_anew.new.self.id c.note_anew.new.self.room c.args.op s.sent c.least_by-least.result) (sym idle) tt;
+      holds = subst (Holds c.note_anew.new.self.setup c.note_anew.new.self.id c.note_anew.new.self.room c.args.op s.sent c.least_by-least.result s.priority) (sym idle) tt;
       places = i.places;
       seated = subst (λ (v : Working). IsSeated v.clients v.id s.seat) (sym made) i.seated;
       few = omega (arith, i.few, higher, c.in_ok-stamp.ensures.stamp);
