@@ -13,6 +13,7 @@ UNPRINTED_OCTET = re.compile(rb"[^\x20-\x7e]")
 NUMBER = re.compile(rb"0|-?[1-9][0-9]*")
 QUOTED = re.compile(rb'"((?:[^"\\]|\\["\\])*)"(?= |$)')
 CALLS = ["call", "acall", "get", "getany", "cancel", "connect", "send", "recv", "discon", "prio", "advertise", "unadvertise", "tick"]
+SERVED = ["call", "prio"]
 FLAGS = ["noblock", "notime", "noreply", "notran", "sigrstrt"]
 DATA = ["none", "text", "octet", "fill", "c"]
 DIRECTIONS = ["send", "recv", "both", "neither"]
@@ -267,7 +268,7 @@ def line_faults(number, text, shapes, clients, begun):
         call = call_of(verb, line)
         if line.not_taken:
             raise line.not_taken
-        if verb != "call":
+        if verb not in SERVED:
             raise Misread(NOT_SERVED, start + 1, f"'{verb}' isn't served yet", "")
         return [], call
     except Misread as misread:

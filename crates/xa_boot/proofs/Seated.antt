@@ -102,7 +102,7 @@ queue_pass d w k worker pass it id none =
 
 -- what the caller is
 abbrev pub caller_at : Domain → ℕ → ℕ → Seat Filling → Caller
-caller_at d worker least seat = record { work = record { setup = d.setup; clients = d.clients; id = record { 0 = worker }; stamp = d.booted; own = []; room = 0 }; seat = seat; op = 0; sent = 0; least = least; phase = Idle }
+caller_at d worker least seat = record { work = record { setup = d.setup; clients = d.clients; id = record { 0 = worker }; stamp = d.booted; own = []; room = 0 }; seat = seat; op = 0; sent = 0; least = least; priority = None; phase = Idle }
 
 abbrev pub desk_at : Caller → Post → Desk
 desk_at caller post = record { caller = caller; reader = post.reader; board = Some post.board; queues = post.queues }

@@ -1,12 +1,10 @@
 -- How a client's worker makes its calls, and leaves.
 use Rattle.std.proofs.Common.{◌≡◌, ℕ, suc, ◌+◌, ◌<◌, List, length, Option, Some, None, Result, Ok, Err, OnOk, inl, inr, refl, sym, ◌∙◌, ap, subst, arith}
 use Rattle.std.specs.Prelude.{get_or, IfErr, IfSome}
-use Rattle.std.specs.List.{All, find}
-use Rattle.std.proofs.lemmas.List.Elements.{All-get_or, Contains-push}
+use Rattle.std.specs.List.{find}
+use Rattle.std.proofs.lemmas.List.Elements.{Contains-push}
 use Rattle.std.proofs.lemmas.Option.{slice_get_read}
-use Rattle.xa_desk.specs.xa_types.declared.call.Ask.{Ask}
 use Rattle.xa_desk.specs.xa_types.declared.call.Op.{Op}
-use Rattle.xa_desk.specs.xa_types.declared.call.Op.TheVariants.{Call}
 use Rattle.xa_desk.specs.xa_types.declared.stamp.Stamp.{Stamp}
 use Rattle.xa_desk.specs.xa_types.Setup.{numbered}
 use Rattle.xa_desk.specs.xa_events.declared.event.Event.TheVariants.{Leave}
@@ -30,26 +28,20 @@ use Rattle.xa_desk.specs.Halting.{IsHaltAt, IsStopAt}
 use Rattle.xa_desk.specs.Parting.{FitsStill}
 use Rattle.xa_desk.proofs.Leading.{leads_trans}
 use Rattle.xa_clients.specs.declared.working.Ended.{Ended}
-use Rattle.xa_clients.specs.Going.{IsReady, IsSame, GoesBy, IsCall}
+use Rattle.xa_clients.specs.Going.{IsReady, IsSame, PerformsBy}
 use Rattle.xa_clients.specs.Ending.{FitsBy, GoesThrough, HasMade, HasEnded, HasStopped, here_by}
 use Rattle.xa_clients.proofs.Going.{same_trans}
 
 -- ---- its calls
 
-is_call : (op : Op) → IsCall op → (ask : Ask) × (op ≡ Call ask)
-is_call (Call ask) is = (ask, refl)
-is_call _ is = absurd is
-
 module _ (d : Domain) (ops : List Op) where
-  pub through_one : (a b c : Desk) (k : ℕ) (op : Op) → k < length ops → op ≡ get_or ops k op → All IsCall ops → GoesThrough d ops a b → ((ask : Ask) → op ≡ Call ask → GoesBy d (k + 1) ask b c) → GoesThrough d ops a c
-  through_one a b c k op low at calls ab bc =
-      let is = is_call op (subst IsCall (sym at) (All-get_or IsCall ops k op low calls)) in
-      let goes = bc is.0 is.1 in
+  pub through_one : (a b c : Desk) (k : ℕ) (op : Op) → k < length ops → op ≡ get_or ops k op → GoesThrough d ops a b → PerformsBy d (k + 1) op b c → GoesThrough d ops a c
+  through_one a b c k op low at ab bc =
       let on : k + 1 ≡ suc k = omega arith in
       record {
-        leads = leads_trans d a b c ab.leads goes.leads;
-        fits = λ fits. goes.fits ops (ap (λ (n : ℕ). numbered n ops) on ∙ slice_get_read ops (length ops) k op refl low at ∙ ap (λ o. Some o) is.1) (ab.fits fits);
-        same = same_trans a b c ab.same goes.same;
+        leads = leads_trans d a b c ab.leads bc.leads;
+        fits = λ fits. bc.fits ops (ap (λ (n : ℕ). numbered n ops) on ∙ slice_get_read ops (length ops) k op refl low at) (ab.fits fits);
+        same = same_trans a b c ab.same bc.same;
       }
 
 -- ---- it leaves

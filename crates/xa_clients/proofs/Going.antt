@@ -1,6 +1,9 @@
 -- A client's desk as it goes on.
-use Rattle.std.proofs.Common.{◌≡◌, ℕ, ◌+◌, Bool, false, List, Ok, max, inl, inr, refl, sym, ◌∙◌, ap, subst, append-nil, arith}
+use Rattle.std.proofs.Common.{◌≡◌, ℕ, ℤ, ◌+◌, Bool, false, List, Result, Ok, Err, max, inl, inr, refl, sym, ◌∙◌, ap, subst, append-nil, arith}
+use Rattle.std.specs.Prelude.{IfOk, OnErr}
 use Rattle.xa_desk.specs.xa_types.declared.call.Ask.{Ask}
+use Rattle.xa_desk.specs.xa_types.declared.call.Op.{Op}
+use Rattle.xa_desk.specs.xa_types.declared.call.Op.TheVariants.{Call}
 use Rattle.xa_desk.specs.xa_types.declared.data.Data.{Data}
 use Rattle.xa_desk.specs.xa_types.declared.fault.Fault.{Fault}
 use Rattle.xa_desk.specs.xa_types.declared.fault.Fault.TheVariants.{NoEnt, IType, Limit}
@@ -9,11 +12,12 @@ use Rattle.xa_desk.specs.xa_types.Found.{FoundRows}
 use Rattle.xa_desk.specs.xa_types.Kind.{kind_of}
 use Rattle.xa_desk.specs.xa_events.declared.event.Evidence.{Evidence}
 use Rattle.xa_desk.specs.xa_events.declared.event.Evidence.TheVariants.{Version, Cells}
+use Rattle.xa_desk.specs.xa_work.declared.work.Halt.{Halt}
 use Rattle.xa_desk.specs.xa_caller.declared.outcomes.Prepared.{Prepared}
 use Rattle.xa_desk.specs.xa_caller.declared.outcomes.Stop.{Stop}
 use Rattle.xa_desk.specs.xa_caller.declared.outcomes.Stop.TheVariants as stops
 use Rattle.xa_desk.specs.xa_caller.Caller.{Standing as Caller}
-use Rattle.xa_desk.specs.xa_caller.Changes.{Prepares, Refuses, StopsAs}
+use Rattle.xa_desk.specs.xa_caller.Changes.{Prepares, Refuses, SetsPriority, StopsAs}
 use Rattle.xa_desk.proofs.xa_caller.Next.{first_found}
 use Rattle.xa_desk.specs.declared.domain.Domain.{Domain}
 use Rattle.xa_desk.specs.declared.desk.Desk.{Desk}
@@ -26,15 +30,23 @@ use Rattle.xa_desk.proofs.Leading.{none_made, leads_trans}
 use Rattle.xa_desk.proofs.Stopping.{same_leads}
 use Rattle.xa_clients.specs.declared.sending.Tried.{Tried}
 use Rattle.xa_clients.specs.declared.sending.Tried.TheVariants as attempts
-use Rattle.xa_clients.specs.Going.{IsReady, IsWaiting, IsSame, GoesBy, ToldAs, TriedAs}
+use Rattle.xa_clients.specs.Going.{IsReady, IsWaiting, IsSame, PerformsBy, GoesBy, ToldAs, TriedAs}
 use Rattle.xa_clients.specs.Sending.{IsBy}
 
 pub same_trans : (a b c : Desk) → IsSame a b → IsSame b c → IsSame a c
 same_trans a b c ab bc = record { id = bc.id ∙ ab.id; clients = bc.clients ∙ ab.clients }
 
+pub stays_put : (d : Domain) (number : ℕ) (op : Op) (desk : Desk) → IsDesk d desk → PerformsBy d number op desk desk
+stays_put d number op desk is = record { leads = same_leads d desk is; fits = λ ops numbered fits. fits; same = record { id = refl; clients = refl } }
+
+-- a call that set the priority of the next request, or came to a halt
+pub set_same : (op : ℕ) (absolute : Bool) (amount : ℤ) (r : Result Stamp Halt) (old new : Desk) → IfOk r (λ stamp. SetsPriority op absolute amount stamp new.caller old.caller) → OnErr r (new ≡ old) → IsSame old new
+set_same op absolute amount (Ok stamp) old new sets kept = record { id = ap (λ (c : Caller). c.work.id) sets.made; clients = ap (λ (c : Caller). c.work.clients) sets.made }
+set_same op absolute amount (Err halt) old new sets kept = record { id = ap (λ (desk : Desk). desk.caller.work.id) kept; clients = ap (λ (desk : Desk). desk.caller.work.clients) kept }
+
 module _ (d : Domain) (ask : Ask) (op : ℕ) where
   pub goes_nowhere : (desk : Desk) → IsDesk d desk → GoesBy d op ask desk desk
-  goes_nowhere desk is = record { leads = same_leads d desk is; fits = λ ops numbered fits. fits; same = record { id = refl; clients = refl } }
+  goes_nowhere desk is = stays_put d op (Call ask) desk is
 
   pub goes_trans : (a b c : Desk) → GoesBy d op ask a b → GoesBy d op ask b c → GoesBy d op ask a c
   goes_trans a b c ab bc = record {

@@ -1,7 +1,6 @@
 pub mod Going
 pub mod Trying
 pub mod Ending
-
 -- what crates above cite of the lemmas of those below
 pub use Rattle.xa_desk.proofs.xa_types
 pub use Rattle.xa_desk.proofs.xa_events

@@ -3,7 +3,7 @@ use Rattle.std.specs.Prelude.{◌≡◌, ℕ, ◌+◌, Bool, true, false, List, 
 use Rattle.std.specs.List.{All}
 use Rattle.xa_desk.specs.xa_types.declared.call.Ask.{Ask}
 use Rattle.xa_desk.specs.xa_types.declared.call.Op.{Op}
-use Rattle.xa_desk.specs.xa_types.declared.call.Op.TheVariants.{Call}
+use Rattle.xa_desk.specs.xa_types.declared.call.Op.TheVariants.{Call, Priority}
 use Rattle.xa_desk.specs.xa_events.Caller.{is_client}
 use Rattle.xa_desk.specs.xa_caller.declared.outcomes.Step.{Step}
 use Rattle.xa_desk.specs.xa_caller.declared.outcomes.Step.TheVariants as steps
@@ -17,7 +17,7 @@ use Rattle.xa_desk.specs.declared.stopped.Stopped.{Stopped}
 use Rattle.xa_desk.specs.declared.stopped.Stopped.TheVariants as ends
 use Rattle.xa_desk.specs.Desks.{IsDesk, Leads}
 use Rattle.xa_desk.specs.Halting.{IsStopAt}
-use Rattle.xa_desk.specs.Steps.{FitsOn}
+use Rattle.xa_desk.specs.Steps.{FitsOp}
 use Rattle.xa_clients.specs.declared.sending.Tried.{Tried}
 use Rattle.xa_clients.specs.declared.sending.Tried.TheVariants as attempts
 
@@ -56,10 +56,14 @@ pub record IsSame (old new : Desk) : Type 0 where
   pub clients : new.caller.work.clients ≡ old.caller.work.clients
 
 -- the worker went on by its call with that number, of which each event that it noted is one
-pub record GoesBy (d : Domain) (op : ℕ) (ask : Ask) (old new : Desk) : Type 0 where
+pub record PerformsBy (d : Domain) (number : ℕ) (op : Op) (old new : Desk) : Type 0 where
   pub leads : Leads d old new
-  pub fits : FitsOn d op ask old new
+  pub fits : FitsOp d number op old new
   pub same : IsSame old new
+
+-- so it did by a tpcall
+abbrev pub GoesBy : Domain → ℕ → Ask → Desk → Desk → Type 0
+GoesBy d number ask old new = PerformsBy d number (Call ask) old new
 
 -- what a look for the answer leaves: it was told, or is still to come
 abbrev pub ToldAs : Domain → ℕ → Result Bool Stopped → Desk → Type 0
@@ -100,8 +104,10 @@ refused_by (stops.Halt halt) = Err (ends.Here halt)
 
 -- ---- all calls of a client
 
+-- a tpcall, or a call that sets the priority of the next request
 abbrev pub IsCall : Op → Type 0
 IsCall (Call ask) = Unit {0}
+IsCall (Priority absolute amount) = Unit {0}
 IsCall op = ⊥
 
 abbrev pub AllCalls : List Op → Type 0

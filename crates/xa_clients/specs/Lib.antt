@@ -1,7 +1,6 @@
 pub mod Going
 pub mod Sending
 pub mod Ending
-
 -- what crates above cite of the definitions of those below
 pub use Rattle.xa_desk.specs.xa_types
 pub use Rattle.xa_desk.specs.xa_events

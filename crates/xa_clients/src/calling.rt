@@ -1,9 +1,8 @@
 // A client makes a call.
 ghost use Rattle.std.specs.Prelude.{◌≡◌, ◌+◌, OnOk, IfErr};
-ghost use Rattle.xa_desk.specs.xa_types.declared.call.Ask.{Ask as Asked};
-ghost use Rattle.xa_desk.specs.xa_types.declared.call.Op.TheVariants.{Call};
+ghost use Rattle.xa_desk.specs.xa_types.declared.call.Op.TheVariants.{Priority};
 ghost use Rattle.xa_desk.specs.Desks.{IsDomain};
-ghost use Rattle.xa_clients.specs.Going.{IsReady, IsWaiting, IsStopped, GoesBy, ToldAs, IsCall, told_by};
+ghost use Rattle.xa_clients.specs.Going.{IsReady, IsWaiting, IsStopped, PerformsBy, GoesBy, ToldAs, IsCall, told_by};
 
 use crate::sending::{refused_by, send};
 use std::alloc::Global;
@@ -100,35 +99,75 @@ fn call<W: Wait>(
     Ok(())
 }
 
-/// Makes its next call, a tpcall, which has that number: it is answered, or refused, or the run halts.
+// It sets the priority of its next request.
+fn set_priority(
+    domain: &Domain,
+    desk: &mut Desk,
+    op: u32,
+    absolute: bool,
+    amount: i32,
+) -> Result<(), Stopped>
+    requires domain { IsDomain domain.now }
+    requires ready { IsReady domain.now desk.old.caller.op desk.old }
+    requires turn { op ≡ desk.old.caller.op + 1 }
+    ensures goes { PerformsBy domain.now op (Priority absolute amount) desk.old desk.new }
+    ensures made { OnOk result (IsReady domain.now op desk.new) }
+    ensures stopped { IfErr result (IsStopped desk.new) }
+{
+    match desk.set_priority(domain, op, absolute, amount) {
+        Ok(_) => Ok(()),
+        Err(halt) => Err(Stopped::Here(halt)),
+    }
+}
+
+// Makes its next call.
+fn make<W: Wait>(
+    rt: &W,
+    alloc: Global,
+    domain: &Domain,
+    desk: &mut Desk,
+    number: u32,
+    op: &Op,
+) -> Result<(), Stopped>
+    requires domain { IsDomain domain.now }
+    requires ready { IsReady domain.now desk.old.caller.op desk.old }
+    requires turn { number ≡ desk.old.caller.op + 1 }
+    requires kind { IsCall op.now }
+    ensures goes { PerformsBy domain.now number op.now desk.old desk.new }
+    ensures made { OnOk result (IsReady domain.now number desk.new) }
+    ensures stopped { IfErr result (IsStopped desk.new) }
+{
+    match op {
+        Op::Call(ask) => call(rt, alloc, domain, desk, number, ask),
+        Op::Priority(absolute, amount) => set_priority(domain, desk, number, *absolute, *amount),
+        _ => unreachable!(),
+    }
+}
+
+/// Makes its next call, which has that number: it is answered, done or refused, or the run halts.
 pub fn perform<W: Wait, G: Gate>(
     rt: &W,
     alloc: Global,
     domain: &Domain,
     desk: &mut Desk,
-    op: u32,
-    ask: &Op,
+    number: u32,
+    op: &Op,
     gate: &G,
 ) -> Result<(), Stopped>
     requires domain { IsDomain domain.now }
     requires ready { IsReady domain.now desk.old.caller.op desk.old }
-    requires turn { op ≡ desk.old.caller.op + 1 }
-    requires kind { IsCall ask.now }
-    ensures goes { (asked : Asked) → ask.now ≡ Call asked → GoesBy domain.now op asked desk.old desk.new }
-    ensures made { OnOk result (IsReady domain.now op desk.new) }
+    requires turn { number ≡ desk.old.caller.op + 1 }
+    requires kind { IsCall op.now }
+    ensures goes { PerformsBy domain.now number op.now desk.old desk.new }
+    ensures made { OnOk result (IsReady domain.now number desk.new) }
     ensures stopped { IfErr result (IsStopped desk.new) }
 {
-    match ask {
-        Op::Call(ask) => {
-            if domain.halt.get().is_some() {
-                return Err(Stopped::Elsewhere);
-            }
-            let caller = desk.caller.id();
-            stay(gate, Point::BeforeOp(caller, op));
-            call(rt, alloc, domain, desk, op, ask)?;
-            gate.passed(Point::AfterOp(caller, op));
-            Ok(())
-        }
-        _ => unreachable!(),
+    if domain.halt.get().is_some() {
+        return Err(Stopped::Elsewhere);
     }
+    let caller = desk.caller.id();
+    stay(gate, Point::BeforeOp(caller, number));
+    make(rt, alloc, domain, desk, number, op)?;
+    gate.passed(Point::AfterOp(caller, number));
+    Ok(())
 }

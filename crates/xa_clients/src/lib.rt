@@ -1,4 +1,4 @@
-//! A client's worker: it makes its calls one after another, each a tpcall, and leaves.
+//! A client's worker: it makes its calls one after another, and leaves.
 #![tactic(auto)]
 
 mod calling;

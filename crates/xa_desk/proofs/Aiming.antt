@@ -51,6 +51,8 @@ aims_at d found ask entry aimed event event' row attempt old new there by has be
     let version : again.version ≡ found.version = ap (λ (t : Draft). t.version) by.same ∙ ap (λ (t : Draft). t.version) first ∙ before.version in
     let request : entry.request ≡ again.asked.request = ap (λ (e : Entry Cargo). e.request) before.entry_is ∙ sym (ap (λ (open_ : Open). open_.request) asked) in
     let data_is : entry.cargo.invocation.payload ≡ payload = ap (λ (e : Entry Cargo). e.cargo.invocation.payload) before.entry_is in
+    let set = old.caller.priority in
+    let still : new.caller.priority ≡ set = ap (λ (c : Caller). c.priority) by.made in
     let among : Contains found.rows row = at-all (Contains found.rows) found.rows attempt row there (All-contains_itself found.rows) in
     let IsIts : Row → Type 0 = λ r. r ≡ row_for d.setup ask.service r.queue.0 r.routine in
     let kind : (r : Row) → Contains found.rows r → is_accepted d.setup r.accepts (kind_of payload) ≡ is_accepted d.setup (row_for d.setup ask.service 0 []).accepts (kind_of payload) = λ r here. same_kinds d.setup ask.service (service_named d.setup ask.service) (kind_of payload) r (All-contains IsIts found.rows r has.rows here) in
@@ -65,10 +67,10 @@ aims_at d found ask entry aimed event event' row attempt old new there by has be
       row = row;
       among = among;
       accepts = kind row among ∙ sym (kind before.row before.among) ∙ before.accepts;
-      entry_is = by.entered ∙ ap (λ (r : RequestId). entry_by r row entry.cargo.invocation.payload entry.cargo.ticket) request ∙ ap (λ (p : Data). entry_by again.asked.request row p entry.cargo.ticket) data_is
-          ∙ ap (λ (t : Ticket Filling). entry_by again.asked.request row payload t) (sym ticket);
-      event_is = by.accepted ∙ ap (λ (t : Draft). Accept (accepted_by t.op t.asked.request t.version row entry.cargo.invocation.payload)) (sym by.same) ∙ ap (λ (v : ℕ). Accept (accepted_by again.op again.asked.request v row entry.cargo.invocation.payload)) version
-          ∙ ap (λ (p : Data). Accept (accepted_by again.op again.asked.request found.version row p)) data_is;
+      entry_is = by.entered ∙ ap (λ (r : RequestId). entry_by r row set entry.cargo.invocation.payload entry.cargo.ticket) request ∙ ap (λ (p : Data). entry_by again.asked.request row set p entry.cargo.ticket) data_is
+          ∙ ap (λ (t : Ticket Filling). entry_by again.asked.request row set payload t) (sym ticket) ∙ ap (λ asked. entry_by again.asked.request row asked payload aimed.cargo.ticket) (sym still);
+      event_is = by.accepted ∙ ap (λ (t : Draft). Accept (accepted_by t.op t.asked.request t.version row set entry.cargo.invocation.payload)) (sym by.same) ∙ ap (λ (v : ℕ). Accept (accepted_by again.op again.asked.request v row set entry.cargo.invocation.payload)) version
+          ∙ ap (λ (p : Data). Accept (accepted_by again.op again.asked.request found.version row set p)) data_is ∙ ap (λ asked. Accept (accepted_by again.op again.asked.request found.version row asked payload)) (sym still);
       right = right;
       cell = ap (λ (open_ : Open). open_.place.cell) asked ∙ before.cell ∙ sym (ap (λ (t : Ticket Filling). t.cell) ticket);
     }
@@ -96,9 +98,9 @@ module _ (d : Domain) (desk : Desk) (new : Caller) (found : FoundRows) (entry : 
 pub aim_aims : (d : Domain) (desk : Desk) (new : Caller) (found : FoundRows) (entry : Entry Cargo) (attempt : ℕ) (r : Aimed) → AimsAs entry found.rows attempt r new desk.caller → (ask : Ask) (event : Event) → IsRight d.cells (entry_in r) → HasFound d ask.service found desk → IsAimed d found ask.payload entry event desk → StillAimed d found ask.payload event r (record desk { caller = new })
 aim_aims d desk new found entry attempt (aims.At aimed event') is ask event right has before = aims_at d found ask entry aimed event event' is.0 attempt desk (record desk { caller = new }) is.1 is.2 has before right
 aim_aims d desk new found entry attempt (aims.Past back) is ask event right has before =
-    aimed_stays d found ask.payload back event desk (record desk { caller = new }) (ap (λ (c : Caller). c.phase) is.2) (ap (λ (c : Caller). c.op) is.2) (subst (λ (e : Entry Cargo). IsAimed d found ask.payload e event desk) (sym is.1) before)
+    aimed_stays d found ask.payload back event desk (record desk { caller = new }) (ap (λ (c : Caller). c.phase) is.2) (ap (λ (c : Caller). c.op) is.2) (ap (λ (c : Caller). c.priority) is.2) (subst (λ (e : Entry Cargo). IsAimed d found ask.payload e event desk) (sym is.1) before)
 aim_aims d desk new found entry attempt (aims.NoMemory back) is ask event right has before =
-    aimed_stays d found ask.payload back event desk (record desk { caller = new }) (ap (λ (c : Caller). c.phase) is.1) (ap (λ (c : Caller). c.op) is.1) (subst (λ (e : Entry Cargo). IsAimed d found ask.payload e event desk) (sym is.0) before)
+    aimed_stays d found ask.payload back event desk (record desk { caller = new }) (ap (λ (c : Caller). c.phase) is.1) (ap (λ (c : Caller). c.op) is.1) (ap (λ (c : Caller). c.priority) is.1) (subst (λ (e : Entry Cargo). IsAimed d found ask.payload e event desk) (sym is.0) before)
 
 -- what a caller asks of an aim
 pub aim_requires : (d : Domain) (desk : Desk) (found : FoundRows) (entry : Entry Cargo) → IsDesk d desk → (ask : Ask) (event : Event) → HasFound d ask.service found desk → IsAimed d found ask.payload entry event desk

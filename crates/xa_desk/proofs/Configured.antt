@@ -3,7 +3,7 @@ use Rattle.std.proofs.Common.{◌≡◌, ℕ, ◌+◌, ◌<◌, ◌≤◌, Bool,
 use Rattle.std.proofs.lemmas.List.Elements.{All-nil, All-cons, All-weaker}
 use Rattle.xa_told.proofs.xa_caller.Unsent.{at-all}
 use Rattle.xa_told.proofs.xa_caller.Next.{found-all}
-use Rattle.std.specs.Prelude.{◌&&◌}
+use Rattle.std.specs.Prelude.{◌&&◌, ℤ, pos, negsuc, ◌+ℤ◌, false}
 use Rattle.std.specs.List.{list_all, All}
 use Rattle.std.specs.Str.{bytes_eq}
 use Rattle.std.proofs.lemmas.Bool.{and_parts}
@@ -12,6 +12,7 @@ use Rattle.xa_told.specs.xa_types.declared.row.Row.{Row}
 use Rattle.xa_told.specs.xa_types.declared.setup.Setup.{Setup}
 use Rattle.xa_told.specs.xa_types.declared.setup.QueueSetup.{QueueSetup}
 use Rattle.xa_told.specs.xa_types.declared.setup.ServiceSetup.{ServiceSetup}
+use Rattle.xa_told.specs.xa_types.Priority.{clamped, priority_of}
 use Rattle.xa_told.specs.xa_types.Rows.{row_with, row_for}
 use Rattle.xa_told.specs.xa_types.Setup.{capacity_in, capacity_of, service_named}
 use Rattle.xa_told.specs.xa_types.Configured.{is_configured, is_within, is_valid_queue, is_valid_service, queue_names, are_valid_queues, are_valid_services}
@@ -25,6 +26,17 @@ left a b both = (and_parts a b both).0
 
 right : (a b : Bool) → (a && b) ≡ true → b ≡ true
 right a b both = (and_parts a b both).1
+
+-- a number taken into 1 to 100 is within
+within_clamped : (amount : ℤ) → (1 ≤ clamped amount) × (clamped amount ≤ 100)
+within_clamped (pos n) = (omega arith, omega arith)
+within_clamped (negsuc n) = (omega arith, omega arith)
+
+-- a request has a priority from 1 to 100 where its service has one
+pub asked_priority : (own : ℕ) (asked : Option (Bool × ℤ)) → (1 ≤ own) × (own ≤ 100) → (1 ≤ priority_of own asked) × (priority_of own asked ≤ 100)
+asked_priority own None its = its
+asked_priority own (Some (true, amount)) its = within_clamped amount
+asked_priority own (Some (false, amount)) its = within_clamped (pos own +ℤ amount)
 
 module _ (setup : Setup) (configured : is_configured setup ≡ true) where
   each_room : All (λ (queue : QueueSetup). 1 ≤ queue.capacity) setup.queues

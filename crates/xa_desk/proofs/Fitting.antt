@@ -1,10 +1,9 @@
--- What a worker noted fits its calls, also with one event of a tpcall more.
+-- What a worker noted fits its calls, also with one event of a call more.
 use Rattle.std.proofs.Common.{◌≡◌, ℕ, ◌+◌, true, false, List, [], ◌∷◌, ◌++◌, Option, Some, None, refl, sym, ◌∙◌, ap, subst, append-nil}
 use Rattle.xa_desk.proofs.Stopping.{same_leads}
 use Rattle.std.specs.Prelude.{IsSomeAnd}
 use Rattle.xa_told.specs.xa_types.declared.call.Ask.{Ask}
 use Rattle.xa_told.specs.xa_types.declared.call.Op.{Op}
-use Rattle.xa_told.specs.xa_types.declared.call.Op.TheVariants.{Call}
 use Rattle.xa_told.specs.xa_types.declared.ids.CallerId.{CallerId}
 use Rattle.xa_told.specs.xa_types.Setup.{numbered}
 use Rattle.xa_told.specs.xa_events.declared.event.Event.{Event}
@@ -25,7 +24,7 @@ use Rattle.xa_desk.specs.declared.domain.Domain.{Domain}
 use Rattle.xa_desk.specs.declared.desk.Desk.{Desk}
 use Rattle.xa_desk.specs.Whole.{Whole, entries_of}
 use Rattle.xa_desk.specs.Desks.{GoesOn, IsDesk, Leads}
-use Rattle.xa_desk.specs.Steps.{FitsOn}
+use Rattle.xa_desk.specs.Steps.{FitsOn, FitsOp}
 use Rattle.xa_desk.proofs.Leading.{Grew, IsQuiet, calm_leads}
 
 over : (ops : List Op) (newest : Option Event) → accepted_in newest ≡ None → awaits_answer ops newest ≡ false
@@ -40,14 +39,14 @@ module _ (d : Domain) where
 
   -- its tables are what is read off these
   abbrev pub IsRead : Desk → Type 0
-  IsRead desk = Reads d.setup (caller_view d.clients desk.caller.work.id.0 (its_events desk)) desk.caller.op desk.caller.sent desk.caller.least desk.caller.phase
+  IsRead desk = Reads d.setup (caller_view d.clients desk.caller.work.id.0 (its_events desk)) desk.caller.op desk.caller.sent desk.caller.least desk.caller.priority desk.caller.phase
 
   pub is_read : (desk : Desk) → IsDesk d desk → IsSound desk.caller → IsRead desk
   is_read desk is sound =
       let c = desk.caller in
       let id : ℕ = c.work.id.0 in
-      subst (λ (n : ℕ). Reads d.setup (caller_view n id (worker_events n id (past_in c.work.own))) c.op c.sent c.least c.phase) is.clients
-      (subst (λ (s : Setup). Reads s (caller_view c.work.clients id (worker_events c.work.clients id (past_in c.work.own))) c.op c.sent c.least c.phase) is.setup sound.reads)
+      subst (λ (n : ℕ). Reads d.setup (caller_view n id (worker_events n id (past_in c.work.own))) c.op c.sent c.least c.priority c.phase) is.clients
+      (subst (λ (s : Setup). Reads s (caller_view c.work.clients id (worker_events c.work.clients id (past_in c.work.own))) c.op c.sent c.least c.priority c.phase) is.setup sound.reads)
 
   -- where no request of it is out, the call before is over
   pub call_over : (desk : Desk) → IsRead desk → just_in desk.caller.phase ≡ None → (ops : List Op) → awaits_answer ops (newest_call desk.caller.work.id.0 (its_events desk)) ≡ false
@@ -59,10 +58,10 @@ module _ (d : Domain) where
       subst (λ (l : List Stamped). FitEach d.setup d.clients (entries_of whole) new.caller.work.id.0 ops l) (sym {A = List Stamped} own)
       (subst (λ (id : CallerId). FitEach d.setup d.clients (entries_of whole) id.0 ops old.caller.work.own) (sym grew.id) (fits whole (leads.before whole on)))
 
-  pub one_more_fits : (old new : Desk) (x : Stamped) → Leads d old new → Grew old.caller.work new.caller.work (x ∷ []) → (op : ℕ) (ask : Ask) → op_in x.event ≡ op
+  pub one_more_fits : (old new : Desk) (x : Stamped) → Leads d old new → Grew old.caller.work new.caller.work (x ∷ []) → (op : ℕ) (call : Op) → op_in x.event ≡ op
       → ((ops : List Op) → op ≡ last_op old.caller.work.id.0 (its_events old) + 1 → awaits_answer ops (newest_call old.caller.work.id.0 (its_events old)) ≡ false)
-      → ((whole : Whole) → GoesOn d whole new → FitsOwn d.setup d.clients (entries_of whole) x.stamp (Call ask) x.event (its_events old)) → FitsOn d op ask old new
-  one_more_fits old new x leads grew op ask op_is turn fits_one ops is fits whole on =
+      → ((whole : Whole) → GoesOn d whole new → FitsOwn d.setup d.clients (entries_of whole) x.stamp call x.event (its_events old)) → FitsOp d op call old new
+  one_more_fits old new x leads grew op call op_is turn fits_one ops is fits whole on =
       let id : ℕ = old.caller.work.id.0 in
       let before : GoesOn d whole old = leads.before whole on in
       subst (λ (l : List Stamped). FitEach d.setup d.clients (entries_of whole) new.caller.work.id.0 ops l) (sym {A = List Stamped} grew.own)

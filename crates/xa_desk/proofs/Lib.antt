@@ -22,9 +22,9 @@ pub mod Aiming
 pub mod Preparing
 pub mod Unsending
 pub mod Replying
+pub mod Setting
 pub mod Taking
 pub mod Requests
-
 -- what crates above cite of the lemmas of those below
 pub use Rattle.xa_told.proofs.xa_types
 pub use Rattle.xa_told.proofs.xa_events

@@ -99,6 +99,8 @@ module _ (d : Domain) (desk : Desk) (found : FoundRows) (op : ℕ) (ask : Ask) (
     prepare_aims right =
         let its : makes.draft.asked.request ≡ request = ap (λ (t : Draft). t.asked.request) makes.drawn in
         let p : Row → Bool = λ row. is_accepted d.setup row.accepts (kind_of ask.payload) in
+        let set = desk.caller.priority in
+        let still : new.priority ≡ set = ap (λ (c : Caller). c.priority) makes.made in
         let its_op : makes.draft.op ≡ op = ap (λ (t : Draft). t.op) makes.drawn in
         record {
           draft = makes.draft;
@@ -110,8 +112,9 @@ module _ (d : Domain) (desk : Desk) (found : FoundRows) (op : ℕ) (ask : Ask) (
           row = makes.row;
           among = found-all p (Contains found.rows) found.rows makes.row makes.chosen (All-contains_itself found.rows);
           accepts = passes_found p found.rows makes.row makes.chosen;
-          entry_is = makes.entry ∙ ap (λ (r : RequestId). entry_by r makes.row ask.payload prepared.entry.cargo.ticket) (sym its);
-          event_is = makes.event ∙ ap (λ (n : ℕ). Accept (accepted_by n request found.version makes.row ask.payload)) (sym its_op) ∙ ap (λ (r : RequestId). Accept (accepted_by makes.draft.op r found.version makes.row ask.payload)) (sym its);
+          entry_is = makes.entry ∙ ap (λ (r : RequestId). entry_by r makes.row set ask.payload prepared.entry.cargo.ticket) (sym its) ∙ ap (λ asked. entry_by makes.draft.asked.request makes.row asked ask.payload prepared.entry.cargo.ticket) (sym still);
+          event_is = makes.event ∙ ap (λ (n : ℕ). Accept (accepted_by n request found.version makes.row set ask.payload)) (sym its_op) ∙ ap (λ (r : RequestId). Accept (accepted_by makes.draft.op r found.version makes.row set ask.payload)) (sym its)
+              ∙ ap (λ asked. Accept (accepted_by makes.draft.op makes.draft.asked.request found.version makes.row asked ask.payload)) (sym still);
           right = right;
           cell = sym makes.began.ticket_cell;
         }

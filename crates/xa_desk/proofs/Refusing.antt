@@ -2,6 +2,7 @@
 use Rattle.std.proofs.Common.{◌≡◌, ◌≤◌, ℕ, [], ◌∷◌, ◌++◌, Option, Some, None, refl, sym, ◌∙◌, ap, subst, arith, ◌+◌}
 use Rattle.std.specs.Prelude.{IfSome}
 use Rattle.xa_told.specs.xa_types.declared.call.Ask.{Ask}
+use Rattle.xa_told.specs.xa_types.declared.call.Op.TheVariants.{Call}
 use Rattle.xa_told.specs.xa_types.declared.fault.Fault.{Fault}
 use Rattle.xa_told.specs.xa_types.declared.stamp.Stamp.{Stamp}
 use Rattle.xa_told.specs.xa_events.declared.event.Evidence.{Evidence}
@@ -72,4 +73,4 @@ module _ (d : Domain) (desk : Desk) (left new : Caller) (op : ℕ) (fault : Faul
     -- and that fits a call that may be refused so
     pub refuse_goes : IsRead d desk → just_in desk.caller.phase ≡ None → Leads d desk (record desk { caller = new })
         × ((ask : Ask) → ((whole : Whole) → GoesOn d whole desk → AskRefusedOwn d.setup d.clients (entries_of whole) stamp left.work.id.0 (as_call d.setup ask) ask fault evidence (its_events d desk)) → FitsOn d op ask desk (record desk { caller = new }))
-    refuse_goes reads none = (refuse_leads, λ ask fits. one_more_fits d desk (record desk { caller = new }) One refuse_leads grew op ask refl (λ ops turn. call_over d desk reads none ops) (λ whole on. fits whole (refuse_leads.before whole on)))
+    refuse_goes reads none = (refuse_leads, λ ask fits. one_more_fits d desk (record desk { caller = new }) One refuse_leads grew op (Call ask) refl (λ ops turn. call_over d desk reads none ops) (λ whole on. fits whole (refuse_leads.before whole on)))

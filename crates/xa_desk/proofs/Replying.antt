@@ -130,7 +130,7 @@ module _ (d : Domain) (desk : Desk) (new : Caller) (is : IsDesk d desk) (its : I
 
     pub told_fits : IsRead d desk → (ask : Ask) → expect ≡ ask.expect → FitsOn d desk.caller.op ask desk Next
     told_fits reads ask same =
-        one_more_fits d desk Next One told_leads grew desk.caller.op ask refl (λ ops turn. let called = reads.called in absurd (omega (arith, turn, called))) (λ whole on.
+        one_more_fits d desk Next One told_leads grew desk.caller.op (Call ask) refl (λ ops turn. let called = reads.called in absurd (omega (arith, turn, called))) (λ whole on.
         let told = told_so (λ e. IsSomeAnd (settlement_in answers.sent.request e) (λ settlement. answer_to expect answers.reply ≡ answer_to ask.expect (reply_of settlement)))
         (λ end tells. told_by ask.expect (answer_to expect answers.reply) answers.reply (settlement_in answers.sent.request end.event) (ap (λ e. answer_to e answers.reply) same) tells) whole on in
         record { same = sym reads.called; request = reads.just ∙ ap just_in answers.was; home = told.0; told = told.1 })

@@ -55,7 +55,7 @@ use Rattle.xa_desk.specs.Whole.{Whole, entries_of}
 use Rattle.xa_desk.specs.Desks.{IsDomain, GoesOn, IsDesk, Leads}
 use Rattle.xa_desk.specs.Found.{SawOnBoard, HasFound, IsAimed, SawItsOwnAt, ShowsWhy, IsAccept, queue_in}
 use Rattle.xa_desk.specs.Steps.{FitsOn}
-use Rattle.xa_desk.proofs.Configured.{has_capacity, row_priority}
+use Rattle.xa_desk.proofs.Configured.{has_capacity, row_priority, asked_priority}
 use Rattle.xa_desk.proofs.Fitting.{its_events, IsRead, call_over, one_more_fits}
 use Rattle.xa_desk.proofs.Leading.{Grew, grew_one}
 use Rattle.xa_desk.proofs.Showing.{saw_there, setting, down_seen, closed_seen, waits, own_seen}
@@ -88,7 +88,7 @@ module _ {d : Domain} {found : FoundRows} (ask : Ask) {old : Desk} {entry : Entr
       (subst (λ (e : Event). Brings aimed.draft.asked.request (record { service = aimed.row.service; routine = aimed.row.routine; payload = ask.payload }) e) (sym aimed.event_is) (refl, refl, refl, refl, refl))
 
   pub in_range : IsDomain d → (1 ≤ entry.priority) × (entry.priority ≤ 100)
-  in_range domain = subst (λ (e : Entry Cargo). (1 ≤ e.priority) × (e.priority ≤ 100)) (sym aimed.entry_is) (row_priority d.setup domain.configured ask.service aimed.row its)
+  in_range domain = subst (λ (e : Entry Cargo). (1 ≤ e.priority) × (e.priority ≤ 100)) (sym aimed.entry_is) (asked_priority aimed.row.priority old.caller.priority (row_priority d.setup domain.configured ask.service aimed.row its))
 
   -- the pass saw what the queue is, at which the entry may be put
   pub put_setting : {k : ℕ} {p : QueuePass} → IsDesk d old → HasPass d (queue_in event) k old p → (s : Setting Filling) × Sees s (page_of p) × IsEntry s.id entry event × IsRight s.cells entry
@@ -96,7 +96,7 @@ module _ {d : Domain} {found : FoundRows} (ask : Ask) {old : Desk} {entry : Entr
       let pass = its_pass there is in
       let wrap : ℕ → QueueId = λ n. record { 0 = n } in
       let id : aimed.row.queue ≡ pass.its.id = ap wrap (sym queue_is ∙ there.at ∙ sym pass.is.id) in
-      (pass.its, pass.sees, subst (λ (e : Entry Cargo). IsEntry pass.its.id e event) (sym aimed.entry_is) (subst (IsEntry pass.its.id (entry_by aimed.draft.asked.request aimed.row ask.payload entry.cargo.ticket)) (sym aimed.event_is) (refl, id, refl)), subst (λ cells. IsRight cells entry) (sym pass.is.cells) aimed.right)
+      (pass.its, pass.sees, subst (λ (e : Entry Cargo). IsEntry pass.its.id e event) (sym aimed.entry_is) (subst (IsEntry pass.its.id (entry_by aimed.draft.asked.request aimed.row old.caller.priority ask.payload entry.cargo.ticket)) (sym aimed.event_is) (refl, id, refl)), subst (λ cells. IsRight cells entry) (sym pass.is.cells) aimed.right)
 
   module _ {k : ℕ} {new : Desk} {p p' : QueuePass} {last : Stamp} (step : Step d (queue_in event) k old new p p' last) (seen : Stamp) (saw : seen ≡ old.caller.work.stamp) (maker : CallerId) where
     -- the queue took it
@@ -131,7 +131,7 @@ module _ {d : Domain} {found : FoundRows} (ask : Ask) {old : Desk} {entry : Entr
 
       pub sent_fits : IsRead d old → is_invalid_call d.setup ask ≡ false → FitsOn d (old.caller.op + 1) ask old new
       sent_fits reads valid =
-          one_more_fits d old new Its sent_leads grew (old.caller.op + 1) ask (ap op_in aimed.event_is ∙ aimed.turn) (λ ops turn. call_over d old reads (ap just_in aimed.prepared) ops)
+          one_more_fits d old new Its sent_leads grew (old.caller.op + 1) (Call ask) (ap op_in aimed.event_is ∙ aimed.turn) (λ ops turn. call_over d old reads (ap just_in aimed.prepared) ops)
           (λ whole on. subst (λ (e : Event). FitsOwn d.setup d.clients (entries_of whole) stamp (Call ask) e (its_events d old)) (sym aimed.event_is) (record { valid = valid; service = row-service d.setup ask.service aimed.row its; payload = refl; mode = refl }))
 
 -- a put that a queue refused

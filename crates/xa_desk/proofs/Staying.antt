@@ -6,12 +6,13 @@ use Rattle.xa_told.specs.xa_types.declared.row.Row.{Row}
 use Rattle.xa_told.specs.xa_types.Found.{FoundRows}
 use Rattle.xa_told.specs.xa_types.Kind.{is_accepted, kind_of}
 use Rattle.xa_told.specs.xa_events.declared.event.Event.{Event}
+use Rattle.xa_told.specs.xa_events.declared.event.Event.TheVariants.{Accept}
 use Rattle.xa_told.specs.xa_events.Board.{published}
 use Rattle.xa_told.specs.xa_events.Cases.{RowStands, RowAdmits}
 use Rattle.xa_told.specs.xa_crew.Seen.{past_in, SawSince}
 use Rattle.xa_told.specs.xa_held.Joins.{changes_at}
 use Rattle.xa_told.specs.xa_queue.declared.entry.Entry.{Entry}
-use Rattle.xa_told.specs.xa_caller.Drafts.{Cargo}
+use Rattle.xa_told.specs.xa_caller.Drafts.{Cargo, accepted_by, entry_by}
 use Rattle.xa_desk.specs.declared.domain.Domain.{Domain}
 use Rattle.xa_desk.specs.declared.desk.Desk.{Desk}
 use Rattle.xa_desk.specs.Whole.{entries_of}
@@ -46,9 +47,9 @@ module _ (d : Domain) (old new : Desk) (leads : Leads d old new) where
         (λ (row : Row). is_accepted d.setup row.accepts (kind_of payload) ≡ true → SawOnBoard d new (RowStands d.setup found.version service row.queue.0 (RowAdmits d.setup false row.routine payload))) (λ row saw accepts. board_stays _ (saw accepts)) found.rows (has.stand payload);
   }
 
--- a request is aimed as it was, where its caller's call stands as it did
-pub aimed_stays : (d : Domain) (found : FoundRows) (payload : Data) (entry : Entry Cargo) (event : Event) (old new : Desk) → new.caller.phase ≡ old.caller.phase → new.caller.op ≡ old.caller.op → IsAimed d found payload entry event old → IsAimed d found payload entry event new
-aimed_stays d found payload entry event old new phase op aimed = record {
+-- a request is aimed as it was, where its caller's call and what it set for the priority stand as they did
+pub aimed_stays : (d : Domain) (found : FoundRows) (payload : Data) (entry : Entry Cargo) (event : Event) (old new : Desk) → new.caller.phase ≡ old.caller.phase → new.caller.op ≡ old.caller.op → new.caller.priority ≡ old.caller.priority → IsAimed d found payload entry event old → IsAimed d found payload entry event new
+aimed_stays d found payload entry event old new phase op priority aimed = record {
   draft = aimed.draft;
   prepared = phase ∙ aimed.prepared;
   drafted = aimed.drafted;
@@ -58,8 +59,8 @@ aimed_stays d found payload entry event old new phase op aimed = record {
   row = aimed.row;
   among = aimed.among;
   accepts = aimed.accepts;
-  entry_is = aimed.entry_is;
-  event_is = aimed.event_is;
+  entry_is = aimed.entry_is ∙ ap (λ asked. entry_by aimed.draft.asked.request aimed.row asked payload entry.cargo.ticket) (sym priority);
+  event_is = aimed.event_is ∙ ap (λ asked. Accept (accepted_by aimed.draft.op aimed.draft.asked.request found.version aimed.row asked payload)) (sym priority);
   right = aimed.right;
   cell = aimed.cell;
 }

@@ -133,7 +133,7 @@ abbrev pub IsAmong : ℕ → Home → Type 0
 IsAmong n (QueueHome queue) = (0 < queue) × (queue < n + 1)
 IsAmong n home = Unit {0}
 
--- a desk of the domain: its passes are of the domain's locks, its worker made events of tpcall and of lives, each filling of its seat has its end among
+-- a desk of the domain: its passes are of the domain's locks, its worker made events of tpcall, tpsprio and lives, each filling of its seat has its end among
 -- them, each answer that it noted was taken by its seat, and in the end the worker shows all that it noted
 pub record IsDesk (d : Domain) (desk : Desk) : Type 0 where
   pub setup : desk.caller.work.setup ≡ d.setup

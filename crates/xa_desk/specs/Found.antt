@@ -53,7 +53,8 @@ pub record HasFound (d : Domain) (service : List ℕ) (found : FoundRows) (desk 
   pub stand : (payload : Data) → All (λ (row : Row). is_accepted d.setup row.accepts (kind_of payload) ≡ true
       → SawOnBoard d desk (RowStands d.setup found.version service row.queue.0 (RowAdmits d.setup false row.routine payload))) found.rows
 
--- a request that was prepared is aimed by one of the rows that were found, and its entry and the event that brings it say so
+-- a request that was prepared is aimed by one of the rows that were found, and its entry and the event that brings it say so, with the priority that
+-- its caller set
 pub record IsAimed (d : Domain) (found : FoundRows) (payload : Data) (entry : Entry Cargo) (event : Event) (desk : Desk) : Type 0 where
   pub draft : Draft
   pub prepared : desk.caller.phase ≡ Prepared draft
@@ -64,8 +65,8 @@ pub record IsAimed (d : Domain) (found : FoundRows) (payload : Data) (entry : En
   pub row : Row
   pub among : Contains found.rows row
   pub accepts : is_accepted d.setup row.accepts (kind_of payload) ≡ true
-  pub entry_is : entry ≡ entry_by draft.asked.request row payload entry.cargo.ticket
-  pub event_is : event ≡ Accept (accepted_by draft.op draft.asked.request found.version row payload)
+  pub entry_is : entry ≡ entry_by draft.asked.request row desk.caller.priority payload entry.cargo.ticket
+  pub event_is : event ≡ Accept (accepted_by draft.op draft.asked.request found.version row desk.caller.priority payload)
   pub right : IsRight d.cells entry
   pub cell : draft.asked.place.cell ≡ entry.cargo.ticket.cell
 

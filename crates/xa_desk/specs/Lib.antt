@@ -6,7 +6,6 @@ pub mod Found
 pub mod Steps
 pub mod Parting
 pub mod Serving
-
 -- what crates above cite of the definitions of those below
 pub use Rattle.xa_told.specs.xa_types
 pub use Rattle.xa_told.specs.xa_events

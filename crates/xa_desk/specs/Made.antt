@@ -1,11 +1,11 @@
--- The events that the workers of a domain make: those of tpcall, and of servers' lives. The machine has others, of which none is made here (this
+-- The events that the workers of a domain make: those of tpcall, of tpsprio (after Tuxedo) and of servers' lives. The machine has others, of which none is made here (this
 -- project's own).
 use Rattle.std.specs.Prelude.{◌≡◌}
 use Rattle.xa_told.specs.xa_types.declared.call.Mode.TheVariants.{Reply}
 use Rattle.xa_told.specs.xa_types.declared.fault.Fault.{Fault}
 use Rattle.xa_told.specs.xa_types.declared.fault.Fault.TheVariants.{Inval, NoEnt, IType, Limit, System, Block}
 use Rattle.xa_told.specs.xa_events.declared.event.Event.{Event}
-use Rattle.xa_told.specs.xa_events.declared.event.Event.TheVariants.{Advertise, Withdraw, Accept, Take, Sweep, Gone, Down, Close, Start, StartFailed, End, Stop, Answer, Refuse, Leave}
+use Rattle.xa_told.specs.xa_events.declared.event.Event.TheVariants.{Advertise, Withdraw, Accept, Take, Sweep, Gone, Down, Close, Start, StartFailed, End, Stop, Answer, Refuse, Leave, Priority}
 use Rattle.xa_told.specs.xa_events.declared.event.Evidence.{Evidence}
 use Rattle.xa_told.specs.xa_events.declared.event.Evidence.TheVariants.{Argument, Version, Cells, AllDown, Queue}
 use Rattle.xa_told.specs.xa_events.declared.event.Outcome.{Outcome}
@@ -43,4 +43,5 @@ IsMade (Stop x) = Unit {0}
 IsMade (Answer a) = Unit {0}
 IsMade (Refuse r) = IsRefusal r.fault r.evidence
 IsMade (Leave client) = Unit {0}
+IsMade (Priority p) = Unit {0}
 IsMade _ = ⊥

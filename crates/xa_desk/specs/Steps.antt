@@ -19,8 +19,12 @@ use Rattle.xa_desk.specs.Found.{SawAtQueue, SawItsOwnAt}
 use Rattle.xa_desk.specs.Halting.{IsHaltAt}
 
 -- what the worker noted by this call fits it: whatever it makes, if this is the call with that number
+abbrev pub FitsOp : Domain → ℕ → Op → Desk → Desk → Type 0
+FitsOp d number op old new = (ops : List Op) → numbered number ops ≡ Some op → FitsCalls d ops old → FitsCalls d ops new
+
+-- so it is with a tpcall
 abbrev pub FitsOn : Domain → ℕ → Ask → Desk → Desk → Type 0
-FitsOn d op ask old new = (ops : List Op) → numbered op ops ≡ Some (Call ask) → FitsCalls d ops old → FitsCalls d ops new
+FitsOn d number ask old new = FitsOp d number (Call ask) old new
 
 -- no queue of these rows, of which there are some, takes a request: each was seen down, closed or full, by a front with all that the worker noted
 -- there; and each down or closed if none was full, or else a queue of theirs was seen full, with so many that waited

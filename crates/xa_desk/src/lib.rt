@@ -10,6 +10,7 @@ mod desk;
 mod domain;
 mod halting;
 mod serving;
+mod setting;
 mod stopped;
 
 pub use calls::Unsent;

@@ -14,7 +14,7 @@ use Rattle.xa_ending.specs.xa_server.Served.{StarterShows}
 use Rattle.xa_ending.specs.xa_workers.Working.{IsBuiltClient}
 use Rattle.xa_ending.specs.xa_joined.Served.{IsRecorded, IsServedWhole, IsServedSoFar, IsWorn}
 
--- at most 64 clients, each with fewer than 2^32 calls, of which each is a tpcall
+-- at most 64 clients, each with fewer than 2^32 calls, of which each is a tpcall or sets a priority
 pub record IsBuilt (clients : List Client) : Type 0 where
   pub few : length clients ≤ 64
   pub calls : All IsBuiltClient clients

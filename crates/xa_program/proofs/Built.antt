@@ -1,4 +1,4 @@
--- The calls of a script are tpcalls, and are few.
+-- The calls of a script are of those that are served, and are few.
 use Rattle.std.proofs.Common.{◌≡◌, ℕ, zero, suc, not, nat_le, Bool, true, false, cond, codes, Ok, Err, ◌++◌, ap, length-append, ◌+◌, ◌-◌, ◌<◌, ◌≤◌, ◌^◌, List, [], ◌∷◌, length, drop, Option, Some, None, refl, sym, subst, arith, length-drop}
 use Rattle.std.specs.Prelude.{All, ⊤}
 use Rattle.std.specs.List.{position}
@@ -11,7 +11,7 @@ use Rattle.xa_domain.specs.xa_types.Name.{is_name}
 use Rattle.xa_domain.specs.xa_types.Configured.{is_among}
 use Rattle.xa_domain.specs.xa_types.declared.setup.Setup.{Setup}
 use Rattle.xa_domain.specs.xa_types.declared.call.Op.{Op}
-use Rattle.xa_domain.specs.xa_types.declared.call.Op.TheVariants.{Call}
+use Rattle.xa_domain.specs.xa_types.declared.call.Op.TheVariants.{Call, Priority}
 use Rattle.xa_domain.specs.xa_script.declared.script.Client.{Client}
 use Rattle.xa_domain.specs.xa_clients.Going.{IsCall, AllCalls}
 use Rattle.xa_domain.specs.xa_workers.Working.{IsBuiltClient}
@@ -48,9 +48,10 @@ few_lines octets = lines_within (length octets) octets (omega arith)
 
 served_built : (op : Op) → is_served op ≡ true → IsCall op
 served_built (Call ask) served = tt
+served_built (Priority absolute amount) served = tt
 served_built op served = absurd cc
 
--- each call is a tpcall, and there are so many at most
+-- each call is one of those, and there are so many at most
 abbrev AreBuilt : ℕ → List Op → Type 0
 AreBuilt most ops = AllCalls ops × (length ops ≤ most)
 

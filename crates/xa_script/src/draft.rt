@@ -58,11 +58,11 @@ impl Cause {
     }
 }
 
-// Whether a domain serves the call: a tpcall.
+// Whether a domain serves the call: a tpcall, or one that sets the priority of the next request.
 fn is_served(op: &Op) -> bool
     ensures { result ≡ is_served op.now }
 {
-    matches!(op, Op::Call(_))
+    matches!(op, Op::Call(_) | Op::Priority(_, _))
 }
 
 // The one word behind `client`.

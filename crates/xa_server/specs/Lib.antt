@@ -4,7 +4,6 @@ pub mod Slot
 pub mod Changes
 pub mod Told
 pub mod Served
-
 -- what crates above cite of the definitions of those below
 pub use Rattle.xa_caller.specs.xa_types
 pub use Rattle.xa_caller.specs.xa_events

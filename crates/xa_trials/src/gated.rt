@@ -19,8 +19,8 @@ const TWO: &[u8] = b"[[queue]]\nname = \"Q1\"\n[[queue]]\nname = \"Q2\"\n\
     [[service]]\nname = \"ECHO\"\nqueues = [\"Q1\"]\n\
     [[service]]\nname = \"LEN\"\nqueues = [\"Q2\"]\n";
 
-// The history of the script by that gate, where one of these is written.
-fn history_of<R: Runtime, G: Gate>(
+/// The history of the script by that gate, where one of these is written.
+pub fn history_of<R: Runtime, G: Gate>(
     rt: &R,
     gate: &G,
     config: &[u8],

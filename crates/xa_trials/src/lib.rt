@@ -13,6 +13,8 @@ mod gated;
 #[cfg(test)]
 mod lives;
 #[cfg(test)]
+mod priorities;
+#[cfg(test)]
 mod processes;
 #[cfg(test)]
 mod restarts;

@@ -232,7 +232,7 @@ death_later cause closing slot' slot new old d =
 
 fresh : (setup : Setup) (restart : Bool) (maxgen grace : ℕ) (seat : Seat Filling) → IsPlain restart maxgen grace setup
     → Serves (new_slot (record { 0 = 1 }) (record { restart = restart; maxgen = maxgen; grace = grace; starts = [] }))
-    (record { work = record { setup = setup; clients = 1; id = record { 0 = 2 }; stamp = record { 0 = 0 }; own = []; room = 0 }; seat = seat; op = 0; sent = 0; least = 0; phase = phases.Idle })
+    (record { work = record { setup = setup; clients = 1; id = record { 0 = 2 }; stamp = record { 0 = 0 }; own = []; room = 0 }; seat = seat; op = 0; sent = 0; least = 0; priority = None; phase = phases.Idle })
 unfolding ticks
 fresh setup restart maxgen grace seat plain = record {
   stands = new_stands (record { 0 = 1 }) (record { restart = restart; maxgen = maxgen; grace = grace; starts = [] }) _ refl plain.rule refl refl;
@@ -246,7 +246,7 @@ fresh setup restart maxgen grace seat plain = record {
 
 pub first_serves : (setup : Setup) (restart : Bool) (maxgen grace : ℕ) (seat : Seat Filling) (restarts : Restarts) (slot slot' : ServerSlot) (w : Standing) (c : Calling) → IsPlain restart maxgen grace setup → restarts ≡ record { restart = restart; maxgen = maxgen; grace = grace; starts = [] }
     → slot ≡ new_slot (record { 0 = 1 }) restarts → slot' ≡ slot → w ≡ record { setup = setup; clients = 1; id = record { 0 = 2 }; stamp = record { 0 = 0 }; own = []; room = 0 }
-    → c ≡ record { work = w; seat = seat; op = 0; sent = 0; least = 0; phase = phases.Idle } → Serves slot' c
+    → c ≡ record { work = w; seat = seat; op = 0; sent = 0; least = 0; priority = None; phase = phases.Idle } → Serves slot' c
 first_serves setup restart maxgen grace seat restarts slot slot' w c plain r s z v k =
     subst (λ u. Serves u c) (sym (z ∙ s ∙ ap (new_slot (record { 0 = 1 })) r))
-    (subst (Serves _) (sym (k ∙ ap (λ (x : Standing). record { work = x; seat = seat; op = 0; sent = 0; least = 0; phase = phases.Idle }) v)) (fresh setup restart maxgen grace seat plain))
+    (subst (Serves _) (sym (k ∙ ap (λ (x : Standing). record { work = x; seat = seat; op = 0; sent = 0; least = 0; priority = None; phase = phases.Idle }) v)) (fresh setup restart maxgen grace seat plain))

@@ -8,7 +8,7 @@ ghost use Rattle.xa_trials_callers.specs.Callers.{Rests, HasDraft, Awaits};
 
 use crate::clients::{
     Client, END, Queues, Says, State, VERSION, answer, close, give_back, leave, lose, open,
-    prepare, put,
+    prepare, put, set_priority,
 };
 use crate::memory::setup_of;
 use crate::rows::none_fails;
@@ -422,6 +422,104 @@ fn first_not_quiet<R: Abort>(rt: &R, alloc: Global, setup: &Setup) -> Option<usi
     None
 }
 
+// What a client sets for its next request, absolute or to be added to the service's own; on which queues its call is tried
+// then; and with which priority one takes the request, if one does.
+type Wish = (Option<(bool, i32)>, Queues, Option<u8>);
+
+static WISHES: [Wish; 14] = [
+    (None, UP, Some(50)),
+    (Some((true, 10)), UP, Some(10)),
+    (None, UP, Some(50)),
+    (Some((true, 0)), UP, Some(1)),
+    (Some((true, 101)), UP, Some(100)),
+    (Some((false, 5)), DOWN_UP, Some(55)),
+    (Some((false, -60)), UP, Some(1)),
+    (Some((false, 80)), FULL_UP, Some(100)),
+    // A call that no queue took leaves it for the next, and what is set last is what is set.
+    (Some((true, 7)), BOTH_SHUT, None),
+    (None, FULL_DOWN, None),
+    (None, DOWN_UP, Some(7)),
+    (Some((true, 7)), &[], None),
+    (Some((false, -7)), UP, Some(43)),
+    (None, FULL_UP, Some(50)),
+];
+
+// Puts the request of a call on a queue, and answers it. Its priority, if one took it.
+fn priority_of<R: Abort>(
+    rt: &R,
+    alloc: Global,
+    setup: &Setup,
+    cells: &Cells<Filling>,
+    client: &mut Client,
+    ask: &Ask,
+    queues: Queues,
+) -> Option<u8>
+    requires configured { is_configured setup.now ≡ true }
+    requires rests { Rests setup.now cells.now client.old.last client.old.caller }
+    ensures { Rests setup.now cells.now client.new.last client.new.caller }
+{
+    let (prepared, found) = prepare(rt, alloc, setup, cells, client, ask, queues)?;
+    match put(rt, alloc, setup, cells, client, prepared, &found, queues) {
+        Ok(entry) => {
+            let priority = entry.priority;
+            answer(rt, setup, cells, client, entry, Says::Success, &None);
+            Some(priority)
+        }
+        Err(unsent) => {
+            give_back(rt, setup, cells, client, &found, unsent, true);
+            None
+        }
+    }
+}
+
+// Whether the request of the next call has that priority.
+fn is_wished<R: Abort>(
+    rt: &R,
+    alloc: Global,
+    setup: &Setup,
+    cells: &Cells<Filling>,
+    client: &mut Client,
+    (set, queues, wanted): Wish,
+) -> bool
+    requires configured { is_configured setup.now ≡ true }
+    requires rests { Rests setup.now cells.now client.old.last client.old.caller }
+    ensures { Rests setup.now cells.now client.new.last client.new.caller }
+{
+    let Some(ask) = ask_of(alloc, b"ECHO", A, Way::NoBlock) else {
+        panic!(rt; "no memory")
+    };
+    if let Some((absolute, amount)) = set {
+        set_priority(rt, setup, cells, client, absolute, amount);
+    }
+    let priority = priority_of(rt, alloc, setup, cells, client, &ask, queues);
+    drop(ask);
+    priority == wanted
+}
+
+// The place of the first wish whose request has another priority.
+fn first_not_wished<R: Abort>(rt: &R, alloc: Global, setup: &Setup) -> Option<usize>
+    requires { is_configured setup.now ≡ true }
+{
+    let (cells, client) = open(rt, alloc, setup);
+    let mut client = client;
+    let mut place: usize = 0;
+    let mut failed = None;
+    for wish in &WISHES {
+        if !is_wished(rt, alloc, setup, &cells, &mut client, *wish) && failed.is_none() {
+            failed = Some(place);
+        }
+        place = place.wrapping_add(1);
+    }
+    let Client { caller, last: _ } = client;
+    let Left {
+        work: _,
+        seat,
+        halt: _,
+    } = caller.leave();
+    assert!(rt; close(rt, alloc, cells, seat) == 50);
+    failed
+}
+
 fn setup<R: Abort>(rt: &R, alloc: Global) -> Setup
     ensures { is_configured result ≡ true }
 {
@@ -441,4 +539,10 @@ fn each_call_is_told_and_leaves_its_cell(rt: HostRuntime) {
 fn a_halt_tells_a_caller_nothing(rt: HostRuntime) {
     let setup = setup(&rt, rt.alloc());
     none_fails(&rt, first_not_quiet(&rt, rt.alloc(), &setup));
+}
+
+#[test]
+fn a_request_has_the_priority_that_was_set(rt: HostRuntime) {
+    let setup = setup(&rt, rt.alloc());
+    none_fails(&rt, first_not_wished(&rt, rt.alloc(), &setup));
 }

@@ -160,6 +160,27 @@ pub fn prepare<R: Abort>(
     }
 }
 
+/// Sets the priority of the next request.
+pub fn set_priority<R: Abort>(
+    rt: &R,
+    setup: &Setup,
+    cells: &Cells<Filling>,
+    client: &mut Client,
+    absolute: bool,
+    amount: i32,
+)
+    requires { Rests setup.now cells.now client.old.last client.old.caller }
+    ensures { Rests setup.now cells.now client.new.last client.new.caller }
+{
+    let _ = setup;
+    let _ = cells;
+    let op = next_op(rt, client.last);
+    match client.caller.set_priority(op, absolute, amount) {
+        Ok(_) => client.last = op,
+        Err(_) => panic!(rt; "halt"),
+    }
+}
+
 // The queue at which the event accepts a request.
 fn queue_in(event: &Event) -> u16 {
     match event {

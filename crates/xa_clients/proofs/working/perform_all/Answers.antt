@@ -1,17 +1,17 @@
 use Rattle.std.proofs.Common.{ℕ, ◌+◌, ap, subst}
-use Rattle.xa_clients.specs.Going.{GoesBy, IsReady}
+use Rattle.xa_clients.specs.Going.{PerformsBy, IsReady}
 use Rattle.xa_clients.proofs.Ending.{through_one}
 use Rattle.xa_clients.proofs.working.perform_all.Goals as goal
 
 pub returns-in_err-perform-clause-goes : goal.returns-in_err-perform-clause-goes
 returns-in_err-perform-clause-goes g c =
-    through_one c.args.domain.now c.args.ops.now c.args.desk.now c.loop-op.desk c.perform.new.desk c.loop-op.op-index c.op-item.result c.loop-op-test.true c.op-item.is c.requires.calls c.loop-op.invariant.goes
-    (λ ask is. subst (λ (n : ℕ). GoesBy c.args.domain.now (n + 1) ask c.loop-op.desk c.perform.new.desk) c.loop-op.invariant.number (c.perform.ensures.goes ask is))
+    through_one c.args.domain.now c.args.ops.now c.args.desk.now c.loop-op.desk c.perform.new.desk c.loop-op.op-index c.op-item.result c.loop-op-test.true c.op-item.is c.loop-op.invariant.goes
+    (subst (λ (n : ℕ). PerformsBy c.args.domain.now (n + 1) c.op-item.result c.loop-op.desk c.perform.new.desk) c.loop-op.invariant.number c.perform.ensures.goes)
 
 pub loop-op-preserved : goal.loop-op-preserved
 loop-op-preserved g c = record {
   number = ap (λ (n : ℕ). n + 1) c.loop-op.invariant.number;
-  goes = through_one c.args.domain.now c.args.ops.now c.args.desk.now c.loop-op.desk c.perform.new.desk c.loop-op.op-index c.op-item.result c.loop-op-test.true c.op-item.is c.requires.calls c.loop-op.invariant.goes
-      (λ ask is. subst (λ (n : ℕ). GoesBy c.args.domain.now (n + 1) ask c.loop-op.desk c.perform.new.desk) c.loop-op.invariant.number (c.perform.ensures.goes ask is));
+  goes = through_one c.args.domain.now c.args.ops.now c.args.desk.now c.loop-op.desk c.perform.new.desk c.loop-op.op-index c.op-item.result c.loop-op-test.true c.op-item.is c.loop-op.invariant.goes
+      (subst (λ (n : ℕ). PerformsBy c.args.domain.now (n + 1) c.op-item.result c.loop-op.desk c.perform.new.desk) c.loop-op.invariant.number c.perform.ensures.goes);
   ready = subst (λ (n : ℕ). IsReady c.args.domain.now (n + 1) c.perform.new.desk) c.loop-op.invariant.number c.in_ok-perform.ensures.made;
 }

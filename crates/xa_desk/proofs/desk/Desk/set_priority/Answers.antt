@@ -1,0 +1,13 @@
+use Rattle.std.proofs.Common.{ap, refl}
+use Rattle.xa_told.specs.xa_caller.Phases.{just_in}
+use Rattle.xa_desk.proofs.Fitting.{is_read}
+use Rattle.xa_desk.proofs.Setting.{set_goes}
+use Rattle.xa_desk.proofs.desk.Desk.set_priority.Goals as goal
+
+pub returns : goal.returns
+returns c =
+    let d = c.args.domain.now in
+    let desk = c.args.self.now in
+    let set = c.set_priority.ensures in
+    let done = set_goes d desk c.args.op c.args.absolute c.args.amount c.requires.desk (is_read d desk c.requires.desk c.id-itself.ensures.sound) (ap just_in c.requires.idle) c.set_priority.new.self c.set_priority.result set.ok set.kept in
+    record { leads = done.0; set = set.ok; halted = set.halted; kept = done.2; rest = refl; fits = done.1 }
