@@ -22,7 +22,7 @@ pub mod Aiming
 pub mod Preparing
 pub mod Unsending
 pub mod Replying
-pub mod Setting
+pub mod Prioritizing
 pub mod Taking
 pub mod Requests
 -- what crates above cite of the lemmas of those below

@@ -4,6 +4,7 @@ use Rattle.std.specs.Prelude.{IfSome, IsSomeAnd}
 use Rattle.std.specs.List.{Contains}
 use Rattle.std.proofs.lemmas.List.Elements.{All-contains, Contains-push}
 use Rattle.xa_told.specs.xa_types.declared.call.Ask.{Ask}
+use Rattle.xa_told.specs.xa_types.declared.call.Op.TheVariants.{Call}
 use Rattle.xa_told.specs.xa_types.declared.data.Kind.{Kind}
 use Rattle.xa_told.specs.xa_types.declared.ids.RequestId.{RequestId}
 use Rattle.xa_told.specs.xa_types.declared.reply.Answer.{Answer as Reply}
