@@ -197,7 +197,7 @@ module _ (d : Domain) (ask : Ask) (old new : Desk) (leads : Leads d old new) whe
     pub aimed_back : (entry back : Entry Cargo) (event : Event) → back ≡ entry → IsAimed d old.reader.found ask.payload entry event old → IsAimed d new.reader.found ask.payload back event new
     aimed_back entry back event is aimed =
         subst (λ (f : FoundRows). IsAimed d f ask.payload back event new) (sym (ap (λ r. r.found) reader))
-        (subst (λ (e : Entry Cargo). IsAimed d old.reader.found ask.payload e event new) (sym is) (aimed_stays d old.reader.found ask.payload entry event old new (ap (λ (c : Caller). c.phase) sees.1) (ap (λ (c : Caller). c.op) sees.1) aimed))
+        (subst (λ (e : Entry Cargo). IsAimed d old.reader.found ask.payload e event new) (sym is) (aimed_stays d old.reader.found ask.payload entry event old new (ap (λ (c : Caller). c.phase) sees.1) (ap (λ (c : Caller). c.op) sees.1) (ap (λ (c : Caller). c.priority) sees.1) aimed))
 
     pub tried_back : (entry back : Entry Cargo) (event : Event) (attempt n : ℕ) (full full' : Option (QueueId × ℕ)) (queue : QueueId) (why : Refusal) → new.board ≡ old.board → back ≡ entry → queue.0 ≡ queue_in event → ShowsWhy d (queue_in event) why new
         → full_by queue why full ≡ Ok full' → n ≤ attempt + 1 → IsBy old.reader.found attempt event → IsTried d ask attempt full entry event old → IsTried d ask n full' back event new
