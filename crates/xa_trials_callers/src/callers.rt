@@ -479,12 +479,13 @@ fn is_wished<R: Abort>(
     setup: &Setup,
     cells: &Cells<Filling>,
     client: &mut Client,
-    (set, queues, wanted): Wish,
+    wish: &Wish,
 ) -> bool
     requires configured { is_configured setup.now ≡ true }
     requires rests { Rests setup.now cells.now client.old.last client.old.caller }
     ensures { Rests setup.now cells.now client.new.last client.new.caller }
 {
+    let (set, queues, wanted) = *wish;
     let Some(ask) = ask_of(alloc, b"ECHO", A, Way::NoBlock) else {
         panic!(rt; "no memory")
     };
@@ -505,7 +506,7 @@ fn first_not_wished<R: Abort>(rt: &R, alloc: Global, setup: &Setup) -> Option<us
     let mut place: usize = 0;
     let mut failed = None;
     for wish in &WISHES {
-        if !is_wished(rt, alloc, setup, &cells, &mut client, *wish) && failed.is_none() {
+        if !is_wished(rt, alloc, setup, &cells, &mut client, wish) && failed.is_none() {
             failed = Some(place);
         }
         place = place.wrapping_add(1);
