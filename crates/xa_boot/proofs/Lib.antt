@@ -13,7 +13,6 @@ mod Seated
 mod Hired
 mod Manned
 mod Begun
-
 -- what crates above cite of the lemmas of those below
 pub use Rattle.xa_clients.proofs.xa_types
 pub use Rattle.xa_clients.proofs.xa_stamp

@@ -5,7 +5,6 @@ pub mod Locking
 pub mod Opening
 pub mod Staffing
 pub mod Supplies
-
 -- what crates above cite of the definitions of those below
 pub use Rattle.xa_clients.specs.xa_types
 pub use Rattle.xa_clients.specs.xa_events

@@ -14,7 +14,6 @@ pub mod Gone
 pub mod Deserting
 pub mod History
 pub mod Behind
-
 -- what crates above cite of the lemmas of those below
 pub use Rattle.xa_clients.proofs.xa_events
 pub use Rattle.xa_clients.proofs.xa_crew

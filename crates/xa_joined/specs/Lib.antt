@@ -2,7 +2,6 @@ pub mod Joined
 pub mod Ended
 pub mod Told
 pub mod Served
-
 -- what crates above cite of the definitions of those below
 pub use Rattle.xa_clients.specs.xa_types
 pub use Rattle.xa_clients.specs.xa_events
