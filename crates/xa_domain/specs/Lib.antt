@@ -1,5 +1,4 @@
 pub mod Serving
-
 -- what crates above cite of the definitions of those below
 pub use Rattle.xa_ending.specs.xa_types
 pub use Rattle.xa_ending.specs.xa_events

@@ -6,7 +6,6 @@ pub mod Gathering
 pub mod Closed
 pub mod Handed
 pub mod Closing
-
 -- what crates above cite of the definitions of those below
 pub use Rattle.xa_workers.specs.xa_types
 pub use Rattle.xa_workers.specs.xa_events

@@ -4,7 +4,6 @@ pub mod Joining
 pub mod Takings
 pub mod Calls
 pub mod Standing
-
 -- what crates above cite of the lemmas of those below
 pub use Rattle.xa_server.proofs.xa_types
 pub use Rattle.xa_server.proofs.xa_events

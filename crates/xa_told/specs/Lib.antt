@@ -1,6 +1,5 @@
 pub mod Growing
 pub mod Told
-
 -- what crates above cite of the definitions of those below
 pub use Rattle.xa_server.specs.xa_types
 pub use Rattle.xa_server.specs.xa_events

@@ -6,7 +6,6 @@ mod Sending
 mod Sharing
 mod Serving
 mod Groups
-
 -- what crates above cite of the lemmas of those below
 pub use Rattle.xa_boot.proofs.xa_stamp
 pub use Rattle.xa_boot.proofs.xa_crew

@@ -1,7 +1,6 @@
 pub mod Beside
 pub mod Working
 pub mod Closing
-
 -- what crates above cite of the definitions of those below
 pub use Rattle.xa_boot.specs.xa_types
 pub use Rattle.xa_boot.specs.xa_events
