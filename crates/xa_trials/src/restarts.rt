@@ -7,14 +7,17 @@ use xa_report::events::{Event, StopCause};
 use xa_report::link::{MemoryYard, OpenGate};
 
 // The clock stands at 0, so each start counts by each GRACE.
-const TWO_STARTS: &[u8] =
-    b"[[queue]]\nname = \"Q\"\n[[server]]\nname = \"S\"\nqueue = \"Q\"\nrestart = true\nmaxgen = 2\ngrace = 1\n[[service]]\nname = \"ECHO\"\nqueues = [\"Q\"]\n";
+const TWO_STARTS: &[u8] = b"[[queue]]\nname = \"Q\"\n\
+    [[server]]\nname = \"S\"\nqueue = \"Q\"\nrestart = true\nmaxgen = 2\ngrace = 1\n\
+    [[service]]\nname = \"ECHO\"\nqueues = [\"Q\"]\n";
 
-const THREE_STARTS: &[u8] =
-    b"[[queue]]\nname = \"Q\"\n[[server]]\nname = \"S\"\nqueue = \"Q\"\nrestart = true\nmaxgen = 3\n[[service]]\nname = \"ECHO\"\nqueues = [\"Q\"]\n";
+const THREE_STARTS: &[u8] = b"[[queue]]\nname = \"Q\"\n\
+    [[server]]\nname = \"S\"\nqueue = \"Q\"\nrestart = true\nmaxgen = 3\n\
+    [[service]]\nname = \"ECHO\"\nqueues = [\"Q\"]\n";
 
-const NO_RESTART: &[u8] =
-    b"[[queue]]\nname = \"Q\"\n[[server]]\nname = \"S\"\nqueue = \"Q\"\nmaxgen = 3\n[[service]]\nname = \"ECHO\"\nqueues = [\"Q\"]\n";
+const NO_RESTART: &[u8] = b"[[queue]]\nname = \"Q\"\n\
+    [[server]]\nname = \"S\"\nqueue = \"Q\"\nmaxgen = 3\n\
+    [[service]]\nname = \"ECHO\"\nqueues = [\"Q\"]\n";
 
 const EXIT: &[u8] = b"XA\x01\x04\0\0\0\x06\0\0\0\x01\x02\0\0\0\x01\0";
 
@@ -34,7 +37,7 @@ const EXITS: Option<Life<'static>> = Some((&[READY, NEXT, EXIT], SOUND));
 const ANSWERS: Option<Life<'static>> = Some((&[READY, NEXT, SUCCESS, NEXT], SOUND));
 
 // Its first INVOKE or SHUTDOWN can't be written.
-const DEAF: Option<Life<'static>> = Some((&[READY, NEXT], [&[], &[1], &[]]));
+const UNWRITTEN: Option<Life<'static>> = Some((&[READY, NEXT], [&[], &[1], &[]]));
 
 const NONE: &[u8] = b"client a\n";
 
@@ -62,7 +65,7 @@ const EXITED: Noted = Noted::Stop(StopCause::Exit);
 
 const SHUT: Noted = Noted::Stop(StopCause::Shutdown);
 
-const UNHEARD: Noted = Noted::Stop(StopCause::WriteFault);
+const WRITE_FAILED: Noted = Noted::Stop(StopCause::WriteFault);
 
 // The configuration, the script, the server's lives or `None` where it can't be started, the transcript, and what is noted.
 type Row = (
@@ -176,20 +179,20 @@ static ROWS: [Row; 12] = [
     (
         TWO_STARTS,
         NONE,
-        &[DEAF, Some((&[READY, NEXT], SOUND))],
+        &[UNWRITTEN, Some((&[READY, NEXT], SOUND))],
         b"",
-        &[Noted::Start(1), UNHEARD, Noted::Start(2), SHUT],
+        &[Noted::Start(1), WRITE_FAILED, Noted::Start(2), SHUT],
     ),
     (
         TWO_STARTS,
         NONE,
-        &[DEAF, DEAF, ANSWERS],
+        &[UNWRITTEN, UNWRITTEN, ANSWERS],
         b"",
         &[
             Noted::Start(1),
-            UNHEARD,
+            WRITE_FAILED,
             Noted::Start(2),
-            UNHEARD,
+            WRITE_FAILED,
             Noted::Gone,
         ],
     ),
