@@ -68,7 +68,7 @@ phase_field : IsSend (Phase.the_field).row
 phase_field = search (sendable, crosses) depth 40 fits 20000
 
 caller_sends : IsSend Caller.the_row
-caller_sends = search (sendable, work_sends, seat_field, phase_field) depth 30 fits 4000
+caller_sends = search (sendable, crosses, work_sends, seat_field, phase_field) depth 30 fits 4000
 
 left_field : IsSend (Left.the_field).row
 left_field = struct_send (declared.shape Left.the_type) (work_sends, (seat_field, (search (sendable, crosses, halt.the_send) depth 40 fits 20000, tt)))
