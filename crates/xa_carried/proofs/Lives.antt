@@ -24,7 +24,7 @@ use Rattle.xa_joined.specs.xa_stamp.Home.{Notes}
 use Rattle.xa_joined.specs.xa_stamp.Merge.{IsMerged}
 use Rattle.xa_joined.specs.xa_lock.declared.makers.Made.{Made}
 use Rattle.xa_joined.specs.xa_lock.Makers.{noted_in}
-use Rattle.xa_joined.specs.xa_crew.Seen.{SawFront}
+use Rattle.xa_joined.specs.xa_crew.Seen.{SawFront, SawQueue}
 use Rattle.xa_joined.proofs.xa_crew.Lists.{AtEach-later}
 use Rattle.xa_joined.specs.xa_held.declared.cargo.Invocation.{Invocation}
 use Rattle.xa_joined.specs.xa_held.Kept.{Brings}
@@ -48,6 +48,7 @@ use Rattle.xa_joined.specs.Joined.{Back, whole_of, kept_of, noted_of}
 use Rattle.xa_joined.specs.Ended.{ServerEnd, Ends}
 use Rattle.xa_joined.specs.Served.{generations_of, IsLifeOf, IsStarterOf, IsCarried}
 use Rattle.xa_joined.proofs.Going.{one_goes_on}
+use Rattle.xa_joined.proofs.Homes.{saw_new}
 use Rattle.xa_joined.proofs.Left.{same_homes}
 use Rattle.xa_joined.proofs.Merged.{merged_made}
 use Rattle.xa_carried.proofs.Merged.{law_of_ends, seen_too, closed_before}
@@ -124,17 +125,17 @@ module _ (d : Domain) (b : Back) (domain : Working) (desks : List Desk) (servers
     shut_before idle =
         let some = shows.some in
         let behind : 0 < worker = omega (arith, some) in
-        let Saw : List Stamped → List Stamped → Type 0 = λ entries noted. All (λ (x : Stamped). stops_life server g x.event ≡ true → SawFront entries x.stamp (IsShut d.setup queue)) noted in
+        let Saw : List Stamped → List Stamped → Type 0 = λ entries noted. All (λ (x : Stamped). stops_life server g x.event ≡ true → SawQueue d.setup queue entries x.stamp (IsShut d.setup queue)) noted in
         let saw : Saw (noted_in (kept_of b (QueueHome queue))) (noted_of domain desks worker) =
         subst (λ (entries : List Stamped). Saw entries (noted_of domain desks worker)) (same_homes d b (QueueHome queue))
         (subst (Saw (entries_of (whole_of d b) (QueueHome queue))) (sym (its_noted d b domain desks ends.left worker shows.desk behind shows.there))
-        (subst (λ (s : ℕ). All (λ (x : Stamped). stops_life s g x.event ≡ true → SawFront (entries_of (whole_of d b) (QueueHome queue)) x.stamp (IsShut d.setup queue)) shows.desk.caller.work.own) lived.its
+        (subst (λ (s : ℕ). All (λ (x : Stamped). stops_life s g x.event ≡ true → SawQueue d.setup queue (entries_of (whole_of d b) (QueueHome queue)) x.stamp (IsShut d.setup queue)) shows.desk.caller.work.own) lived.its
         (lived.shut idle (whole_of d b) (one_goes_on d b domain desks ends.left worker shows.desk shows.there)))) in
         closed_before d b domain desks ends.left homes events ends.homes_are merged worker behind (is_worker d b domain desks ends.left worker shows.desk shows.there) queue (stops_life server g)
         (λ e stops. of_life d.clients server g e (stop_of_life d.clients server g e stops))
-        (All-weaker (λ (x : Stamped). stops_life server g x.event ≡ true → SawFront (noted_in (kept_of b (QueueHome queue))) x.stamp (IsShut d.setup queue))
+        (All-weaker (λ (x : Stamped). stops_life server g x.event ≡ true → SawQueue d.setup queue (noted_in (kept_of b (QueueHome queue))) x.stamp (IsShut d.setup queue))
         (λ (x : Stamped). stops_life server g x.event ≡ true → SawFront (noted_in (kept_of b (QueueHome queue))) x.stamp (λ past. is_closed queue past ≡ true))
-        (λ x front stops. let f = front stops in record { front = f.front; stands = f.stands; before = f.before; shows = f.shows.closed }) (noted_of domain desks worker) saw)
+        (λ x front stops. let f = saw_new d b domain desks ends.left queue x.stamp (IsShut d.setup queue) (front stops) in record { front = f.front; stands = f.stands; before = f.before; shows = f.shows.closed }) (noted_of domain desks worker) saw)
 
     stands : StandsIn d.setup over own past
     stands = record {

@@ -95,10 +95,10 @@ aimed_still entry rows attempt (aims.NoMemory back) old new is = let made = is.1
 
 module _ (d : Domain) (desk : Desk) (queue : ℕ) (P Q : List Event → Type 0) (less : (past : List Event) → P past → Q past) where
   itself_weaker : SawItsOwnAt d queue desk P → SawItsOwnAt d queue desk Q
-  itself_weaker saw whole on stamp later = weaker_front (entries_of whole (QueueHome queue)) stamp _ _ (λ past both. (less past both.0, both.1)) (saw whole on stamp later)
+  itself_weaker saw whole on stamp later = weaker_front (entries_of whole (QueueHome queue)) stamp _ _ (λ past both. (λ new. less past (both.0 new), both.1)) (saw whole on stamp later)
 
   front_weaker : SawItsOwnAt d queue desk P → SawAtQueue d queue desk Q
-  front_weaker saw whole on stamp later = weaker_front (entries_of whole (QueueHome queue)) stamp _ _ (λ past both. less past both.0) (saw whole on stamp later)
+  front_weaker saw whole on stamp later = weaker_front (entries_of whole (QueueHome queue)) stamp _ _ (λ past both new. less past (both.0 new)) (saw whole on stamp later)
 
 module _ (d : Domain) (rows : List Row) where
   abbrev IsOut : Desk → Row → Type 0

@@ -26,7 +26,7 @@ use Rattle.xa_events.specs.Caller.{is_leave_of, has_left, is_conversational, ver
 use Rattle.xa_events.specs.Request.{Settlement, settlement_in, is_entry_of, WasSettled}
 use Rattle.xa_events.specs.Clock.{is_tick_to, is_shown}
 use Rattle.xa_events.specs.Answers.{IsAnswerTo}
-use Rattle.xa_events.specs.Cases.{RowStands, RowAdmits, WereShown, WasSeen, IsBooted as IsBootedAt, named_by, BeganAt, StandsIn, HasControl, FindsNext, IsToldEvidence, queue_by, Shows, ShowsAt, NoRows, Began}
+use Rattle.xa_events.specs.Cases.{RowStands, RowAdmits, IsShut, WereShown, WasSeen, IsBooted as IsBootedAt, named_by, BeganAt, StandsIn, HasControl, FindsNext, IsToldEvidence, queue_by, Shows, ShowsAt, NoRows, Began}
 use Rattle.xa_events.specs.Local.{home_events, worker_events, SeenBefore, SeenPart, SawNoRows, Forwardable}
 use Rattle.xa_events.proofs.Merge.{changes_own, all_gone, published_own, rows_own, versions_own, side_own, in_hand_own}
 use Rattle.xa_events.specs.Conversation.{Side, other_side, begins_with, is_begun, side_from, side_of, end_done, TurnIs, IsSent, Told, IsClosing, Finds, ControlIs, NextIs, EndedIs}
@@ -40,9 +40,9 @@ use Rattle.xa_events.proofs.Owns.{end_own, end_here}
 use Rattle.xa_events.proofs.WordsLemmas.{some_weaker}
 use Rattle.xa_stamp.specs.declared.home.Stamped.{Stamped}
 use Rattle.xa_lock.specs.Pages.{StartsWith}
-use Rattle.xa_crew.specs.Seen.{past_in, SawFront, SawEntry, SawSince, SawEvidence, SawFronts, WasTold, IsBehind, SawLast, SawDeserted, SawRows, SawBegan, SawSome, ToldEvidence}
+use Rattle.xa_crew.specs.Seen.{past_in, SawFront, IsNew, SawQueue, SawEntry, SawSince, SawEvidence, SawFronts, WasTold, IsBehind, SawLast, SawDeserted, SawRows, SawBegan, SawSome, ToldEvidence}
 use Rattle.xa_crew.specs.Crew.{IsBooted, IsOfDomain, stands_at}
-use Rattle.xa_crew.proofs.Lists.{filter-yes, past_in-append, past_in-filter, earlier_behind, count_part, earlier_whole, filter-no, same_home-is}
+use Rattle.xa_crew.proofs.Lists.{filter-yes, past_in-append, past_in-filter, AtEach-later, earlier_behind, count_part, earlier_whole, filter-no, same_home-is}
 use Rattle.xa_crew.proofs.Placed.{Climbs, IsMergeOf}
 use Rattle.xa_crew.proofs.Workers.{climbs-above}
 
@@ -242,6 +242,24 @@ one_part reach (x ∷ xs) ys (u ∷ us) vs is a b c d =
     let same = one_part reach xs ys us vs more (All-tail (λ (y : Stamped). y.stamp.0 ≤ reach) x xs a) b (All-tail (λ (y : Stamped). y.stamp.0 ≤ reach) u us c) d in
     ap (λ z. z ∷ xs) first ∙ ap (λ zs. u ∷ zs) same
 
+-- ---- requests that are new
+
+-- no request was sent to a queue while it waited there
+abbrev pub NewIn : Setup → ℕ → List Event → Type 0
+NewIn setup clients past = (queue : ℕ) → AtEach (IsNew setup queue) (home_events setup clients (QueueHome queue) past)
+
+-- so it was before each event
+pub new_before : (setup : Setup) (clients : ℕ) (merged before after : List Stamped) (x : Stamped) → merged ≡ before ++ x ∷ after → NewIn setup clients (past_in merged) → NewIn setup clients (past_in before)
+new_before setup clients merged before after x split news queue =
+    let at = at_home setup clients (QueueHome queue) in
+    let whole : filter at (past_in merged) ≡ filter at (past_in (x ∷ after)) ++ filter at (past_in before) = ap (filter at) (ap past_in split ∙ past_in-append before (x ∷ after)) ∙ filter-append at (past_in (x ∷ after)) (past_in before) in
+    AtEach-later (IsNew setup queue) (filter at (past_in (x ∷ after))) (filter at (past_in before)) (subst (AtEach (IsNew setup queue)) whole (news queue))
+
+pub earlier_each : (P : Event → List Event → Type 0) (seen now : List Event) → IsEarlier seen now → AtEach P now → AtEach P seen
+earlier_each P seen [] is all = subst (AtEach P) (sym is) all
+earlier_each P seen (e ∷ now) (inl is) all = subst (AtEach P) (sym is) all
+earlier_each P seen (e ∷ now) (inr older) all = earlier_each P seen now older all.1
+
 -- ---- one event of the merge
 
 module _ (setup : Setup) (clients : ℕ) (held : Home → List Stamped) (merged : List Stamped) (events : List Event) (m : IsMergeOf setup clients held merged events)
@@ -277,6 +295,14 @@ module _ (setup : Setup) (clients : ℕ) (held : Home → List Stamped) (merged 
   -- what was seen there holds of the home's events before it, where it stays so
   pub now : (home : Home) (P : List Event → Type 0) → ((e : Event) (past : List Event) → P past → P (e ∷ past)) → SawFront (held home) x.stamp P → P (home_events setup clients home past)
   now home P more saw = still P more (past_in saw.front) (home_events setup clients home past) (stood home saw.front saw.stands saw.before) saw.shows
+
+  -- no request was sent to the queue in a front of it, where none was before it
+  new_front : NewIn setup clients past → (queue : ℕ) (front : List Stamped) → StartsWith (held (QueueHome queue)) front → All (λ (y : Stamped). y.stamp.0 < x.stamp.0) front → AtEach (IsNew setup queue) (past_in front)
+  new_front news queue front starts early = earlier_each (IsNew setup queue) (past_in front) (home_events setup clients (QueueHome queue) past) (stood (QueueHome queue) front starts early) (news queue)
+
+  -- so what was seen of the queue held of that front
+  pub saw_new : NewIn setup clients past → (queue : ℕ) (P : List Event → Type 0) → SawQueue setup queue (held (QueueHome queue)) x.stamp P → SawFront (held (QueueHome queue)) x.stamp P
+  saw_new news queue P saw = record { front = saw.front; stands = saw.stands; before = saw.before; shows = saw.shows (new_front news queue saw.front saw.stands saw.before) }
 
   -- an entry with a smaller stamp stands before it
   held_before : (home : Home) (P : Event → Type 0) (G : List Event → Type 0) → ((e : Event) (past : List Event) → P e → G (e ∷ past)) → ((e : Event) (past : List Event) → G past → G (e ∷ past)) → SawEntry (held home) x.stamp P → G past
@@ -353,8 +379,8 @@ module _ (setup : Setup) (clients : ℕ) (held : Home → List Stamped) (merged 
       (published_whole v h.0, subst P (listed_whole setup clients v service conversational past) h.1)
 
   -- what was seen of a queue where all stood that the worker had noted there
-  pub since : (worker queue : ℕ) (P : List Event → Type 0) (own : List Event) → worker_events clients worker own ≡ worker_events clients worker past → SawSince setup clients held x.stamp worker queue P own → HeldSince setup clients worker queue P past
-  since worker queue P own same saw =
+  pub since : NewIn setup clients past → (worker queue : ℕ) (P : List Event → Type 0) (own : List Event) → worker_events clients worker own ≡ worker_events clients worker past → SawSince setup clients held x.stamp worker queue P own → HeldSince setup clients worker queue P past
+  since news worker queue P own same saw =
       let mine = is_own_at setup clients worker queue in
       let at_queue : (e : Event) → mine e ≡ true → at_home setup clients (QueueHome queue) e ≡ true = λ e h. (and_parts (at_home setup clients (QueueHome queue) e) (of_worker clients worker e) h).0 in
       let by_it : (e : Event) → mine e ≡ true → of_worker clients worker e ≡ true = λ e h. (and_parts (at_home setup clients (QueueHome queue) e) (of_worker clients worker e) h).1 in
@@ -364,7 +390,7 @@ module _ (setup : Setup) (clients : ℕ) (held : Home → List Stamped) (merged 
         stood = w.1;
         own = sym (count_part mine (at_home setup clients (QueueHome queue)) at_queue w.0) ∙ (ap (count mine) w.2 ∙ (saw.shows.1
             ∙ (sym (count_part mine (of_worker clients worker) by_it own) ∙ (ap (count mine) same ∙ count_part mine (of_worker clients worker) by_it past))));
-        held = subst P (sym w.2) saw.shows.0;
+        held = subst P (sym w.2) (saw.shows.0 (new_front news queue saw.front saw.stands saw.before));
       }
 
   shown : (tick : ℕ) → SawFront (held ClockHome) x.stamp (λ past. is_shown tick past ≡ true) → is_shown tick past ≡ true
@@ -375,13 +401,13 @@ module _ (setup : Setup) (clients : ℕ) (held : Home → List Stamped) (merged 
       let both = now ClockHome (WereShown setup tick deadline) (λ e past h. (shown_more tick e past h.0, shown_more (deadline - setup.block_time) e past h.1)) saw in
       (shown_whole tick (at_home setup clients ClockHome) past both.0, shown_whole (deadline - setup.block_time) (at_home setup clients ClockHome) past both.1)
 
-  evidence_now : (caller : CallerId) (evidence : Evidence) (own : List Event) → worker_events clients caller.0 own ≡ worker_events clients caller.0 past → SawEvidence setup clients held x.stamp caller evidence own → WasSeen setup clients caller.0 evidence past
-  evidence_now caller (Version v) own is saw = published_whole v (now BoardHome (λ past. v ≤ published past) (published_more v) saw)
-  evidence_now caller (AllDown v) own is saw = published_whole v (now BoardHome (λ past. v ≤ published past) (published_more v) saw)
-  evidence_now caller (ClockShown tick) own is saw = shown tick saw
-  evidence_now caller (Queue queue n) own is saw = since caller.0 queue.0 (λ moment. length (waiting setup queue.0 moment) ≡ n) own is saw
-  evidence_now caller (Deadline tick deadline) own is saw = were_shown tick deadline saw
-  evidence_now caller _ own is saw = tt
+  evidence_now : NewIn setup clients past → (caller : CallerId) (evidence : Evidence) (own : List Event) → worker_events clients caller.0 own ≡ worker_events clients caller.0 past → SawEvidence setup clients held x.stamp caller evidence own → WasSeen setup clients caller.0 evidence past
+  evidence_now news caller (Version v) own is saw = published_whole v (now BoardHome (λ past. v ≤ published past) (published_more v) saw)
+  evidence_now news caller (AllDown v) own is saw = published_whole v (now BoardHome (λ past. v ≤ published past) (published_more v) saw)
+  evidence_now news caller (ClockShown tick) own is saw = shown tick saw
+  evidence_now news caller (Queue queue n) own is saw = since news caller.0 queue.0 (λ moment. length (waiting setup queue.0 moment) ≡ n) own is saw
+  evidence_now news caller (Deadline tick deadline) own is saw = were_shown tick deadline saw
+  evidence_now news caller _ own is saw = tt
 
   pub settled : (request : RequestId) (P : Settlement → Type 0) (home : Home) → SawEntry (held home) x.stamp (λ e. IsSomeAnd (settlement_in request e) P) → WasSettled request P past
   settled request P home saw = held_before home (λ e. IsSomeAnd (settlement_in request e) P) (WasSettled request P) (λ e past p. inl p) (λ e past h. inr h) saw
@@ -492,41 +518,41 @@ module _ (setup : Setup) (clients : ℕ) (held : Home → List Stamped) (merged 
   abbrev IsOwn : Event → List Event → Type 0
   IsOwn e own = worker_events clients (worker_of clients e) own ≡ worker_events clients (worker_of clients e) past
 
-  seen_so : (e : Event) (own : List Event) → IsOwn e own ⊎ IsOfDomain e → SawFronts setup clients held x.stamp e own → WasTold setup clients held x.stamp (its (worker_of clients e)) e → SeenBefore setup clients e past
-  seen_so (Advertise a) own is saw told = tt
-  seen_so (Withdraw w) own is saw told = λ domain. deserted w.queue.0 (saw domain)
-  seen_so (Accept a) own is saw told = stands_now a.version a.service a.queue.0 (RowAdmits setup (is_conversational a.mode) a.routine a.payload) saw
-  seen_so (Forward f) own (inr domain) saw told = absurd domain
-  seen_so (Forward f) own (inl is) saw told = record {
+  seen_so : NewIn setup clients past → (e : Event) (own : List Event) → IsOwn e own ⊎ IsOfDomain e → SawFronts setup clients held x.stamp e own → WasTold setup clients held x.stamp (its (worker_of clients e)) e → SeenBefore setup clients e past
+  seen_so news (Advertise a) own is saw told = tt
+  seen_so news (Withdraw w) own is saw told = λ domain. deserted w.queue.0 (saw domain)
+  seen_so news (Accept a) own is saw told = stands_now a.version a.service a.queue.0 (RowAdmits setup (is_conversational a.mode) a.routine a.payload) saw
+  seen_so news (Forward f) own (inr domain) saw told = absurd domain
+  seen_so news (Forward f) own (inl is) saw told = record {
     row = stands_now f.version f.service f.queue.0 (RowAdmits setup false f.routine f.payload) saw.row;
-    sent = since (caller_of clients f.server.0) (queue_of setup f.server.0) (λ moment. IsSomeAnd (latest (is_entry_of f.request) moment) (Forwardable f.hop)) own is saw.sent;
+    sent = since news (caller_of clients f.server.0) (queue_of setup f.server.0) (λ moment. IsSomeAnd (latest (is_entry_of f.request) moment) (Forwardable f.hop)) own is saw.sent;
   }
-  seen_so (Take t) own is saw told = tt
-  seen_so (Gone server) own is saw told = tt
-  seen_so (Down queue) own is saw told = no_rows queue.0 told
-  seen_so (Close queue) own is saw told = λ client low high. held_before (CallerHome client) (λ e. is_leave_of client e ≡ true) (λ past. has_left client past ≡ true) (left_here client) (left_more client) (told client low high)
-  seen_so (Start b) own is saw told = shown b.tick saw
-  seen_so (StartFailed b) own is saw told = shown b.tick saw
-  seen_so (End e) own is saw told = λ version shown. published_whole version (now BoardHome (λ past. version ≤ published past) (published_more version) (saw version shown))
-  seen_so (Stop y) own is saw told = λ cause. let s = saw cause in record { seen = past_in s.front; stood = stood (QueueHome (queue_of setup y.server.0)) s.front s.stands s.before; shut = s.shows }
-  seen_so (Answer a) own is saw told = settled a.request (IsAnswerTo a.answer) told.0 told.1
-  seen_so (Refuse r) own (inl is) saw told = record { seen = evidence_now r.by r.evidence own is saw; told = evidence_told r.by r.evidence own is saw told }
-  seen_so (Refuse r) own (inr domain) saw told = absurd domain
-  seen_so (Tick t) own is saw told = tt
-  seen_so (Cancel c) own is saw told = tt
-  seen_so (Lapse l) own is saw told = were_shown l.now l.deadline saw
-  seen_so (NotYet n) own is saw told = tt
-  seen_so (Leave client) own is saw told = tt
-  seen_so (Sweep y) own is saw told = tt
-  seen_so (Priority p) own is saw told = tt
-  seen_so (Send s) own is saw told = control_told true s.by.0 s.request told
-  seen_so (Receive r) own is saw told = record { control = control_told false r.by.0 r.request told.0; item = next_told r.by.0 r.request r.item told.1 }
-  seen_so (Break b) own is saw told = tt
+  seen_so news (Take t) own is saw told = tt
+  seen_so news (Gone server) own is saw told = tt
+  seen_so news (Down queue) own is saw told = no_rows queue.0 told
+  seen_so news (Close queue) own is saw told = λ client low high. held_before (CallerHome client) (λ e. is_leave_of client e ≡ true) (λ past. has_left client past ≡ true) (left_here client) (left_more client) (told client low high)
+  seen_so news (Start b) own is saw told = shown b.tick saw
+  seen_so news (StartFailed b) own is saw told = shown b.tick saw
+  seen_so news (End e) own is saw told = λ version shown. published_whole version (now BoardHome (λ past. version ≤ published past) (published_more version) (saw version shown))
+  seen_so news (Stop y) own is saw told = λ cause. let queue = queue_of setup y.server.0 in let s = saw_new news queue (IsShut setup queue) (saw cause) in record { seen = past_in s.front; stood = stood (QueueHome queue) s.front s.stands s.before; shut = s.shows }
+  seen_so news (Answer a) own is saw told = settled a.request (IsAnswerTo a.answer) told.0 told.1
+  seen_so news (Refuse r) own (inl is) saw told = record { seen = evidence_now news r.by r.evidence own is saw; told = evidence_told r.by r.evidence own is saw told }
+  seen_so news (Refuse r) own (inr domain) saw told = absurd domain
+  seen_so news (Tick t) own is saw told = tt
+  seen_so news (Cancel c) own is saw told = tt
+  seen_so news (Lapse l) own is saw told = were_shown l.now l.deadline saw
+  seen_so news (NotYet n) own is saw told = tt
+  seen_so news (Leave client) own is saw told = tt
+  seen_so news (Sweep y) own is saw told = tt
+  seen_so news (Priority p) own is saw told = tt
+  seen_so news (Send s) own is saw told = control_told true s.by.0 s.request told
+  seen_so news (Receive r) own is saw told = record { control = control_told false r.by.0 r.request told.0; item = next_told r.by.0 r.request r.item told.1 }
+  seen_so news (Break b) own is saw told = tt
 
   booted_so : (e : Event) (last : Stamp) → IsBooted setup last (held BoardHome) → IsBehind last x.stamp e → IsBootedAt setup e past
   booted_so (Advertise a) last booted behind = tt
   booted_so _ last booted behind = behind_boot last booted behind
 
-  pub seen_part : (last : Stamp) (own : List Event) → IsBooted setup last (held BoardHome) → IsBehind last x.stamp x.event → IsOwn x.event own ⊎ IsOfDomain x.event
+  pub seen_part : NewIn setup clients past → (last : Stamp) (own : List Event) → IsBooted setup last (held BoardHome) → IsBehind last x.stamp x.event → IsOwn x.event own ⊎ IsOfDomain x.event
       → SawFronts setup clients held x.stamp x.event own → WasTold setup clients held x.stamp (its (worker_of clients x.event)) x.event → SeenPart setup clients x.event past
-  seen_part last own booted behind is saw told = record { booted = booted_so x.event last booted behind; named = seen_so x.event own is saw told }
+  seen_part news last own booted behind is saw told = record { booted = booted_so x.event last booted behind; named = seen_so news x.event own is saw told }

@@ -1,8 +1,8 @@
 -- The calls of a client, on the merge.
-use Rattle.std.proofs.Common.{◌≡◌, ◌⊎◌, ℕ, ◌+◌, ◌-◌, ◌≤◌, ◌==◌, Bool, true, false, List, [], ◌∷◌, ◌++◌, length, map, reverse, Option, Some, None, inl, inr, refl, sym, ◌∙◌, ap, subst, eqb-true}
+use Rattle.std.proofs.Common.{◌≡◌, ◌⊎◌, ℕ, ◌+◌, ◌-◌, ◌≤◌, ◌==◌, Bool, true, false, List, [], ◌∷◌, ◌++◌, length, Option, Some, None, inl, inr, refl, sym, ◌∙◌, ap, subst, eqb-true}
 use Rattle.std.specs.Prelude.{IsSomeAnd, ◌&&◌, nat_lt, if◌then◌else◌}
 use Rattle.std.specs.List.{All, filter, list_any}
-use Rattle.std.proofs.lemmas.Bool.{cases_Bool, and_parts, or_right}
+use Rattle.std.proofs.lemmas.Bool.{and_parts, or_right}
 use Rattle.std.proofs.lemmas.List.Elements.{All-weaker, filter-append}
 use Rattle.xa_types.specs.declared.setup.Setup.{Setup}
 use Rattle.xa_types.specs.declared.stamp.Stamp.{Stamp}
@@ -38,16 +38,16 @@ use Rattle.xa_events.specs.Cases.{HasControl, is_numbered, named_by, NamesEnd, S
 use Rattle.xa_events.specs.Homes.{Home, at_home, of_worker, HeldSince}
 use Rattle.xa_events.specs.Homes.Home.{BoardHome, QueueHome, ClockHome}
 use Rattle.xa_events.specs.Local.{home_events, worker_events}
-use Rattle.xa_events.specs.Words.{latest, AtEach, greatest, has}
+use Rattle.xa_events.specs.Words.{latest, greatest, has}
 use Rattle.xa_events.proofs.Merge.{AllCases, called_own, descriptors_own, versions_own, down_own, closed_own, now_own, connections_own, in_hand_own, names_own, names_back}
 use Rattle.xa_stamp.specs.declared.home.Stamped.{Stamped}
-use Rattle.xa_crew.specs.Seen.{past_in, SawFront, SawSince, SawRows, StandsBehind, SawBegan}
+use Rattle.xa_crew.specs.Seen.{past_in, SawFront, SawQueue, SawSince, SawRows, StandsBehind, SawBegan}
 use Rattle.xa_crew.specs.Crew.{stands_at}
 use Rattle.xa_crew.specs.Calls.{BeginsSo, AskRefusedOwn, AdvertiseRefusedOwn, UnadvertiseRefusedOwn, ToldOf, FitsOwn, FitsTurn, MadeOwn, SawControl, SawBegun}
 use Rattle.xa_crew.proofs.Lists.{filter-yes, past_in-filter}
 use Rattle.xa_crew.proofs.Own.{twice, own_events, own_at, known_before, last_seen, hand_busy}
 use Rattle.xa_crew.proofs.Placed.{IsMergeOf}
-use Rattle.xa_crew.proofs.Before.{now, since, listed_now, rows_seen, settled, control_told}
+use Rattle.xa_crew.proofs.Before.{NewIn, new_before, now, saw_new, since, listed_now, rows_seen, settled, control_told}
 use Rattle.xa_crew.proofs.Workers.{Mounts, one_place, AtEach-from}
 
 -- ---- a call's event is its caller's
@@ -98,7 +98,7 @@ abbrev stamped : Stamp → Event → Stamped
 stamped stamp event = record { stamp = stamp; event = event }
 
 module _ (setup : Setup) (clients : ℕ) (held : Home → List Stamped) (merged : List Stamped) (events : List Event) (m : IsMergeOf setup clients held merged events)
-    (cases : AllCases setup clients (past_in merged)) (clock_low : ℕ) (clock_rises : Mounts clock_low (held ClockHome)) (caller : ℕ) (ops : List Op) (noted : List Stamped)
+    (cases : AllCases setup clients (past_in merged)) (news : NewIn setup clients (past_in merged)) (clock_low : ℕ) (clock_rises : Mounts clock_low (held ClockHome)) (caller : ℕ) (ops : List Op) (noted : List Stamped)
     (own : filter (λ (x : Stamped). of_worker clients caller x.event) merged ≡ filter (λ (x : Stamped). of_worker clients caller x.event) noted) (made : MadeOwn setup clients held caller ops noted) where
   called_now : newest_call caller (worker_events clients caller (past_in noted)) ≡ newest_call caller (past_in merged)
   called_now = ap (newest_call caller) (sym (own_events clients merged caller noted own)) ∙ called_own setup clients (past_in merged) caller
@@ -109,6 +109,9 @@ module _ (setup : Setup) (clients : ℕ) (held : Home → List Stamped) (merged 
 
     abbrev its : List Event
     its = worker_events clients caller past
+
+    new_here : NewIn setup clients past
+    new_here = new_before setup clients merged before after x split news
 
     called : newest_call caller its ≡ newest_call caller past
     called = called_own setup clients past caller
@@ -125,9 +128,10 @@ module _ (setup : Setup) (clients : ℕ) (held : Home → List Stamped) (merged 
     listed_seen : (v : ℕ) (service : List ℕ) (conversational : Bool) (P : List Row → Type 0) → SawFront (held BoardHome) x.stamp (λ past. (v ≤ published past) × P (listed_in setup past v service conversational)) → (v ≤ published past) × P (listed_in setup past v service conversational)
     listed_seen v service conversational P saw = listed_now setup clients held merged events m before after x split v service conversational P saw
 
-    shut_whole : (queue : ℕ) → SawFront (held (QueueHome queue)) x.stamp (λ past. (is_down queue past ≡ true) ⊎ (is_closed queue past ≡ true)) → (is_down queue past ≡ true) ⊎ (is_closed queue past ≡ true)
+    shut_whole : (queue : ℕ) → SawQueue setup queue (held (QueueHome queue)) x.stamp (λ past. (is_down queue past ≡ true) ⊎ (is_closed queue past ≡ true)) → (is_down queue past ≡ true) ⊎ (is_closed queue past ≡ true)
     shut_whole queue saw =
-        elim (now setup clients held merged events m before after x split (QueueHome queue) (λ past. (is_down queue past ≡ true) ⊎ (is_closed queue past ≡ true)) (shut_more queue) saw) [
+        let IsShutAt : List Event → Type 0 = λ past. (is_down queue past ≡ true) ⊎ (is_closed queue past ≡ true) in
+        elim (now setup clients held merged events m before after x split (QueueHome queue) IsShutAt (shut_more queue) (saw_new setup clients held merged events m before after x split new_here queue IsShutAt saw)) [
           | inl down ↦ inl (sym (down_own setup clients past queue) ∙ down)
           | inr closed ↦ inr (sym (closed_own setup clients past queue) ∙ closed)
         ]
@@ -168,13 +172,13 @@ module _ (setup : Setup) (clients : ℕ) (held : Home → List Stamped) (merged 
             lists = k.1.0;
             others = All-rows P Q (listed_in setup past saw.version ask.service how.conversational) (λ row p. elim p [
               | inl same ↦ inl same
-              | inr seen ↦ inr (since setup clients held merged events m before after x split by row.queue.0 (IsShutOut setup row.queue.0) its twice seen)
+              | inr seen ↦ inr (since setup clients held merged events m before after x split new_here by row.queue.0 (IsShutOut setup row.queue.0) its twice seen)
             ]) k.1.1;
           },
         )
     asked_whole by how ask System (AllDown v) is h =
         let IsShutAt : ℕ → List Event → Type 0 = λ queue past. (is_down queue past ≡ true) ⊎ (is_closed queue past ≡ true) in
-        let P : Row → Type 0 = λ row. SawFront (held (QueueHome row.queue.0)) x.stamp (IsShutAt row.queue.0) in
+        let P : Row → Type 0 = λ row. SawQueue setup row.queue.0 (held (QueueHome row.queue.0)) x.stamp (IsShutAt row.queue.0) in
         let k = (listed_seen v ask.service how.conversational (λ rows. (rows ≡ [] → ⊥) × All P rows) h.1).1 in
         (h.0, record { some = k.0; shut = All-rows P (λ row. IsShutAt row.queue.0 past) (listed_in setup past v ask.service how.conversational) (λ row seen. shut_whole row.queue.0 seen) k.1 })
     asked_whole by how ask Inval Argument is h = h
@@ -227,7 +231,7 @@ module _ (setup : Setup) (clients : ℕ) (held : Home → List Stamped) (merged 
         let busy = hand_busy clients by.0 past request hand in
         let P : List Event → Type 0 = λ moment. IsSomeAnd (latest (is_entry_of request) moment) (BeginsSo conversational) in
         let twice : worker_events clients by.0 its ≡ worker_events clients by.0 past = subst (λ n. worker_events clients n its ≡ worker_events clients n past) is filter-twice in
-        let held_so = since setup clients held merged events m before after x split by.0 (queue_by setup clients by.0) P its twice saw in
+        let held_so = since setup clients held merged events m before after x split new_here by.0 (queue_by setup clients by.0) P its twice saw in
         let known = known_before setup clients merged before after x split cases in
         begun_from conversational request past (latest (is_entry_of request) past) (known.shows request)
         (last_seen setup clients past known (by.0 - clients) busy.1.0 request busy.1.1 (BeginsSo conversational) (subst (λ (n : ℕ). HeldSince setup clients n (queue_by setup clients by.0) P past) (sym busy.0) held_so))

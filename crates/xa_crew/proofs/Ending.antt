@@ -8,7 +8,6 @@ use Rattle.std.proofs.lemmas.Simd.{map-map}
 use Rattle.xa_types.specs.declared.setup.Setup.{Setup}
 use Rattle.xa_types.specs.declared.ids.CallerId.{CallerId}
 use Rattle.xa_events.specs.declared.event.Event.{Event}
-use Rattle.xa_events.specs.Words.{count}
 use Rattle.xa_events.specs.State.{opening}
 use Rattle.xa_events.specs.Run.{Run}
 use Rattle.xa_events.specs.Homes.{Home, same_home}
@@ -21,13 +20,18 @@ use Rattle.xa_stamp.specs.Merge.{IsMerged}
 use Rattle.xa_lock.specs.declared.makers.Made.{Made}
 use Rattle.xa_lock.specs.Pages.{entries_by}
 use Rattle.xa_lock.specs.Makers.{maker_of, noted_in, made_by}
+use Rattle.xa_events.specs.Words.{AtEach, count}
+use Rattle.xa_events.specs.Cases.{HomePart}
+use Rattle.xa_crew.specs.Seen.{past_in}
 use Rattle.xa_crew.specs.Crew.{IsCrew, AllMet, AreHomes, MayNote, stands_at}
 use Rattle.xa_events.specs.Homes.{numbers_from, all_homes}
 use Rattle.xa_crew.specs.Ending.{list_in, kept_at, AreAll}
 use Rattle.std.specs.List.{All, filter}
 use Rattle.xa_crew.proofs.Lists.{filter-yes, filter-no}
 use Rattle.xa_crew.proofs.Growing.{noted_made, others_note_nothing}
-use Rattle.xa_crew.proofs.Joined.{crew_is_local}
+use Rattle.xa_crew.specs.Orders.{AllNew, AllMetIfNew}
+use Rattle.xa_crew.proofs.Joined.{crew_is_local, each_held, queues_met}
+use Rattle.xa_crew.proofs.Merging.{some_merge}
 
 -- ---- how often a home stands among numbered ones
 
@@ -165,6 +169,14 @@ module _ (setup : Setup) (clients : ℕ) (board clock : List Made) (queues : Lis
         ∙ ap (λ rest. noted_in board ∷ rest)
         (ap (λ xs. xs ++ noted_in clock ∷ own) at_queues ∙ (ap (λ xs. map held queue_homes ++ noted_in clock ∷ xs) at_callers ∙ sym (map-append held queue_homes (ClockHome ∷ caller_homes))));
   }
+
+  -- the homes have a merge, by which each request is new where it is sent
+  pub queues_are_met : (workers : ℕ) (noted : ℕ → List Stamped) → length queues ≡ length setup.queues → length own ≡ clients + length setup.servers → IsCrew setup clients workers kept noted
+      → AtEach (HomePart setup) (past_in (noted_in board)) → AtEach (HomePart setup) (past_in (noted_in clock)) → AllMetIfNew setup kept → AllNew setup kept × AllMet setup kept
+  queues_are_met workers noted all_queues all_callers crew board_met clock_met each =
+      let m = some_merge setup clients held (each_held setup clients workers kept noted crew) (all_homes setup clients) (λ home. at_most all_queues all_callers home (once all_queues all_callers home))
+      (λ home none. ap noted_in (nothing all_queues all_callers home (once all_queues all_callers home) none)) in
+      queues_met setup clients workers kept noted crew _ m.0 m.1 board_met clock_met each
 
   pub crew_is_run : (workers : ℕ) (noted : ℕ → List Stamped) (homes : List Notes) (events : List Event) → IsCrew setup clients workers kept noted → AllMet setup kept → AreAll setup clients board clock queues own homes → IsMerged homes events
       → Run (opening setup clients) events (record { setup = setup; clients = clients; past = reverse events })

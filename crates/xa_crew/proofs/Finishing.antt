@@ -1,5 +1,5 @@
 -- The returns and forwards of a server, on the merge.
-use Rattle.std.proofs.Common.{◌≡◌, ◌⊎◌, ℕ, ◌+◌, ◌<◌, ◌≤◌, ◌==◌, Bool, true, false, List, [], ◌∷◌, ◌++◌, append_assoc, Option, Some, None, inl, inr, refl, sym, ◌∙◌, ap, subst, eqb-true, eq-eqb}
+use Rattle.std.proofs.Common.{◌≡◌, ◌⊎◌, ℕ, ◌+◌, ◌≤◌, true, false, List, [], ◌∷◌, ◌++◌, append_assoc, Option, Some, None, inl, inr, refl, sym, ◌∙◌, ap, subst, eqb-true, eq-eqb}
 use Rattle.std.specs.Prelude.{IsSomeAnd}
 use Rattle.std.specs.List.{All, filter}
 use Rattle.std.proofs.lemmas.List.Elements.{All-weaker}
@@ -13,17 +13,17 @@ use Rattle.xa_events.specs.declared.event.Event.TheVariants.{Accept, Forward, En
 use Rattle.xa_events.specs.declared.event.Ended.{Ended}
 use Rattle.xa_events.specs.declared.event.Outcome.{Outcome}
 use Rattle.xa_events.specs.declared.event.Outcome.TheVariants.{BadForward, Starved}
-use Rattle.xa_events.specs.Words.{latest, count, AtEach}
+use Rattle.xa_events.specs.Words.{latest, count}
 use Rattle.xa_events.specs.State.{caller_of}
 use Rattle.xa_events.specs.Homes.{Home, of_worker, HeldSince}
-use Rattle.xa_events.specs.Board.{published, listed_in}
+use Rattle.xa_events.specs.Board.{listed_in}
 use Rattle.xa_events.specs.Caller.{is_conversational}
 use Rattle.xa_events.specs.Request.{is_entry_of, SentAs, sent_as}
 use Rattle.xa_events.specs.Conversation.{connections}
 use Rattle.xa_events.specs.Local.{worker_events}
 use Rattle.xa_events.specs.Calls.{IsShutOut, is_accepted_by}
 use Rattle.xa_events.specs.Cases.{Case}
-use Rattle.xa_events.specs.Finishing.{Finish, return_by, FailsItself, FailsByRequest, FailsByBoard, ReturnEnds, ForwardEnds, FitsFinish, FitsFinishes, finishes}
+use Rattle.xa_events.specs.Finishing.{Finish, return_by, FailsItself, FailsByRequest, FailsByBoard, ForwardEnds, FitsFinish, FitsFinishes, finishes}
 use Rattle.xa_events.specs.Finishing.Finish.{Returns, Forwards, Loses}
 use Rattle.xa_events.proofs.LastEntry.{Shows}
 use Rattle.xa_events.proofs.Merge.{state, AllCases, connections_own}
@@ -33,7 +33,7 @@ use Rattle.xa_crew.specs.Seen.{past_in, SawSince}
 use Rattle.xa_crew.specs.Finishing.{IsSpent, SawSpent, SawFailing, ForwardEndsOwn, FitsFinishOwn, FinishedOwn}
 use Rattle.xa_crew.proofs.Lists.{past_in-append, AtEach-later, count_part}
 use Rattle.xa_crew.proofs.Placed.{IsMergeOf}
-use Rattle.xa_crew.proofs.Before.{since, listed_now}
+use Rattle.xa_crew.proofs.Before.{NewIn, new_before, since, listed_now}
 use Rattle.xa_crew.proofs.Workers.{AtEach-from}
 use Rattle.xa_crew.proofs.Own.{twice, own_events, own_at, known_before, last_seen}
 
@@ -52,11 +52,14 @@ finish_of_worker clients server (Forward f) h = eq-eqb (caller_of clients f.serv
 finish_of_worker clients server _ h = absurd (cc h)
 
 module _ (setup : Setup) (clients : ℕ) (held : Home → List Stamped) (merged : List Stamped) (events : List Event) (m : IsMergeOf setup clients held merged events)
-    (cases : AllCases setup clients (past_in merged)) (server : ℕ) (all : List Finish) (noted : List Stamped)
+    (cases : AllCases setup clients (past_in merged)) (news : NewIn setup clients (past_in merged)) (server : ℕ) (all : List Finish) (noted : List Stamped)
     (own : filter (λ (x : Stamped). of_worker clients (caller_of clients server) x.event) merged ≡ filter (λ (x : Stamped). of_worker clients (caller_of clients server) x.event) noted) (made : FinishedOwn setup clients held server all noted) where
   module _ (before after : List Stamped) (x : Stamped) (split : merged ≡ before ++ x ∷ after) where
     abbrev past : List Event
     past = past_in before
+
+    new_here : NewIn setup clients past
+    new_here = new_before setup clients merged before after x split news
 
     abbrev caller : ℕ
     caller = caller_of clients server
@@ -78,7 +81,7 @@ module _ (setup : Setup) (clients : ℕ) (held : Home → List Stamped) (merged 
     spent : (e : Ended) → End e ≡ x.event → e.server.0 ≡ server → SawSpent setup clients held x.stamp e its → FailsByRequest e.request past
     spent e here is saw =
         let P : List Event → Type 0 = λ moment. IsSomeAnd (latest (is_entry_of e.request) moment) IsSpent in
-        let held_so = since setup clients held merged events m before after x split (caller_of clients e.server.0) (queue_of setup e.server.0) P its (its_twice e.server.0 is) saw in
+        let held_so = since setup clients held merged events m before after x split new_here (caller_of clients e.server.0) (queue_of setup e.server.0) P its (its_twice e.server.0 is) saw in
         let known = known_before setup clients merged before after x split cases in
         let whole : past_in merged ≡ past_in after ++ (x.event ∷ past) = ap past_in (split ∙ sym (append_assoc before (x ∷ []) after)) ∙ (past_in-append (before ++ x ∷ []) after ∙ ap (λ es. past_in after ++ es) (past_in-append before (x ∷ []))) in
         let case : Case (state setup clients past) (End e) = subst (Case (state setup clients past)) (sym here) (AtEach-later _ (past_in after) (x.event ∷ past) (subst (AllCases setup clients) whole cases)).0 in
@@ -92,7 +95,7 @@ module _ (setup : Setup) (clients : ℕ) (held : Home → List Stamped) (merged 
         let k = (listed_now setup clients held merged events m before after x split v service false (λ rows. (is_accepted_by setup payload rows ≡ false) ⊎ All P rows) saw).1 in
         elim k [
           | inl none ↦ inl none
-          | inr full ↦ inr (All-weaker P Q (λ row seen. since setup clients held merged events m before after x split (caller_of clients other) row.queue.0 (IsShutOut setup row.queue.0) its (its_twice other is) seen) (listed_in setup past v service false) full)
+          | inr full ↦ inr (All-weaker P Q (λ row seen. since setup clients held merged events m before after x split new_here (caller_of clients other) row.queue.0 (IsShutOut setup row.queue.0) its (its_twice other is) seen) (listed_in setup past v service false) full)
         ]
 
     forward_ends : (service : List ℕ) (payload : Data) (e : Ended) (outcome : Outcome) → End e ≡ x.event → e.server.0 ≡ server → ForwardEndsOwn setup clients held x.stamp service payload e outcome its → ForwardEnds setup clients service payload e outcome past

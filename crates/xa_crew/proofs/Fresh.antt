@@ -25,8 +25,10 @@ use Rattle.xa_events.proofs.Merge.{AtEach-rest, AtEach-here, same_home-self, wor
 use Rattle.xa_events.proofs.Stages.{Stage, stage, Agree}
 use Rattle.xa_events.proofs.Stages.Stage.{Unknown, Waits, Held}
 use Rattle.xa_events.proofs.LastEntry.{Placed, IsKnown}
-use Rattle.xa_crew.specs.Orders.{IsNew, MetIfNew}
+use Rattle.xa_crew.specs.Seen.{IsNew}
+use Rattle.xa_crew.specs.Orders.{MetIfNew}
 use Rattle.xa_crew.proofs.Lists.{filter-yes, filter-no}
+use Rattle.xa_crew.proofs.Before.{NewIn}
 
 -- each event met its worker's part among all events
 pub parts_whole : (setup : Setup) (clients : ℕ) (past : List Event) → ((worker : ℕ) → AtEach (WorkerPart setup clients) (worker_events clients worker past)) → AtEach (WorkerPart setup clients) past
@@ -65,10 +67,10 @@ IsNoQueue (QueueHome queue) = ⊥
 IsNoQueue _ = Unit {0}
 
 module _ (setup : Setup) (clients : ℕ) where
-  -- so each request is new where it is sent, and each queue's events met their parts
+  -- so each request is new where it is sent, and each queue's events met their parts; what a worker saw of queues rests on that itself, of the events before
   pub all_new_met : (past : List Event) → ((worker : ℕ) → AtEach (WorkerPart setup clients) (worker_events clients worker past)) → ((home : Home) → IsNoQueue home → AtEach (HomePart setup) (home_events setup clients home past))
-      → AtEach (SeenPart setup clients) past → ((queue : ℕ) → AtEach (MetIfNew setup queue) (home_events setup clients (QueueHome queue) past))
-      → Local setup clients past × ((queue : ℕ) → AtEach (IsNew setup queue) (home_events setup clients (QueueHome queue) past))
+      → AtEach (λ e before. NewIn setup clients before → SeenPart setup clients e before) past → ((queue : ℕ) → AtEach (MetIfNew setup queue) (home_events setup clients (QueueHome queue) past))
+      → Local setup clients past × NewIn setup clients past
   all_new_met [] workers others seen each = (record { homes = λ home. tt; workers = λ worker. tt; before = tt }, λ queue. tt)
   all_new_met (e ∷ past) workers others seen each =
       let old = all_new_met past (λ worker. AtEach-rest (of_worker clients worker) (WorkerPart setup clients) e past (workers worker)) (λ home other. AtEach-rest (at_home setup clients home) (HomePart setup) e past (others home other)) seen.1
@@ -77,7 +79,7 @@ module _ (setup : Setup) (clients : ℕ) where
       let part = worker_whole setup clients past e (AtEach-here (of_worker clients (worker_of clients e)) (WorkerPart setup clients) e past (eq-eqb (worker_of clients e) (worker_of clients e) refl) (workers (worker_of clients e))) in
       let here : (queue : ℕ) → IsNew setup queue e (home_events setup clients (QueueHome queue) past) =
       λ queue. subst (λ (rs : List RequestId). IfSome (comes_in queue e) (λ request. has request rs ≡ false)) (sym (waiting_own setup clients past queue)) (new_by_part (record { setup = setup; clients = clients; past = past }) queue e known.agree part) in
-      let news : (queue : ℕ) → AtEach (IsNew setup queue) (home_events setup clients (QueueHome queue) (e ∷ past)) = λ queue. more queue (IsNew setup queue) (here queue) (old.1 queue) in
+      let news : NewIn setup clients (e ∷ past) = λ queue. more queue (IsNew setup queue) (here queue) (old.1 queue) in
       let met : (queue : ℕ) → AtEach (HomePart setup) (home_events setup clients (QueueHome queue) (e ∷ past)) =
       λ queue. elim (cases_Bool (at_home setup clients (QueueHome queue) e)) [
         | inl y ↦
@@ -85,7 +87,7 @@ module _ (setup : Setup) (clients : ℕ) where
             more queue (HomePart setup) (its (here queue, old.1 queue)) (old.0.homes (QueueHome queue))
         | inr n ↦ subst (AtEach (HomePart setup)) (sym (filter-no (at_home setup clients (QueueHome queue)) e past n)) (old.0.homes (QueueHome queue))
       ] in
-      (record { homes = λ home. whole met home; workers = workers; before = seen }, news)
+      (record { homes = λ home. whole met home; workers = workers; before = (seen.0 old.1, old.0.before) }, news)
     where
       more : (queue : ℕ) (P : Event → List Event → Type 0) → P e (home_events setup clients (QueueHome queue) past) → AtEach P (home_events setup clients (QueueHome queue) past) → AtEach P (home_events setup clients (QueueHome queue) (e ∷ past))
       more queue P new old = elim (cases_Bool (at_home setup clients (QueueHome queue) e)) [

@@ -18,7 +18,7 @@ use Rattle.xa_stamp.specs.Home.{Notes}
 use Rattle.xa_stamp.specs.Merge.{IsMerged}
 use Rattle.xa_lock.specs.declared.makers.Made.{Made}
 use Rattle.xa_lock.specs.Makers.{noted_in}
-use Rattle.xa_crew.specs.Seen.{past_in, SawFronts, WasTold, IsBehind}
+use Rattle.xa_crew.specs.Seen.{past_in, IsNew, SawFronts, WasTold, IsBehind}
 use Rattle.xa_crew.specs.Crew.{IsCrew, IsOfDomain, MayNote, AllMet, AreHomes, stands_at, no_stamp}
 use Rattle.xa_crew.proofs.Lists.{filter-yes, filter-no, All-makers, past_in-filter, same_home-is, map-reverse, AtEach-cut}
 use Rattle.xa_crew.proofs.Placed.{IsMergeOf, IsHeld, merge_of}
@@ -34,8 +34,8 @@ use Rattle.xa_crew.specs.Finishing.{FinishedOwn}
 use Rattle.xa_events.specs.Finishing.{Finish, FitsFinishes}
 use Rattle.xa_events.specs.State.{caller_of}
 use Rattle.xa_events.proofs.Merge.{AllCases, all_cases}
-use Rattle.xa_crew.specs.Orders.{IsNew, AllNew, MetIfNew, AllMetIfNew, AllNext}
-use Rattle.xa_crew.proofs.Before.{All-on, seen_part}
+use Rattle.xa_crew.specs.Orders.{AllNew, MetIfNew, AllMetIfNew, AllNext}
+use Rattle.xa_crew.proofs.Before.{All-on, NewIn, seen_part}
 use Rattle.xa_crew.proofs.Fresh.{IsNoQueue, parts_whole, all_new_met, order_whole}
 
 -- ---- what is asked at homes that aren't shared follows from the workers' parts
@@ -76,6 +76,10 @@ own_met setup clients home shows (e ∷ past) parts =
       | inr n ↦ subst (AtEach (HomePart setup)) (sym (filter-no (at_home setup clients home) e past n)) rest
     ]
 
+met_if_new : (setup : Setup) (queue : ℕ) (past : List Event) → AtEach (HomePart setup) past → AtEach (MetIfNew setup queue) past
+met_if_new setup queue [] met = tt
+met_if_new setup queue (e ∷ past) met = (λ new. met.0, met_if_new setup queue past met.1)
+
 module _ (setup : Setup) (clients workers : ℕ) (kept : Home → List Made) (noted : ℕ → List Stamped) (crew : IsCrew setup clients workers kept noted) where
   abbrev held : Home → List Stamped
   held home = noted_in (kept home)
@@ -88,7 +92,7 @@ module _ (setup : Setup) (clients workers : ℕ) (kept : Home → List Made) (no
       (All-weaker (λ (entry : Made). at entry.noted ≡ true) (λ (entry : Made). home_of setup clients entry.noted.event ≡ home) (λ entry is. same_home-is (home_of setup clients entry.noted.event) home is) (kept home)
       (All-makers workers (λ worker x. at x ≡ true) (kept home) (λ worker low. subst (All (λ (x : Stamped). at x ≡ true)) (sym (crew.theirs worker low home)) (filter_passes at (noted worker))) (crew.homes home).made))
 
-  each_held : (home : Home) → IsHeld setup clients home (held home)
+  pub each_held : (home : Home) → IsHeld setup clients home (held home)
   each_held home = record { first = (crew.homes home).first; rises = (crew.homes home).rises; stand = stands home }
 
   -- what an event of the domain was told doesn't rest on its worker's events
@@ -116,11 +120,11 @@ module _ (setup : Setup) (clients workers : ℕ) (kept : Home → List Made) (no
     at_clock : AtEach (HomePart setup) (home_events setup clients ClockHome (past_in merged))
     at_clock = subst (AtEach (HomePart setup)) (sym (at_home_is ClockHome)) clock_met
 
-    all_homes : ((queue : ℕ) → AtEach (HomePart setup) (home_events setup clients (QueueHome queue) (past_in merged))) → (home : Home) → AtEach (HomePart setup) (home_events setup clients home (past_in merged))
-    all_homes queues BoardHome = at_board
-    all_homes queues (QueueHome queue) = queues queue
-    all_homes queues ClockHome = at_clock
-    all_homes queues (CallerHome caller) = own_met setup clients (CallerHome caller) (λ e p past. caller_part setup clients caller e p past) (past_in merged) parts
+    others : (home : Home) → IsNoQueue home → AtEach (HomePart setup) (home_events setup clients home (past_in merged))
+    others BoardHome other = at_board
+    others (QueueHome queue) other = absurd other
+    others ClockHome other = at_clock
+    others (CallerHome caller) other = own_met setup clients (CallerHome caller) (λ e p past. caller_part setup clients caller e p past) (past_in merged) parts
 
     -- what each entry rests on, behind what its worker had noted
     record Rests (x : Stamped) : Type 0 where
@@ -189,27 +193,21 @@ module _ (setup : Setup) (clients workers : ℕ) (kept : Home → List Made) (no
               ]
         ]
 
-    all_seen : AtEach (SeenPart setup clients) (past_in merged)
-    all_seen = AtEach-from (SeenPart setup clients) merged (λ before after x split.
+    all_seen : AtEach (λ e before. NewIn setup clients before → SeenPart setup clients e before) (past_in merged)
+    all_seen = AtEach-from (λ e before. NewIn setup clients before → SeenPart setup clients e before) merged (λ before after x split news.
         let rests = All-at Rests before after x (subst (All Rests) split all_rest) in
-        seen_part setup clients held merged events m before after x split crew.last (past_in rests.front) crew.booted rests.behind (own_before before after x split rests) rests.saw (told_so before after x split rests))
+        seen_part setup clients held merged events m before after x split news crew.last (past_in rests.front) crew.booted rests.behind (own_before before after x split rests) rests.saw (told_so before after x split rests))
 
-    local_merged : ((queue : ℕ) → AtEach (HomePart setup) (home_events setup clients (QueueHome queue) (past_in merged))) → Local setup clients (past_in merged)
-    local_merged queues = record { homes = all_homes queues; workers = workers_met; before = all_seen }
+    local_new : AllMetIfNew setup kept → Local setup clients (past_in merged) × NewIn setup clients (past_in merged)
+    local_new each = all_new_met setup clients (past_in merged) workers_met others all_seen (λ queue. subst (AtEach (MetIfNew setup queue)) (sym (at_home_is (QueueHome queue))) (each queue))
 
     -- the queues' events met their parts, where they did if requests were new
-    queues_met : AllMetIfNew setup kept → AllNew setup kept × AllMet setup kept
+    pub queues_met : AllMetIfNew setup kept → AllNew setup kept × AllMet setup kept
     queues_met each =
-        let g = all_new_met setup clients (past_in merged) workers_met (λ home other. others home other) all_seen (λ queue. subst (AtEach (MetIfNew setup queue)) (sym (at_home_is (QueueHome queue))) (each queue)) in (
+        let g = local_new each in (
           λ queue. subst (AtEach (IsNew setup queue)) (at_home_is (QueueHome queue)) (g.1 queue),
           record { board = board_met; clock = clock_met; queues = λ queue. subst (AtEach (HomePart setup)) (at_home_is (QueueHome queue)) (g.0.homes (QueueHome queue)) },
         )
-      where
-        others : (home : Home) → IsNoQueue home → AtEach (HomePart setup) (home_events setup clients home (past_in merged))
-        others BoardHome other = at_board
-        others (QueueHome queue) other = absurd other
-        others ClockHome other = at_clock
-        others (CallerHome caller) other = own_met setup clients (CallerHome caller) (λ e p past. caller_part setup clients caller e p past) (past_in merged) parts
 
   module _ (names : List Home) (homes : List Notes) (events : List Event) (are : AreHomes names kept homes) (is : IsMerged homes events) where
     -- the merge as a list of entries
@@ -219,22 +217,22 @@ module _ (setup : Setup) (clients workers : ℕ) (kept : Home → List Made) (no
     at_queue : (queue : ℕ) → home_events setup clients (QueueHome queue) (past_in the_merge.0) ≡ past_in (held (QueueHome queue))
     at_queue queue = past_in-filter (at_home setup clients (QueueHome queue)) the_merge.0 ∙ ap past_in (the_merge.1.theirs (QueueHome queue))
 
-    local_all : AllMet setup kept → Local setup clients (past_in the_merge.0)
-    local_all met = local_merged events the_merge.0 the_merge.1 met.board met.clock (λ queue. subst (AtEach (HomePart setup)) (sym (at_queue queue)) (met.queues queue))
+    local_all : AllMet setup kept → Local setup clients (past_in the_merge.0) × NewIn setup clients (past_in the_merge.0)
+    local_all met = local_new events the_merge.0 the_merge.1 met.board met.clock (λ queue. met_if_new setup queue (past_in (held (QueueHome queue))) (met.queues queue))
 
     pub crew_is_local : AllMet setup kept → Local setup clients (reverse events)
-    crew_is_local met = subst (Local setup clients) (ap reverse the_merge.1.events) (local_all met)
+    crew_is_local met = subst (Local setup clients) (ap reverse the_merge.1.events) (local_all met).0
 
     pub requests_are_new : AtEach (HomePart setup) (past_in (held BoardHome)) → AtEach (HomePart setup) (past_in (held ClockHome)) → AllMetIfNew setup kept → AllNew setup kept × AllMet setup kept
     requests_are_new board clock each = queues_met events the_merge.0 the_merge.1 board clock each
 
     pub takes_in_order : AllMet setup kept → AllNext setup kept → TakesInOrder setup (reverse events)
     takes_in_order met next =
-        subst (TakesInOrder setup) (ap reverse the_merge.1.events) (order_whole setup clients (past_in the_merge.0) (local_all met) (λ queue. subst (AtEach (TakesNext setup)) (sym (at_queue queue)) (next queue)))
+        subst (TakesInOrder setup) (ap reverse the_merge.1.events) (order_whole setup clients (past_in the_merge.0) (local_all met).0 (λ queue. subst (AtEach (TakesNext setup)) (sym (at_queue queue)) (next queue)))
 
     -- a client made its calls, on the merge as by what it noted
     all_cases_of : AllMet setup kept → AllCases setup clients (past_in the_merge.0)
-    all_cases_of met = all_cases setup clients (past_in the_merge.0) (local_all met)
+    all_cases_of met = all_cases setup clients (past_in the_merge.0) (local_all met).0
 
     its_noted : (worker : ℕ) → 0 < worker → worker < workers → filter (λ (x : Stamped). of_worker clients worker x.event) the_merge.0 ≡ filter (λ (x : Stamped). of_worker clients worker x.event) (noted worker)
     its_noted worker some low = its_own setup clients workers kept noted crew events the_merge.0 the_merge.1 worker some low
@@ -242,13 +240,13 @@ module _ (setup : Setup) (clients workers : ℕ) (kept : Home → List Made) (no
     pub client_made_calls : AllMet setup kept → (caller : ℕ) → 0 < caller → caller < workers → (ops : List Op) → MadeOwn setup clients held caller ops (noted caller) → MadeCalls setup clients caller ops (reverse events)
     client_made_calls met caller some low ops made =
         subst (MadeCalls setup clients caller ops) (ap reverse the_merge.1.events)
-        (made_calls setup clients held the_merge.0 events the_merge.1 (all_cases_of met) (crew.homes ClockHome).first.0 (mounts (crew.homes ClockHome).first (held ClockHome) (crew.homes ClockHome).rises) caller ops (noted caller) (its_noted caller some low) made)
+        (made_calls setup clients held the_merge.0 events the_merge.1 (all_cases_of met) (local_all met).1 (crew.homes ClockHome).first.0 (mounts (crew.homes ClockHome).first (held ClockHome) (crew.homes ClockHome).rises) caller ops (noted caller) (its_noted caller some low) made)
 
     -- and what became of a server's returns and forwards
     pub server_finished : AllMet setup kept → (server : ℕ) → 0 < server → caller_of clients server < workers → (all : List Finish) → FinishedOwn setup clients held server all (noted (caller_of clients server)) → FitsFinishes setup clients server all (reverse events)
     server_finished met server some low all made =
         subst (FitsFinishes setup clients server all) (ap reverse the_merge.1.events)
-        (finished setup clients held the_merge.0 events the_merge.1 (all_cases_of met) server all (noted (caller_of clients server)) (its_noted (caller_of clients server) (omega (arith, some)) low) made)
+        (finished setup clients held the_merge.0 events the_merge.1 (all_cases_of met) (local_all met).1 server all (noted (caller_of clients server)) (its_noted (caller_of clients server) (omega (arith, some)) low) made)
 
     -- of a worker other than the domain the merge has what it noted, and of a home what it keeps
     pub own_events : (worker : ℕ) → 0 < worker → worker < workers → worker_events clients worker (reverse events) ≡ worker_events clients worker (past_in (noted worker))

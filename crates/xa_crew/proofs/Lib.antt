@@ -9,6 +9,7 @@ pub mod Calls
 pub mod Finishing
 pub mod Replies
 pub mod Joined
+pub mod Merging
 pub mod Over
 pub mod Dense
 pub mod Ending

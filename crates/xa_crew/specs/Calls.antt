@@ -35,7 +35,7 @@ use Rattle.xa_events.specs.Local.{worker_events}
 use Rattle.xa_events.specs.Request.{settlement_in, is_entry_of}
 use Rattle.xa_events.specs.Words.{latest, AtEach}
 use Rattle.xa_stamp.specs.declared.home.Stamped.{Stamped}
-use Rattle.xa_crew.specs.Seen.{past_in, SawFront, SawEntry, SawSince, SawRows, StandsBehind, SawBegan}
+use Rattle.xa_crew.specs.Seen.{past_in, SawFront, SawQueue, SawEntry, SawSince, SawRows, StandsBehind, SawBegan}
 
 -- the request was sent so that it began a conversation, or didn't; what began one isn't forwarded
 abbrev pub BeginsSo : Bool → Event → Type 0
@@ -71,7 +71,7 @@ module _ (setup : Setup) (clients : ℕ) (entries : Home → List Stamped) (stam
   -- each queue that the version lists was seen down or closed
   abbrev pub SawAllShut : ℕ → List ℕ → Bool → Type 0
   SawAllShut v service conversational =
-      SawListed v service conversational (λ rows. (rows ≡ [] → ⊥) × All (λ (row : Row). SawFront (entries (QueueHome row.queue.0)) stamp (λ past. (is_down row.queue.0 past ≡ true) ⊎ (is_closed row.queue.0 past ≡ true))) rows)
+      SawListed v service conversational (λ rows. (rows ≡ [] → ⊥) × All (λ (row : Row). SawQueue setup row.queue.0 (entries (QueueHome row.queue.0)) stamp (λ past. (is_down row.queue.0 past ≡ true) ⊎ (is_closed row.queue.0 past ≡ true))) rows)
 
   -- the call is refused so, by what was seen
   abbrev pub AskRefusedOwn : ℕ → Asking → Ask → Fault → Evidence → List Event → Type 0

@@ -1,20 +1,15 @@
 -- What the queues' own reading asks, and what it gives (this project's own).
-use Rattle.std.specs.Prelude.{◌≡◌, ℕ, false, List, ◌∷◌, IfSome}
+use Rattle.std.specs.Prelude.{ℕ, List, ◌∷◌}
 use Rattle.xa_types.specs.declared.setup.Setup.{Setup}
 use Rattle.xa_events.specs.declared.event.Event.{Event}
-use Rattle.xa_events.specs.Words.{AtEach, has}
-use Rattle.xa_events.specs.Queue.{comes_in, waiting}
+use Rattle.xa_events.specs.Words.{AtEach}
 use Rattle.xa_events.specs.Order.{TakesNext}
 use Rattle.xa_events.specs.Cases.{HomePart}
 use Rattle.xa_events.specs.Homes.{Home}
 use Rattle.xa_events.specs.Homes.Home.{QueueHome}
 use Rattle.xa_lock.specs.declared.makers.Made.{Made}
 use Rattle.xa_lock.specs.Makers.{noted_in}
-use Rattle.xa_crew.specs.Seen.{past_in}
-
--- the request of an event that sends one to the queue doesn't wait there yet
-abbrev pub IsNew : Setup → ℕ → Event → List Event → Type 0
-IsNew setup queue e before = IfSome (comes_in queue e) (λ request. has request (waiting setup queue before) ≡ false)
+use Rattle.xa_crew.specs.Seen.{past_in, IsNew}
 
 -- no request is sent to a queue while it waits there
 abbrev pub AllNew : Setup → (Home → List Made) → Type 0

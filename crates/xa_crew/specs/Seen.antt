@@ -1,6 +1,6 @@
 -- What a worker saw of homes when it noted an event (this project's own): the entries that stood first there, or one entry that it was told of,
 -- each with a smaller stamp. Nothing here speaks of a merge.
-use Rattle.std.specs.Prelude.{◌≡◌, ℕ, ◌+◌, ◌<◌, ◌≤◌, true, List, ◌∷◌, ◌++◌, length, map, reverse, Some, IsSomeAnd, false, []}
+use Rattle.std.specs.Prelude.{◌≡◌, ℕ, ◌+◌, ◌<◌, ◌≤◌, true, List, ◌∷◌, ◌++◌, length, map, reverse, Some, IfSome, IsSomeAnd, false, []}
 use Rattle.std.specs.List.{All, Contains}
 use Rattle.xa_types.specs.declared.stamp.Stamp.{Stamp}
 use Rattle.xa_types.specs.declared.setup.Setup.{Setup}
@@ -10,13 +10,13 @@ use Rattle.xa_events.specs.declared.event.Event.{Event}
 use Rattle.xa_events.specs.declared.event.Event.TheVariants.{Advertise, Withdraw, Accept, Take, Forward, Sweep, Gone, Down, Close, Tick, Start, StartFailed, End, Stop, Answer, Cancel, Lapse, NotYet, Refuse, Leave, Priority, Send, Receive, Break}
 use Rattle.xa_events.specs.declared.event.Evidence.{Evidence}
 use Rattle.xa_events.specs.declared.event.Evidence.TheVariants.{Version, AllDown, Clock as ClockShown, Queue, Deadline, Rows, Routine, NoRow, Conversation, Ended}
-use Rattle.xa_events.specs.Queue.{waiting}
+use Rattle.xa_events.specs.Queue.{comes_in, waiting}
 use Rattle.xa_events.specs.declared.event.Forwarded.{Forwarded}
 use Rattle.xa_types.specs.declared.ids.CallerId.{CallerId}
 use Rattle.xa_types.specs.declared.ids.RequestId.{RequestId}
 use Rattle.xa_events.specs.Conversation.{Side, begins_with, ControlIs, NextIs, EndedIs}
 use Rattle.xa_events.specs.declared.event.StopCause.TheVariants.{Shutdown}
-use Rattle.xa_events.specs.Words.{latest, count}
+use Rattle.xa_events.specs.Words.{AtEach, latest, count, has}
 use Rattle.xa_events.specs.State.{caller_of}
 use Rattle.xa_events.specs.Homes.{Home, is_own_at}
 use Rattle.xa_events.specs.Homes.Home.{BoardHome, QueueHome, ClockHome, CallerHome}
@@ -41,6 +41,18 @@ pub record SawFront (entries : List Stamped) (stamp : Stamp) (P : List Event →
   pub stands : StartsWith entries front
   pub before : All (λ noted. noted.stamp.0 < stamp.0) front
   pub shows : P (past_in front)
+
+-- the request of an event that sends one to the queue doesn't wait there yet
+abbrev pub IsNew : Setup → ℕ → Event → List Event → Type 0
+IsNew setup queue e before = IfSome (comes_in queue e) (λ request. has request (waiting setup queue before) ≡ false)
+
+-- P holds of these events of the queue, if no request was sent there while it waited there
+abbrev pub IfNew : Setup → ℕ → (List Event → Type 0) → List Event → Type 0
+IfNew setup queue P past = AtEach (IsNew setup queue) past → P past
+
+-- P held of a front of these entries of the queue, if no request had been sent there while it waited there
+abbrev pub SawQueue : Setup → ℕ → List Stamped → Stamp → (List Event → Type 0) → Type 0
+SawQueue setup queue entries stamp P = SawFront entries stamp (IfNew setup queue P)
 
 -- one of these entries, with a smaller stamp, is of an event of which P holds
 pub record SawEntry (entries : List Stamped) (stamp : Stamp) (P : Event → Type 0) : Type 0 where
@@ -91,9 +103,9 @@ SawSome entries stamp P = (home : Home) × SawLast (entries home) stamp P
 
 -- an event that is noted with that stamp, where the homes have these entries
 module _ (setup : Setup) (clients : ℕ) (entries : Home → List Stamped) (stamp : Stamp) where
-  -- P held of a front of the queue that has all that the worker had noted there, of which own are all events
+  -- P held so of a front of the queue that has all that the worker had noted there, of which own are all events
   abbrev pub SawSince : ℕ → ℕ → (List Event → Type 0) → List Event → Type 0
-  SawSince worker queue P own = SawFront (entries (QueueHome queue)) stamp (λ past. P past × (count (is_own_at setup clients worker queue) past ≡ count (is_own_at setup clients worker queue) own))
+  SawSince worker queue P own = SawFront (entries (QueueHome queue)) stamp (λ past. IfNew setup queue P past × (count (is_own_at setup clients worker queue) past ≡ count (is_own_at setup clients worker queue) own))
 
   -- the row stood, and the server had seen its own queue up to its take, and there how the request was sent last
   pub record SawEntryOf (f : Forwarded) (own : List Event) : Type 0 where
@@ -130,7 +142,7 @@ module _ (setup : Setup) (clients : ℕ) (entries : Home → List Stamped) (stam
   SawFronts (Start b) own = SawFront (entries ClockHome) stamp (λ past. is_shown b.tick past ≡ true)
   SawFronts (StartFailed b) own = SawFront (entries ClockHome) stamp (λ past. is_shown b.tick past ≡ true)
   SawFronts (End e) own = (version : ℕ) → version_of e.outcome ≡ Some version → SawFront (entries BoardHome) stamp (λ past. version ≤ published past)
-  SawFronts (Stop x) own = x.cause ≡ Shutdown → SawFront (entries (QueueHome (queue_of setup x.server.0))) stamp (IsShut setup (queue_of setup x.server.0))
+  SawFronts (Stop x) own = x.cause ≡ Shutdown → SawQueue setup (queue_of setup x.server.0) (entries (QueueHome (queue_of setup x.server.0))) stamp (IsShut setup (queue_of setup x.server.0))
   SawFronts (Answer a) own = Unit {0}
   SawFronts (Tick t) own = Unit {0}
   SawFronts (Cancel c) own = Unit {0}

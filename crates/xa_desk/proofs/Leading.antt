@@ -233,7 +233,6 @@ module _ {d : Domain} {old new : Desk} where
       board = starts_trans whole.board.notes (board_page new).seen (board_page old).seen on.board moves.board_seen;
       queues = λ queue. starts_trans (notes_of (whole.queues queue)) (queue_page new queue).seen (queue_page old queue).seen (on.queues queue) (moves.queues_seen queue);
       may = on.may;
-      once = on.once;
       stand = λ x here. on.stand x (subst (λ (l : List Stamped). Contains l x) (sym {A = List Stamped} moves.grew.own) (Contains-append_left old.caller.work.own more x here));
       ended = taken_before whole old.caller.seat new.caller.seat moves.taken on.ended;
     }

@@ -27,7 +27,7 @@ use Rattle.xa_told.specs.xa_events.Words.{count}
 use Rattle.xa_told.specs.xa_stamp.declared.home.Stamped.{Stamped}
 use Rattle.xa_told.specs.xa_lock.Known.{known as page_of}
 use Rattle.xa_told.specs.xa_crew.Calls.{FitsOwn}
-use Rattle.xa_told.specs.xa_crew.Seen.{past_in, IsBehind, SawFront, SawFronts, WasTold}
+use Rattle.xa_told.specs.xa_crew.Seen.{past_in, IsBehind, SawFront, IfNew, SawFronts, WasTold}
 use Rattle.xa_told.specs.xa_queue.declared.entry.Entry.{Entry}
 use Rattle.xa_told.specs.xa_queue.declared.queue.Refusal.{Refusal}
 use Rattle.xa_told.specs.xa_queue.declared.queue.Refusal.TheVariants as refusals
@@ -58,7 +58,7 @@ use Rattle.xa_desk.specs.Steps.{FitsOn}
 use Rattle.xa_desk.proofs.Configured.{has_capacity, row_priority, asked_priority}
 use Rattle.xa_desk.proofs.Fitting.{its_events, IsRead, call_over, one_more_fits}
 use Rattle.xa_desk.proofs.Leading.{Grew, grew_one}
-use Rattle.xa_desk.proofs.Showing.{saw_there, setting, down_seen, closed_seen, waits, own_seen}
+use Rattle.xa_desk.proofs.Showing.{front_there, setting, down_seen, closed_seen, waits, own_seen}
 use Rattle.xa_desk.proofs.Visiting.{QueuePass, HasPass, Step, its_pass, now_has, later, looked_leads, noted_leads, looked_last}
 
 pub same_draft : (a b : Draft) (phase : Phase) → phase ≡ Prepared a → phase ≡ Prepared b → a ≡ b
@@ -143,19 +143,19 @@ module _ {d : Domain} {queue k : ℕ} {old new : Desk} {p p' : QueuePass} {last 
   now : HasPass d queue k new p'
   now = now_has step
 
-  own_at : (P : List Event → Type 0) → ((whole : Whole) → GoesOn d whole new → P (past_in (events_at (page_of p').seen))) → SawItsOwnAt d queue new P
+  own_at : (P : List Event → Type 0) → IfNew d.setup queue P (past_in (events_at (page_of p').seen)) → SawItsOwnAt d queue new P
   own_at P holds =
       let is_own : Event → Bool = is_own_at d.setup d.clients new.caller.work.id.0 queue in
       let same = ap (λ (c : Caller). c.work.id.0) caller in
-      saw_there is now (λ past. P past × (count is_own past ≡ count is_own (past_in new.caller.work.own)))
-      (λ whole on. (holds whole on, own_seen is now visits (omega (arith, some, same)) (knows_events (page_of p') visits.new (knows_still visits visits.how.0)) whole on))
+      front_there is now (λ past. IfNew d.setup queue P past × (count is_own past ≡ count is_own (past_in new.caller.work.own)))
+      (λ whole on. (holds, own_seen is now visits (omega (arith, some, same)) (knows_events (page_of p') visits.new (knows_still visits visits.how.0)) whole on))
 
   why_of : (w : Refusal) → (put_refused seen visits.old.queue ≡ Some w) → WhyOf seen visits.new.queue w
   why_of w is = why_refused seen visits.new.queue w (ap (λ (kept : Kept Filling). put_refused seen kept.queue) visits.how.0 ∙ is)
 
   by_why : (w : Refusal) → ((put_refused seen visits.old.queue ≡ Some w) ⊎ (w ≡ refusals.NoMemory)) → ShowsWhy d queue w new
-  by_why refusals.Down (inl it) = own_at (λ past. is_down queue past ≡ true) (λ whole on. down_seen is now visits (why_of refusals.Down it))
-  by_why refusals.Closed (inl it) = own_at (λ past. is_closed queue past ≡ true) (λ whole on. closed_seen is now visits (why_of refusals.Closed it))
+  by_why refusals.Down (inl it) = own_at (λ past. is_down queue past ≡ true) (λ new. down_seen is now visits (why_of refusals.Down it))
+  by_why refusals.Closed (inl it) = own_at (λ past. is_closed queue past ≡ true) (λ new. closed_seen is now visits (why_of refusals.Closed it))
   by_why (refusals.Full n) (inl it) =
       let q = visits.new.queue in
       let full = why_of (refusals.Full n) it in
@@ -165,7 +165,7 @@ module _ {d : Domain} {queue k : ℕ} {old new : Desk} {p p' : QueuePass} {last 
       let room = subst (λ j. 0 < capacity_of d.setup j) (sym now.at) (has_capacity d.setup domain.configured k (omega (arith, low, queues))) in (
         omega (arith, many, room),
         many,
-        own_at (λ past. length (waiting d.setup queue past) ≡ n) (λ whole on. ap length (sym (waits is now visits whole on)) ∙ length-map q.waiting (λ (entry : Entry Cargo). entry.request) ∙ sym full.1),
+        own_at (λ past. length (waiting d.setup queue past) ≡ n) (λ new. ap length (sym (waits is now visits new)) ∙ length-map q.waiting (λ (entry : Entry Cargo). entry.request) ∙ sym full.1),
       )
   by_why (refusals.Worn stamp) (inl it) =
       let worn = why_of (refusals.Worn stamp) it in

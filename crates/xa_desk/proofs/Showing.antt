@@ -17,16 +17,17 @@ use Rattle.xa_told.specs.xa_events.Homes.{of_worker, at_home, is_own_at}
 use Rattle.xa_told.specs.xa_events.Homes.Home.{QueueHome}
 use Rattle.xa_told.specs.xa_events.Queue.{is_down, is_closed, waiting}
 use Rattle.xa_told.specs.xa_events.Views.{QueueView}
-use Rattle.xa_told.specs.xa_events.Words.{AtEach, count}
+use Rattle.xa_told.specs.xa_events.Words.{count}
 use Rattle.xa_told.specs.xa_stamp.declared.home.Stamped.{Stamped}
 use Rattle.xa_told.specs.xa_lock.declared.makers.Made.{Made}
 use Rattle.xa_told.specs.xa_lock.Known.{known as page_of}
 use Rattle.xa_told.specs.xa_lock.Makers.{maker_of as made_maker, noted_in}
 use Rattle.xa_told.specs.xa_lock.Pages.{Knows}
 use Rattle.xa_told.specs.xa_crew.Crew.{MayNote, stands_at}
-use Rattle.xa_told.specs.xa_crew.Seen.{past_in}
-use Rattle.xa_told.proofs.xa_crew.Lists.{past_in-append, AtEach-later, count_part}
-use Rattle.xa_told.specs.xa_queue.Reading.{IsNew, AllNew, Fits}
+use Rattle.xa_told.specs.xa_types.declared.stamp.Stamp.{Stamp}
+use Rattle.xa_told.specs.xa_crew.Seen.{past_in, SawFront, IfNew}
+use Rattle.xa_told.proofs.xa_crew.Lists.{count_part}
+use Rattle.xa_told.specs.xa_queue.Reading.{AllNew, Fits}
 use Rattle.xa_told.specs.xa_held.declared.kept_queue.QueueNote.{QueueNote}
 use Rattle.xa_told.specs.xa_held.declared.kept_queue.QueueNote.TheVariants.{Opened, By}
 use Rattle.xa_told.specs.xa_held.declared.kept_queue.Setting.{Setting}
@@ -38,7 +39,7 @@ use Rattle.xa_told.proofs.xa_work.Noting.{not_theirs}
 use Rattle.xa_told.specs.xa_caller.declared.cargo.Filling.{Filling}
 use Rattle.xa_desk.specs.declared.domain.Domain.{Domain}
 use Rattle.xa_desk.specs.declared.desk.Desk.{Desk}
-use Rattle.xa_desk.specs.Whole.{Whole}
+use Rattle.xa_desk.specs.Whole.{Whole, entries_of}
 use Rattle.xa_desk.specs.Desks.{IsQueuePass, IsSettingOf, GoesOn, IsDesk}
 use Rattle.xa_desk.specs.Found.{SawAtQueue}
 use Rattle.xa_desk.proofs.Visiting.{QueuePass, HasPass, front_at, seen_front, its_pass}
@@ -62,20 +63,17 @@ module _ {d : Domain} {queue k : ℕ} {desk : Desk} {pass : QueuePass} (is : IsD
   its = its_pass has is
 
   -- what holds of all that the pass saw was seen at the queue
-  pub saw_there : (P : List Event → Type 0) → ((whole : Whole) → GoesOn d whole desk → P (past_in (events_at (page_of pass).seen))) → SawAtQueue d queue desk P
-  saw_there P holds whole on stamp less = record {
+  pub front_there : (P : List Event → Type 0) → ((whole : Whole) → GoesOn d whole desk → P (past_in (events_at (page_of pass).seen)))
+      → (whole : Whole) → GoesOn d whole desk → (stamp : Stamp) → desk.caller.work.stamp.0 < stamp.0 → SawFront (entries_of whole (QueueHome queue)) stamp P
+  front_there P holds whole on stamp less = record {
     front = events_at (page_of pass).seen;
     stands = seen_front has whole on;
     before = All-weaker (λ (x : Stamped). x.stamp.0 ≤ desk.caller.work.stamp.0) (λ (x : Stamped). x.stamp.0 < stamp.0) (λ x low. omega (arith, low, less)) (events_at (page_of pass).seen) its.reached;
     shows = holds whole on;
   }
 
-  -- no request was sent there while it waited there
-  seen_new : (whole : Whole) → GoesOn d whole desk → AllNew d.setup queue (past_in (events_at (page_of pass).seen))
-  seen_new whole on =
-      let begins = seen_front has whole on in
-      AtEach-later (IsNew d.setup queue) (past_in begins.0) (past_in (events_at (page_of pass).seen))
-      (subst (AtEach (IsNew d.setup queue)) (ap past_in begins.1 ∙ past_in-append (events_at (page_of pass).seen) begins.0) (on.once queue))
+  pub saw_there : (P : List Event → Type 0) → IfNew d.setup queue P (past_in (events_at (page_of pass).seen)) → SawAtQueue d queue desk P
+  saw_there P holds = front_there (IfNew d.setup queue P) (λ whole on. holds)
 
   -- the queue that the pass left
   module _ {p : Page (QueueNote Filling)} {more : List Made} {How : Kept Filling → Kept Filling → Type 0} (visits : Visits p (page_of pass) more How) where
@@ -104,12 +102,12 @@ module _ {d : Domain} {queue k : ℕ} {desk : Desk} {pass : QueuePass} (is : IsD
     pub closed_seen : visits.new.queue.closed ≡ true → is_closed queue (past_in (events_at (page_of pass).seen)) ≡ true
     closed_seen closed = sym (read_there Bool is_closed) ∙ sym visits.sound.shut ∙ closed
 
-    -- what waits there is read off what the pass saw
-    pub waits : (whole : Whole) → GoesOn d whole desk → map (λ entry. entry.request) visits.new.queue.waiting ≡ waiting d.setup queue (past_in (events_at (page_of pass).seen))
-    waits whole on =
-        let new : AllNew d.setup kept.queue.id.0 (past_in (noted_in kept.queue.entries)) =
-        subst (λ n. AllNew d.setup n (past_in (noted_in kept.queue.entries))) (sym setting.id) (subst (λ l. AllNew d.setup queue (past_in l)) seen_is (seen_new whole on)) in
-        ap (λ (v : QueueView). v.waiting) (visits.reads d.setup fits new).view ∙ read_there (List RequestId) (waiting d.setup)
+    -- what waits there is read off what the pass saw, if no request was sent there while it waited there
+    pub waits : AllNew d.setup queue (past_in (events_at (page_of pass).seen)) → map (λ entry. entry.request) visits.new.queue.waiting ≡ waiting d.setup queue (past_in (events_at (page_of pass).seen))
+    waits new =
+        let its_new : AllNew d.setup kept.queue.id.0 (past_in (noted_in kept.queue.entries)) =
+        subst (λ n. AllNew d.setup n (past_in (noted_in kept.queue.entries))) (sym setting.id) (subst (λ l. AllNew d.setup queue (past_in l)) seen_is new) in
+        ap (λ (v : QueueView). v.waiting) (visits.reads.reads d.setup fits its_new).view ∙ read_there (List RequestId) (waiting d.setup)
 
     -- all that the worker noted at the queue the pass saw there
     pub own_seen : 0 < desk.caller.work.id.0 → Knows made_maker (made_page (page_of pass)) visits.new.queue.entries → (whole : Whole) → GoesOn d whole desk

@@ -15,7 +15,7 @@ use Rattle.xa_told.specs.xa_events.Homes.Home.{CallerHome, QueueHome}
 use Rattle.xa_told.specs.xa_events.Local.{worker_events}
 use Rattle.xa_told.specs.xa_events.State.{caller_of}
 use Rattle.xa_told.specs.xa_stamp.declared.home.Stamped.{Stamped}
-use Rattle.xa_told.specs.xa_crew.Seen.{past_in, SawFront, SawFronts, WasTold, IsBehind}
+use Rattle.xa_told.specs.xa_crew.Seen.{past_in, SawQueue, SawFronts, WasTold, IsBehind}
 use Rattle.xa_told.specs.xa_work.Work.{Standing as Working}
 use Rattle.xa_told.specs.xa_server.declared.slot.ServerSlot.{ServerSlot}
 use Rattle.xa_told.specs.xa_server.Changes.{Stops}
@@ -58,7 +58,7 @@ stop_leads d queue desk slot slot' cause stamp new is number its shut stops =
     let booted = is.booted in
     let next = stops.noted.next in
     event_leads d desk stamp (Stop (record { server = slot.server; generation = life_in slot.doing; cause = cause })) (desk.caller.work.room - 1) new next stops.noted.made is (ap CallerHome (ap (λ n. caller_of n slot.server.0) (sym is.clients) ∙ number)) tt tt (omega (arith, booted, next))
-    (λ whole on shutdown. subst (λ q. SawFront (entries_of whole (QueueHome q)) stamp (IsShut d.setup q)) (sym its) (shut shutdown whole on stamp (omega (arith, next)))) (λ whole on. tt)
+    (λ whole on shutdown. subst (λ q. SawQueue d.setup q (entries_of whole (QueueHome q)) stamp (IsShut d.setup q)) (sym its) (shut shutdown whole on stamp (omega (arith, next)))) (λ whole on. tt)
 
 pub stopped_leads : (d : Domain) (queue : ℕ) (desk : Desk) (slot slot' : ServerSlot) (cause : StopCause) (new : Working) (r : Result Stamp Worn) → IsDesk d desk → IsServing d queue slot desk
     → (cause ≡ Shutdown → SawAtQueue d queue desk (IsShut d.setup queue)) → IfOk r (λ stamp. Stops cause stamp slot' slot new desk.caller.work) → OnErr r ((slot' ≡ slot) × (new ≡ desk.caller.work))

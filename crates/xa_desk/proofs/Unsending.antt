@@ -23,7 +23,7 @@ use Rattle.xa_told.specs.xa_events.Homes.Home.{BoardHome, QueueHome}
 use Rattle.xa_told.specs.xa_events.Queue.{is_down, is_closed}
 use Rattle.xa_told.specs.xa_events.Words.{count}
 use Rattle.xa_told.specs.xa_crew.Calls.{SawNoRoom, SawListed}
-use Rattle.xa_told.specs.xa_crew.Seen.{past_in, SawFront, SawSince}
+use Rattle.xa_told.specs.xa_crew.Seen.{past_in, IfNew, SawQueue, SawSince}
 use Rattle.xa_told.specs.xa_cell.declared.tokens.Seat.{Seat}
 use Rattle.xa_told.specs.xa_cell.Changes.{withdrawn}
 use Rattle.xa_told.specs.xa_cell.Growing.{Keeps}
@@ -90,7 +90,7 @@ module _ (d : Domain) (desk : Desk) (found : FoundRows) (cell : ℕ) (is : IsDes
       weaker_front (entries_of whole BoardHome) stamp (λ past. (found.version ≤ published past) × (listed_in d.setup past found.version has.0 false ≡ found.rows)) (λ past. draft.version ≤ published past) (λ past shows. let le = shows.0 in omega (arith, version, le)) (has.1.listed whole on stamp (omega (arith, next)))) (λ whole on. tt) reads idle in (
         goes.0,
         λ ask valid same_blocks its_found. goes.1 ask (λ whole on.
-            let Shut : Row → Type 0 = λ row. SawFront (entries_of whole (QueueHome row.queue.0)) stamp (λ past. (is_down row.queue.0 past ≡ true) ⊎ (is_closed row.queue.0 past ≡ true)) in (
+            let Shut : Row → Type 0 = λ row. SawQueue d.setup row.queue.0 (entries_of whole (QueueHome row.queue.0)) stamp (λ past. (is_down row.queue.0 past ≡ true) ⊎ (is_closed row.queue.0 past ≡ true)) in (
               valid,
               subst (λ (v : ℕ). SawListed d.setup d.clients (entries_of whole) stamp v ask.service false (λ rows. (rows ≡ [] → ⊥) × All Shut rows)) (sym version)
                   (listed_shows d found ask.service desk (λ rows. (rows ≡ [] → ⊥) × All Shut rows) its_found (why.some, All-weaker (λ (row : Row). SawAtQueue d row.queue.0 desk (λ past. (is_down row.queue.0 past ≡ true) ⊎ (is_closed row.queue.0 past ≡ true))) Shut (λ row saw. saw whole on stamp (omega (arith, next))) found.rows (why.shut refl))
@@ -124,8 +124,8 @@ module _ (d : Domain) (desk : Desk) (found : FoundRows) (cell : ℕ) (is : IsDes
             listed = listed_shows d found ask.service desk (λ rows. (list_any is_its rows ≡ true) × All Out rows) its_found (
               listed,
               All-weaker (λ (row : Row). SawItsOwnAt d row.queue.0 desk (IsShutOut d.setup row.queue.0)) Out (λ row saw. inr (weaker_front (entries_of whole (QueueHome row.queue.0)) stamp
-                  (λ past. IsShutOut d.setup row.queue.0 past × (count (is_own_at d.setup d.clients id row.queue.0) past ≡ count (is_own_at d.setup d.clients id row.queue.0) (past_in desk.caller.work.own)))
-                  (λ past. IsShutOut d.setup row.queue.0 past × (count (is_own_at d.setup d.clients id row.queue.0) past ≡ count (is_own_at d.setup d.clients id row.queue.0) (its_events d desk)))
+                  (λ past. IfNew d.setup row.queue.0 (IsShutOut d.setup row.queue.0) past × (count (is_own_at d.setup d.clients id row.queue.0) past ≡ count (is_own_at d.setup d.clients id row.queue.0) (past_in desk.caller.work.own)))
+                  (λ past. IfNew d.setup row.queue.0 (IsShutOut d.setup row.queue.0) past × (count (is_own_at d.setup d.clients id row.queue.0) past ≡ count (is_own_at d.setup d.clients id row.queue.0) (its_events d desk)))
                   (λ past shows. (shows.0, shows.1 ∙ sym (count_theirs d.setup d.clients id row.queue.0 (past_in desk.caller.work.own)))) (saw whole on stamp (omega (arith, next))))) found.rows why.out,
             ) whole on stamp (omega (arith, next));
           }

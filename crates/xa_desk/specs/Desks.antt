@@ -21,7 +21,6 @@ use Rattle.xa_told.specs.xa_crew.Crew.{MayNote, MetAmong, TellsEach, stands_at}
 use Rattle.xa_told.specs.xa_crew.Seen.{past_in, IsBehind, SawFronts}
 use Rattle.xa_told.specs.xa_cell.Known.{known, IsSeatOf}
 use Rattle.xa_told.specs.xa_cell.Views.{at}
-use Rattle.xa_told.specs.xa_queue.Reading.{AllNew}
 use Rattle.xa_told.specs.xa_held.declared.kept_board.BoardNote.{BoardNote}
 use Rattle.xa_told.specs.xa_held.declared.kept_board.BoardNote.TheVariants.{Looked}
 use Rattle.xa_told.specs.xa_held.declared.kept_queue.KeptQueue.{KeptQueue}
@@ -106,14 +105,13 @@ IsThere P (Some pass) = P pass
 
 -- ---- what a worker shows in the end
 
--- these may be the homes in the end: they go on from what the desk's passes saw, each worker noted there what it may, no request was sent to a queue
--- while it waited there, all that the desk's own worker noted stands there, and what its seat took had ended
+-- these may be the homes in the end: they go on from what the desk's passes saw, each worker noted there what it may, all that the desk's own worker
+-- noted stands there, and what its seat took had ended
 pub record GoesOn (d : Domain) (whole : Whole) (desk : Desk) : Type 0 where
   pub sound : IsSoundBoard whole.board
   pub board : StartsWith whole.board.notes (board_page desk).seen
   pub queues : (queue : ℕ) → StartsWith (notes_of (whole.queues queue)) (queue_page desk queue).seen
   pub may : (queue : ℕ) → All (λ (made : Made). MayNote d.clients made.maker.0 made.noted.event) (whole.queues queue).queue.entries
-  pub once : (queue : ℕ) → AllNew d.setup queue (past_in (entries_of whole (QueueHome queue)))
   pub stand : StandAt d.setup d.clients (entries_of whole) desk.caller.work.own
   pub ended : (k : ℕ) → All (HasEnd (entries_of whole)) (at k (known desk.caller.seat)).taken
 

@@ -13,7 +13,7 @@ use Rattle.xa_told.specs.xa_events.Board.{published, listed_in}
 use Rattle.xa_told.specs.xa_events.Homes.Home.{BoardHome, QueueHome}
 use Rattle.xa_told.specs.xa_events.Queue.{is_down, is_closed, waiting}
 use Rattle.xa_told.specs.xa_events.Cases.{RowStands, RowAdmits}
-use Rattle.xa_told.specs.xa_crew.Seen.{past_in, SawFront, SawSince}
+use Rattle.xa_told.specs.xa_crew.Seen.{past_in, SawFront, SawQueue, SawSince}
 use Rattle.xa_told.specs.xa_queue.declared.entry.Entry.{Entry}
 use Rattle.xa_told.specs.xa_queue.declared.queue.Refusal.{Refusal}
 use Rattle.xa_told.specs.xa_queue.declared.queue.Refusal.TheVariants as refusals
@@ -30,12 +30,13 @@ use Rattle.xa_desk.specs.declared.desk.Desk.{Desk}
 use Rattle.xa_desk.specs.Whole.{Whole, entries_of}
 use Rattle.xa_desk.specs.Desks.{GoesOn, board_page}
 
--- P held of a front of the home with that number in the end, for any stamp that the desk notes from now on
+-- P held of a front of the home in the end, for any stamp that the desk notes from now on
 abbrev pub SawOnBoard : Domain → Desk → (List Event → Type 0) → Type 0
 SawOnBoard d desk P = (whole : Whole) → GoesOn d whole desk → (stamp : Stamp) → desk.caller.work.stamp.0 < stamp.0 → SawFront (entries_of whole BoardHome) stamp P
 
+-- and of the queue with that number, if no request had been sent there while it waited there
 abbrev pub SawAtQueue : Domain → ℕ → Desk → (List Event → Type 0) → Type 0
-SawAtQueue d queue desk P = (whole : Whole) → GoesOn d whole desk → (stamp : Stamp) → desk.caller.work.stamp.0 < stamp.0 → SawFront (entries_of whole (QueueHome queue)) stamp P
+SawAtQueue d queue desk P = (whole : Whole) → GoesOn d whole desk → (stamp : Stamp) → desk.caller.work.stamp.0 < stamp.0 → SawQueue d.setup queue (entries_of whole (QueueHome queue)) stamp P
 
 -- and the front has all that the desk's worker noted there
 abbrev pub SawItsOwnAt : Domain → ℕ → Desk → (List Event → Type 0) → Type 0

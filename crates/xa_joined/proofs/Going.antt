@@ -18,7 +18,6 @@ use Rattle.xa_clients.specs.xa_cell.declared.tokens.Seat.{Seat}
 use Rattle.xa_clients.specs.xa_cell.declared.view.Fill.{Fill}
 use Rattle.xa_clients.specs.xa_cell.Known.{known}
 use Rattle.xa_clients.specs.xa_cell.Views.{at}
-use Rattle.xa_clients.specs.xa_queue.Reading.{AllNew}
 use Rattle.xa_clients.specs.xa_held.declared.kept_queue.QueueNote.{QueueNote}
 use Rattle.xa_clients.specs.xa_held.Board.{maker_of as change_maker}
 use Rattle.xa_clients.specs.xa_held.Kept.{notes_of}
@@ -35,7 +34,7 @@ use Rattle.xa_clients.specs.xa_desk.Desks.{IsThere, GoesOn, page_in, queue_page}
 use Rattle.xa_joined.specs.Joined.{Back, whole_of, HasLeft, AllLeft}
 use Rattle.xa_joined.proofs.Listed.{all_mapped, all_both, all_numbered, none_past}
 use Rattle.xa_joined.proofs.Left.{same_queue, queues_count, desk_left}
-use Rattle.xa_joined.proofs.Standing.{stands_whole, may_at, new_at}
+use Rattle.xa_joined.proofs.Standing.{stands_whole, may_at}
 
 -- what a pass saw stands first
 front_in : {E : Type 0} (maker : E → ℕ) (entries : List E) (o : Option (LockPass E)) → IsThere (λ pass. Knows maker (page_of pass) entries) o → StartsWith entries (page_in o).seen
@@ -89,7 +88,6 @@ module _ (d : Domain) (b : Back) (domain : Working) (desks : List Desk) (all : A
     board = front_in change_maker b.board.notes desk.board left.board;
     queues = queues_begin desk left;
     may = λ queue. subst (All (λ (made : Made). MayNote d.clients made.maker.0 made.noted.event)) (same_queue d b queue) (may_at d b domain desks all (QueueHome queue));
-    once = λ queue. subst (λ (l : List Made). AllNew d.setup queue (past_in (noted_in l))) (same_queue d b queue) (new_at d b domain desks all queue);
     stand = stands_whole d b desk.caller.work.id.0 desk.caller.work.own (desk_left d b (queues_count d b domain desks all) desk left);
     ended = taken_ended (entries_of whole) b.seats all.answered seats_ended (seat_of desk) here;
   }

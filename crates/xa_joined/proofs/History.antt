@@ -29,7 +29,7 @@ use Rattle.xa_clients.specs.xa_stamp.Merge.{IsMerged}
 use Rattle.xa_clients.specs.xa_lock.Makers.{noted_in}
 use Rattle.xa_clients.specs.xa_crew.Crew.{AllOver}
 use Rattle.xa_clients.specs.xa_crew.Ending.{list_in, workers_of}
-use Rattle.xa_clients.specs.xa_crew.Seen.{past_in, SawFront}
+use Rattle.xa_clients.specs.xa_crew.Seen.{past_in, SawFront, SawQueue}
 use Rattle.xa_clients.proofs.xa_crew.Joined.{client_made_calls, own_events, own_home, takes_in_order}
 use Rattle.xa_clients.proofs.xa_crew.Over.{crew_is_final}
 use Rattle.xa_clients.specs.xa_held.Kept.{Kept}
@@ -49,7 +49,7 @@ use Rattle.xa_joined.proofs.Listed.{numbered_map, one_there}
 use Rattle.xa_joined.proofs.Left.{same_homes, each_left, has_left as desk_has_left}
 use Rattle.xa_joined.proofs.Going.{one_goes_on}
 use Rattle.xa_joined.proofs.Crew.{desks_are_crew}
-use Rattle.xa_joined.proofs.Homes.{homes_met, takes_next}
+use Rattle.xa_joined.proofs.Homes.{homes_met, takes_next, saw_new}
 use Rattle.xa_joined.proofs.Clients.{noted_is, made_own}
 use Rattle.xa_joined.proofs.Configured.{a_server}
 use Rattle.xa_joined.proofs.Gone.{not_both}
@@ -119,7 +119,8 @@ module _ (d : Domain) (b : Back) (domain : Working) (desks : List Desk) (all : A
   next desk = record { 0 = desk.caller.work.stamp.0 + 1 }
 
   saw_front : (worker : ℕ) (desk : Desk) → numbered worker desks ≡ Some desk → (queue : ℕ) (P : List Event → Type 0) → SawAtQueue d queue desk P → SawFront (held (QueueHome queue)) (next desk) P
-  saw_front worker desk there queue P saw = subst (λ (l : List Stamped). SawFront l (next desk) P) (same_homes d b (QueueHome queue)) (saw (whole_of d b) (one_goes_on d b domain desks all worker desk there) (next desk) (omega arith))
+  saw_front worker desk there queue P saw =
+      saw_new d b domain desks all queue (next desk) P (subst (λ (l : List Stamped). SawQueue d.setup queue l (next desk) P) (same_homes d b (QueueHome queue)) (saw (whole_of d b) (one_goes_on d b domain desks all worker desk there) (next desk) (omega arith)))
 
   abbrev at_queue : ℕ → List Event
   at_queue queue = past_in (held (QueueHome queue))

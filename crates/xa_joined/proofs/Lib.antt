@@ -1,5 +1,4 @@
 pub mod Listed
-pub mod Requests
 pub mod Left
 pub mod Standing
 pub mod Going

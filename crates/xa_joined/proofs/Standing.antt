@@ -18,7 +18,6 @@ use Rattle.xa_clients.specs.xa_crew.Ending.{list_in, workers_of}
 use Rattle.xa_clients.specs.xa_crew.Seen.{past_in}
 use Rattle.xa_clients.proofs.xa_crew.Growing.{all_of_maker}
 use Rattle.xa_clients.proofs.xa_crew.Lists.{filter-yes, filter-no, same_home-is, All-homes, All-makers, past_in-filter}
-use Rattle.xa_clients.specs.xa_queue.Reading.{AllNew}
 use Rattle.xa_clients.specs.xa_held.declared.kept_board.BoardNote.{BoardNote}
 use Rattle.xa_clients.specs.xa_held.declared.kept_board.BoardNote.TheVariants.{Opened, By, Looked}
 use Rattle.xa_clients.specs.xa_held.declared.kept_queue.QueueNote.{QueueNote}
@@ -37,7 +36,6 @@ use Rattle.xa_clients.specs.xa_desk.Made.{IsMade}
 use Rattle.xa_joined.specs.Joined.{Back, whole_of, kept_of, noted_of, AllLeft}
 use Rattle.xa_joined.proofs.Listed.{all_mapped, all_both, all_past, past_all, numbered_map, nothing_past}
 use Rattle.xa_joined.proofs.Left.{Left, same_homes, each_left}
-use Rattle.xa_joined.proofs.Requests.{Owns, Numbered, Sends, sends, numbered_part, IsSent, requests_new}
 
 -- ---- what a worker noted
 
@@ -69,10 +67,6 @@ stands d b worker own left x among = All-contains (StandsThere d b) own x (All-h
 
 pub stands_whole : (d : Domain) (b : Back) (worker : ℕ) (own : List Stamped) → Left d b worker own → StandAt d.setup d.clients (entries_of (whole_of d b)) own
 stands_whole d b worker own left x among = subst (λ (l : List Stamped). Contains l x) (sym (same_homes d b (home_of d.setup d.clients x.event))) (stands d b worker own left x among)
-
--- the requests that it sent
-its_sends : (d : Domain) (b : Back) (worker : ℕ) (own : List Stamped) → Left d b worker own → Sends d.setup d.clients worker (past_in own)
-its_sends d b worker own left = sends d.setup d.clients worker (past_in own) (all_past (MayNote d.clients worker) own left.work.may) (all_past IsMade own left.made) left.work.met
 
 -- ---- makers
 
@@ -113,16 +107,3 @@ module _ (d : Domain) (b : Back) (domain : Working) (desks : List Desk) (all : A
 
   pub may_at : (home : Home) → All (λ (entry : Made). MayNote d.clients entry.maker.0 entry.noted.event) (kept_of b home)
   may_at home = at_makers (λ worker x. MayNote d.clients worker x.event) home (λ worker low. (each_left d b domain desks all worker low).work.may)
-
-  -- no request was sent to a queue while it waited there
-  pub new_at : (queue : ℕ) → AllNew d.setup queue (past_in (noted_in (kept_of b (QueueHome queue))))
-  new_at queue =
-      let home : Home = QueueHome queue in
-      let entries : List Made = kept_of b home in
-      let own : ℕ → List Stamped = noted_of domain desks in
-      let left = each_left d b domain desks all in
-      let owned : All (λ (entry : Made). Owns (maker_of entry) entry.noted.event) entries = at_makers (λ worker x. Owns worker x.event) home (λ worker low. past_all (Owns worker) (own worker) (its_sends d b worker (own worker) (left worker low)).owns) in
-      requests_new d.setup queue workers entries (all_both IsLow (λ (entry : Made). Owns (maker_of entry) entry.noted.event) (IsSent workers) entries (λ entry low owns. record { low = low; owns = owns }) (makers_at home) owned)
-      (λ worker low.
-      let at : Event → Bool = at_home d.setup d.clients home in
-      subst (AtEach Numbered) (past_in-filter at (own worker) ∙ ap past_in (sym ((left worker low).theirs home))) (numbered_part at (past_in (own worker)) (its_sends d b worker (own worker) (left worker low)).numbered))

@@ -19,7 +19,7 @@ use Rattle.xa_desk.specs.xa_events.Cases.{IsShut}
 use Rattle.xa_desk.specs.xa_frame.declared.frame.Frame.{Frame}
 use Rattle.xa_desk.specs.xa_stamp.declared.home.Stamped.{Stamped}
 use Rattle.xa_desk.specs.xa_lock.declared.makers.Made.{Made}
-use Rattle.xa_desk.specs.xa_crew.Seen.{past_in, SawFront}
+use Rattle.xa_desk.specs.xa_crew.Seen.{past_in, SawQueue}
 use Rattle.xa_desk.proofs.xa_crew.Lists.{count_part, past_in-append}
 use Rattle.xa_desk.specs.xa_held.Notes.{made_of}
 use Rattle.xa_desk.specs.xa_work.Work.{Standing as Working, theirs}
@@ -190,7 +190,7 @@ module _ {d : Domain} {old new : Desk} {more : List Event} (steps : Steps d more
 
   pub shut_on : (queue : ℕ) (over : Ending) → old.caller.work.clients + over.life.server.0 ≡ old.caller.work.id.0 → All (λ (e : Event). is_of over.life.server.0 over.life.generation.0 e ≡ false) more → EndsShut d queue old over → EndsShut d queue new over
   shut_on queue over number none shut whole on =
-      let P : Stamped → Type 0 = λ x. stops_life over.life.server.0 over.life.generation.0 x.event ≡ true → SawFront (entries_of whole (QueueHome queue)) x.stamp (IsShut d.setup queue) in
+      let P : Stamped → Type 0 = λ x. stops_life over.life.server.0 over.life.generation.0 x.event ≡ true → SawQueue d.setup queue (entries_of whole (QueueHome queue)) x.stamp (IsShut d.setup queue) in
       let unstopped = rest_none over.life.server.0 over.life.generation.0 number (All-weaker (λ (e : Event). is_of over.life.server.0 over.life.generation.0 e ≡ false) (λ (e : Event). stops_life over.life.server.0 over.life.generation.0 e ≡ false) (stops_none over.life.server.0 over.life.generation.0) more none) in
       subst (All P) (sym {A = List Stamped} steps.leads.own.1)
       (All-append P old.caller.work.own steps.leads.own.0 (shut whole (steps.leads.before whole on))

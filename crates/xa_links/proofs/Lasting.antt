@@ -14,7 +14,7 @@ use Rattle.xa_desk.specs.xa_events.Homes.Home.{QueueHome}
 use Rattle.xa_desk.specs.xa_events.Cases.{IsShut}
 use Rattle.xa_desk.specs.xa_events.Server.{starts, is_gone, was_shut_down}
 use Rattle.xa_desk.specs.xa_stamp.declared.home.Stamped.{Stamped}
-use Rattle.xa_desk.specs.xa_crew.Seen.{past_in, SawFront}
+use Rattle.xa_desk.specs.xa_crew.Seen.{past_in, SawQueue}
 use Rattle.xa_desk.proofs.xa_crew.Lists.{count_part}
 use Rattle.xa_desk.specs.xa_queue.declared.entry.Entry.{Entry}
 use Rattle.xa_desk.specs.xa_work.Work.{Standing as Working, theirs}
@@ -148,7 +148,7 @@ module _ {L T : Type 0} {d : Domain} {named : T → List ℕ} {shows : T → Sta
     ends_shut rest own later alive saw whole on =
         let p : Event → Bool = stops_life over.life.server.0 over.life.generation.0 in
         let old : Working = w.desk.caller.work in
-        let P : Stamped → Type 0 = λ x. p x.event ≡ true → SawFront (entries_of whole (QueueHome w.queue.0)) x.stamp (IsShut d.setup w.queue.0) in
+        let P : Stamped → Type 0 = λ x. p x.event ≡ true → SawQueue d.setup w.queue.0 (entries_of whole (QueueHome w.queue.0)) x.stamp (IsShut d.setup w.queue.0) in
         let number = ap (λ s. old.clients + s.0) last.server ∙ number_of at.serving in
         let none : count p (past_in old.own) ≡ 0 = sym (count_part p (of_worker old.clients old.id.0) (stops_own old.clients old.id.0 over.life.server.0 over.life.generation.0 number) (past_in old.own)) ∙ alive in
         subst (All P) (sym {A = List Stamped} own)

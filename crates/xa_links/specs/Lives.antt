@@ -11,7 +11,7 @@ use Rattle.xa_desk.specs.xa_events.Cases.{IsShut}
 use Rattle.xa_desk.specs.xa_frame.declared.frame.Frame.{Frame}
 use Rattle.xa_desk.specs.xa_events.Homes.Home.{QueueHome}
 use Rattle.xa_desk.specs.xa_stamp.declared.home.Stamped.{Stamped}
-use Rattle.xa_desk.specs.xa_crew.Seen.{SawFront}
+use Rattle.xa_desk.specs.xa_crew.Seen.{SawQueue}
 use Rattle.xa_desk.specs.xa_lock.declared.makers.Made.{Made}
 use Rattle.xa_desk.specs.xa_held.declared.cargo.Invocation.{Invocation}
 use Rattle.xa_desk.specs.xa_held.Kept.{Brings}
@@ -77,7 +77,7 @@ IsHanded server g asked brought e before = Unit {0}
 -- the queue was seen closed, with nothing that waits, before the end of the life was noted
 abbrev pub EndsShut : Domain → ℕ → Desk → Ending → Type 0
 EndsShut d queue desk over = (whole : Whole) → GoesOn d whole desk
-    → All (λ (x : Stamped). stops_life over.life.server.0 over.life.generation.0 x.event ≡ true → SawFront (entries_of whole (QueueHome queue)) x.stamp (IsShut d.setup queue)) desk.caller.work.own
+    → All (λ (x : Stamped). stops_life over.life.server.0 over.life.generation.0 x.event ≡ true → SawQueue d.setup queue (entries_of whole (QueueHome queue)) x.stamp (IsShut d.setup queue)) desk.caller.work.own
 
 -- a life that ended, of the server of that name and number: it went and ended as its worker noted, each request that it took was handed on, and where it
 -- waited for one as it ended its queue was shut

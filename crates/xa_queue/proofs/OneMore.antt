@@ -20,7 +20,7 @@ use Rattle.xa_lock.specs.declared.makers.Made.{Made}
 use Rattle.xa_lock.specs.Makers.{noted_in}
 use Rattle.xa_queue.specs.Queue.{Standing, past_of}
 use Rattle.xa_queue.specs.Changes.{noted}
-use Rattle.xa_queue.specs.Reading.{IsNew, AllNew, Fits, IsRead, ReadsAsNoted, view_of}
+use Rattle.xa_queue.specs.Reading.{IsNew, AllNew, MetIfNew, Fits, IsRead, ReadsAsNoted, view_of}
 
 module _ {C : Type 0} where
   pub past-noted : (stamp : Stamp) (maker : CallerId) (e : Event) (left : Standing C) → past_of (noted stamp maker e left) ≡ e ∷ past_of left
@@ -57,19 +57,33 @@ module _ {C : Type 0} where
         view = parts.view ∙ ap (queue_after setup q.id.0 e) read.view ∙ sym (queue_more setup q.id.0 e (past_of q)) ∙ ap (λ id. queue_view setup id.0 (e ∷ past_of q)) (sym same.id) ∙ ap (queue_view setup left.id.0) (sym past);
         stand = λ clients. subst (λ events. AtEach (λ e _. home_of setup clients e ≡ QueueHome left.id.0) events) (sym past)
             (subst (λ id. AtEach (λ e _. home_of setup clients e ≡ QueueHome id.0) (e ∷ past_of q)) (sym same.id) (parts.stand clients, read.stand clients));
-        met = subst (AtEach (HomePart setup)) (sym past) (parts.met, read.met);
-        ordered = subst (AtEach (TakesNext setup)) (sym past) (parts.ordered, read.ordered);
         priorities = subst (λ events. All (λ entry. priority_at events entry.request ≡ entry.priority) left.waiting) (sym past) parts.priorities;
         once = parts.once;
       }
 
-  pub reads-noted : (stamp : Stamp) (maker : CallerId) (e : Event) (q left : Standing C) → SameQueue q left → ReadsAsNoted q → ((setup : Setup) → Fits setup q → IsNew setup q.id.0 e (past_of q) → IsRead setup q → Parts setup e q left) → ReadsAsNoted (noted stamp maker e left)
-  reads-noted stamp maker e q left same reads parts setup fits new =
-      let past : past_of (noted stamp maker e left) ≡ e ∷ past_of q = past-left stamp maker e q left same in
-      let fits' : Fits setup q = record {
-        capacity = ap (λ id. capacity_of setup id.0) (sym same.id) ∙ fits.capacity ∙ same.capacity;
-        servers = λ server. ap (λ id. queue_of setup server == id.0) (sym same.id) ∙ fits.servers server ∙ ap (list_any (λ own. server == own.0)) same.servers;
-      } in
-      let new' : AllNew setup q.id.0 (e ∷ past_of q) = subst (AllNew setup q.id.0) past (subst (λ id. AllNew setup id.0 (past_of (noted stamp maker e left))) same.id new) in
-      let read = reads setup fits' new'.1 in
-      read-noted setup stamp maker e q left same read (parts setup fits' new'.0 read)
+  module _ (stamp : Stamp) (maker : CallerId) (e : Event) (q left : Standing C) (same : SameQueue q left) (reads : ReadsAsNoted q) (parts : (setup : Setup) → Fits setup q → IsNew setup q.id.0 e (past_of q) → IsRead setup q → Parts setup e q left) where
+    abbrev now : Standing C
+    now = noted stamp maker e left
+
+    past : past_of now ≡ e ∷ past_of q
+    past = past-left stamp maker e q left same
+
+    fitted : (setup : Setup) → Fits setup now → Fits setup q
+    fitted setup fits = record {
+      capacity = ap (λ id. capacity_of setup id.0) (sym same.id) ∙ fits.capacity ∙ same.capacity;
+      servers = λ server. ap (λ id. queue_of setup server == id.0) (sym same.id) ∙ fits.servers server ∙ ap (list_any (λ own. server == own.0)) same.servers;
+    }
+
+    its : (setup : Setup) → Fits setup q → AllNew setup q.id.0 (e ∷ past_of q) → Parts setup e q left
+    its setup fits new = parts setup fits new.0 (reads.reads setup fits new.1)
+
+    here : (setup : Setup) → Fits setup q → MetIfNew setup q.id.0 e (past_of q)
+    here setup fits new = let its_parts = its setup fits new in (its_parts.met, its_parts.ordered)
+
+    pub reads-noted : ReadsAsNoted now
+    reads-noted = record {
+      met = λ setup fits. subst (λ id. AtEach (MetIfNew setup id.0) (past_of now)) (sym same.id) (subst (AtEach (MetIfNew setup q.id.0)) (sym past) (here setup (fitted setup fits), reads.met setup (fitted setup fits)));
+      reads = λ setup fits new.
+          let new' : AllNew setup q.id.0 (e ∷ past_of q) = subst (AllNew setup q.id.0) past (subst (λ id. AllNew setup id.0 (past_of now)) same.id new) in
+          read-noted setup stamp maker e q left same (reads.reads setup (fitted setup fits) new'.1) (its setup (fitted setup fits) new');
+    }

@@ -17,13 +17,14 @@ use Rattle.xa_queue.specs.Changes.{opened}
 module _ {C : Type 0} where
   pub reads-opened : (id : QueueId) (capacity : ℕ) (servers : List ServerId) (first : Stamp) → ReadsAsNoted (opened {C = C} id capacity servers first)
   unfolding waiting takes is_down is_closed
-  reads-opened id capacity servers first = λ setup fits new. record {
-    view = refl;
-    stand = λ clients. tt;
-    met = tt;
-    ordered = tt;
-    priorities = All-nil (λ (entry : Entry C). priority_at [] entry.request ≡ entry.priority);
-    once = IsDistinct-from_apart same_request [] (λ i j d less below. absurd (omega (arith, below)));
+  reads-opened id capacity servers first = record {
+    met = λ setup fits. tt;
+    reads = λ setup fits new. record {
+      view = refl;
+      stand = λ clients. tt;
+      priorities = All-nil (λ (entry : Entry C). priority_at [] entry.request ≡ entry.priority);
+      once = IsDistinct-from_apart same_request [] (λ i j d less below. absurd (omega (arith, below)));
+    };
   }
 
   pub sound-opened : (id : QueueId) (capacity : ℕ) (servers : List ServerId) (first : Stamp) → first.0 ≤ 2 ^ 63 → IsSound (opened {C = C} id capacity servers first)

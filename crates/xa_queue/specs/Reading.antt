@@ -1,5 +1,5 @@
 -- How a queue reads: as its events do, by each setup that has it so (this project's own).
-use Rattle.std.specs.Prelude.{◌≡◌, ℕ, ◌==◌, false, List, map, reverse, IfSome}
+use Rattle.std.specs.Prelude.{◌≡◌, ℕ, ◌==◌, false, List, ◌∷◌, map, reverse, IfSome}
 use Rattle.std.specs.List.{All, list_any, IsDistinct}
 use Rattle.xa_types.specs.declared.setup.Setup.{Setup}
 use Rattle.xa_types.specs.Setup.{queue_of, capacity_of}
@@ -22,6 +22,10 @@ IsNew setup queue e before = IfSome (comes_in queue e) (λ request. has request 
 abbrev pub AllNew : Setup → ℕ → List Event → Type 0
 AllNew setup queue past = AtEach (IsNew setup queue) past
 
+-- if that was so until now, the event met what is asked of the queue's events before it, and, where it is a take, is the next by their order
+abbrev pub MetIfNew : Setup → ℕ → Event → List Event → Type 0
+MetIfNew setup queue e before = AllNew setup queue (e ∷ before) → HomePart setup e before × TakesNext setup e before
+
 module _ {C : Type 0} where
   -- the setup has the queue so: its capacity, and its servers
   pub record Fits (setup : Setup) (queue : Standing C) : Type 0 where
@@ -38,16 +42,15 @@ module _ {C : Type 0} where
     gone = reverse (map (λ server. server.0) queue.gone);
   }
 
-  -- the queue is what its events say, each of which stands at its home, met what is asked of that home's events before it, and, where it is a
-  -- take, is the next by their order; each entry waits with the priority with which its request was sent, and no request waits twice
+  -- the queue is what its events say, each of which stands at its home; each entry waits with the priority with which its request was sent, and no
+  -- request waits twice
   pub record IsRead (setup : Setup) (queue : Standing C) : Type 0 where
     pub view : view_of queue ≡ queue_view setup queue.id.0 (past_of queue)
     pub stand : (clients : ℕ) → AtEach (λ e _. home_of setup clients e ≡ QueueHome queue.id.0) (past_of queue)
-    pub met : AtEach (HomePart setup) (past_of queue)
-    pub ordered : AtEach (TakesNext setup) (past_of queue)
     pub priorities : All (λ entry. priority_at (past_of queue) entry.request ≡ entry.priority) queue.waiting
     pub once : IsDistinct same_request (map (λ entry. entry.request) queue.waiting)
 
-  -- the queue reads as its events do, as long as no request was sent to it while it waited there
-  abbrev pub ReadsAsNoted : Standing C → Type 0
-  ReadsAsNoted queue = (setup : Setup) → Fits setup queue → AllNew setup queue.id.0 (past_of queue) → IsRead setup queue
+  -- each event met what is asked of it, and the queue reads as they do, as long as no request was sent to it while it waited there
+  pub record ReadsAsNoted (queue : Standing C) : Type 0 where
+    pub met : (setup : Setup) → Fits setup queue → AtEach (MetIfNew setup queue.id.0) (past_of queue)
+    pub reads : (setup : Setup) → Fits setup queue → AllNew setup queue.id.0 (past_of queue) → IsRead setup queue
