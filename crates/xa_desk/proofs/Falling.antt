@@ -87,9 +87,9 @@ module _ {d : Domain} {queue k : ℕ} {desk new : Desk} {p p' : QueuePass} {last
     falls_swept is fallen none =
         let has = now_has step in
         let down : visits.new.queue.down ≡ true = sym (down_left visits) ∙ ap (λ n. is_down_in n (page_of p').seen) id_left ∙ seen_down fallen in
-        saw_there is has (IsSwept d queue) (λ new. (
+        saw_there is has (IsSwept d queue) (λ news. (
           down_seen is has visits down,
-          sym (waits is has visits new) ∙ ap (map (λ (entry : Entry Cargo). entry.request)) none,
+          sym (waits is has visits news) ∙ ap (map (λ (entry : Entry Cargo). entry.request)) none,
         ))
 
 -- what a worker that noted events of the domain has, or none

@@ -53,7 +53,7 @@ module _ {d : Domain} {queue k : ℕ} {desk new : Desk} {p p' : QueuePass} {last
       let has = now_has step in
       let its = setting is has left in (
         λ last_one. subst (λ page. SawLeft d.setup queue new.caller.work.stamp page) (sym (page_is has)) (saw_left seen maker server done left d.setup queue its.id its.servers new.caller.work.stamp (its_pass has is).reached last_one),
-        λ not_last. saw_there is has (LeftOthers d queue slot.server.0) (λ new. subst (λ s. LeftOthers d queue s.0 (past_in (events_at (page_of p').seen))) serves (saw_others seen maker server done left d.setup queue its.id its.servers serving.some not_last)),
+        λ not_last. saw_there is has (LeftOthers d queue slot.server.0) (λ news. subst (λ s. LeftOthers d queue s.0 (past_in (events_at (page_of p').seen))) serves (saw_others seen maker server done left d.setup queue its.id its.servers serving.some not_last)),
       )
 
   pub leaves : (slot' : ServerSlot) → Stands slot' new.caller.work → slot' ≡ record slot { gone = true } → Leads d desk new × IsServing d queue slot' new × LeavesAs d queue (Ok done.last) slot slot' desk new

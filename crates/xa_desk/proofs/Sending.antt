@@ -154,8 +154,8 @@ module _ {d : Domain} {queue k : ℕ} {old new : Desk} {p p' : QueuePass} {last 
   why_of w is = why_refused seen visits.new.queue w (ap (λ (kept : Kept Filling). put_refused seen kept.queue) visits.how.0 ∙ is)
 
   by_why : (w : Refusal) → ((put_refused seen visits.old.queue ≡ Some w) ⊎ (w ≡ refusals.NoMemory)) → ShowsWhy d queue w new
-  by_why refusals.Down (inl it) = own_at (λ past. is_down queue past ≡ true) (λ new. down_seen is now visits (why_of refusals.Down it))
-  by_why refusals.Closed (inl it) = own_at (λ past. is_closed queue past ≡ true) (λ new. closed_seen is now visits (why_of refusals.Closed it))
+  by_why refusals.Down (inl it) = own_at (λ past. is_down queue past ≡ true) (λ news. down_seen is now visits (why_of refusals.Down it))
+  by_why refusals.Closed (inl it) = own_at (λ past. is_closed queue past ≡ true) (λ news. closed_seen is now visits (why_of refusals.Closed it))
   by_why (refusals.Full n) (inl it) =
       let q = visits.new.queue in
       let full = why_of (refusals.Full n) it in
@@ -165,7 +165,7 @@ module _ {d : Domain} {queue k : ℕ} {old new : Desk} {p p' : QueuePass} {last 
       let room = subst (λ j. 0 < capacity_of d.setup j) (sym now.at) (has_capacity d.setup domain.configured k (omega (arith, low, queues))) in (
         omega (arith, many, room),
         many,
-        own_at (λ past. length (waiting d.setup queue past) ≡ n) (λ new. ap length (sym (waits is now visits new)) ∙ length-map q.waiting (λ (entry : Entry Cargo). entry.request) ∙ sym full.1),
+        own_at (λ past. length (waiting d.setup queue past) ≡ n) (λ news. ap length (sym (waits is now visits news)) ∙ length-map q.waiting (λ (entry : Entry Cargo). entry.request) ∙ sym full.1),
       )
   by_why (refusals.Worn stamp) (inl it) =
       let worn = why_of (refusals.Worn stamp) it in

@@ -107,9 +107,9 @@ module _ {d : Domain} {queue k : ℕ} {desk new : Desk} {p p' : QueuePass} {last
     looks_shut none closed =
         let is = (looked_leads step visits caller).desk in
         let has = now_has step in
-        saw_there is has (IsShut d.setup queue) (λ new. record {
+        saw_there is has (IsShut d.setup queue) (λ news. record {
           closed = closed_seen is has visits closed;
-          empty = sym (waits is has visits new) ∙ ap (map (λ (entry : Entry Cargo). entry.request)) none;
+          empty = sym (waits is has visits news) ∙ ap (map (λ (entry : Entry Cargo). entry.request)) none;
         })
 
   -- it noted an event there, which gives up no server but, it may be, this one

@@ -46,9 +46,6 @@ module _ {X : Type 0} (P : X → Type 0) where
       ]
 
 -- of events, the newest first, as of the entries
-pub all_past : (P : Event → Type 0) (xs : List Stamped) → All (λ (x : Stamped). P x.event) xs → All P (past_in xs)
-all_past P xs all = all_reversed P (map (λ (x : Stamped). x.event) xs) (All-map P (λ (x : Stamped). x.event) xs all)
-
 pub past_all : (P : Event → Type 0) (xs : List Stamped) → All P (past_in xs) → All (λ (x : Stamped). P x.event) xs
 past_all P xs all = all_mapped P (λ (x : Stamped). x.event) xs (subst (All P) (reverse-reverse (map (λ (x : Stamped). x.event) xs)) (all_reversed P (past_in xs) all))
 

@@ -34,7 +34,7 @@ use Rattle.xa_clients.specs.xa_desk.declared.desk.Desk.{Desk}
 use Rattle.xa_clients.specs.xa_desk.Whole.{entries_of}
 use Rattle.xa_clients.specs.xa_desk.Made.{IsMade}
 use Rattle.xa_joined.specs.Joined.{Back, whole_of, kept_of, noted_of, AllLeft}
-use Rattle.xa_joined.proofs.Listed.{all_mapped, all_both, all_past, past_all, numbered_map, nothing_past}
+use Rattle.xa_joined.proofs.Listed.{all_mapped, all_both, numbered_map, nothing_past}
 use Rattle.xa_joined.proofs.Left.{Left, same_homes, each_left}
 
 -- ---- what a worker noted

@@ -113,7 +113,7 @@ saw_2 = (
     front = queue_front;
     stands = ([], refl);
     before = All-from_recursion (Early 14) queue_front (omega arith, (omega arith, (omega arith, (omega arith, (omega arith, (omega arith, (omega arith, tt)))))));
-    shows = record { closed = refl; empty = refl };
+    shows = λ new. record { closed = refl; empty = refl };
   },
   (
     λ version shown. absurd (cc shown),
@@ -126,7 +126,7 @@ saw_2 = (
             front = asked ∷ taken ∷ passed ∷ taken_again ∷ [];
             stands = (passed_again ∷ taken_last ∷ shut ∷ [], refl);
             before = All-from_recursion (Early 8) (asked ∷ taken ∷ passed ∷ taken_again ∷ []) (omega arith, (omega arith, (omega arith, (omega arith, tt))));
-            shows = (refl, refl);
+            shows = (λ new. refl, refl);
           };
         },
         (
@@ -138,7 +138,7 @@ saw_2 = (
                 front = asked ∷ taken ∷ [];
                 stands = (passed ∷ taken_again ∷ passed_again ∷ taken_last ∷ shut ∷ [], refl);
                 before = All-from_recursion (Early 6) (asked ∷ taken ∷ []) (omega arith, (omega arith, tt));
-                shows = ((refl, refl), refl);
+                shows = (λ new. (refl, refl), refl);
               };
             },
             (tt, (record { front = []; stands = ([], refl); before = All-from_recursion (Early 4) [] tt; shows = refl }, tt)),
