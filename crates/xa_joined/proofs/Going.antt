@@ -11,9 +11,7 @@ use Rattle.xa_clients.specs.xa_lock.declared.makers.Made.{Made}
 use Rattle.xa_clients.specs.xa_lock.declared.pass.LockPass.{LockPass}
 use Rattle.xa_clients.specs.xa_lock.Known.{known as page_of}
 use Rattle.xa_clients.specs.xa_lock.Pages.{StartsWith, Knows}
-use Rattle.xa_clients.specs.xa_lock.Makers.{noted_in}
 use Rattle.xa_clients.specs.xa_crew.Crew.{MayNote}
-use Rattle.xa_clients.specs.xa_crew.Seen.{past_in}
 use Rattle.xa_clients.specs.xa_cell.declared.tokens.Seat.{Seat}
 use Rattle.xa_clients.specs.xa_cell.declared.view.Fill.{Fill}
 use Rattle.xa_clients.specs.xa_cell.Known.{known}

@@ -1,23 +1,20 @@
 -- What each worker noted stands at the homes, and what stands there was noted by one of the workers.
-use Rattle.std.proofs.Common.{◌≡◌, ℕ, ◌<◌, ◌==◌, Bool, true, List, [], ◌∷◌, map, Option, Some, None, inl, inr, refl, sym, ◌∙◌, ap, subst, arith}
+use Rattle.std.proofs.Common.{◌≡◌, ℕ, ◌<◌, ◌==◌, Bool, true, List, [], ◌∷◌, map, Option, Some, None, inl, inr, refl, sym, subst, arith}
 use Rattle.std.specs.Prelude.{option_map}
 use Rattle.std.specs.List.{All, Contains, filter}
 use Rattle.std.proofs.lemmas.Bool.{cases_Bool, cases_lt}
 use Rattle.std.proofs.lemmas.List.Elements.{All-nil, All-cons, All-head, All-tail, All-weaker, All-contains, All-contains_itself, All-filter, filter_passes}
 use Rattle.xa_clients.specs.xa_types.Setup.{numbered}
-use Rattle.xa_clients.specs.xa_events.declared.event.Event.{Event}
-use Rattle.xa_clients.specs.xa_events.Homes.{Home, home_of, at_home}
+use Rattle.xa_clients.specs.xa_events.Homes.{Home, home_of}
 use Rattle.xa_clients.specs.xa_events.Homes.Home.{BoardHome, QueueHome, ClockHome, CallerHome}
-use Rattle.xa_clients.specs.xa_events.Words.{AtEach}
 use Rattle.xa_clients.specs.xa_stamp.declared.home.Stamped.{Stamped}
 use Rattle.xa_clients.specs.xa_lock.declared.makers.Made.{Made}
 use Rattle.xa_clients.specs.xa_lock.Makers.{maker_of, noted_in, made_by}
 use Rattle.xa_clients.specs.xa_lock.Pages.{entries_by}
 use Rattle.xa_clients.specs.xa_crew.Crew.{MayNote, stands_at}
 use Rattle.xa_clients.specs.xa_crew.Ending.{list_in, workers_of}
-use Rattle.xa_clients.specs.xa_crew.Seen.{past_in}
 use Rattle.xa_clients.proofs.xa_crew.Growing.{all_of_maker}
-use Rattle.xa_clients.proofs.xa_crew.Lists.{filter-yes, filter-no, same_home-is, All-homes, All-makers, past_in-filter}
+use Rattle.xa_clients.proofs.xa_crew.Lists.{filter-yes, filter-no, same_home-is, All-homes, All-makers}
 use Rattle.xa_clients.specs.xa_held.declared.kept_board.BoardNote.{BoardNote}
 use Rattle.xa_clients.specs.xa_held.declared.kept_board.BoardNote.TheVariants.{Opened, By, Looked}
 use Rattle.xa_clients.specs.xa_held.declared.kept_queue.QueueNote.{QueueNote}
@@ -32,7 +29,6 @@ use Rattle.xa_clients.specs.xa_caller.declared.cargo.Filling.{Filling}
 use Rattle.xa_clients.specs.xa_desk.declared.domain.Domain.{Domain}
 use Rattle.xa_clients.specs.xa_desk.declared.desk.Desk.{Desk}
 use Rattle.xa_clients.specs.xa_desk.Whole.{entries_of}
-use Rattle.xa_clients.specs.xa_desk.Made.{IsMade}
 use Rattle.xa_joined.specs.Joined.{Back, whole_of, kept_of, noted_of, AllLeft}
 use Rattle.xa_joined.proofs.Listed.{all_mapped, all_both, numbered_map, nothing_past}
 use Rattle.xa_joined.proofs.Left.{Left, same_homes, each_left}
