@@ -51,8 +51,8 @@ use Rattle.xa_told.proofs.xa_caller.Next.{row-service}
 use Rattle.xa_desk.specs.Made.{IsMade}
 use Rattle.xa_desk.specs.declared.domain.Domain.{Domain}
 use Rattle.xa_desk.specs.declared.desk.Desk.{Desk}
-use Rattle.xa_desk.specs.Whole.{Whole, entries_of}
-use Rattle.xa_desk.specs.Desks.{IsDomain, GoesOn, IsDesk, Leads}
+use Rattle.xa_desk.specs.Whole.{entries_of}
+use Rattle.xa_desk.specs.Desks.{IsDomain, IsDesk, Leads}
 use Rattle.xa_desk.specs.Found.{SawOnBoard, HasFound, IsAimed, SawItsOwnAt, ShowsWhy, IsAccept, queue_in}
 use Rattle.xa_desk.specs.Steps.{FitsOn}
 use Rattle.xa_desk.proofs.Configured.{has_capacity, row_priority, asked_priority}
