@@ -12,7 +12,7 @@ use crate::working::behind;
 use std::alloc::Global;
 use std::marker::Model;
 use xa_frame::{Frame, Reader};
-use xa_link::{Failed, Killed, Link, Sink, Source, StartRefused, Starter, Yard};
+use xa_link::{Closed, Failed, Link, Sink, Source, StartRefused, Starter, Yard};
 use xa_types::{Generation, Name, NoMemory, ServerSetup, Setup};
 
 /// How many octets a write takes at most.
@@ -240,8 +240,12 @@ impl Link for LocalLink {
     ghost writes_alone = { λ _. refl };
 
     // The program runs only within a write.
-    fn kill(self) -> Killed<LocalLink> {
-        Killed::of(self)
+    fn kill(self) -> Closed<LocalLink> {
+        Closed::of(self)
+    }
+
+    fn close(self) -> Closed<LocalLink> {
+        Closed::of(self)
     }
 
     fn end(&mut self) {}

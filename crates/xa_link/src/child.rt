@@ -11,7 +11,7 @@ ghost use Rattle.xa_link.specs.Processes.{StartsServer, IsChosen};
 use crate::count::raise;
 use crate::escaped::Escaped;
 use crate::{
-    Failed, Killed, Link, ReadSource, Sink, Source, StartRefused, Starter, WriteSink, Yard,
+    Closed, Failed, Link, ReadSource, Sink, Source, StartRefused, Starter, WriteSink, Yard,
 };
 use std::alloc::{AllocError, Global};
 use std::io::{PipeReader, PipeWriter, Write};
@@ -120,9 +120,13 @@ impl<P: OpenProcess + Drop> Link for ChildLink<P> {
 
     // Where the system refuses to end the process, it is waited for only behind its pipes, as the link is dropped: it may
     // wait for its input.
-    fn kill(mut self) -> Killed<ChildLink<P>> {
+    fn kill(mut self) -> Closed<ChildLink<P>> {
         let _ = end(&mut self.child);
-        Killed::of(self)
+        Closed::of(self)
+    }
+
+    fn close(self) -> Closed<ChildLink<P>> {
+        Closed::of(self)
     }
 
     fn end(&mut self) {

@@ -5,26 +5,26 @@ ghost use Rattle.xa_types.specs.declared.ids.Generation.{Generation};
 use crate::{Sink, Source};
 use std::snapshot::Snapshot;
 
-/// What is left of the pipes of a life whose program was ended by force: nothing can be read from it or written to it, and
-/// clauses read what the pipes were.
-pub struct Killed<L> {
+/// What is left of the pipes of a life that were closed: nothing can be read from it or written to it, and clauses read what
+/// the pipes were.
+pub struct Closed<L> {
     was: Snapshot<L>,
 }
 
-impl<L> Drop for Killed<L> {
+impl<L> Drop for Closed<L> {
     fn drop(self) {
-        let Killed { was: _ } = self;
+        let Closed { was: _ } = self;
     }
 }
 
-impl<L: Drop> Killed<L> {
-    /// What is left of the link of a program that was ended by force. The link is dropped.
-    pub fn of(link: L) -> Killed<L>
+impl<L: Drop> Closed<L> {
+    /// What is left of that link, which is dropped.
+    pub fn of(link: L) -> Closed<L>
         ensures { result.was.value ≡ link }
     {
         let was = Snapshot::of(&link);
         drop(link);
-        Killed { was }
+        Closed { was }
     }
 }
 
@@ -36,7 +36,17 @@ pub trait Link: Source + Sink {
 
     /// Ends the server's program by force, and waits for it. What went through the pipes and what failed was as it is now,
     /// and so was whose they are.
-    fn kill(self) -> Killed<Self>
+    fn kill(self) -> Closed<Self>
+        ensures took { Self.took result.was.value ≡ Self.took self }
+        ensures gave { Self.gave result.was.value ≡ Self.gave self }
+        ensures left { Self.left result.was.value ≡ Self.left self }
+        ensures whose { whose result.was.value ≡ whose self }
+        ensures reads { Self.read_faults result.was.value ≡ Self.read_faults self }
+        ensures writes { Self.write_faults result.was.value ≡ Self.write_faults self };
+
+    /// Closes both pipes, and waits for the server's program, which ends by itself. What went through the pipes and what
+    /// failed was as it is now, and so was whose they are.
+    fn close(self) -> Closed<Self>
         ensures took { Self.took result.was.value ≡ Self.took self }
         ensures gave { Self.gave result.was.value ≡ Self.gave self }
         ensures left { Self.left result.was.value ≡ Self.left self }

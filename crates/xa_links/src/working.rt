@@ -11,7 +11,7 @@ use crate::taking::next;
 use crate::telling::{tell_if, told_by};
 use std::alloc::Global;
 use std::sync::Wait;
-use xa_desk::link::{Gate, Killed, Link, Starter};
+use xa_desk::link::{Closed, Gate, Link, Starter};
 use xa_desk::pipe::Life;
 use xa_desk::server::Served;
 use xa_desk::types::{Generation, Name, QueueId};
@@ -21,7 +21,7 @@ use xa_desk::{Desk, Domain, Stopped};
 #[derive(Drop)]
 pub struct CutLife<L> {
     pub generation: Generation,
-    pub killed: Killed<L>,
+    pub killed: Closed<L>,
 }
 
 /// A server's worker: its desk, the server with its lives, the server's name and queue, whether its first start is up or

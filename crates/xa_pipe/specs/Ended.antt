@@ -2,19 +2,26 @@
 use Rattle.std.specs.Prelude.{Bool, true, false}
 use Rattle.xa_pipe.specs.declared.over.EndedLife.TheInside.{Inside}
 use Rattle.xa_pipe.specs.declared.over.Pipes.{Pipes}
-use Rattle.xa_pipe.specs.declared.over.Pipes.TheVariants.{Open, Killed}
+use Rattle.xa_pipe.specs.declared.over.Pipes.TheVariants.{Open, Closed, Killed}
 use Rattle.xa_pipe.specs.Life.{LinkShows}
 use Rattle.xa_pipe.specs.Standing.{Ending}
 
 module _ {L : Type 0} where
-  -- what the pipes show; where the program was ended by force, what they showed then
+  -- what the pipes show; where they are closed, what they showed then
   abbrev pub pipes_show : (L → LinkShows) → Pipes L → LinkShows
   pipes_show shows (Open link) = shows link
+  pipes_show shows (Closed closed) = shows closed.was.value
   pipes_show shows (Killed killed) = shows killed.was.value
 
   abbrev pub are_killed : Pipes L → Bool
   are_killed (Open link) = false
+  are_killed (Closed closed) = false
   are_killed (Killed killed) = true
+
+  abbrev pub are_open : Pipes L → Bool
+  are_open (Open link) = true
+  are_open (Closed closed) = false
+  are_open (Killed killed) = false
 
   abbrev pub ending : Inside L → LinkShows → Ending
   ending e link = record {
@@ -22,4 +29,5 @@ module _ {L : Type 0} where
     cause = e.cause;
     written = e.written;
     killed = are_killed e.pipes;
+    open = are_open e.pipes;
   }

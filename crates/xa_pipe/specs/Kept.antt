@@ -8,7 +8,7 @@ use Rattle.xa_pipe.specs.declared.turn.Written.TheVariants.{Cut, Missing}
 use Rattle.xa_pipe.specs.declared.turn.Turn.{Turn}
 use Rattle.xa_pipe.specs.declared.turn.Turn.TheVariants.{Serving}
 use Rattle.xa_pipe.specs.Pipe.{HasRead, shown}
-use Rattle.xa_pipe.specs.Standing.{Standing, Ending, IsSound, tag_of, is_killed}
+use Rattle.xa_pipe.specs.Standing.{Standing, Ending, IsSound, tag_of, is_killed, is_open}
 
 -- the number of the next INVOKE behind what the program said in that turn
 abbrev pub tag_after_turn : Turn → ℕ → ℕ
@@ -31,4 +31,4 @@ module _ {L : Type 0} where
 
   -- the life that ended there
   abbrev pub ending_of : Course L → StopCause → Written → Ending
-  ending_of c cause written = record { life = standing_of c; cause = cause; written = written; killed = is_killed cause }
+  ending_of c cause written = record { life = standing_of c; cause = cause; written = written; killed = is_killed cause; open = is_open cause }

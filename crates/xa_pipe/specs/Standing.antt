@@ -48,13 +48,14 @@ pub record IsSound (life : Standing) : Type 0 where
 
 -- ---- a life that ended
 
--- what is left of a life: how it stood in its last turn, why it ended, whether the last frame that was due was written, and whether its program was
--- ended by force
+-- what is left of a life: how it stood in its last turn, why it ended, whether the last frame that was due was written, whether its program was
+-- ended by force, and whether its pipes are open
 pub record Ending : Type 0 where
   pub life : Standing
   pub cause : StopCause
   pub written : Written
   pub killed : Bool
+  pub open : Bool
 
 -- the frames that were due to the program; where it waited for a request, SHUTDOWN was the last
 abbrev pub due_in : Turn → List Frame → List Frame
@@ -67,12 +68,18 @@ is_killed Shutdown = false
 is_killed Exit = false
 is_killed cause = true
 
+-- whether the pipes of a life that ends so stay open
+abbrev pub is_open : StopCause → Bool
+is_open Shutdown = true
+is_open cause = false
+
 -- where the life ended
 abbrev pub last_turn : Ending → LastTurn
 last_turn over = record { name = over.life.name; tag = tag_of over.life; frames = over.life.said; turn = over.life.turn; written = over.written }
 
 -- what holds of each life that ended: its program had spoken in turn, it may end so, what its link took and gave shows that, one read or write failed
--- exactly where that was the cause, the link is its own, and it was killed exactly where it ended neither by SHUTDOWN nor by TPEXIT
+-- exactly where that was the cause, the link is its own, it was killed exactly where it ended neither by SHUTDOWN nor by TPEXIT, and its pipes are
+-- open exactly where it ended by SHUTDOWN
 pub record IsOver (over : Ending) : Type 0 where
   pub says : Says over.life.name (returned over.life) over.life.said over.life.turn
   pub may : may_end over.cause over.life.turn over.written ≡ true
@@ -81,3 +88,4 @@ pub record IsOver (over : Ending) : Type 0 where
   pub counted : IsCounted over.cause over.life.link.reads over.life.link.writes
   pub whose : IsOf (id_of over.life) over.life.link.whose
   pub killed : over.killed ≡ is_killed over.cause
+  pub open : over.open ≡ is_open over.cause

@@ -5,8 +5,8 @@ ghost use Rattle.xa_frame.specs.Spelling.{HasSpelling, spelled, kind_octet};
 ghost use Rattle.xa_pipe.specs.Life.{MaySay, awaiting, is_reading, turn_behind};
 ghost use Rattle.xa_pipe.specs.Pipe.{HasRead, Ceases, CountsReads, shown};
 ghost use Rattle.xa_pipe.specs.Changes.{turn_after};
-ghost use Rattle.xa_pipe.specs.Ended.{pipes_show, are_killed};
-ghost use Rattle.xa_pipe.specs.Standing.{IsOver, is_killed};
+ghost use Rattle.xa_pipe.specs.Ended.{pipes_show, are_killed, are_open};
+ghost use Rattle.xa_pipe.specs.Standing.{IsOver, is_killed, is_open};
 ghost use Rattle.xa_pipe.specs.Kept.{ending_of, tag_after_turn};
 
 use crate::hearing::{is_next, is_ready, is_return, out_of_turn};
@@ -16,7 +16,7 @@ use crate::pipe::Pipe;
 use crate::turn::{Turn, Written};
 use xa_events::StopCause;
 use xa_frame::{Body, Frame};
-use xa_link::{Killed, Link};
+use xa_link::{Closed, Link};
 use xa_types::{Generation, Name, Rval, ServerId};
 
 /// What a life has.
@@ -108,7 +108,7 @@ impl<L: Link> Course<L> {
     }
 
     /// Its program is ended by force, in whichever turn.
-    pub fn abandon(self) -> Killed<L>
+    pub fn abandon(self) -> Closed<L>
         ensures took { L.took result.was.value ≡ self.pipe.took }
         ensures gave { L.gave result.was.value ≡ self.pipe.gave }
         ensures left { L.left result.was.value ≡ self.pipe.left }
@@ -130,6 +130,7 @@ impl<L: Link> Course<L> {
     }
 
     /// The life ends by that cause: its program is ended by force, but behind SHUTDOWN and TPEXIT, where it ends by itself.
+    /// Its pipes are closed, but behind SHUTDOWN.
     pub fn end(self, cause: StopCause, written: Written) -> EndedLife<L>
         requires { IsOver (ending_of self cause written) }
         ensures { result ≡ ending_of self cause written }
@@ -159,21 +160,15 @@ impl<L: Link> Course<L> {
     }
 }
 
-// Whether a life that ends so is killed.
-fn is_killed(cause: StopCause) -> bool
-    ensures { result ≡ is_killed cause }
-{
-    !matches!(cause, StopCause::Shutdown | StopCause::Exit)
-}
-
 // What is left of the pipes of a life that ends so.
 fn close<L: Link>(pipe: Pipe<L>, cause: StopCause) -> Pipes<L>
     ensures killed { are_killed result ≡ is_killed cause }
+    ensures open { are_open result ≡ is_open cause }
     ensures shows { pipes_show (λ l. record { took = L.took l; gave = L.gave l; left = L.left l; reads = L.read_faults l; writes = L.write_faults l; whose = L.whose l }) result ≡ shown pipe }
 {
-    if is_killed(cause) {
-        Pipes::Killed(pipe.kill())
-    } else {
-        Pipes::Open(pipe.into_link())
+    match cause {
+        StopCause::Shutdown => Pipes::Open(pipe.into_link()),
+        StopCause::Exit => Pipes::Closed(pipe.close()),
+        _ => Pipes::Killed(pipe.kill()),
     }
 }

@@ -19,7 +19,7 @@ use std::alloc::Global;
 use std::marker::Model;
 use xa_events::StopCause;
 use xa_frame::Frame;
-use xa_link::{Killed, Link};
+use xa_link::{Closed, Link};
 use xa_types::{Data, Generation, Name, ServerId};
 
 /// A life of a server that goes on. A call by which it may end takes it, and gives back the life or what is left of it; so
@@ -183,7 +183,7 @@ impl<L: Link> Life<L> {
     }
 
     /// The monitor goes on with it no more: its program is ended by force, in whichever turn.
-    pub fn abandon(self) -> Killed<L>
+    pub fn abandon(self) -> Closed<L>
         ensures took { L.took result.was.value ≡ self.link.took }
         ensures gave { L.gave result.was.value ≡ self.link.gave }
         ensures left { L.left result.was.value ≡ self.link.left }
@@ -195,7 +195,8 @@ impl<L: Link> Life<L> {
         course.abandon()
     }
 
-    /// The life ends behind a RETURN with TPEXIT.
+    /// The life ends behind a RETURN with TPEXIT: both pipes are closed, and its program, which ends by itself, is waited
+    /// for.
     pub fn exit(self) -> EndedLife<L>
         requires { self.turn ≡ Turn.Exited }
         ensures { Exits result self }

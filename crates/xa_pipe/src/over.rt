@@ -2,21 +2,22 @@
 ghost use Rattle.std.specs.Prelude.{◌≡◌};
 ghost use Rattle.xa_events.specs.declared.event.StopCause.TheVariants.{Shutdown, Exit};
 ghost use Rattle.xa_pipe.specs.Standing.{IsOver};
-ghost use Rattle.xa_pipe.specs.Ended.{pipes_show, are_killed};
+ghost use Rattle.xa_pipe.specs.Ended.{pipes_show, are_killed, are_open};
 
 use crate::noted::{Asked, Said};
 use crate::turn::{Turn, Written};
 use std::marker::Model;
 use xa_events::StopCause;
-use xa_link::{Killed, Link};
+use xa_link::{Closed, Link};
 use xa_types::{Generation, Name, ServerId};
 
-/// The pipes of a life that ended: open, where its program ends by itself and is waited for as they are dropped, or what
-/// is left where it was ended by force.
+/// The pipes of a life that ended: open, where its program was told to end and is waited for as they are dropped, or what
+/// is left of them, where it ended by itself and was waited for, and where it was ended by force.
 #[derive(Drop)]
 pub enum Pipes<L> {
     Open(L),
-    Killed(Killed<L>),
+    Closed(Closed<L>),
+    Killed(Closed<L>),
 }
 
 /// A life that ended, and what is left of its pipes.
@@ -70,6 +71,7 @@ impl<L: Link> EndedLife<L> {
     /// What is left of its pipes.
     pub fn into_pipes(self) -> Pipes<L>
         ensures killed { are_killed result ≡ self.killed }
+        ensures open { are_open result ≡ self.open }
         ensures shows { pipes_show (λ l. record { took = L.took l; gave = L.gave l; left = L.left l; reads = L.read_faults l; writes = L.write_faults l; whose = L.whose l }) result ≡ self.life.link }
         ensures over { IsOver self }
     {

@@ -11,7 +11,7 @@ use std::alloc::Global;
 use std::marker::Model;
 use xa_events::StopCause;
 use xa_frame::{Body, Frame, NextRefused, Reader, append, append_invoke};
-use xa_link::{Killed, Link, put};
+use xa_link::{Closed, Link, put};
 use xa_types::{Data, Mode, Name, NoMemory};
 
 // How many octets one read takes at most.
@@ -174,7 +174,7 @@ impl<L: Link> Pipe<L> {
     }
 
     /// Ends the program by force, and waits for it: what is left.
-    pub fn kill(self) -> Killed<L>
+    pub fn kill(self) -> Closed<L>
         ensures took { L.took result.was.value ≡ self.took }
         ensures gave { L.gave result.was.value ≡ self.gave }
         ensures left { L.left result.was.value ≡ self.left }
@@ -183,6 +183,18 @@ impl<L: Link> Pipe<L> {
         ensures whose { L.whose result.was.value ≡ self.whose }
     {
         self.into_link().kill()
+    }
+
+    /// Closes the pipes, and waits for the program, which ends by itself: what is left.
+    pub fn close(self) -> Closed<L>
+        ensures took { L.took result.was.value ≡ self.took }
+        ensures gave { L.gave result.was.value ≡ self.gave }
+        ensures left { L.left result.was.value ≡ self.left }
+        ensures reads { L.read_faults result.was.value ≡ self.reads }
+        ensures writes { L.write_faults result.was.value ≡ self.writes }
+        ensures whose { L.whose result.was.value ≡ self.whose }
+    {
+        self.into_link().close()
     }
 
     /// Ends the program by force, and waits for it. What went through the pipes stays as it is.

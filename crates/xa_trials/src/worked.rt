@@ -75,7 +75,7 @@ fn got_alone(mut servers: Vec<Vec<EndedLife<MemoryLink>>>, got: &[u8]) -> bool {
     match last {
         Some(life) => match life.into_pipes() {
             Pipes::Open(link) => link.taken() == got,
-            Pipes::Killed(_) => false,
+            Pipes::Closed(_) | Pipes::Killed(_) => false,
         },
         None => false,
     }

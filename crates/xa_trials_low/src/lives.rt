@@ -1,4 +1,4 @@
-//! Lives over links in memory: how each ends, and whether it is killed.
+//! Lives over links in memory: how each ends, and what is left of its pipes.
 ghost use Rattle.std.specs.Prelude.{◌≡◌};
 ghost use Rattle.xa_pipe.specs.declared.turn.Turn.TheVariants.{AwaitsReady};
 
@@ -21,62 +21,70 @@ const EXIT: &[u8] = b"XA\x01\x04\0\0\0\x06\0\0\0\x01\x02\0\0\0\x07\0";
 
 const OTHER: &[u8] = b"XA\x01\x04\0\0\0\x06\0\0\0\x02\0\0\0\0\x07\0";
 
+// What is left of the pipes of a life that ended.
+#[derive(Clone, Copy, PartialEq, Eq)]
+enum Left {
+    Open,
+    Closed,
+    Killed,
+}
+
 // What the program says, the numbers of the read and of the write of 64 octets that fail, or 0, why the life ends, and
-// whether its program is killed.
-type Course = (&'static [&'static [u8]], [u64; 2], StopCause, bool);
+// what is left of its pipes.
+type Course = (&'static [&'static [u8]], [u64; 2], StopCause, Left);
 
 static COURSES: [Course; 12] = [
     (
         &[READY, NEXT, RETURN, NEXT],
         [0, 0],
         StopCause::Shutdown,
-        false,
+        Left::Open,
     ),
-    (&[READY, NEXT, EXIT], [0, 0], StopCause::Exit, false),
-    (&[READY, NEXT, EXIT, b"XA"], [0, 0], StopCause::Exit, false),
-    (&[], [0, 0], StopCause::EndOfInput, true),
-    (&[READY, NEXT], [0, 0], StopCause::EndOfInput, true),
+    (&[READY, NEXT, EXIT], [0, 0], StopCause::Exit, Left::Closed),
+    (&[READY, NEXT, EXIT, b"XA"], [0, 0], StopCause::Exit, Left::Closed),
+    (&[], [0, 0], StopCause::EndOfInput, Left::Killed),
+    (&[READY, NEXT], [0, 0], StopCause::EndOfInput, Left::Killed),
     (
         &[READY, NEXT, RETURN, b"XA"],
         [0, 0],
         StopCause::EndOfInput,
-        true,
+        Left::Killed,
     ),
     (
         &[READY, NEXT, RETURN, NEXT],
         [1, 0],
         StopCause::ReadFault,
-        true,
+        Left::Killed,
     ),
     (
         &[READY, NEXT, RETURN, NEXT],
         [0, 1],
         StopCause::WriteFault,
-        true,
+        Left::Killed,
     ),
     (
         &[READY, NEXT, RETURN, NEXT],
         [0, 2],
         StopCause::WriteFault,
-        true,
+        Left::Killed,
     ),
     (
         &[READY, NEXT, b"nonsense, no frame"],
         [0, 0],
         StopCause::BadBytes(26),
-        true,
+        Left::Killed,
     ),
     (
         &[READY, NEXT, OTHER],
         [0, 0],
         StopCause::OutOfTurn(0x04, 2),
-        true,
+        Left::Killed,
     ),
     (
         &[READY, NEXT, RETURN, RETURN],
         [0, 0],
         StopCause::OutOfTurn(0x04, 1),
-        true,
+        Left::Killed,
     ),
 ];
 
@@ -97,19 +105,20 @@ fn serve<L: Link>(life: Life<L>, service: &Name) -> Result<EndedLife<L>, EndedLi
     }
 }
 
-fn is_killed(over: EndedLife<MemoryLink>) -> bool {
+fn left_of(over: EndedLife<MemoryLink>) -> Left {
     match over.into_pipes() {
-        Pipes::Killed(_) => true,
-        Pipes::Open(_) => false,
+        Pipes::Open(_) => Left::Open,
+        Pipes::Closed(_) => Left::Closed,
+        Pipes::Killed(_) => Left::Killed,
     }
 }
 
-// Whether the first life of the server ends by that cause, and is killed so.
+// Whether the first life of the server ends by that cause, and that is left of its pipes.
 fn ends_so<S: Starter<MemoryLink>>(
     alloc: Global,
     starter: &mut S,
     cause: StopCause,
-    killed: bool,
+    left: Left,
 ) -> bool {
     let server = starter.server();
     let Ok(link) = starter.start(&server, Generation(1)) else {
@@ -121,7 +130,7 @@ fn ends_so<S: Starter<MemoryLink>>(
         Err(over) => over,
     };
     let is_right = over.cause() == cause;
-    is_right & (is_killed(over) == killed)
+    is_right & (left_of(over) == left)
 }
 
 fn yard_of(alloc: Global, said: &[&[u8]], [reads, writes]: [u64; 2]) -> Option<MemoryYard> {
@@ -131,11 +140,11 @@ fn yard_of(alloc: Global, said: &[&[u8]], [reads, writes]: [u64; 2]) -> Option<M
     Some(MemoryYard::new(alloc, Vec::from_array(alloc, lives).ok()?))
 }
 
-fn is_right(alloc: Global, (said, fails, cause, killed): Course) -> Option<bool> {
+fn is_right(alloc: Global, (said, fails, cause, left): Course) -> Option<bool> {
     let mut yard = yard_of(alloc, said, fails)?;
     let mut starters = yard.starters(&setup_of(alloc, ONE_SERVER)?).ok()?;
     let starter = starters.as_mut_slice().get_mut(0)?;
-    Some(ends_so(alloc, starter, cause, killed))
+    Some(ends_so(alloc, starter, cause, left))
 }
 
 fn first_wrong(alloc: Global) -> Option<usize> {

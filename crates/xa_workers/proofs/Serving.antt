@@ -13,7 +13,7 @@ use Rattle.xa_boot.specs.xa_held.contracts.cargo.Cargo as Cargo
 use Rattle.xa_boot.specs.xa_link.declared.link.Link as Link
 use Rattle.xa_boot.specs.xa_link.declared.source.Source as Source
 use Rattle.xa_boot.specs.xa_link.declared.sink.Sink as Sink
-use Rattle.xa_boot.specs.xa_link.contracts.link.Killed as Killed
+use Rattle.xa_boot.specs.xa_link.contracts.link.Closed as Closed
 use Rattle.xa_boot.specs.xa_pipe.contracts.noted.Said as Said
 use Rattle.xa_boot.specs.xa_pipe.contracts.noted.Asked as Asked
 use Rattle.xa_boot.specs.xa_pipe.contracts.over.EndedLife as EndedLife
@@ -42,7 +42,7 @@ slot_field : IsSend (ServerSlot.the_field).row
 slot_field = search (sendable, crosses, lives_sends, entry_field) depth 40 fits 20000
 
 module _ (L : RattleType) (link : Link.Ghosts L.Denot) (source : Source.Ghosts L.Denot) (sink : Sink.Ghosts L.Denot) (l : IsSend L) where
-  killed_field : IsSend (Killed.the_field L).row
+  killed_field : IsSend (Closed.the_field L).row
   killed_field = search (sendable, crosses, l) depth 40 fits 20000
 
   pipes_field : IsSend (Pipes.the_field L).row

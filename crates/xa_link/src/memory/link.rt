@@ -2,7 +2,7 @@
 ghost use Rattle.std.specs.Prelude.{◌≡◌, ◌++◌, [], Some};
 
 use super::{MemorySink, MemorySource};
-use crate::{Failed, Killed, Link, Sink, Source};
+use crate::{Closed, Failed, Link, Sink, Source};
 use xa_types::{Generation, Name};
 
 /// The two pipes of a life in memory. It tells all.
@@ -92,8 +92,12 @@ impl Link for MemoryLink {
     ghost writes_alone = { λ _. refl };
 
     // There is no program to end.
-    fn kill(self) -> Killed<MemoryLink> {
-        Killed::of(self)
+    fn kill(self) -> Closed<MemoryLink> {
+        Closed::of(self)
+    }
+
+    fn close(self) -> Closed<MemoryLink> {
+        Closed::of(self)
     }
 
     fn end(&mut self) {}
