@@ -217,7 +217,7 @@ module _ {L : Type 0} where
         counted = counted_unwritten cause new.pipe.reads old.pipe.writes new.pipe.writes counts (reads ∙ kept.sound.reads) kept.sound.writes;
         whose = whose ∙ kept.sound.whose;
         killed = refl;
-        open = refl;
+        left_open = refl;
       })
 
   -- by SHUTDOWN
@@ -233,5 +233,5 @@ module _ {L : Type 0} where
         counted = (reads ∙ kept.sound.reads, writes ∙ kept.sound.writes);
         whose = whose ∙ kept.sound.whose;
         killed = refl;
-        open = refl;
+        left_open = refl;
       })

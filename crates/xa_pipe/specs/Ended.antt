@@ -29,5 +29,5 @@ module _ {L : Type 0} where
     cause = e.cause;
     written = e.written;
     killed = are_killed e.pipes;
-    open = are_open e.pipes;
+    left_open = are_open e.pipes;
   }

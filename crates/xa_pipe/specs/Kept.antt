@@ -31,4 +31,4 @@ module _ {L : Type 0} where
 
   -- the life that ended there
   abbrev pub ending_of : Course L → StopCause → Written → Ending
-  ending_of c cause written = record { life = standing_of c; cause = cause; written = written; killed = is_killed cause; open = is_open cause }
+  ending_of c cause written = record { life = standing_of c; cause = cause; written = written; killed = is_killed cause; left_open = is_open cause }

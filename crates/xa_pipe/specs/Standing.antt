@@ -55,7 +55,7 @@ pub record Ending : Type 0 where
   pub cause : StopCause
   pub written : Written
   pub killed : Bool
-  pub open : Bool
+  pub left_open : Bool
 
 -- the frames that were due to the program; where it waited for a request, SHUTDOWN was the last
 abbrev pub due_in : Turn → List Frame → List Frame
@@ -88,4 +88,4 @@ pub record IsOver (over : Ending) : Type 0 where
   pub counted : IsCounted over.cause over.life.link.reads over.life.link.writes
   pub whose : IsOf (id_of over.life) over.life.link.whose
   pub killed : over.killed ≡ is_killed over.cause
-  pub open : over.open ≡ is_open over.cause
+  pub left_open : over.left_open ≡ is_open over.cause

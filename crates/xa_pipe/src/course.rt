@@ -163,7 +163,7 @@ impl<L: Link> Course<L> {
 // What is left of the pipes of a life that ends so.
 fn close<L: Link>(pipe: Pipe<L>, cause: StopCause) -> Pipes<L>
     ensures killed { are_killed result ≡ is_killed cause }
-    ensures open { are_open result ≡ is_open cause }
+    ensures left_open { are_open result ≡ is_open cause }
     ensures shows { pipes_show (λ l. record { took = L.took l; gave = L.gave l; left = L.left l; reads = L.read_faults l; writes = L.write_faults l; whose = L.whose l }) result ≡ shown pipe }
 {
     match cause {

@@ -71,7 +71,7 @@ impl<L: Link> EndedLife<L> {
     /// What is left of its pipes.
     pub fn into_pipes(self) -> Pipes<L>
         ensures killed { are_killed result ≡ self.killed }
-        ensures open { are_open result ≡ self.open }
+        ensures left_open { are_open result ≡ self.left_open }
         ensures shows { pipes_show (λ l. record { took = L.took l; gave = L.gave l; left = L.left l; reads = L.read_faults l; writes = L.write_faults l; whose = L.whose l }) result ≡ self.life.link }
         ensures over { IsOver self }
     {
