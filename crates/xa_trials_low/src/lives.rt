@@ -41,7 +41,12 @@ static COURSES: [Course; 12] = [
         Left::Open,
     ),
     (&[READY, NEXT, EXIT], [0, 0], StopCause::Exit, Left::Closed),
-    (&[READY, NEXT, EXIT, b"XA"], [0, 0], StopCause::Exit, Left::Closed),
+    (
+        &[READY, NEXT, EXIT, b"XA"],
+        [0, 0],
+        StopCause::Exit,
+        Left::Closed,
+    ),
     (&[], [0, 0], StopCause::EndOfInput, Left::Killed),
     (&[READY, NEXT], [0, 0], StopCause::EndOfInput, Left::Killed),
     (
