@@ -42,11 +42,11 @@ slot_field : IsSend (ServerSlot.the_field).row
 slot_field = search (sendable, crosses, lives_sends, entry_field) depth 40 fits 20000
 
 module _ (L : RattleType) (link : Link.Ghosts L.Denot) (source : Source.Ghosts L.Denot) (sink : Sink.Ghosts L.Denot) (l : IsSend L) where
-  killed_field : IsSend (Closed.the_field L).row
-  killed_field = search (sendable, crosses, l) depth 40 fits 20000
+  closed_field : IsSend (Closed.the_field L).row
+  closed_field = search (sendable, crosses, l) depth 40 fits 20000
 
   pipes_field : IsSend (Pipes.the_field L).row
-  pipes_field = enum_send (declared_enum.shape (Pipes.the_type L)) ((l, tt), ((killed_field, tt), tt))
+  pipes_field = enum_send (declared_enum.shape (Pipes.the_type L)) ((l, tt), ((closed_field, tt), ((closed_field, tt), tt)))
 
   ended_sends : IsSend (EndedLife.the_row L link source sink)
   ended_sends = search (sendable, crosses, pipes_field, said_sends, asked_sends, name.the_send) depth 40 fits 20000
