@@ -1,8 +1,8 @@
 -- The events of a server that its caller notes (this project's own).
-use Rattle.std.specs.Prelude.{ℕ, max, Option, Some, None}
+use Rattle.std.specs.Prelude.{◌≡◌, ℕ, max, Option, Some, None}
 use Rattle.xa_types.specs.declared.stamp.Stamp.{Stamp}
 use Rattle.xa_events.specs.declared.event.Event.{Event}
-use Rattle.xa_events.specs.declared.event.Event.TheVariants.{Take, Gone, Start, StartFailed, End, Stop}
+use Rattle.xa_events.specs.declared.event.Event.TheVariants.{Take, Forward, Gone, Start, StartFailed, End, Stop}
 use Rattle.xa_events.specs.Caller.{version_of}
 use Rattle.xa_work.specs.Work.{noted, noted_here}
 use Rattle.xa_caller.specs.Caller.{Standing}
@@ -21,6 +21,11 @@ IsAtQueue (Take t) = Unit {0}
 IsAtQueue (Gone server) = Unit {0}
 IsAtQueue _ = ⊥
 
+-- it forwards a request, by that version of the board
+abbrev pub IsForwardBy : ℕ → Event → Type 0
+IsForwardBy version (Forward f) = f.version ≡ version
+IsForwardBy version _ = ⊥
+
 -- the version of the board that the end of a request says to have been read
 abbrev pub version_ended : Event → Option ℕ
 version_ended (End e) = version_of e.outcome
@@ -37,3 +42,7 @@ noted_own stamp event c = record c { work = noted_here (record { stamp = stamp; 
 -- the event was noted at another home
 abbrev pub noted_off : Stamp → Event → Standing → Standing
 noted_off stamp event c = record c { work = noted (record { stamp = stamp; event = event }) c.work }
+
+-- a forward by that version was noted at a queue, and what was set for the next request's priority is set no more
+abbrev pub forwarded_off : Stamp → ℕ → Event → Standing → Standing
+forwarded_off stamp version event c = record c { work = noted (record { stamp = stamp; event = event }) c.work; least = version; priority = None }

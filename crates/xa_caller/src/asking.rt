@@ -203,6 +203,7 @@ fn aimed_at(entry: Entry<Cargo>, row: &Row, asked: Option<(bool, i32)>) -> Entry
     let Invocation {
         service: _,
         routine: _,
+        hop: _,
         payload,
     } = invocation;
     Entry {
@@ -213,6 +214,7 @@ fn aimed_at(entry: Entry<Cargo>, row: &Row, asked: Option<(bool, i32)>) -> Entry
             invocation: Invocation {
                 service: row.service,
                 routine: row.routine,
+                hop: 0,
                 payload,
             },
         },

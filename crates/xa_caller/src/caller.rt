@@ -152,6 +152,7 @@ pub(crate) fn entry_by(
             invocation: Invocation {
                 service: row.service,
                 routine: row.routine,
+                hop: 0,
                 payload,
             },
         },

@@ -13,6 +13,7 @@ mod telling;
 
 pub use caller::{Caller, Left};
 pub use cargo::{Cargo, Filling};
+pub use choosing::{first_row, row_at};
 pub use laws::{chosen_is_first, request_is_as_asked};
 pub use outcomes::{Aimed, Note, Prepared, Step, Stop, Why};
 pub use phase::{Draft, Open, Phase};

@@ -5,7 +5,7 @@ ghost use Rattle.xa_cell.specs.Calls.{FilledAs};
 ghost use Rattle.xa_crew.specs.Crew.{IsOfDomain};
 ghost use Rattle.xa_work.specs.Work.{IsNext};
 ghost use Rattle.xa_caller.specs.declared.phase.Phase.TheVariants as phases;
-ghost use Rattle.xa_caller.specs.Serving.{IsOfServer, IsAtQueue, version_ended, raised, noted_own, noted_off};
+ghost use Rattle.xa_caller.specs.Serving.{IsOfServer, IsAtQueue, IsForwardBy, version_ended, raised, noted_own, noted_off, forwarded_off};
 
 use crate::caller::Caller;
 use crate::cargo::Filling;
@@ -66,6 +66,29 @@ impl Caller {
         ensures noted { self.new ≡ noted_off stamp event.value self.old }
     {
         self.work.noted(stamp, event);
+    }
+
+    /// What it set for the priority of its next request: absolute, or to be added to the service's own.
+    pub fn next_priority(&self) -> Option<(bool, i32)>
+        ensures { result ≡ self.now.priority }
+    {
+        self.priority
+    }
+
+    /// Its server forwarded a request, by that version of the board, which was noted at a queue with that stamp. What was set
+    /// for the priority of the next request is set no more.
+    pub fn forwarded(&mut self, stamp: Stamp, version: u64, event: Snapshot<Event>)
+        requires idle { self.old.phase ≡ phases.Idle }
+        requires later { self.old.work.stamp.0 < stamp.0 }
+        requires bound { stamp.0 ≤ 2 ^ 63 }
+        requires kind { IsForwardBy version event.value }
+        requires recent { self.old.least ≤ version }
+        requires next { IsNext self.old.work event.value }
+        ensures noted { self.new ≡ forwarded_off stamp version event.value self.old }
+    {
+        self.work.noted(stamp, event);
+        self.least = version;
+        self.priority = None;
     }
 
     /// An event of the domain was noted by its server's worker at the board or at a queue, with that stamp.

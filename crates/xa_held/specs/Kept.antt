@@ -7,7 +7,7 @@ use Rattle.std.specs.List.{Contains}
 use Rattle.xa_types.specs.declared.call.Mode.TheVariants.{Reply}
 use Rattle.xa_types.specs.declared.ids.RequestId.{RequestId}
 use Rattle.xa_events.specs.declared.event.Event.{Event}
-use Rattle.xa_events.specs.declared.event.Event.TheVariants.{Accept}
+use Rattle.xa_events.specs.declared.event.Event.TheVariants.{Accept, Forward}
 use Rattle.xa_frame.specs.Spelling.{IsData}
 use Rattle.xa_lock.specs.declared.makers.Made.{Made}
 use Rattle.xa_queue.specs.declared.entry.Entry.{Entry}
@@ -24,9 +24,10 @@ pub record Kept (A : Type 0) : Type 0 where
   pub clients : ℕ
   pub cells : Cells A
 
--- the event sends the request to be answered, for that service, routine and data
+-- the event sends the request to be answered, for that service, routine and data, behind so many forwards
 abbrev pub Brings : RequestId → Invocation → Event → Type 0
-Brings request asked (Accept a) = (a.request ≡ request) × (a.service ≡ asked.service) × (a.routine ≡ asked.routine) × (a.mode ≡ Reply) × (a.payload ≡ asked.payload)
+Brings request asked (Accept a) = (a.request ≡ request) × (a.service ≡ asked.service) × (a.routine ≡ asked.routine) × (a.mode ≡ Reply) × (a.payload ≡ asked.payload) × (asked.hop ≡ 0)
+Brings request asked (Forward f) = (f.request ≡ request) × (f.service ≡ asked.service) × (f.routine ≡ asked.routine) × (f.payload ≡ asked.payload) × (asked.hop ≡ f.hop)
 Brings request asked _ = ⊥
 
 module _ {A : Type 0} where

@@ -2,11 +2,13 @@
 use xa_cell::Ticket;
 use xa_types::{Data, Name};
 
-/// What a server is asked for: the service, its routine, and the data.
+/// What a server is asked for: the service, its routine, how often the request was forwarded until it came here, and the
+/// data.
 #[derive(Drop)]
 pub struct Invocation {
     pub service: Name,
     pub routine: Name,
+    pub hop: u8,
     pub payload: Data,
 }
 

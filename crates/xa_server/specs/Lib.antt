@@ -2,6 +2,7 @@ pub mod Doings
 pub mod Noting
 pub mod Slot
 pub mod Changes
+pub mod Forwarding
 pub mod Told
 pub mod Served
 -- what crates above cite of the definitions of those below

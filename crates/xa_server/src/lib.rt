@@ -3,12 +3,14 @@
 #![tactic(auto)]
 
 mod closing;
+mod forwarding;
 pub mod laws;
 mod noting;
 mod served;
 mod slot;
 
 pub use closing::{Closing, Given};
+pub use forwarding::Forwarding;
 pub use served::Served;
 pub use slot::{Last, ServerSlot};
 

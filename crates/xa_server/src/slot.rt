@@ -43,18 +43,18 @@ pub enum Last {
 
 /// A server: when it was started, what it does, the request that it has in hand, and whether it was given up or shut down.
 pub struct ServerSlot {
-    server: ServerId,
+    pub(crate) server: ServerId,
     restarts: Lives,
     made: u64,
-    doing: Doing,
-    hand: Option<Entry<Cargo>>,
-    last: Last,
+    pub(crate) doing: Doing,
+    pub(crate) hand: Option<Entry<Cargo>>,
+    pub(crate) last: Last,
     gone: bool,
     shut: bool,
 }
 
 // The life that the server is in; 0 where it is off.
-fn life_in(doing: Doing) -> Generation
+pub(crate) fn life_in(doing: Doing) -> Generation
     ensures { result ≡ life_in doing }
 {
     match doing {
@@ -126,7 +126,7 @@ fn is_shutdown(cause: &StopCause) -> bool
     matches!(cause, StopCause::Shutdown)
 }
 
-fn take_out(hand: &mut Option<Entry<Cargo>>) -> Entry<Cargo>
+pub(crate) fn take_out(hand: &mut Option<Entry<Cargo>>) -> Entry<Cargo>
     requires { IsSome hand.old }
     ensures was { hand.old ≡ Some result }
     ensures now { hand.new ≡ None }
@@ -137,7 +137,7 @@ fn take_out(hand: &mut Option<Entry<Cargo>>) -> Entry<Cargo>
     }
 }
 
-fn put_in(hand: &mut Option<Entry<Cargo>>, entry: Entry<Cargo>)
+pub(crate) fn put_in(hand: &mut Option<Entry<Cargo>>, entry: Entry<Cargo>)
     requires { hand.old ≡ None }
     ensures { hand.new ≡ Some entry }
 {
@@ -332,7 +332,7 @@ impl ServerSlot {
     }
 
     // The end of the request in hand.
-    fn end_with(&self, outcome: Outcome) -> Ended
+    pub(crate) fn end_with(&self, outcome: Outcome) -> Ended
         requires hand { InHand self.now.doing self.now.hand }
         requires busy { IsBusy self.now.doing }
         ensures { (entry : Entry Cargo) → self.now.hand ≡ Some entry → result ≡ record { request = entry.request; server = self.now.server; generation = life_in self.now.doing; outcome = outcome } }

@@ -64,6 +64,7 @@ pub fn ask<R: Abort>(
     let invocation = Invocation {
         service,
         routine: service,
+        hop: 0,
         payload: Data::Absent,
     };
     let entry = Entry {

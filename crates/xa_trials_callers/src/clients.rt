@@ -289,6 +289,7 @@ fn filling_of(entry: Entry<Cargo>, says: Says, stamp: Stamp) -> (Ticket<Filling>
     let Invocation {
         service: _,
         routine: _,
+        hop: _,
         payload,
     } = invocation;
     let answer = match says {

@@ -90,6 +90,7 @@ pub fn entry_of(
     let invocation = Invocation {
         service,
         routine: service,
+        hop: 0,
         payload: Data::Absent,
     };
     Some(Entry {
