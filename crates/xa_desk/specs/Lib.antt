@@ -6,6 +6,7 @@ pub mod Found
 pub mod Steps
 pub mod Parting
 pub mod Serving
+pub mod Passing
 -- what crates above cite of the definitions of those below
 pub use Rattle.xa_told.specs.xa_types
 pub use Rattle.xa_told.specs.xa_events

@@ -1,15 +1,13 @@
--- The events that the workers of a domain make: those of tpcall, of tpsprio (after Tuxedo) and of servers' lives. The machine has others, of which none is made here (this
+-- The events that the workers of a domain make: those of tpcall, of tpsprio and tpforward (after Tuxedo) and of servers' lives. The machine has others, of which none is made here (this
 -- project's own).
 use Rattle.std.specs.Prelude.{◌≡◌}
 use Rattle.xa_told.specs.xa_types.declared.call.Mode.TheVariants.{Reply}
 use Rattle.xa_told.specs.xa_types.declared.fault.Fault.{Fault}
 use Rattle.xa_told.specs.xa_types.declared.fault.Fault.TheVariants.{Inval, NoEnt, IType, Limit, System, Block}
 use Rattle.xa_told.specs.xa_events.declared.event.Event.{Event}
-use Rattle.xa_told.specs.xa_events.declared.event.Event.TheVariants.{Advertise, Withdraw, Accept, Take, Sweep, Gone, Down, Close, Start, StartFailed, End, Stop, Answer, Refuse, Leave, Priority}
+use Rattle.xa_told.specs.xa_events.declared.event.Event.TheVariants.{Advertise, Withdraw, Accept, Take, Forward, Sweep, Gone, Down, Close, Start, StartFailed, End, Stop, Answer, Refuse, Leave, Priority}
 use Rattle.xa_told.specs.xa_events.declared.event.Evidence.{Evidence}
 use Rattle.xa_told.specs.xa_events.declared.event.Evidence.TheVariants.{Argument, Version, Cells, AllDown, Queue}
-use Rattle.xa_told.specs.xa_events.declared.event.Outcome.{Outcome}
-use Rattle.xa_told.specs.xa_events.declared.event.Outcome.TheVariants.{BadForward}
 
 -- a tpcall is refused by itself, by a version of the board, for want of a cell, or by queues that are down, closed or full
 abbrev pub IsRefusal : Fault → Evidence → Type 0
@@ -21,24 +19,20 @@ IsRefusal System (AllDown v) = Unit {0}
 IsRefusal Block (Queue queue n) = Unit {0}
 IsRefusal fault evidence = ⊥
 
--- a request ends otherwise than by a forward that failed
-abbrev pub IsEnded : Outcome → Type 0
-IsEnded (BadForward v) = ⊥
-IsEnded outcome = Unit {0}
-
--- only the domain changes the board, each request wants a reply, and none is forwarded or waited for in vain
+-- only the domain changes the board, each request wants a reply, and none is waited for in vain
 abbrev pub IsMade : Event → Type 0
 IsMade (Advertise a) = a.by.0 ≡ 0
 IsMade (Withdraw w) = w.by.0 ≡ 0
 IsMade (Accept a) = a.mode ≡ Reply
 IsMade (Take t) = Unit {0}
+IsMade (Forward f) = Unit {0}
 IsMade (Sweep x) = Unit {0}
 IsMade (Gone server) = Unit {0}
 IsMade (Down queue) = Unit {0}
 IsMade (Close queue) = Unit {0}
 IsMade (Start b) = Unit {0}
 IsMade (StartFailed b) = Unit {0}
-IsMade (End e) = IsEnded e.outcome
+IsMade (End e) = Unit {0}
 IsMade (Stop x) = Unit {0}
 IsMade (Answer a) = Unit {0}
 IsMade (Refuse r) = IsRefusal r.fault r.evidence

@@ -1,29 +1,34 @@
 -- A server's worker at its desk, and what its steps leave (this project's own).
-use Rattle.std.specs.Prelude.{◌≡◌, ℕ, ◌+◌, ◌<◌, ◌≤◌, ◌^◌, Bool, true, false, List, [], ◌++◌, length, Option, Some, None, IfSome, IsSome, Result, Ok, Err}
-use Rattle.std.specs.List.{All, Contains, flat_map}
+use Rattle.std.specs.Prelude.{◌≡◌, ℕ, ◌+◌, ◌<◌, ◌≤◌, ◌^◌, Bool, true, false, List, [], ◌∷◌, ◌++◌, length, Option, Some, None, IfSome, IsSome, IsSomeAnd, Result, Ok, Err}
+use Rattle.std.specs.List.{All}
 use Rattle.xa_told.specs.xa_types.declared.stamp.Stamp.{Stamp}
 use Rattle.xa_told.specs.xa_types.declared.stamp.Worn.{Worn}
+use Rattle.xa_told.specs.xa_types.declared.ids.RequestId.{RequestId}
+use Rattle.xa_told.specs.xa_types.declared.setup.Setup.{Setup}
 use Rattle.xa_told.specs.xa_types.Setup.{queue_of}
 use Rattle.xa_told.specs.xa_events.declared.event.Event.{Event}
 use Rattle.xa_told.specs.xa_types.declared.ids.QueueId.{QueueId}
 use Rattle.xa_told.specs.xa_events.declared.event.Event.TheVariants.{Take, Gone, Sweep}
 use Rattle.xa_told.specs.xa_events.declared.event.Doing.TheVariants.{Busy}
+use Rattle.xa_told.specs.xa_events.declared.event.Taken.{Taken}
 use Rattle.xa_told.specs.xa_events.Cases.{IsShut}
+use Rattle.xa_told.specs.xa_events.Request.{is_entry_of}
+use Rattle.xa_told.specs.xa_events.Words.{latest}
 use Rattle.xa_told.specs.xa_events.Queue.{is_down, waiting}
 use Rattle.xa_told.specs.xa_events.Server.{is_gone, AllGone}
 use Rattle.xa_told.specs.xa_events.Homes.Home.{BoardHome, QueueHome}
 use Rattle.xa_told.specs.xa_stamp.Home.{last_stamp}
 use Rattle.xa_told.specs.xa_crew.Crew.{IsOfDomain, no_stamp}
-use Rattle.xa_told.specs.xa_crew.Seen.{SawDeserted}
+use Rattle.xa_told.specs.xa_crew.Seen.{past_in, IfNew, SawDeserted}
 use Rattle.xa_told.specs.xa_cell.Known.{IsTicketOf}
 use Rattle.xa_board.specs.declared.board.BoardRefused.{BoardRefused}
 use Rattle.xa_board.specs.declared.board.BoardRefused.TheVariants as refusals
 use Rattle.xa_told.specs.xa_held.Joins.{SawLeft}
 use Rattle.xa_told.specs.xa_stamp.declared.home.Stamped.{Stamped}
-use Rattle.xa_told.specs.xa_lock.declared.makers.Made.{Made}
 use Rattle.xa_told.specs.xa_queue.declared.entry.Entry.{Entry}
+use Rattle.xa_told.specs.xa_held.declared.cargo.Invocation.{Invocation}
 use Rattle.xa_told.specs.xa_held.Kept.{IsRight, Brings}
-use Rattle.xa_told.specs.xa_held.Notes.{made_of, IsOther, is_down_in}
+use Rattle.xa_told.specs.xa_held.Notes.{IsOther, is_down_in}
 use Rattle.xa_told.specs.xa_work.Work.{seeing}
 use Rattle.xa_told.specs.xa_work.declared.work.Halt.{Halt}
 use Rattle.xa_told.specs.xa_work.declared.work.Halt.TheVariants as halts
@@ -44,17 +49,33 @@ use Rattle.xa_desk.specs.declared.serving.Took.TheVariants as takes
 use Rattle.xa_desk.specs.declared.serving.SweptOut.{SweptOut}
 use Rattle.xa_desk.specs.Whole.{Whole, entries_of}
 use Rattle.xa_desk.specs.Desks.{GoesOn, queue_page}
-use Rattle.xa_desk.specs.Found.{SawAtQueue}
+use Rattle.xa_desk.specs.Found.{SawAtQueue, SawItsOwnAt}
 
--- the entry's request is to be answered by a cell of the domain, and an event that the desk saw at that queue brought it with what its server is
--- asked for
-pub record IsTaken (d : Domain) (queue : ℕ) (desk : Desk) (entry : Entry Cargo) : Type 0 where
-  pub right : IsRight d.cells entry
-  pub brought : Made
-  pub stands : Contains (flat_map made_of (queue_page desk queue).seen) brought
-  pub brings : Brings entry.request entry.cargo.invocation brought.noted.event
+-- if no request was sent to the queue while it waited there, what its events say of the request came last of its entries there
+abbrev pub IsSentLast : Setup → ℕ → RequestId → Invocation → List Event → Type 0
+IsSentLast setup queue request what past = IfNew setup queue (λ past. IsSomeAnd (latest (is_entry_of request) past) (Brings request what)) past
 
--- the desk is that of the server of the slot, whose queue has that number; the request in hand, if there is one, was taken there
+-- the take stands among these entries of the queue, and before it the request was sent there last for what its server is asked for
+pub record WasSentFor (setup : Setup) (queue : ℕ) (entries : List Stamped) (t : Taken) (what : Invocation) : Type 0 where
+  pub front : List Stamped
+  pub stamp : Stamp
+  pub rest : List Stamped
+  pub parts : entries ≡ front ++ record { stamp = stamp; event = Take t } ∷ rest
+  pub sent : IsSentLast setup queue t.request what (past_in front)
+
+-- so it is in the end, whatever that is
+abbrev pub IsSentFor : Domain → ℕ → Desk → Taken → Invocation → Type 0
+IsSentFor d queue desk t what = (whole : Whole) → GoesOn d whole desk → WasSentFor d.setup queue (entries_of whole (QueueHome queue)) t what
+
+-- the entry of that take is to be answered by a cell of the domain, and says how its request was sent to the queue last, before the take and with all
+-- that the worker noted there
+pub record IsTaken (d : Domain) (queue : ℕ) (t : Taken) (desk : Desk) (entry : Entry Cargo) : Type 0 where
+  pub its : t.request ≡ entry.request
+  pub sent : IsSentFor d queue desk t entry.cargo.invocation
+  pub last : SawItsOwnAt d queue desk (λ past. IsSomeAnd (latest (is_entry_of entry.request) past) (Brings entry.request entry.cargo.invocation))
+
+-- the desk is that of the server of the slot, whose queue has that number; the request in hand, if there is one, is to be answered by a cell of the
+-- domain
 pub record IsServing (d : Domain) (queue : ℕ) (slot : ServerSlot) (desk : Desk) : Type 0 where
   pub stands : Stands slot desk.caller.work
   pub idle : desk.caller.phase ≡ Idle
@@ -62,7 +83,7 @@ pub record IsServing (d : Domain) (queue : ℕ) (slot : ServerSlot) (desk : Desk
   pub some : 0 < queue
   pub least : queue < length d.queues.items + 1
   pub left : slot.gone ≡ false → All (IsOther slot.server) (queue_page desk queue).own
-  pub hand : IfSome slot.hand (IsTaken d queue desk)
+  pub hand : IfSome slot.hand (IsRight d.cells)
 
 -- the caller with an event of its server or of the domain, which was noted at another home
 abbrev pub with_event : Stamp → Event → Caller → Caller
@@ -82,6 +103,7 @@ pub record IsAtEnd (worn : Worn) (old new : Desk) : Type 0 where
 abbrev pub TakesAs : Domain → ℕ → Result Took Worn → ServerSlot → ServerSlot → Desk → Desk → Type 0
 TakesAs d queue (Ok takes.Request) slot slot' old new = (entry : Entry Cargo) × (stamp : Stamp) × (k : ℕ) × (slot' ≡ record slot { doing = Busy (life_in slot.doing) entry.request; hand = Some entry; last = NoLast })
     × (old.caller.work.stamp.0 < stamp.0) × (new.caller ≡ with_event stamp (Take (record { request = entry.request; server = slot.server; generation = life_in slot.doing; k = k })) old.caller)
+    × IsTaken d queue (record { request = entry.request; server = slot.server; generation = life_in slot.doing; k = k }) new entry
 TakesAs d queue (Ok takes.Nothing) slot slot' old new = (slot' ≡ slot) × Sees old.caller new.caller
 TakesAs d queue (Ok takes.Closed) slot slot' old new = (slot' ≡ slot) × Sees old.caller new.caller × SawAtQueue d queue new (IsShut d.setup queue)
 TakesAs d queue (Err worn) slot slot' old new = (slot' ≡ slot) × IsAtEnd worn old new

@@ -9,6 +9,7 @@ mod departure;
 mod desk;
 mod domain;
 mod halting;
+mod passing;
 mod serving;
 mod setting;
 mod stopped;
@@ -18,6 +19,7 @@ pub use departure::Done;
 pub use desk::Desk;
 pub use domain::{Domain, Waits};
 pub use halting::HaltWord;
+pub use passing::NotPassed;
 pub use serving::{SweptOut, Took};
 pub use stopped::Stopped;
 
