@@ -53,7 +53,7 @@ use Rattle.xa_desk.specs.Halting.{IsStopAt}
 use Rattle.xa_links.specs.Lives.{lives_in, IsHanded}
 use Rattle.xa_links.specs.Working.{cut_in}
 use Rattle.xa_links.specs.Steps.{Steps, Serves, IsToldOf, stop_by}
-use Rattle.xa_links.specs.Standing.{brought_at, SettlesBy, IsLast, IsAtWork, IsOff, HasEnded}
+use Rattle.xa_links.specs.Standing.{SettlesBy, IsLast, IsAtWork, IsOff, HasEnded}
 use Rattle.xa_links.proofs.Behind.{leads_behind}
 use Rattle.xa_links.proofs.Stepping.{still_steps, noted_steps}
 use Rattle.xa_links.proofs.Keeping.{OfLife, lives_same, handed_led}
@@ -96,7 +96,7 @@ pub is_its : (server g s h : ℕ) → s ≡ server → h ≡ g → is_of_life se
 is_its server g s h is its = ap (λ b. b && (h == g)) (eq-eqb s server is) ∙ eq-eqb h g its
 
 module _ {L T : Type 0} {d : Domain} {named : T → List ℕ} {shows : T → StarterShows} (w : ServerWorker L T) (over : Ending) (at : IsAtWork d named shows w (over.life.generation ∷ [])) (last : IsLast w.name w.served.slot over.life) (ended : IsOver over)
-    (handed : AtEach (IsHanded over.life.server.0 over.life.generation.0 over.life.asked (brought_at w.queue.0 w.desk)) (theirs w.desk.caller.work))
+    (handed : AtEach (IsHanded over.life.server.0 over.life.generation.0 over.life.asked (IsSentFor d w.queue.0 w.desk)) (theirs w.desk.caller.work))
     (kept : Served L T) (lives : kept.lives.items ≡ w.served.lives.items ++ over ∷ []) (starter : kept.starter ≡ w.served.starter) (slot' : ServerSlot) (desk' : Desk) (leads : Leads d w.desk desk') (seat : desk'.caller.seat ≡ w.desk.caller.seat) (serving : IsServing d w.queue.0 slot' desk') where
   abbrev slot : ServerSlot
   slot = w.served.slot
@@ -115,7 +115,7 @@ module _ {L T : Type 0} {d : Domain} {named : T → List ℕ} {shows : T → Sta
 
   -- its end is noted behind these
   stops_work : (more : List Event) (e : Event) (x : StopEvent) (rest : List Stamped) → Steps d (Stop x ∷ more) w.desk desk' → All (OfLife slot.made) more → x.server ≡ slot.server → x.generation ≡ over.life.generation → x.cause ≡ over.cause → Settled d.setup over (more ++ own)
-      → AtEach (IsHanded over.life.server.0 over.life.generation.0 over.life.asked (brought_at w.queue.0 desk')) (more ++ own)
+      → AtEach (IsHanded over.life.server.0 over.life.generation.0 over.life.asked (IsSentFor d w.queue.0 desk')) (more ++ own)
       → new.own ≡ old.own ++ rest → All (λ (y : Stamped). old.stamp.0 < y.stamp.0) rest → count (stops_life over.life.server.0 over.life.generation.0) own ≡ 0 → (over.life.turn ≡ AwaitsInvoke → SawAtQueue d w.queue.0 w.desk (IsShut d.setup w.queue.0))
       → slot'.server ≡ slot.server → slot'.made ≡ slot.made → slot'.gone ≡ slot.gone → IsAtWork d named shows (at_kept w kept slot' desk') []
   stops_work more e x rest steps its server generation why settled still grew later alive saw server' made' gone' =
@@ -126,9 +126,9 @@ module _ {L T : Type 0} {d : Domain} {named : T → List ℕ} {shows : T → Sta
       (ends_lived w over at last ended kept lives starter slot' desk' (Stop x ∷ more) serves seat all
       (subst (HasStopped d.setup over) (sym {A = List Event} steps.own) (stops d.setup over (more ++ own) x ours why settled))
       (λ turn. ends_shut w over at last ended kept lives starter slot' desk' (Stop x ∷ more) serves seat all rest grew later alive (saw turn))
-      (subst (AtEach (IsHanded over.life.server.0 over.life.generation.0 over.life.asked (brought_at w.queue.0 desk'))) (sym {A = List Event} steps.own) (tt, still)))
+      (subst (AtEach (IsHanded over.life.server.0 over.life.generation.0 over.life.asked (IsSentFor d w.queue.0 desk'))) (sym {A = List Event} steps.own) (tt, still)))
 
-  handed_still : AtEach (IsHanded over.life.server.0 over.life.generation.0 over.life.asked (brought_at w.queue.0 desk')) own
+  handed_still : AtEach (IsHanded over.life.server.0 over.life.generation.0 over.life.asked (IsSentFor d w.queue.0 desk')) own
   handed_still = handed_led over.life.server.0 over.life.generation.0 d w.queue.0 w.desk desk' over.life.asked own leads handed
 
   -- with nothing in hand

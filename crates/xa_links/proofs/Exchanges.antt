@@ -61,7 +61,7 @@ use Rattle.xa_desk.specs.xa_events.Cases.{IsShut}
 use Rattle.xa_links.specs.declared.working.ServerWorker.{ServerWorker}
 use Rattle.xa_links.specs.Lives.{IsHanded}
 use Rattle.xa_links.specs.Steps.{Serves, Takes, is_exit, stop_by}
-use Rattle.xa_links.specs.Standing.{brought_at, SettlesBy, IsLast, IsAtWork, IsOff, IsIn, IsFree, HasTaken, MayDie, HasEnded}
+use Rattle.xa_links.specs.Standing.{SettlesBy, IsLast, IsAtWork, IsOff, IsIn, IsFree, HasTaken, MayDie, HasEnded}
 use Rattle.xa_links.specs.Behind.{is_lost}
 use Rattle.xa_links.proofs.Behind.{calm_push}
 use Rattle.xa_links.proofs.Stepping.{noted_steps}
@@ -87,8 +87,8 @@ module _ {new old : Life} (asked : List Frame) (becomes : Becomes asked new old)
   pub last_still : {name : List ℕ} {slot : ServerSlot} → IsLast name slot old → IsLast name slot new
   last_still last = record { server = ap (λ (l : Life). l.server) becomes.made ∙ last.server; named = ap (λ (l : Life). l.name) becomes.made ∙ last.named; number = ap (λ (l : Life). l.generation.0) becomes.made ∙ last.number }
 
-  pub handed_still : (brought : List Made) (own : List Event) → AtEach (IsHanded old.server.0 old.generation.0 asked brought) own → AtEach (IsHanded new.server.0 new.generation.0 new.asked brought) own
-  handed_still brought own each = subst (λ (l : Life). AtEach (IsHanded l.server.0 l.generation.0 l.asked brought) own) (sym becomes.made) each
+  pub handed_still : (Sent : Sendings) (own : List Event) → AtEach (IsHanded old.server.0 old.generation.0 asked Sent) own → AtEach (IsHanded new.server.0 new.generation.0 new.asked Sent) own
+  handed_still Sent own each = subst (λ (l : Life). AtEach (IsHanded l.server.0 l.generation.0 l.asked Sent) own) (sym becomes.made) each
 
   pub does_still : (doing : Doing) → doing ≡ Idle old.generation → doing ≡ Idle new.generation
   does_still doing is = is ∙ ap (λ (l : Life). Idle l.generation) (sym becomes.made)
@@ -157,9 +157,6 @@ shut_read serving is = serving.stands.tables.reads.stopped ∙ is
 abbrev pub own_of : {L T : Type 0} → ServerWorker L T → List Event
 own_of w = theirs w.desk.caller.work
 
-abbrev pub brought_of : {L T : Type 0} → ServerWorker L T → List Made
-brought_of w = brought_at w.queue.0 w.desk
-
 -- the INVOKE at its place
 invoke_is : (life : Life) (before : List Event) (t : Taken) (what : Invocation) → is_of_life life.server.0 life.generation.0 t.server.0 t.generation.0 ≡ true → count (is_take_in life.server.0 life.generation.0) before ≡ length life.asked → length life.asked ≡ returned life
     → take 1 (drop (count (is_take_in life.server.0 life.generation.0) before) (life.asked ++ next_invoke what.service what.routine what.payload life ∷ []))
@@ -201,7 +198,7 @@ module _ {L T : Type 0} {d : Domain} {named : T → List ℕ} {shows : T → Sta
       record {
         at = at_still old.asked becomes is.at;
         last = last_still old.asked becomes is.last;
-        going = record { follows = follows_greeted d.setup old new (own_of w) greeted is.going.follows; handed = handed_still old.asked becomes (brought_of w) (own_of w) is.going.handed };
+        going = record { follows = follows_greeted d.setup old new (own_of w) greeted is.going.follows; handed = handed_still old.asked becomes (IsSentFor d w.queue.0 w.desk) (own_of w) is.going.handed };
         does = does_still old.asked becomes w.served.slot.doing is.does;
         turns = ap (λ (l : Life). l.turn) greeted.made;
         asked = ap (λ (l : Life). length l.asked) greeted.made ∙ is.asked ∙ ap (λ (n : ℕ). n + 0) (sym (ap (λ (l : Life). length (returns_in l.said)) greeted.made ∙ returned_ready old.name old.said));
@@ -214,7 +211,7 @@ module _ {L T : Type 0} {d : Domain} {named : T → List ℕ} {shows : T → Sta
       record {
         at = at_still old.asked becomes is.at;
         last = last_still old.asked becomes is.last;
-        going = record { follows = follows_next d.setup old new (own_of w) heard is.going.follows; handed = handed_still old.asked becomes (brought_of w) (own_of w) is.going.handed };
+        going = record { follows = follows_next d.setup old new (own_of w) heard is.going.follows; handed = handed_still old.asked becomes (IsSentFor d w.queue.0 w.desk) (own_of w) is.going.handed };
         does = does_still old.asked becomes w.served.slot.doing is.does;
         turns = ap (λ (l : Life). l.turn) heard.made ∙ ap (λ (t : Turn). turn_after t next_frame.body) is.turns;
         asked = ap (λ (l : Life). length l.asked) heard.made ∙ is.asked ∙ ap (λ (n : ℕ). n + 0) (sym (ap (λ (l : Life). length (returns_in l.said)) heard.made ∙ returned_next old.said));
@@ -258,7 +255,7 @@ module _ {L T : Type 0} {d : Domain} {named : T → List ℕ} {shows : T → Sta
         going = going_on takes.serves.steps w.queue.0 (own_of w) life is.going;
         entry = takes.entry;
         hand = takes.hand;
-        request = takes.request;
+        taken = takes.taken;
         does = takes.busy ∙ ap (λ h. Busy h t.request) g;
         turns = is.turns;
         asked = let even = is.asked in omega (arith, even);
@@ -273,14 +270,11 @@ module _ {L T : Type 0} {d : Domain} {named : T → List ℕ} {shows : T → Sta
     same_entry a b is so = cc (sym is ∙ so)
 
     -- the request that was taken is handed on by it
-    sent_handed : AtEach (IsHanded life.server.0 life.generation.0 (life.asked ++ f ∷ []) (brought_of w)) (Take has.t ∷ has.before)
+    sent_handed : AtEach (IsHanded life.server.0 life.generation.0 (life.asked ++ f ∷ []) (IsSentFor d w.queue.0 w.desk)) (Take has.t ∷ has.before)
     sent_handed =
-        let taken : IsTaken d w.queue.0 w.desk has.entry = subst (λ h. IfSome h (IsTaken d w.queue.0 w.desk)) has.hand has.at.serving.hand in
-        let asked : has.entry.cargo.invocation ≡ what = sym (invokes.sent ∙ ap (λ (e : Entry Cargo). e.cargo.invocation) (same_entry invokes.entry has.entry invokes.in_hand has.hand)) in
-        let brings : Brings has.t.request what taken.brought.noted.event =
-        subst (λ (i : Invocation). Brings has.t.request i taken.brought.noted.event) asked (subst (λ (r : RequestId). Brings r has.entry.cargo.invocation taken.brought.noted.event) (sym has.request) taken.brings) in (
-          λ its. (taken.brought, what, taken.stands, brings, invoke_is life has.before has.t what has.its has.going.follows.taken has.asked),
-          subst (λ (b : List Made). AtEach (IsHanded life.server.0 life.generation.0 (life.asked ++ f ∷ []) b) has.before) (append-nil (brought_of w)) (handed_wider life.server.0 life.generation.0 life.asked (f ∷ []) (brought_of w) [] has.before has.going.handed),
+        let asked : has.entry.cargo.invocation ≡ what = sym (invokes.sent ∙ ap (λ (e : Entry Cargo). e.cargo.invocation) (same_entry invokes.entry has.entry invokes.in_hand has.hand)) in (
+          λ its. (what, subst (IsSentFor d w.queue.0 w.desk has.t) asked has.taken.sent, invoke_is life has.before has.t what has.its has.going.follows.taken has.asked),
+          handed_wider life.server.0 life.generation.0 life.asked (f ∷ []) (IsSentFor d w.queue.0 w.desk) (IsSentFor d w.queue.0 w.desk) (λ t what sent. sent) has.before has.going.handed,
         )
 
     pub sent_in : (new : Life) → Invoked f new life → IsIn d named shows (Busy new.generation has.t.request) Serving 1 new w
@@ -291,7 +285,7 @@ module _ {L T : Type 0} {d : Domain} {named : T → List ℕ} {shows : T → Sta
           last = last_still (life.asked ++ f ∷ []) becomes has.last;
           going = record {
             follows = subst (Follows d.setup new) (sym {A = List Event} has.own) (follows_take d.setup life new has.before has.t f has.its invoked has.going.follows);
-            handed = subst (AtEach (IsHanded new.server.0 new.generation.0 new.asked (brought_of w))) (sym {A = List Event} has.own) (handed_still (life.asked ++ f ∷ []) becomes (brought_of w) (Take has.t ∷ has.before) sent_handed);
+            handed = subst (AtEach (IsHanded new.server.0 new.generation.0 new.asked (IsSentFor d w.queue.0 w.desk))) (sym {A = List Event} has.own) (handed_still (life.asked ++ f ∷ []) becomes (IsSentFor d w.queue.0 w.desk) (Take has.t ∷ has.before) sent_handed);
           };
           does = has.does ∙ ap (λ (l : Life). Busy l.generation has.t.request) (sym invoked.made);
           turns = ap (λ (l : Life). l.turn) invoked.made;
@@ -307,7 +301,7 @@ module _ {L T : Type 0} {d : Domain} {named : T → List ℕ} {shows : T → Sta
         record {
           at = at_still (life.asked ++ f ∷ []) becomes has.at;
           last = last_still (life.asked ++ f ∷ []) becomes has.last;
-          handed = subst (AtEach (IsHanded over.life.server.0 over.life.generation.0 over.life.asked (brought_of w))) (sym {A = List Event} has.own) (handed_still (life.asked ++ f ∷ []) becomes (brought_of w) (Take has.t ∷ has.before) sent_handed);
+          handed = subst (AtEach (IsHanded over.life.server.0 over.life.generation.0 over.life.asked (IsSentFor d w.queue.0 w.desk))) (sym {A = List Event} has.own) (handed_still (life.asked ++ f ∷ []) becomes (IsSentFor d w.queue.0 w.desk) (Take has.t ∷ has.before) sent_handed);
           settles = subst (SettlesBy d over (own_of w)) (sym has.does) (
             ap (λ (l : Life). l.generation) (sym unsent.life),
             λ e ours outcome. subst (λ (l : List Event). Settled d.setup over (End e ∷ l)) (sym {A = List Event} has.own) (settles_unsent d.setup life over has.before has.t e f unsent has.its ours outcome has.going.follows),
@@ -326,7 +320,7 @@ module _ {L T : Type 0} {d : Domain} {named : T → List ℕ} {shows : T → Sta
       record {
         at = at_still old.asked becomes is.at;
         last = last_still old.asked becomes is.last;
-        handed = handed_still old.asked becomes (brought_of w) (own_of w) is.going.handed;
+        handed = handed_still old.asked becomes (IsSentFor d w.queue.0 w.desk) (own_of w) is.going.handed;
         settles = subst (SettlesBy d over (own_of w)) (sym is.does) (ap (λ (l : Life). l.generation) (sym fell.life), λ e ours outcome. settles_lost d.setup old over (own_of w) e fell is.turns ours outcome is.going.follows);
         dies = death_in over.cause over.life.turn over.written (λ exited. cc (exited, serving)) (λ idle. cc (idle, serving));
         shut = λ idle. cc (idle, serving);
@@ -341,7 +335,7 @@ module _ {L T : Type 0} {d : Domain} {named : T → List ℕ} {shows : T → Sta
       record {
         at = at_still old.asked becomes is.at;
         last = last_still old.asked becomes is.last;
-        handed = handed_still old.asked becomes (brought_of w) (own_of w) is.going.handed;
+        handed = handed_still old.asked becomes (IsSentFor d w.queue.0 w.desk) (own_of w) is.going.handed;
         settles = subst (SettlesBy d over (own_of w)) (sym is.does) (ap (λ (l : Life). l.generation) (sym fell.life), settles_fallen d.setup old over (own_of w) fell (λ h. elim reads [ inl r ↦ cc (r, turns, h) | inr n ↦ cc (n, turns, h) ]) is.going.follows);
         dies = death_in over.cause over.life.turn over.written (λ exited. elim reads [ inl r ↦ cc (r, same, exited) | inr n ↦ cc (n, same, exited) ]) (λ idle. elim reads [ inl r ↦ cc (r, same, idle) | inr n ↦ cc (n, same, idle) ]);
         shut = λ idle. elim reads [ inl r ↦ cc (r, same, idle) | inr n ↦ cc (n, same, idle) ];
@@ -360,7 +354,7 @@ module _ {L T : Type 0} {d : Domain} {named : T → List ℕ} {shows : T → Sta
       record {
         at = at_still old.asked becomes is.at;
         last = last_still old.asked becomes is.last;
-        handed = handed_still old.asked becomes (brought_of w) (own_of w) is.going.handed;
+        handed = handed_still old.asked becomes (IsSentFor d w.queue.0 w.desk) (own_of w) is.going.handed;
         settles = subst (SettlesBy d over (own_of w)) (sym is.does) (ap (λ (l : Life). l.generation) (sym shut.life), settles_shut d.setup old over (own_of w) shut is.turns is.going.follows);
         dies = death_in over.cause over.life.turn over.written (λ exited. cc (exited, same)) (λ idle. unshut);
         shut = λ idle. saw;
@@ -390,8 +384,8 @@ module _ {L T : Type 0} {d : Domain} {named : T → List ℕ} {shows : T → Sta
           last = last_still old.asked becomes last;
           going = record {
             follows = subst (Follows d.setup new) (sym {A = List Event} serves.steps.own) (follows_end d.setup old new (own_of w) e back (tag_of old) its heard (ended.4 ∙ return_is d.setup conns value code payload none) is.going.follows);
-            handed = subst (AtEach (IsHanded new.server.0 new.generation.0 new.asked (brought_at w.queue.0 desk'))) (sym {A = List Event} serves.steps.own)
-                (tt, handed_still old.asked becomes (brought_at w.queue.0 desk') (own_of w) (handed_led old.server.0 old.generation.0 d w.queue.0 w.desk desk' old.asked (own_of w) leads is.going.handed));
+            handed = subst (AtEach (IsHanded new.server.0 new.generation.0 new.asked (IsSentFor d w.queue.0 desk'))) (sym {A = List Event} serves.steps.own)
+                (tt, handed_still old.asked becomes (IsSentFor d w.queue.0 desk') (own_of w) (handed_led old.server.0 old.generation.0 d w.queue.0 w.desk desk' old.asked (own_of w) leads is.going.handed));
           };
           does = ap (λ (s : ServerSlot). s.doing) finishes.left ∙ ap (λ (s : ServerSlot). s.doing) finishes.ends.left ∙ plain_idle value code payload _ (life_in slot.doing) ∙ ap Idle lived ∙ ap (λ (l : Life). Idle l.generation) (sym heard.made);
           turns = ap (λ (l : Life). l.turn) heard.made ∙ ap (λ (t : Turn). turn_after t (return_frame (tag_of old) value code payload).body) is.turns;
@@ -415,7 +409,7 @@ module _ {L T : Type 0} {d : Domain} {named : T → List ℕ} {shows : T → Sta
       let turn : over.life.turn ≡ Exited = ap (λ (l : Life). l.turn) exits.life ∙ is.turns in
       record {
         at = stops_idle w over (subst (λ (l : Life). IsAtWork d named shows w (l.generation ∷ [])) (sym exits.life) is.at) (subst (IsLast w.name w.served.slot) (sym exits.life) is.last) ended
-            (subst (λ (l : Life). AtEach (IsHanded l.server.0 l.generation.0 l.asked (brought_of w)) (own_of w)) (sym exits.life) is.going.handed) kept lives starter slot' desk' leads seat serving causes.Exit stamp (sym exits.cause) (ap life_in is.does ∙ ap (λ (l : Life). l.generation) (sym exits.life))
+            (subst (λ (l : Life). AtEach (IsHanded l.server.0 l.generation.0 l.asked (IsSentFor d w.queue.0 w.desk)) (own_of w)) (sym exits.life) is.going.handed) kept lives starter slot' desk' leads seat serving causes.Exit stamp (sym exits.cause) (ap life_in is.does ∙ ap (λ (l : Life). l.generation) (sym exits.life))
             (settles_exited d.setup life over (own_of w) exits is.turns is.going.follows) (λ idle. cc (idle, turn)) stopped;
         off = ap (λ (s : ServerSlot). s.doing) stopped.left;
         up = ap (λ (s : ServerSlot). s.shut) stopped.left;
@@ -425,13 +419,13 @@ module _ {L T : Type 0} {d : Domain} {named : T → List ℕ} {shows : T → Sta
       → Leads d w.desk desk' → desk'.caller.seat ≡ w.desk.caller.seat → IsServing d w.queue.0 slot' desk' → (worn : Worn) (stopped : Stopped) → stopped ≡ stop_by worn → IsWorn worn w.desk.caller.work → slot' ≡ w.served.slot → desk'.caller.work ≡ w.desk.caller.work → HasEnded d named shows (Some stopped) (at_kept w kept slot' desk')
   exits_worn life over kept slot' desk' is exits ended lives starter leads seat serving worn stopped by full same work =
       worn_still w over (subst (λ (l : Life). IsAtWork d named shows w (l.generation ∷ [])) (sym exits.life) is.at) (subst (IsLast w.name w.served.slot) (sym exits.life) is.last) ended
-      (subst (λ (l : Life). AtEach (IsHanded l.server.0 l.generation.0 l.asked (brought_of w)) (own_of w)) (sym exits.life) is.going.handed) kept lives starter slot' desk' leads seat serving worn stopped by full same work
+      (subst (λ (l : Life). AtEach (IsHanded l.server.0 l.generation.0 l.asked (IsSentFor d w.queue.0 w.desk)) (own_of w)) (sym exits.life) is.going.handed) kept lives starter slot' desk' leads seat serving worn stopped by full same work
 
   pub shuts_worn : (life : Life) (over : Ending) (kept : Served L T) (slot' : ServerSlot) (desk' : Desk) → IsFree d named shows life w → ShutDown over life → IsOver over → kept.lives.items ≡ w.served.lives.items ++ over ∷ [] → kept.starter ≡ w.served.starter
       → Leads d w.desk desk' → desk'.caller.seat ≡ w.desk.caller.seat → IsServing d w.queue.0 slot' desk' → (worn : Worn) (stopped : Stopped) → stopped ≡ stop_by worn → IsWorn worn w.desk.caller.work → slot' ≡ w.served.slot → desk'.caller.work ≡ w.desk.caller.work → HasEnded d named shows (Some stopped) (at_kept w kept slot' desk')
   shuts_worn life over kept slot' desk' is shut ended lives starter leads seat serving worn stopped by full same work =
       let becomes : Becomes life.asked over.life life = record { link = over.life.link; said = life.said; turn = life.turn; made = shut.life } in
-      worn_still w over (at_still life.asked becomes is.at) (last_still life.asked becomes is.last) ended (handed_still life.asked becomes (brought_of w) (own_of w) is.going.handed) kept lives starter slot' desk' leads seat serving worn stopped by full same work
+      worn_still w over (at_still life.asked becomes is.at) (last_still life.asked becomes is.last) ended (handed_still life.asked becomes (IsSentFor d w.queue.0 w.desk) (own_of w) is.going.handed) kept lives starter slot' desk' leads seat serving worn stopped by full same work
 
   -- or it was told to end
 
@@ -439,7 +433,7 @@ module _ {L T : Type 0} {d : Domain} {named : T → List ℕ} {shows : T → Sta
       → Leads d w.desk desk' → desk'.caller.seat ≡ w.desk.caller.seat → IsServing d w.queue.0 slot' desk' → SawAtQueue d w.queue.0 w.desk (IsShut d.setup w.queue.0) → Stops causes.Shutdown stamp slot' w.served.slot desk'.caller.work w.desk.caller.work → HasEnded d named shows None (at_kept w kept slot' desk')
   shuts_down life over kept slot' desk' stamp is shut ended why lives starter leads seat serving saw stopped =
       let becomes : Becomes life.asked over.life life = record { link = over.life.link; said = life.said; turn = life.turn; made = shut.life } in
-      let at = stops_idle w over (at_still life.asked becomes is.at) (last_still life.asked becomes is.last) ended (handed_still life.asked becomes (brought_of w) (own_of w) is.going.handed) kept lives starter slot' desk' leads seat serving causes.Shutdown stamp why
+      let at = stops_idle w over (at_still life.asked becomes is.at) (last_still life.asked becomes is.last) ended (handed_still life.asked becomes (IsSentFor d w.queue.0 w.desk) (own_of w) is.going.handed) kept lives starter slot' desk' leads seat serving causes.Shutdown stamp why
       (ap life_in is.does ∙ ap (λ (l : Life). l.generation) (sym shut.life)) (settles_shut d.setup life over (own_of w) shut is.turns is.going.follows) (λ idle. saw) stopped in
       let server = ap (λ (s : ServerSlot). s.server) stopped.left in
       let off : slot'.doing ≡ Off = ap (λ (s : ServerSlot). s.doing) stopped.left in

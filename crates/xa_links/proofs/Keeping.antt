@@ -35,13 +35,14 @@ use Rattle.xa_desk.specs.Whole.{entries_of}
 use Rattle.xa_desk.specs.Desks.{Leads, queue_page}
 use Rattle.xa_links.specs.Lives.{generation_in, lives_in, fails_start, failed_starts, IsHanded, EndsShut, IsLived}
 use Rattle.xa_links.specs.Steps.{Steps}
-use Rattle.xa_links.specs.Standing.{brought_at, HasLived, IsGoing}
+use Rattle.xa_links.specs.Standing.{HasLived, IsGoing}
 
 -- ---- events of one life
 
 -- the event is of that life, or gives the server up
 abbrev pub OfLife : ℕ → Event → Type 0
 OfLife g (Take t) = t.generation.0 ≡ g
+OfLife g (Forward f) = f.generation.0 ≡ g
 OfLife g (End e) = e.generation.0 ≡ g
 OfLife g (Stop x) = x.generation.0 ≡ g
 OfLife g (Gone s) = Unit {0}
@@ -54,6 +55,7 @@ and_no false b off = refl
 -- so it is of no other life
 pub other_life : (server g h : ℕ) → h ≢ g → (e : Event) → OfLife g e → is_of server h e ≡ false
 other_life server g h apart (Take t) its = and_no (t.server.0 == server) (t.generation.0 == h) (ne_eqb t.generation.0 h (λ same. apart (sym same ∙ its)))
+other_life server g h apart (Forward f) its = and_no (f.server.0 == server) (f.generation.0 == h) (ne_eqb f.generation.0 h (λ same. apart (sym same ∙ its)))
 other_life server g h apart (End e) its = and_no (e.server.0 == server) (e.generation.0 == h) (ne_eqb e.generation.0 h (λ same. apart (sym same ∙ its)))
 other_life server g h apart (Stop x) its = and_no (x.server.0 == server) (x.generation.0 == h) (ne_eqb x.generation.0 h (λ same. apart (sym same ∙ its)))
 other_life server g h apart (Gone s) its = refl
@@ -62,6 +64,7 @@ other_life server g h apart _ its = absurd its
 -- and no start
 no_start : (server g : ℕ) (e : Event) → OfLife g e → generation_in server e ≡ None
 no_start server g (Take t) its = refl
+no_start server g (Forward f) its = refl
 no_start server g (End e) its = refl
 no_start server g (Stop x) its = refl
 no_start server g (Gone s) its = refl
@@ -69,6 +72,7 @@ no_start server g _ its = absurd its
 
 no_failure : (server g : ℕ) (e : Event) → OfLife g e → fails_start server e ≡ false
 no_failure server g (Take t) its = refl
+no_failure server g (Forward f) its = refl
 no_failure server g (End e) its = refl
 no_failure server g (Stop x) its = refl
 no_failure server g (Gone s) its = refl
@@ -76,6 +80,7 @@ no_failure server g _ its = absurd its
 
 no_tick : (clients caller g : ℕ) (e : Event) → OfLife g e → tick_in clients caller e ≡ None
 no_tick clients caller g (Take t) its = refl
+no_tick clients caller g (Forward f) its = refl
 no_tick clients caller g (End e) its = refl
 no_tick clients caller g (Stop x) its = refl
 no_tick clients caller g (Gone s) its = refl
@@ -107,36 +112,35 @@ wider zero (x ∷ asked) more f is = is
 wider (suc n) [] more f is = absurd (cc is)
 wider (suc n) (x ∷ asked) more f is = wider n asked more f is
 
+-- what takes were sent for
+abbrev pub Sendings : Type 1
+Sendings = Taken → Invocation → Type 0
+
 module _ (server g : ℕ) where
-  handed_one : (asked more : List Frame) (brought others : List Made) (e : Event) (before : List Event) → IsHanded server g asked brought e before → IsHanded server g (asked ++ more) (brought ++ others) e before
-  handed_one asked more brought others (Take t) before handed = λ its.
+  handed_one : (asked more : List Frame) (Sent Still : Sendings) → ((t : Taken) (what : Invocation) → Sent t what → Still t what) → (e : Event) (before : List Event) → IsHanded server g asked Sent e before → IsHanded server g (asked ++ more) Still e before
+  handed_one asked more Sent Still on (Take t) before handed = λ its.
       let it = handed its in
-      (it.0, it.1, Contains-append_left brought others it.0 it.2, it.3, wider (count (is_take_in server g) before) asked more _ it.4)
-  handed_one asked more brought others _ before handed = tt
+      (it.0, on t it.0 it.1, wider (count (is_take_in server g) before) asked more _ it.2)
+  handed_one asked more Sent Still on _ before handed = tt
 
-  pub handed_wider : (asked more : List Frame) (brought others : List Made) (own : List Event) → AtEach (IsHanded server g asked brought) own → AtEach (IsHanded server g (asked ++ more) (brought ++ others)) own
-  handed_wider asked more brought others [] each = tt
-  handed_wider asked more brought others (e ∷ own) each = (handed_one asked more brought others e own each.0, handed_wider asked more brought others own each.1)
+  pub handed_wider : (asked more : List Frame) (Sent Still : Sendings) → ((t : Taken) (what : Invocation) → Sent t what → Still t what) → (own : List Event) → AtEach (IsHanded server g asked Sent) own → AtEach (IsHanded server g (asked ++ more) Still) own
+  handed_wider asked more Sent Still on [] each = tt
+  handed_wider asked more Sent Still on (e ∷ own) each = (handed_one asked more Sent Still on e own each.0, handed_wider asked more Sent Still on own each.1)
 
-  handed_none : (asked : List Frame) (brought : List Made) (e : Event) (before : List Event) → is_of server g e ≡ false → IsHanded server g asked brought e before
-  handed_none asked brought (Take t) before other = λ its. absurd (false≢true (sym other ∙ its))
-  handed_none asked brought _ before other = tt
+  handed_none : (asked : List Frame) (Sent : Sendings) (e : Event) (before : List Event) → is_of server g e ≡ false → IsHanded server g asked Sent e before
+  handed_none asked Sent (Take t) before other = λ its. absurd (false≢true (sym other ∙ its))
+  handed_none asked Sent _ before other = tt
 
-  pub handed_more : (asked : List Frame) (brought : List Made) (more own : List Event) → All (λ (e : Event). is_of server g e ≡ false) more → AtEach (IsHanded server g asked brought) own → AtEach (IsHanded server g asked brought) (more ++ own)
-  handed_more asked brought [] own none each = each
-  handed_more asked brought (e ∷ more) own none each =
-      (handed_none asked brought e (more ++ own) (All-head (λ (x : Event). is_of server g x ≡ false) e more none), handed_more asked brought more own (All-tail (λ (x : Event). is_of server g x ≡ false) e more none) each)
+  pub handed_more : (asked : List Frame) (Sent : Sendings) (more own : List Event) → All (λ (e : Event). is_of server g e ≡ false) more → AtEach (IsHanded server g asked Sent) own → AtEach (IsHanded server g asked Sent) (more ++ own)
+  handed_more asked Sent [] own none each = each
+  handed_more asked Sent (e ∷ more) own none each =
+      (handed_none asked Sent e (more ++ own) (All-head (λ (x : Event). is_of server g x ≡ false) e more none), handed_more asked Sent more own (All-tail (λ (x : Event). is_of server g x ≡ false) e more none) each)
 
-  -- what an event that is no take adds
-  pub handed_plain : (asked : List Frame) (brought : List Made) (own : List Event) (e : Event) → ((before : List Event) → IsHanded server g asked brought e before) → AtEach (IsHanded server g asked brought) own → AtEach (IsHanded server g asked brought) (e ∷ own)
-  handed_plain asked brought own e plain each = (plain own, each)
-
-  pub handed_led : (d : Domain) (queue : ℕ) (old new : Desk) (asked : List Frame) (own : List Event) → Leads d old new → AtEach (IsHanded server g asked (brought_at queue old)) own → AtEach (IsHanded server g asked (brought_at queue new)) own
+  -- what was sent so in the end was so for a desk that goes on, too
+  pub handed_led : (d : Domain) (queue : ℕ) (old new : Desk) (asked : List Frame) (own : List Event) → Leads d old new → AtEach (IsHanded server g asked (IsSentFor d queue old)) own → AtEach (IsHanded server g asked (IsSentFor d queue new)) own
   handed_led d queue old new asked own leads each =
-      let more = leads.pages queue in
-      let brought : brought_at queue new ≡ brought_at queue old ++ flat_map made_of more.0 = ap (flat_map (made_of {A = Filling})) more.1 ∙ flat_map-append (made_of {A = Filling}) (queue_page old queue).seen more.0 in
-      subst (λ (b : List Made). AtEach (IsHanded server g asked b) own) (sym {A = List Made} brought)
-      (subst (λ (fs : List Frame). AtEach (IsHanded server g fs (brought_at queue old ++ flat_map made_of more.0)) own) (append-nil asked) (handed_wider asked [] (brought_at queue old) (flat_map made_of more.0) own each))
+      subst (λ (fs : List Frame). AtEach (IsHanded server g fs (IsSentFor d queue new)) own) (append-nil asked)
+      (handed_wider asked [] (IsSentFor d queue old) (IsSentFor d queue new) (λ t what sent whole on. sent whole (leads.before whole on)) own each)
 
 -- ---- what isn't among the worker's own events isn't among all that it noted
 
@@ -212,8 +216,8 @@ module _ {d : Domain} {old new : Desk} {more : List Event} (steps : Steps d more
         named = is.named;
         stopped = subst (HasStopped d.setup over) (sym {A = List Event} steps.own) (stopped_more d.setup over more (theirs old.caller.work) ours is.stopped);
         shut = λ turn. shut_on queue over (ap (λ s. old.caller.work.clients + s) is.its ∙ number) ours (is.shut turn);
-        handed = subst (AtEach (IsHanded server over.life.generation.0 over.life.asked (brought_at queue new))) (sym {A = List Event} steps.own)
-            (handed_more server over.life.generation.0 over.life.asked (brought_at queue new) more (theirs old.caller.work) none (handed_led server over.life.generation.0 d queue old new over.life.asked (theirs old.caller.work) steps.leads is.handed));
+        handed = subst (AtEach (IsHanded server over.life.generation.0 over.life.asked (IsSentFor d queue new))) (sym {A = List Event} steps.own)
+            (handed_more server over.life.generation.0 over.life.asked (IsSentFor d queue new) more (theirs old.caller.work) none (handed_led server over.life.generation.0 d queue old new over.life.asked (theirs old.caller.work) steps.leads is.handed));
       }
 
   -- and so do all, where what was noted is of a life that is none of theirs

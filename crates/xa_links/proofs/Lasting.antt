@@ -33,7 +33,8 @@ use Rattle.xa_desk.specs.declared.stopped.Stopped.{Stopped}
 use Rattle.xa_desk.specs.Whole.{entries_of}
 use Rattle.xa_desk.specs.Desks.{IsDesk}
 use Rattle.xa_desk.specs.Found.{SawAtQueue}
-use Rattle.xa_desk.specs.Serving.{IsServing, IsTaken, LeftOthers, IsSwept}
+use Rattle.xa_desk.specs.xa_held.Kept.{IsRight}
+use Rattle.xa_desk.specs.Serving.{IsServing, IsSentFor, LeftOthers, IsSwept}
 use Rattle.xa_desk.proofs.Staying.{queue_stays}
 use Rattle.xa_desk.specs.xa_work.declared.work.Halt.TheVariants.{NoMemory, Worn}
 use Rattle.xa_desk.specs.declared.stopped.Stopped.TheVariants.{Here, Elsewhere}
@@ -51,7 +52,7 @@ use Rattle.xa_desk.specs.Halting.{IsStopAt}
 use Rattle.xa_links.specs.Lives.{failed_starts, lives_in, HasStarted, HasStartedSoFar, IsDone, IsHanded, IsLived, EndsShut, ServerShows}
 use Rattle.xa_links.specs.Working.{cut_in}
 use Rattle.xa_links.specs.Steps.{Steps, Serves, Tells}
-use Rattle.xa_links.specs.Standing.{Goes, brought_at, HasLived, IsLast, IsGoing, IsAtWork, IsOff, IsIn, HasEnded}
+use Rattle.xa_links.specs.Standing.{Goes, HasLived, IsLast, IsGoing, IsAtWork, IsOff, IsIn, HasEnded}
 use Rattle.xa_links.proofs.Keeping.{OfLife, ticks_same, failed_same, lives_on, lives_end, lives_off, lived_one, going_on, none_counted, stops_own}
 
 -- how a server is done stays, where its worker noted nothing of its own
@@ -155,7 +156,7 @@ module _ {L T : Type 0} {d : Domain} {named : T → List ℕ} {shows : T → Sta
         (All-append P old.own rest (All-weaker (λ (x : Stamped). p x.event ≡ false) P (λ x off is. absurd (false≢true (sym off ∙ is))) old.own (none_counted p old.own none))
         (All-weaker (λ (x : Stamped). old.stamp.0 < x.stamp.0) P (λ x less is. saw whole (serves.steps.leads.before whole on) x.stamp less) rest later))
 
-    pub ends_lived : HasStopped d.setup over (theirs desk'.caller.work) → (over.life.turn ≡ AwaitsInvoke → EndsShut d w.queue.0 desk' over) → AtEach (IsHanded over.life.server.0 over.life.generation.0 over.life.asked (brought_at w.queue.0 desk')) (theirs desk'.caller.work)
+    pub ends_lived : HasStopped d.setup over (theirs desk'.caller.work) → (over.life.turn ≡ AwaitsInvoke → EndsShut d w.queue.0 desk' over) → AtEach (IsHanded over.life.server.0 over.life.generation.0 over.life.asked (IsSentFor d w.queue.0 desk')) (theirs desk'.caller.work)
         → IsLived d w.name w.queue.0 w.served.slot.server.0 desk' over
     ends_lived stopped shut handed =
         let server : over.life.server.0 ≡ w.served.slot.server.0 = ap (λ s. s.0) last.server in
@@ -165,7 +166,7 @@ module _ {L T : Type 0} {d : Domain} {named : T → List ℕ} {shows : T → Sta
           named = last.named;
           stopped = stopped;
           shut = shut;
-          handed = subst (λ n. AtEach (IsHanded n over.life.generation.0 over.life.asked (brought_at w.queue.0 desk')) (theirs desk'.caller.work)) server handed;
+          handed = subst (λ n. AtEach (IsHanded n over.life.generation.0 over.life.asked (IsSentFor d w.queue.0 desk')) (theirs desk'.caller.work)) server handed;
         }
 
     pub ends_work : IsLived d w.name w.queue.0 w.served.slot.server.0 desk' over → IsAtWork d named shows (at_kept w kept slot' desk') []
@@ -221,7 +222,7 @@ module _ {L T : Type 0} {d : Domain} {named : T → List ℕ} {shows : T → Sta
         number = number_of at.serving;
         named_so = at.named_so;
         idle = at.serving.idle;
-        hand = subst (λ h. IfSome h (IsTaken d w.queue.0 w.desk)) (sym hand) tt;
+        hand = subst (λ h. IfSome h (IsRight d.cells)) (sym hand) tt;
         shown = record {
           lives_are = ap (λ (l : List Generation). map (λ (over : Ending). over.life.generation) w.served.lives.items ++ l) (ap cut_in at.cut) ∙ at.lived.are;
           so_far = inl started;
@@ -255,22 +256,13 @@ module _ {L T : Type 0} {d : Domain} {named : T → List ℕ} {shows : T → Sta
         named_so = ended.named_so;
         idle = ap (λ (desk : Desk). desk.caller.phase) tells.rest ∙ ended.idle;
         hand = elim hand [
-          | inl none ↦ subst (λ h. IfSome h (IsTaken d w.queue.0 desk')) (sym none) tt
-          | inr same ↦ subst (λ (x : ServerSlot). IfSome x.hand (IsTaken d w.queue.0 desk')) (sym same) (taken_on w.served.slot.hand ended.hand)
+          | inl none ↦ subst (λ h. IfSome h (IsRight d.cells)) (sym none) tt
+          | inr same ↦ subst (λ (x : ServerSlot). IfSome x.hand (IsRight d.cells)) (sym same) ended.hand
         ];
         shown = subst (λ (x : ℕ). ServerShows d w.name w.queue.0 x desk' w.served.lives.items (cut_in w.cut) (shows w.served.starter) (why ≡ None)) (ap (λ x. x.0) (sym server)) shows_same;
         halts = halts_on why ended.halts;
       }
     where
-      taken_on : (hand : Option (Entry Cargo)) → IfSome hand (IsTaken d w.queue.0 w.desk) → IfSome hand (IsTaken d w.queue.0 desk')
-      taken_on None is = tt
-      taken_on (Some entry) is = record {
-        right = is.right;
-        brought = is.brought;
-        stands = subst (λ (desk : Desk). Contains (brought_at w.queue.0 desk) is.brought) (sym tells.rest) is.stands;
-        brings = is.brings;
-      }
-
       halts_on : (o : Option Stopped) → IfSome o (IsStopAt w.desk) → IfSome o (IsStopAt desk')
       halts_on None is = tt
       halts_on (Some Elsewhere) is = tt

@@ -25,7 +25,8 @@ use Rattle.xa_desk.specs.declared.stopped.Stopped.{Stopped}
 use Rattle.xa_desk.specs.Desks.{Leads}
 use Rattle.xa_desk.specs.Found.{SawAtQueue}
 use Rattle.xa_desk.specs.declared.serving.SweptOut.{SweptOut}
-use Rattle.xa_desk.specs.Serving.{IsServing, IsTaken, Sees, LeavesAs, OfDomain, Sweeps, IsSwept}
+use Rattle.xa_desk.specs.xa_held.Kept.{IsRight}
+use Rattle.xa_desk.specs.Serving.{IsServing, Sees, LeavesAs, OfDomain, Sweeps, IsSwept}
 use Rattle.xa_links.specs.declared.working.ServerWorker.{ServerWorker}
 use Rattle.xa_desk.specs.Halting.{IsStopAt}
 use Rattle.xa_links.specs.Lives.{failed_starts, HasStarted, IsDone, ServerShows}
@@ -163,7 +164,7 @@ module _ {L T : Type 0} {d : Domain} {named : T → List ℕ} {shows : T → Sta
         number = ap (λ n. n + slot'.server.0) steps.clients ∙ ap (λ x. w.desk.caller.work.clients + x.0) server ∙ number_of off.at.serving ∙ ap (λ i. i.0) (sym steps.id);
         named_so = off.at.named_so;
         idle = retires.idle;
-        hand = subst (λ h. IfSome h (IsTaken d w.queue.0 desk')) (sym hand) tt;
+        hand = subst (λ h. IfSome h (IsRight d.cells)) (sym hand) tt;
         shown = subst (λ (x : ℕ). ServerShows d w.name w.queue.0 x desk' w.served.lives.items (cut_in w.cut) (shows w.served.starter) (why_of r ≡ None)) (ap (λ x. x.0) (sym server)) shown;
         halts = halts_by r result;
       }

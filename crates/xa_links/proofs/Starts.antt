@@ -35,7 +35,7 @@ use Rattle.xa_links.specs.declared.working.ServerWorker.{ServerWorker}
 use Rattle.xa_links.specs.Lives.{generation_in, lives_in, failed_starts, starts_of, HasStarted, HasStartedSoFar, IsHanded, IsLived}
 use Rattle.xa_links.specs.Working.{cut_in}
 use Rattle.xa_links.specs.Steps.{Steps}
-use Rattle.xa_links.specs.Standing.{Goes, brought_at, HasLived, IsAtWork, IsOff, IsIn, HasEnded}
+use Rattle.xa_links.specs.Standing.{Goes, HasLived, IsAtWork, IsOff, IsIn, HasEnded}
 use Rattle.xa_links.specs.Behind.{ToldAll, ToldBy}
 use Rattle.xa_links.proofs.Behind.{still_behind, push_behind, start_calm, told_last}
 use Rattle.xa_links.proofs.Stepping.{noted_steps, halted_own, halted_steps, halted_at}
@@ -154,8 +154,8 @@ module _ {L T : Type 0} {d : Domain} {named : T → List ℕ} {shows : T → Sta
         };
         going = record {
           follows = follows;
-          handed = subst (λ (l : Life). AtEach (IsHanded l.server.0 l.generation.0 l.asked (brought_at w.queue.0 desk')) (theirs desk'.caller.work)) (sym begins.is)
-              (subst (AtEach (IsHanded w.served.slot.server.0 g [] (brought_at w.queue.0 desk'))) (append-nil (theirs desk'.caller.work)) (handed_more w.served.slot.server.0 g [] (brought_at w.queue.0 desk') (theirs desk'.caller.work) [] none tt));
+          handed = subst (λ (l : Life). AtEach (IsHanded l.server.0 l.generation.0 l.asked (IsSentFor d w.queue.0 desk')) (theirs desk'.caller.work)) (sym begins.is)
+              (subst (AtEach (IsHanded w.served.slot.server.0 g [] (IsSentFor d w.queue.0 desk'))) (append-nil (theirs desk'.caller.work)) (handed_more w.served.slot.server.0 g [] (IsSentFor d w.queue.0 desk') (theirs desk'.caller.work) [] none tt));
         };
         does = ap (λ (s : ServerSlot). s.doing) starts.left ∙ ap Idle (sym gen);
         turns = ap (λ (l : Life). l.turn) begins.is;

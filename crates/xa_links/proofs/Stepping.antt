@@ -37,7 +37,7 @@ use Rattle.xa_desk.specs.declared.serving.Took.TheVariants as takes
 use Rattle.xa_desk.specs.declared.stopped.Stopped.{Stopped}
 use Rattle.xa_desk.specs.xa_held.Notes.{is_down_in}
 use Rattle.xa_desk.specs.Desks.{Leads, queue_page}
-use Rattle.xa_desk.specs.Serving.{Sees, TakesAs, OfDomain, IsServing, IsTaken, IsFallen}
+use Rattle.xa_desk.specs.Serving.{Sees, TakesAs, OfDomain, IsServing, IsFallen}
 use Rattle.xa_desk.proofs.Leading.{leads_trans}
 use Rattle.xa_links.specs.declared.telling.Told.{Told}
 use Rattle.xa_desk.specs.Halting.{IsHaltAt, IsStopAt}
@@ -132,11 +132,7 @@ module _ {d : Domain} where
 
   -- what the worker of a server has goes on as somebody is told
   pub serving_told : {queue : ℕ} {slot : ServerSlot} {told : Option Told} {old new : Desk} → Tells d told old new → IsServing d queue slot old → IsServing d queue slot new
-  serving_told {queue} {slot} {told} {old} {new} tells is = subst (IsServing d queue slot) (sym tells.rest) (record { stands = is.stands; idle = is.idle; its = is.its; some = is.some; least = is.least; left = is.left; hand = taken slot.hand is.hand })
-    where
-      taken : (hand : Option (Entry Cargo)) → IfSome hand (IsTaken d queue old) → IfSome hand (IsTaken d queue (record old { caller = record old.caller { seat = new.caller.seat } }))
-      taken None has = tt
-      taken (Some entry) has = record { right = has.right; brought = has.brought; stands = has.stands; brings = has.brings }
+  serving_told {queue} {slot} {told} {old} {new} tells is = subst (IsServing d queue slot) (sym tells.rest) (record { stands = is.stands; idle = is.idle; its = is.its; some = is.some; least = is.least; left = is.left; hand = is.hand })
 
   -- ---- what is to be told stays so
 
@@ -199,7 +195,7 @@ module _ {d : Domain} where
     took_from : {slot slot' : ServerSlot} {old new : Desk} (took : Took) → Leads d old new → IsServing d queue slot old → IsServing d queue slot' new → TakesAs d queue (Ok took) slot slot' old new → TakesFrom d queue (Ok took) slot slot' old new
     took_from takes.Nothing leads was serving (same, sees) = waits_same same leads sees serving
     took_from takes.Closed leads was serving (same, sees, shut) = (waits_same same leads sees serving, shut)
-    took_from {slot} {slot'} {old} takes.Request leads was serving (entry, stamp, k, is, later, caller) =
+    took_from {slot} {slot'} {old} takes.Request leads was serving (entry, stamp, k, is, later, caller, taken) =
         let t : Taken = record { request = entry.request; server = slot.server; generation = life_in slot.doing; k = k } in
         record {
           t = t;
@@ -213,7 +209,7 @@ module _ {d : Domain} where
           };
           busy = ap (λ (s : ServerSlot). s.doing) is;
           hand = ap (λ (s : ServerSlot). s.hand) is;
-          request = refl;
+          taken = taken;
           server = refl;
           generation = refl;
           stamp = stamp;
@@ -240,7 +236,7 @@ module _ {d : Domain} where
       serves = serves_trans [] (Take bc.t ∷ []) ab.serves bc.serves;
       busy = bc.busy;
       hand = bc.hand;
-      request = bc.request;
+      taken = bc.taken;
       server = bc.server ∙ ab.serves.server;
       generation = bc.generation ∙ ap (λ (s : ServerSlot). life_in s.doing) ab.same;
       stamp = bc.stamp;

@@ -1,10 +1,11 @@
 -- The lives of a server beside its worker's own events, and how a server is done (after Tuxedo, UBBCONFIG; that a server's worker notes its events is
 -- this project's own). Lists of events have the newest first.
 use Rattle.std.specs.Prelude.{◌≡◌, ◌⊎◌, ℕ, zero, suc, ◌+◌, ◌-◌, ◌^◌, ◌==◌, min, if◌then◌else◌, Bool, true, false, List, [], ◌∷◌, ◌++◌, map, reverse, length, take, drop, Option, Some, None, IfSome}
-use Rattle.std.specs.List.{All, Contains, filter_map, flat_map}
+use Rattle.std.specs.List.{All, filter_map}
 use Rattle.xa_desk.specs.xa_types.declared.ids.Generation.{Generation}
 use Rattle.xa_desk.specs.xa_events.declared.event.Event.{Event}
 use Rattle.xa_desk.specs.xa_events.declared.event.Event.TheVariants.{Take, Start, StartFailed}
+use Rattle.xa_desk.specs.xa_events.declared.event.Taken.{Taken}
 use Rattle.xa_desk.specs.xa_events.Words.{AtEach, count}
 use Rattle.xa_desk.specs.xa_events.Server.{starts, is_gone, was_shut_down}
 use Rattle.xa_desk.specs.xa_events.Cases.{IsShut}
@@ -12,10 +13,7 @@ use Rattle.xa_desk.specs.xa_frame.declared.frame.Frame.{Frame}
 use Rattle.xa_desk.specs.xa_events.Homes.Home.{QueueHome}
 use Rattle.xa_desk.specs.xa_stamp.declared.home.Stamped.{Stamped}
 use Rattle.xa_desk.specs.xa_crew.Seen.{SawQueue}
-use Rattle.xa_desk.specs.xa_lock.declared.makers.Made.{Made}
 use Rattle.xa_desk.specs.xa_held.declared.cargo.Invocation.{Invocation}
-use Rattle.xa_desk.specs.xa_held.Kept.{Brings}
-use Rattle.xa_desk.specs.xa_held.Notes.{made_of}
 use Rattle.xa_desk.specs.xa_pipe.declared.turn.Turn.TheVariants.{AwaitsInvoke}
 use Rattle.xa_desk.specs.xa_pipe.Frames.{is_of_life, is_take_in, invocation}
 use Rattle.xa_desk.specs.xa_pipe.Following.{HasStopped}
@@ -27,9 +25,9 @@ use Rattle.xa_desk.specs.xa_work.Work.{theirs}
 use Rattle.xa_desk.specs.declared.domain.Domain.{Domain}
 use Rattle.xa_desk.specs.declared.desk.Desk.{Desk}
 use Rattle.xa_desk.specs.Whole.{Whole, entries_of}
-use Rattle.xa_desk.specs.Desks.{GoesOn, queue_page}
+use Rattle.xa_desk.specs.Desks.{GoesOn}
 use Rattle.xa_desk.specs.Found.{SawAtQueue}
-use Rattle.xa_desk.specs.Serving.{LeftOthers, IsSwept}
+use Rattle.xa_desk.specs.Serving.{IsSentFor, LeftOthers, IsSwept}
 use Rattle.xa_links.specs.Behind.{TellsLast}
 
 -- ---- its starts
@@ -67,12 +65,12 @@ HasStartedSoFar name n failed shown = HasStarted name n failed shown ⊎ HasStar
 
 -- ---- a life
 
--- a take of the life was handed on by the INVOKE at its place among these, with what one of these events of the queue brought
-abbrev pub IsHanded : ℕ → ℕ → List Frame → List Made → Event → List Event → Type 0
-IsHanded server g asked brought (Take t) before = is_of_life server g t.server.0 t.generation.0 ≡ true
-    → (made : Made) × (what : Invocation) × Contains brought made × Brings t.request what made.noted.event
+-- a take of the life was handed on by the INVOKE at its place among these, with what its request was sent for
+abbrev pub IsHanded : ℕ → ℕ → List Frame → (Taken → Invocation → Type 0) → Event → List Event → Type 0
+IsHanded server g asked IsSent (Take t) before = is_of_life server g t.server.0 t.generation.0 ≡ true
+    → (what : Invocation) × IsSent t what
     × (take 1 (drop (count (is_take_in server g) before) asked) ≡ invoke_frame what.service what.routine (invocation server g (Take t ∷ before)) what.payload ∷ [])
-IsHanded server g asked brought e before = Unit {0}
+IsHanded server g asked IsSent e before = Unit {0}
 
 -- the queue was seen closed, with nothing that waits, before the end of the life was noted
 abbrev pub EndsShut : Domain → ℕ → Desk → Ending → Type 0
@@ -87,7 +85,7 @@ pub record IsLived (d : Domain) (name : List ℕ) (queue server : ℕ) (desk : D
   pub named : over.life.name ≡ name
   pub stopped : HasStopped d.setup over (theirs desk.caller.work)
   pub shut : over.life.turn ≡ AwaitsInvoke → EndsShut d queue desk over
-  pub handed : AtEach (IsHanded server over.life.generation.0 over.life.asked (flat_map made_of (queue_page desk queue).seen)) (theirs desk.caller.work)
+  pub handed : AtEach (IsHanded server over.life.generation.0 over.life.asked (IsSentFor d queue desk)) (theirs desk.caller.work)
 
 -- ---- its end
 

@@ -1,6 +1,6 @@
 -- How a server's worker stands between its steps: its server is off, or in a life, or the worker's work is over (this project's own).
 use Rattle.std.specs.Prelude.{◌≡◌, ℕ, ◌+◌, ◌<◌, ◌≤◌, false, true, List, [], ◌∷◌, ◌++◌, map, length, Option, Some, None, IfSome, Result, Ok, Err, vec_len, vec_capacity}
-use Rattle.std.specs.List.{All, flat_map}
+use Rattle.std.specs.List.{All}
 use Rattle.xa_desk.specs.xa_types.declared.ids.Generation.{Generation}
 use Rattle.xa_desk.specs.xa_events.declared.event.Event.{Event}
 use Rattle.xa_desk.specs.xa_events.declared.event.Event.TheVariants.{Take, End}
@@ -11,9 +11,8 @@ use Rattle.xa_desk.specs.xa_events.declared.event.Doing.TheVariants as doings
 use Rattle.xa_desk.specs.xa_events.Words.{AtEach}
 use Rattle.xa_desk.specs.xa_events.Caller.{tick_floor}
 use Rattle.xa_desk.specs.xa_events.Cases.{IsShut}
-use Rattle.xa_desk.specs.xa_lock.declared.makers.Made.{Made}
 use Rattle.xa_desk.specs.xa_queue.declared.entry.Entry.{Entry}
-use Rattle.xa_desk.specs.xa_held.Notes.{made_of}
+use Rattle.xa_desk.specs.xa_held.Kept.{IsRight}
 use Rattle.xa_desk.specs.xa_work.Work.{theirs}
 use Rattle.xa_desk.specs.xa_caller.declared.phase.Phase.TheVariants.{Idle}
 use Rattle.xa_desk.specs.xa_caller.Drafts.{Cargo}
@@ -30,9 +29,9 @@ use Rattle.xa_desk.specs.xa_restart.Rule.{may_start_by}
 use Rattle.xa_desk.specs.declared.domain.Domain.{Domain}
 use Rattle.xa_desk.specs.declared.desk.Desk.{Desk}
 use Rattle.xa_desk.specs.declared.stopped.Stopped.{Stopped}
-use Rattle.xa_desk.specs.Desks.{IsDesk, Leads, queue_page}
+use Rattle.xa_desk.specs.Desks.{IsDesk, Leads}
 use Rattle.xa_desk.specs.Found.{SawAtQueue}
-use Rattle.xa_desk.specs.Serving.{IsServing, IsTaken}
+use Rattle.xa_desk.specs.Serving.{IsServing, IsSentFor, IsTaken}
 use Rattle.xa_links.specs.declared.telling.Told.{Told}
 use Rattle.xa_links.specs.declared.living.Exchanged.{Exchanged}
 use Rattle.xa_links.specs.declared.living.Exchanged.TheVariants as exchanges
@@ -46,10 +45,6 @@ use Rattle.xa_links.specs.Behind.{ToldAll, ToldBy}
 use Rattle.xa_links.specs.Working.{cut_in}
 
 -- ---- lives
-
--- what the worker saw brought to a queue
-abbrev pub brought_at : ℕ → Desk → List Made
-brought_at queue desk = flat_map made_of (queue_page desk queue).seen
 
 -- these lives ended, and another may go on, which is the server's last; no event is of a later one
 pub record HasLived (d : Domain) (name : List ℕ) (queue server made : ℕ) (desk : Desk) (lives : List Ending) (going : List Generation) : Type 0 where
@@ -67,7 +62,7 @@ pub record IsLast (name : List ℕ) (slot : ServerSlot) (life : Life) : Type 0 w
 -- it went as these events say, and each request of theirs that it took was handed on
 pub record IsGoing (d : Domain) (queue : ℕ) (desk : Desk) (own : List Event) (life : Life) : Type 0 where
   pub follows : Follows d.setup life own
-  pub handed : AtEach (IsHanded life.server.0 life.generation.0 life.asked (brought_at queue desk)) own
+  pub handed : AtEach (IsHanded life.server.0 life.generation.0 life.asked (IsSentFor d queue desk)) own
 
 -- what the end of a life comes to, by what its server does: with a request in hand it is settled behind the end of that
 abbrev pub SettlesBy : Domain → Ending → List Event → Doing → Type 0
@@ -139,7 +134,7 @@ module _ {L T : Type 0} (d : Domain) (named : T → List ℕ) (shows : T → Sta
     pub going : IsGoing d w.queue.0 w.desk before life
     pub entry : Entry Cargo
     pub hand : w.served.slot.hand ≡ Some entry
-    pub request : t.request ≡ entry.request
+    pub taken : IsTaken d w.queue.0 t w.desk entry
     pub does : w.served.slot.doing ≡ doings.Busy life.generation t.request
     pub turns : life.turn ≡ AwaitsInvoke
     pub asked : length life.asked ≡ returned life
@@ -149,7 +144,7 @@ module _ {L T : Type 0} (d : Domain) (named : T → List ℕ) (shows : T → Sta
   pub record MayDie (over : Ending) (w : ServerWorker L T) : Type 0 where
     pub at : IsAtWork w (over.life.generation ∷ [])
     pub last : IsLast w.name w.served.slot over.life
-    pub handed : AtEach (IsHanded over.life.server.0 over.life.generation.0 over.life.asked (brought_at w.queue.0 w.desk)) (theirs w.desk.caller.work)
+    pub handed : AtEach (IsHanded over.life.server.0 over.life.generation.0 over.life.asked (IsSentFor d w.queue.0 w.desk)) (theirs w.desk.caller.work)
     pub settles : SettlesBy d over (theirs w.desk.caller.work) w.served.slot.doing
     pub shut : over.life.turn ≡ AwaitsInvoke → SawAtQueue d w.queue.0 w.desk (IsShut d.setup w.queue.0)
     pub dies : may_end over.cause over.life.turn over.written ≡ true → is_death over.cause ≡ true
@@ -161,7 +156,7 @@ module _ {L T : Type 0} (d : Domain) (named : T → List ℕ) (shows : T → Sta
     pub number : w.desk.caller.work.clients + w.served.slot.server.0 ≡ w.desk.caller.work.id.0
     pub named_so : named w.served.starter ≡ w.name
     pub idle : w.desk.caller.phase ≡ Idle
-    pub hand : IfSome w.served.slot.hand (IsTaken d w.queue.0 w.desk)
+    pub hand : IfSome w.served.slot.hand (IsRight d.cells)
     pub shown : ServerShows d w.name w.queue.0 w.served.slot.server.0 w.desk w.served.lives.items (cut_in w.cut) (shows w.served.starter) (why ≡ None)
     pub halts : IfSome why (IsStopAt w.desk)
 

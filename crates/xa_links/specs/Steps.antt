@@ -35,7 +35,7 @@ use Rattle.xa_desk.specs.declared.stopped.Stopped.{Stopped}
 use Rattle.xa_desk.specs.declared.stopped.Stopped.TheVariants.{Here}
 use Rattle.xa_desk.specs.Desks.{Leads}
 use Rattle.xa_desk.specs.Found.{SawAtQueue}
-use Rattle.xa_desk.specs.Serving.{IsServing, IsToTell, LeftOthers, IsSwept}
+use Rattle.xa_desk.specs.Serving.{IsServing, IsTaken, IsToTell, LeftOthers, IsSwept}
 use Rattle.xa_links.specs.declared.telling.Told.{Told}
 use Rattle.xa_desk.specs.Halting.{IsStopAt}
 use Rattle.xa_links.specs.Behind.{TellsLast, ToldAll}
@@ -85,7 +85,7 @@ pub record Takes (d : Domain) (queue : ℕ) (slot slot' : ServerSlot) (old new :
   pub serves : Serves d queue (Take t ∷ []) slot slot' old new
   pub busy : slot'.doing ≡ Busy t.generation t.request
   pub hand : slot'.hand ≡ Some entry
-  pub request : t.request ≡ entry.request
+  pub taken : IsTaken d queue t new entry
   pub server : t.server ≡ slot.server
   pub generation : t.generation ≡ life_in slot.doing
   pub stamp : Stamp

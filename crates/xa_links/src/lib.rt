@@ -2,6 +2,7 @@
 #![tactic(auto)]
 
 mod living;
+mod passing;
 mod retiring;
 mod taking;
 mod telling;

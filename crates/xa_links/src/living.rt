@@ -4,26 +4,30 @@ ghost use Rattle.xa_desk.specs.xa_types.declared.stamp.Stamp.{Stamp};
 ghost use Rattle.xa_desk.specs.xa_events.Cases.{IsShut};
 ghost use Rattle.xa_desk.specs.xa_events.Server.{is_shutdown};
 ghost use Rattle.xa_desk.specs.xa_events.declared.event.Doing.TheVariants as doings;
-ghost use Rattle.xa_desk.specs.xa_pipe.declared.turn.Turn.TheVariants.{Serving, Exited};
-ghost use Rattle.xa_desk.specs.xa_pipe.Frames.{return_frame};
+ghost use Rattle.xa_desk.specs.xa_pipe.declared.turn.Turn.TheVariants.{AwaitsNext, Serving, Exited};
+ghost use Rattle.xa_desk.specs.xa_pipe.Frames.{return_frame, forward_frame};
 ghost use Rattle.xa_desk.specs.xa_pipe.Standing.{Standing as Lives, tag_of};
 ghost use Rattle.xa_desk.specs.xa_pipe.Changes.{Heard};
 ghost use Rattle.xa_desk.specs.xa_server.Doings.{life_in};
 ghost use Rattle.xa_desk.specs.xa_server.declared.slot.Last.TheVariants as lasts;
 ghost use Rattle.xa_desk.specs.xa_types.declared.ids.RequestId.{RequestId as Asked};
+ghost use Rattle.xa_desk.specs.xa_events.declared.event.Taken.{Taken};
+ghost use Rattle.xa_desk.specs.Serving.{IsTaken};
 ghost use Rattle.xa_desk.specs.Desks.{IsDomain};
 ghost use Rattle.xa_desk.specs.Found.{SawAtQueue};
 ghost use Rattle.xa_links.specs.Steps.{IsToldOf, is_exit};
 ghost use Rattle.xa_links.specs.Working.{cut_in};
 ghost use Rattle.xa_links.specs.Standing.{Goes, IsIn, IsFree, HasTaken, MayDie, HasEnded, OverWith, ExchangedAs, OffAs};
 
+use crate::passing::forward;
 use crate::taking::stop_by;
 use crate::telling::{Told, tell_if, told_by};
 use crate::working::{CutLife, ServerWorker};
 use std::alloc::Global;
+use std::sync::Wait;
 use xa_desk::events::StopCause;
 use xa_desk::link::{Gate, Link, Starter};
-use xa_desk::pipe::{Answered, EndedLife, Life, Return};
+use xa_desk::pipe::{Answered, EndedLife, Finish, Forward, Life, Return};
 use xa_desk::types::Rval;
 use xa_desk::{Domain, Stopped};
 
@@ -149,6 +153,51 @@ impl<L: Link, T: Starter<L>> ServerWorker<L, T> {
         if exits {
             return Ok(Exchanged::Over(self.exit(domain, gate, life, told)?));
         }
+        self.go_on(domain, gate, life, told)
+    }
+
+    // The service forwards its request.
+    fn forwarded<W: Wait, G: Gate>(
+        &mut self,
+        rt: &W,
+        alloc: Global,
+        domain: &Domain,
+        gate: &G,
+        life: Life<L>,
+        forwards: Forward,
+    ) -> Result<Exchanged<L>, Stopped>
+        requires domain { IsDomain domain.now }
+        requires before { (old : Lives) × (t : Taken) × IsIn domain.now T.server_name (λ s. record { asked = T.asked s; faults = T.start_faults s }) (doings.Busy old.generation t.request) Serving 1 old self.old
+            × Heard (forward_frame (tag_of old) forwards.service forwards.payload) life old × IfSome self.old.served.slot.hand (IsTaken domain.now self.old.queue.0 t self.old.desk) }
+        ensures goes { Goes domain.now self.old self.new }
+        ensures exchanged { IfOk result (λ exchanged. ExchangedAs domain.now T.server_name (λ s. record { asked = T.asked s; faults = T.start_faults s }) exchanged self.new) }
+        ensures halted { IfErr result (λ stopped. HasEnded domain.now T.server_name (λ s. record { asked = T.asked s; faults = T.start_faults s }) (Some stopped) self.new) }
+    {
+        let slot = &mut self.served.slot;
+        match forward(rt, alloc, domain, &mut self.desk, slot, forwards) {
+            Ok(told) => self.go_on(domain, gate, life, told),
+            Err(halt) => {
+                self.cut(life);
+                Err(Stopped::Here(halt))
+            }
+        }
+    }
+
+    // The server is idle, behind a request of which somebody may have to be told.
+    fn go_on<G: Gate>(
+        &mut self,
+        domain: &Domain,
+        gate: &G,
+        life: Life<L>,
+        told: Option<Told>,
+    ) -> Result<Exchanged<L>, Stopped>
+        requires domain { IsDomain domain.now }
+        requires life { IsIn domain.now T.server_name (λ s. record { asked = T.asked s; faults = T.start_faults s }) (doings.Idle life.generation) AwaitsNext 0 life self.old }
+        requires told { IfSome told (IsToldOf domain.now self.old.desk) }
+        ensures goes { Goes domain.now self.old self.new }
+        ensures exchanged { IfOk result (λ exchanged. ExchangedAs domain.now T.server_name (λ s. record { asked = T.asked s; faults = T.start_faults s }) exchanged self.new) }
+        ensures halted { IfErr result (λ stopped. HasEnded domain.now T.server_name (λ s. record { asked = T.asked s; faults = T.start_faults s }) (Some stopped) self.new) }
+    {
         tell_if(domain, &mut self.desk, gate, told);
         match life.read_next() {
             Ok(life) => Ok(Exchanged::Going(life)),
@@ -156,9 +205,10 @@ impl<L: Link, T: Starter<L>> ServerWorker<L, T> {
         }
     }
 
-    // Hands the request in hand to the program, and hears what its service returns.
-    pub(crate) fn exchange<G: Gate>(
+    // Hands the request in hand to the program, and hears what its service returns or forwards.
+    pub(crate) fn exchange<W: Wait, G: Gate>(
         &mut self,
+        rt: &W,
         alloc: Global,
         domain: &Domain,
         gate: &G,
@@ -177,7 +227,12 @@ impl<L: Link, T: Starter<L>> ServerWorker<L, T> {
             Err(over) => return Ok(Exchanged::Over(self.died(domain, over)?)),
         };
         match life.hear() {
-            Ok(Answered { life, back }) => self.returned(alloc, domain, gate, life, back),
+            Ok(Answered { life, back }) => match back {
+                Finish::Returns(back) => self.returned(alloc, domain, gate, life, back),
+                Finish::Forwards(forwards) => {
+                    self.forwarded(rt, alloc, domain, gate, life, forwards)
+                }
+            },
             Err(over) => Ok(Exchanged::Over(self.died(domain, over)?)),
         }
     }

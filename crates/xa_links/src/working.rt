@@ -63,7 +63,7 @@ impl<L: Link, T: Starter<L>> ServerWorker<L, T> {
                     return Err(stopped);
                 }
             }
-            match self.exchange(alloc, domain, gate, life)? {
+            match self.exchange(rt, alloc, domain, gate, life)? {
                 Exchanged::Going(next) => life = next,
                 Exchanged::Over(told) => return Ok(Off::Dead(told)),
             }

@@ -1,0 +1,72 @@
+-- How a server's worker passes the request in hand on (after Tuxedo, tpforward; that its worker notes it is this project's own).
+use Rattle.std.specs.Prelude.{◌≡◌, ℕ, true, List, [], ◌∷◌, ◌++◌, Option, Some, None, IfSome, Result, Ok, Err}
+use Rattle.xa_desk.specs.xa_types.declared.data.Data.{Data}
+use Rattle.xa_desk.specs.xa_types.declared.stamp.Stamp.{Stamp}
+use Rattle.xa_desk.specs.xa_types.Setup.{queue_of}
+use Rattle.xa_desk.specs.xa_events.declared.event.Doing.TheVariants.{Idle}
+use Rattle.xa_desk.specs.xa_events.declared.event.Event.{Event}
+use Rattle.xa_desk.specs.xa_events.declared.event.Event.TheVariants.{Forward, End}
+use Rattle.xa_desk.specs.xa_events.declared.event.Outcome.TheVariants.{BadForward}
+use Rattle.xa_desk.specs.xa_pipe.Following.{is_of}
+use Rattle.xa_desk.specs.xa_queue.declared.queue.Refusal.{Refusal}
+use Rattle.xa_desk.specs.xa_queue.declared.queue.Refusal.TheVariants as refusals
+use Rattle.xa_desk.specs.xa_work.declared.work.Halt.{Halt}
+use Rattle.xa_desk.specs.xa_work.declared.work.Halt.TheVariants as halts
+use Rattle.xa_desk.specs.xa_server.declared.slot.ServerSlot.{ServerSlot}
+use Rattle.xa_desk.specs.xa_server.Doings.{life_in}
+use Rattle.xa_desk.specs.declared.domain.Domain.{Domain}
+use Rattle.xa_desk.specs.declared.desk.Desk.{Desk}
+use Rattle.xa_desk.specs.Halting.{IsHaltAt}
+use Rattle.xa_links.specs.declared.telling.Told.{Told}
+use Rattle.xa_links.specs.Steps.{Steps, Serves, IsToldOf}
+
+-- the number of the queue at which the slot's server is
+abbrev pub its_queue : Domain → ServerSlot → ℕ
+its_queue d slot = queue_of d.setup slot.server.0
+
+-- how the worker halts by what a queue refused for, if it does
+abbrev pub halt_by : Refusal → Option Halt
+halt_by (refusals.Worn stamp) = Some (halts.Worn stamp)
+halt_by refusals.NoMemory = Some halts.NoMemory
+halt_by why = None
+
+-- the worker noted nothing, told nobody and looked up nothing
+pub record IsBack (d : Domain) (old new : Desk) : Type 0 where
+  pub steps : Steps d [] old new
+  pub own : new.caller.work.own ≡ old.caller.work.own
+  pub seat : new.caller.seat ≡ old.caller.seat
+  pub reader : new.reader ≡ old.reader
+
+-- the server is done with its request by that event of its life, which its worker noted, and is idle
+pub record IsDoneBy (d : Domain) (queue : ℕ) (event : Event) (slot slot' : ServerSlot) (old new : Desk) : Type 0 where
+  pub serves : Serves d queue (event ∷ []) slot slot' old new
+  pub its : is_of slot.server.0 (life_in slot.doing).0 event ≡ true
+  pub idle : slot'.doing ≡ Idle (life_in slot.doing)
+  pub stamp : Stamp
+  pub noted : new.caller.work.own ≡ old.caller.work.own ++ record { stamp = stamp; event = event } ∷ []
+  pub seat : new.caller.seat ≡ old.caller.seat
+
+-- the request went on to that service with that data, or it ended as a forward that failed, and its caller is to be told
+abbrev pub ForwardsBy : List ℕ → Data → Option Told → Event → Type 0
+ForwardsBy service payload None (Forward f) = (f.service ≡ service) × (f.payload ≡ payload)
+ForwardsBy service payload (Some told) (End e) = (version : ℕ) × (e.outcome ≡ BadForward version)
+ForwardsBy service payload told event = ⊥
+
+pub record Passes (d : Domain) (queue : ℕ) (service : List ℕ) (payload : Data) (told : Option Told) (slot slot' : ServerSlot) (old new : Desk) : Type 0 where
+  pub event : Event
+  pub done : IsDoneBy d queue event slot slot' old new
+  pub by : ForwardsBy service payload told event
+  pub to_tell : IfSome told (IsToldOf d new)
+
+-- at a halt it is in hand still, and nothing was noted
+pub record Keeps (d : Domain) (queue : ℕ) (halt : Halt) (slot slot' : ServerSlot) (old new : Desk) : Type 0 where
+  pub serves : Serves d queue [] slot slot' old new
+  pub does : slot'.doing ≡ slot.doing
+  pub own : new.caller.work.own ≡ old.caller.work.own
+  pub seat : new.caller.seat ≡ old.caller.seat
+  pub halts : IsHaltAt new halt
+
+-- what a forward to that service with that data comes to
+abbrev pub PassesAs : Domain → ℕ → List ℕ → Data → Result (Option Told) Halt → ServerSlot → ServerSlot → Desk → Desk → Type 0
+PassesAs d queue service payload (Ok told) slot slot' old new = Passes d queue service payload told slot slot' old new
+PassesAs d queue service payload (Err halt) slot slot' old new = Keeps d queue halt slot slot' old new
