@@ -7,16 +7,17 @@ use Rattle.xa_types.specs.declared.call.Rval.{Rval}
 use Rattle.xa_types.specs.declared.call.Rval.TheVariants.{Success, Fail, Exit as ExitValue}
 use Rattle.xa_types.specs.Kind.{is_sound}
 use Rattle.xa_events.specs.declared.event.Ended.{Ended}
+use Rattle.xa_events.specs.declared.event.Forwarded.{Forwarded}
 use Rattle.xa_events.specs.declared.event.Event.{Event}
-use Rattle.xa_events.specs.declared.event.Event.TheVariants.{End}
-use Rattle.xa_pipe.specs.declared.hearing.Return.{Return}
+use Rattle.xa_events.specs.declared.event.Event.TheVariants.{Forward, End}
+use Rattle.xa_pipe.specs.declared.hearing.Finish.TheVariants.{Returns, Forwards}
 use Rattle.xa_events.specs.declared.event.Outcome.{Outcome}
-use Rattle.xa_events.specs.declared.event.Outcome.TheVariants.{BadReturn, Starved}
+use Rattle.xa_events.specs.declared.event.Outcome.TheVariants.{BadReturn, BadForward, Starved}
 use Rattle.xa_events.specs.declared.event.StopCause.{StopCause}
 use Rattle.xa_events.specs.Words.{AtEach}
 use Rattle.xa_frame.specs.declared.frame.Frame.{Frame}
 use Rattle.xa_pipe.specs.Frames.{is_of_life, frames_out}
-use Rattle.xa_pipe.specs.Life.{Turn, LifeId, LinkShows, IsLife, Occurrence, EndsAs, ComesTo, EachCame, AllCame, StopsClosed, Took, due, came_in, cause_of, outcome_of, returns_in}
+use Rattle.xa_pipe.specs.Life.{Turn, Finish, LifeId, LinkShows, IsLife, Occurrence, EndsAs, IsForwarded, ComesTo, EachCame, AllCame, StopsClosed, Took, due, came_in, cause_of, outcome_of, finishes_in}
 use Rattle.xa_pipe.specs.declared.turn.Turn.TheVariants.{AwaitsReady, AwaitsNext, AwaitsInvoke, Serving, Exited}
 use Rattle.xa_pipe.specs.Pipe.{Piped, CutOff}
 use Rattle.xa_pipe.proofs.Saying.{none_returned}
@@ -26,20 +27,25 @@ pub came_end : (server g : ℕ) (e : Ended) (past : List Event) → is_of_life s
     → came_in server g (End e ∷ past) ≡ came_in server g past ++ (record { event = End e; before = past }) ∷ []
 came_end server g e past is = rw is refl
 
+-- and so is its forward
+pub came_forward : (server g : ℕ) (f : Forwarded) (past : List Event) → is_of_life server g f.server.0 f.generation.0 ≡ true
+    → came_in server g (Forward f ∷ past) ≡ came_in server g past ++ (record { event = Forward f; before = past }) ∷ []
+came_forward server g f past is = rw is refl
+
 -- each came, and one more did
-pub came_push : (setup : Setup) (returns : List Return) (came : List Occurrence) (back : Return) (last : Occurrence) → EachCame setup returns came → ComesTo setup back last
-    → EachCame setup (returns ++ back ∷ []) (came ++ last ∷ [])
+pub came_push : (setup : Setup) (finishes : List Finish) (came : List Occurrence) (back : Finish) (last : Occurrence) → EachCame setup finishes came → ComesTo setup back last
+    → EachCame setup (finishes ++ back ∷ []) (came ++ last ∷ [])
 came_push setup [] [] back last each comes = (comes, tt)
 came_push setup [] (c ∷ came) back last each comes = absurd each
-came_push setup (r ∷ returns) [] back last each comes = absurd each
-came_push setup (r ∷ returns) (c ∷ came) back last each comes = (each.0, came_push setup returns came back last each.1 comes)
+came_push setup (r ∷ finishes) [] back last each comes = absurd each
+came_push setup (r ∷ finishes) (c ∷ came) back last each comes = (each.0, came_push setup finishes came back last each.1 comes)
 
--- there are as many as RETURNs
-pub came_length : (setup : Setup) (returns : List Return) (came : List Occurrence) → EachCame setup returns came → length returns ≡ length came
+-- there are as many as RETURNs and FORWARDs
+pub came_length : (setup : Setup) (finishes : List Finish) (came : List Occurrence) → EachCame setup finishes came → length finishes ≡ length came
 came_length setup [] [] each = refl
 came_length setup [] (c ∷ came) each = absurd each
-came_length setup (r ∷ returns) [] each = absurd each
-came_length setup (r ∷ returns) (c ∷ came) each = ap suc (came_length setup returns came each.1)
+came_length setup (r ∷ finishes) [] each = absurd each
+came_length setup (r ∷ finishes) (c ∷ came) each = ap suc (came_length setup finishes came each.1)
 
 -- ---- want of memory
 
@@ -57,51 +63,57 @@ both_no : (event : Event) (outcome : Outcome) → (outcome ≡ Starved → ⊥) 
 both_no (End e) outcome never as_said starved = never (sym as_said ∙ starved)
 both_no event outcome never as_said starved = absurd as_said
 
-comes_no : (setup : Setup) (back : Return) (o : Occurrence) → ComesTo setup back o → EndsAs Starved o.event → ⊥
-comes_no setup back o comes starved = both_no o.event _ (says_no (is_sound setup back.payload) back.value back.code back.payload) comes starved
+-- and no FORWARD
+forwarded_no : (service : List ℕ) (payload : Data) (event : Event) → IsForwarded service payload event → EndsAs Starved event → ⊥
+forwarded_no service payload (End e) (version, failed) starved = let other : BadForward version ≡ Starved = sym failed ∙ starved in cc other
+forwarded_no service payload event goes_on starved = absurd starved
 
-each_no : (setup : Setup) (returns : List Return) (earlier later : List Occurrence) (o : Occurrence) → EachCame setup returns (earlier ++ o ∷ later) → EndsAs Starved o.event → ⊥
+comes_no : (setup : Setup) (back : Finish) (o : Occurrence) → ComesTo setup back o → EndsAs Starved o.event → ⊥
+comes_no setup (Returns back) o comes starved = both_no o.event _ (says_no (is_sound setup back.payload) back.value back.code back.payload) comes starved
+comes_no setup (Forwards forward) o comes starved = forwarded_no forward.service forward.payload o.event comes starved
+
+each_no : (setup : Setup) (finishes : List Finish) (earlier later : List Occurrence) (o : Occurrence) → EachCame setup finishes (earlier ++ o ∷ later) → EndsAs Starved o.event → ⊥
 each_no setup [] [] later o each starved = each
 each_no setup [] (c ∷ earlier) later o each starved = each
-each_no setup (r ∷ returns) [] later o each starved = comes_no setup r o each.0 starved
-each_no setup (r ∷ returns) (c ∷ earlier) later o each starved = each_no setup returns earlier later o each.1 starved
+each_no setup (r ∷ finishes) [] later o each starved = comes_no setup r o each.0 starved
+each_no setup (r ∷ finishes) (c ∷ earlier) later o each starved = each_no setup finishes earlier later o each.1 starved
 
 -- what stands before the last of a list stands before another element, or is that one
-last_no : (setup : Setup) (returns : List Return) (front earlier later : List Occurrence) (last o next : Occurrence) → front ++ last ∷ [] ≡ earlier ++ o ∷ next ∷ later
-    → EachCame setup returns front → EndsAs Starved o.event → ⊥
-last_no setup returns [] [] later last o next e each starved = cc e
-last_no setup returns [] (c ∷ []) later last o next e each starved = cc e
-last_no setup returns [] (c ∷ d ∷ earlier) later last o next e each starved = cc e
+last_no : (setup : Setup) (finishes : List Finish) (front earlier later : List Occurrence) (last o next : Occurrence) → front ++ last ∷ [] ≡ earlier ++ o ∷ next ∷ later
+    → EachCame setup finishes front → EndsAs Starved o.event → ⊥
+last_no setup finishes [] [] later last o next e each starved = cc e
+last_no setup finishes [] (c ∷ []) later last o next e each starved = cc e
+last_no setup finishes [] (c ∷ d ∷ earlier) later last o next e each starved = cc e
 last_no setup [] (f ∷ front) earlier later last o next e each starved = each
-last_no setup (r ∷ returns) (f ∷ front) [] later last o next e each starved = let same : o ≡ f = cc e in comes_no setup r f each.0 (subst (λ (c : Occurrence). EndsAs Starved c.event) same starved)
-last_no setup (r ∷ returns) (f ∷ front) (c ∷ earlier) later last o next e each starved = last_no setup returns front earlier later last o next (cc e) each.1 starved
+last_no setup (r ∷ finishes) (f ∷ front) [] later last o next e each starved = let same : o ≡ f = cc e in comes_no setup r f each.0 (subst (λ (c : Occurrence). EndsAs Starved c.event) same starved)
+last_no setup (r ∷ finishes) (f ∷ front) (c ∷ earlier) later last o next e each starved = last_no setup finishes front earlier later last o next (cc e) each.1 starved
 
-starved_in : (setup : Setup) (cause : StopCause) (turn : Turn) (returns : List Return) (came earlier later : List Occurrence) (o : Occurrence) → AllCame setup cause turn returns came
+starved_in : (setup : Setup) (cause : StopCause) (turn : Turn) (finishes : List Finish) (came earlier later : List Occurrence) (o : Occurrence) → AllCame setup cause turn finishes came
     → came ≡ earlier ++ o ∷ later → EndsAs Starved o.event → (turn ≡ Serving) × (later ≡ [])
-starved_in setup cause Serving returns came earlier [] o all is starved = (refl, refl)
-starved_in setup cause Serving returns came earlier (next ∷ later) o (front, last, same, each, lost) is starved = absurd (last_no setup returns front earlier later last o next (sym same ∙ is) each starved)
-starved_in setup cause AwaitsReady returns came earlier later o each is starved = absurd (each_no setup returns earlier later o (subst (λ (os : List Occurrence). EachCame setup returns os) is each) starved)
-starved_in setup cause AwaitsNext returns came earlier later o each is starved = absurd (each_no setup returns earlier later o (subst (λ (os : List Occurrence). EachCame setup returns os) is each) starved)
-starved_in setup cause AwaitsInvoke returns came earlier later o each is starved = absurd (each_no setup returns earlier later o (subst (λ (os : List Occurrence). EachCame setup returns os) is each) starved)
-starved_in setup cause Exited returns came earlier later o each is starved = absurd (each_no setup returns earlier later o (subst (λ (os : List Occurrence). EachCame setup returns os) is each) starved)
+starved_in setup cause Serving finishes came earlier [] o all is starved = (refl, refl)
+starved_in setup cause Serving finishes came earlier (next ∷ later) o (front, last, same, each, lost) is starved = absurd (last_no setup finishes front earlier later last o next (sym same ∙ is) each starved)
+starved_in setup cause AwaitsReady finishes came earlier later o each is starved = absurd (each_no setup finishes earlier later o (subst (λ (os : List Occurrence). EachCame setup finishes os) is each) starved)
+starved_in setup cause AwaitsNext finishes came earlier later o each is starved = absurd (each_no setup finishes earlier later o (subst (λ (os : List Occurrence). EachCame setup finishes os) is each) starved)
+starved_in setup cause AwaitsInvoke finishes came earlier later o each is starved = absurd (each_no setup finishes earlier later o (subst (λ (os : List Occurrence). EachCame setup finishes os) is each) starved)
+starved_in setup cause Exited finishes came earlier later o each is starved = absurd (each_no setup finishes earlier later o (subst (λ (os : List Occurrence). EachCame setup finishes os) is each) starved)
 
 -- a request that ends as Starved is the last of its life, and was in hand as that ended
 pub starved_last : (setup : Setup) (life : LifeId) (past : List Event) (link : LinkShows) (earlier later : List Occurrence) (o : Occurrence) (it : IsLife setup life past link)
     → came_in life.server life.generation past ≡ earlier ++ o ∷ later → EndsAs Starved o.event → (it.turn ≡ Serving) × (later ≡ [])
-starved_last setup id past link earlier later o it is starved = starved_in setup it.cause it.turn (returns_in it.frames) (came_in id.server id.generation past) earlier later o it.came is starved
+starved_last setup id past link earlier later o it is starved = starved_in setup it.cause it.turn (finishes_in it.frames) (came_in id.server id.generation past) earlier later o it.came is starved
 
 -- ---- as the life ends
 
 -- no request is in hand as the program is to greet
-pub came_greeting : (setup : Setup) (cause : StopCause) (turn : Turn) (returns : List Return) (came : List Occurrence) → (turn ≡ AwaitsReady) ⊎ (turn ≡ AwaitsNext)
-    → EachCame setup returns came → AllCame setup cause turn returns came
-came_greeting setup cause turn returns came (inl ready) each = subst (λ (t : Turn). AllCame setup cause t returns came) (sym ready) each
-came_greeting setup cause turn returns came (inr next) each = subst (λ (t : Turn). AllCame setup cause t returns came) (sym next) each
+pub came_greeting : (setup : Setup) (cause : StopCause) (turn : Turn) (finishes : List Finish) (came : List Occurrence) → (turn ≡ AwaitsReady) ⊎ (turn ≡ AwaitsNext)
+    → EachCame setup finishes came → AllCame setup cause turn finishes came
+came_greeting setup cause turn finishes came (inl ready) each = subst (λ (t : Turn). AllCame setup cause t finishes came) (sym ready) each
+came_greeting setup cause turn finishes came (inr next) each = subst (λ (t : Turn). AllCame setup cause t finishes came) (sym next) each
 
 -- and none was, where it hadn't greeted yet
-pub came_cut_off : (setup : Setup) (name : List ℕ) (pipe : Piped) (cause : StopCause) (cut : CutOff name pipe cause) → AllCame setup cause cut.turn (returns_in cut.frames) []
+pub came_cut_off : (setup : Setup) (name : List ℕ) (pipe : Piped) (cause : StopCause) (cut : CutOff name pipe cause) → AllCame setup cause cut.turn (finishes_in cut.frames) []
 came_cut_off setup name pipe cause cut =
-    came_greeting setup cause cut.turn (returns_in cut.frames) [] cut.greets (subst (λ (rs : List Return). EachCame setup rs []) (sym (none_returned cut.says)) tt)
+    came_greeting setup cause cut.turn (finishes_in cut.frames) [] cut.greets (subst (λ (rs : List Finish). EachCame setup rs []) (sym (none_returned cut.says)) tt)
 
 -- ---- behind events that are none of the life's
 
@@ -116,7 +128,7 @@ life_kept setup id past now link out came cause stops life = record {
   written = life.written;
   stopped = cause ∙ life.stopped;
   says = life.says;
-  came = subst (λ (os : List Occurrence). AllCame setup life.cause life.turn (returns_in life.frames) os) (sym came) life.came;
+  came = subst (λ (os : List Occurrence). AllCame setup life.cause life.turn (finishes_in life.frames) os) (sym came) life.came;
   may = life.may;
   closed = λ awaits. stops (life.closed awaits);
   counted = life.counted;

@@ -1,5 +1,5 @@
 -- How a life is kept by each of its calls, and what is left where it ends.
-use Rattle.std.proofs.Common.{◌≡◌, ℕ, ◌+◌, ◌-◌, ◌^◌, ◌%◌, min, true, List, [], ◌∷◌, ◌++◌, length, Option, refl, sym, ◌∙◌, ap, subst, append-nil, append_assoc}
+use Rattle.std.proofs.Common.{◌≡◌, ℕ, ◌+◌, ◌-◌, ◌^◌, ◌%◌, min, true, List, [], ◌∷◌, ◌++◌, length, Option, inl, inr, refl, sym, ◌∙◌, ap, subst, append-nil, append_assoc}
 use Rattle.std.specs.Prelude.{IfSome, IfOk, Result, Ok, Err}
 use Rattle.xa_types.specs.declared.ids.Generation.{Generation}
 use Rattle.std.proofs.Math.Nat.{mod-add-mod}
@@ -14,23 +14,23 @@ use Rattle.xa_frame.specs.Spelling.{spelled, HasSpelling}
 use Rattle.xa_events.specs.declared.event.StopCause.{StopCause}
 use Rattle.xa_events.specs.declared.event.StopCause.TheVariants.{Shutdown, WriteFault, Starved}
 use Rattle.xa_pipe.specs.declared.course.Course.{Course}
-use Rattle.xa_pipe.specs.declared.hearing.Return.{Return}
+use Rattle.xa_pipe.specs.declared.hearing.Finish.TheVariants.{Returns, Forwards}
 use Rattle.xa_pipe.specs.declared.turn.Turn.TheVariants.{AwaitsReady, AwaitsNext, AwaitsInvoke, Serving, Exited}
 use Rattle.xa_pipe.specs.declared.turn.Written.TheVariants.{Whole}
-use Rattle.xa_pipe.specs.Frames.{ready_frame, next_frame, shutdown_frame}
-use Rattle.xa_pipe.specs.Life.{Turn, Says, MaySay, Took, Gave, LinkShows, IsCounted, IsOf, is_writing, may_end, tag_after, turn_behind, returns_in}
-use Rattle.xa_pipe.specs.Life.Says.{Silent, Named, Free, Invoked, Answers}
+use Rattle.xa_pipe.specs.Frames.{ready_frame, next_frame, shutdown_frame, finish_frame}
+use Rattle.xa_pipe.specs.Life.{Turn, Finish, Says, MaySay, Took, Gave, LinkShows, IsCounted, IsOf, is_writing, may_end, tag_after, turn_behind, finishes_in}
+use Rattle.xa_pipe.specs.Life.Says.{Silent, Named, Free, Invoked, Answers, Passes}
 use Rattle.xa_pipe.specs.Pipe.{Piped, shown, invoke_frame, Wrote, HasRead, CountsWrites}
 use Rattle.xa_pipe.specs.Standing.{Standing, IsOver, GaveFirst, id_of, tag_of, due_in}
 use Rattle.xa_pipe.specs.Changes.{Heard, Greeted, Invoked as HasInvoked, turn_after, with_said, with_asked, next_invoke}
 use Rattle.xa_pipe.specs.Kept.{standing_of, ending_of, IsKept, tag_after_turn, unwritten}
 use Rattle.xa_pipe.proofs.Frames.{told_more, read_same}
-use Rattle.xa_pipe.proofs.Saying.{returned_is, returns_append, returns_next, returns_push}
+use Rattle.xa_pipe.proofs.Saying.{returned_is, finishes_append, finishes_next, finishes_push}
 use Rattle.xa_pipe.proofs.Taking.{took_more, took_cut, took_missing}
 
 -- ---- what the program says
 
-says_again : {name : List ℕ} {n : ℕ} {frames : List Frame} {turn : Turn} → Says name n frames turn → Says name (length (returns_in frames)) frames turn
+says_again : {name : List ℕ} {n : ℕ} {frames : List Frame} {turn : Turn} → Says name n frames turn → Says name (length (finishes_in frames)) frames turn
 says_again {name} {n} {frames} {turn} says = subst (λ (k : ℕ). Says name k frames turn) (returned_is says) says
 
 not_ready : (value : Rval) → turn_behind value ≡ AwaitsReady → ⊥
@@ -45,33 +45,41 @@ silent (Named h) e = absurd (cc e)
 silent (Free says) e = absurd (cc e)
 silent (Invoked says) e = absurd (cc e)
 silent (Answers value code payload says h) e = absurd (not_ready value e)
+silent (Passes service payload says h) e = absurd (cc e)
 
 module _ (name : List ℕ) where
   -- a frame that may come next is said in turn
   heard_says : (n : ℕ) (frames : List Frame) (turn : Turn) (f : Frame) → Says name n frames turn → MaySay name (tag_after n) turn f → HasSpelling f
-      → Says name (length (returns_in (frames ++ f ∷ []))) (frames ++ f ∷ []) (turn_after turn f.body)
+      → Says name (length (finishes_in (frames ++ f ∷ []))) (frames ++ f ∷ []) (turn_after turn f.body)
   heard_says n frames AwaitsReady f says may h =
-      subst (λ (g : Frame). Says name (length (returns_in (frames ++ g ∷ []))) (frames ++ g ∷ []) AwaitsNext) (sym may)
-      (subst (λ (fs : List Frame). Says name (length (returns_in (fs ++ ready_frame name ∷ []))) (fs ++ ready_frame name ∷ []) AwaitsNext) (sym (silent says refl))
+      subst (λ (g : Frame). Says name (length (finishes_in (frames ++ g ∷ []))) (frames ++ g ∷ []) AwaitsNext) (sym may)
+      (subst (λ (fs : List Frame). Says name (length (finishes_in (fs ++ ready_frame name ∷ []))) (fs ++ ready_frame name ∷ []) AwaitsNext) (sym (silent says refl))
       (Named (subst HasSpelling may h)))
-  heard_says n frames AwaitsNext f says may h = subst (λ (g : Frame). Says name (length (returns_in (frames ++ g ∷ []))) (frames ++ g ∷ []) AwaitsInvoke) (sym may) (says_again (Free says))
-  heard_says n frames Serving f says (value, code, payload, is) h =
-      subst (λ (g : Frame). Says name (length (returns_in (frames ++ g ∷ []))) (frames ++ g ∷ []) (turn_after Serving g.body)) (sym is)
+  heard_says n frames AwaitsNext f says may h = subst (λ (g : Frame). Says name (length (finishes_in (frames ++ g ∷ []))) (frames ++ g ∷ []) AwaitsInvoke) (sym may) (says_again (Free says))
+  heard_says n frames Serving f says (inl (value, code, payload, is)) h =
+      subst (λ (g : Frame). Says name (length (finishes_in (frames ++ g ∷ []))) (frames ++ g ∷ []) (turn_after Serving g.body)) (sym is)
       (says_again (Answers value code payload says (subst HasSpelling is h)))
+  heard_says n frames Serving f says (inr (service, payload, is)) h =
+      subst (λ (g : Frame). Says name (length (finishes_in (frames ++ g ∷ []))) (frames ++ g ∷ []) (turn_after Serving g.body)) (sym is)
+      (says_again (Passes service payload says (subst HasSpelling is h)))
   heard_says n frames AwaitsInvoke f says may h = absurd may
   heard_says n frames Exited f says may h = absurd may
 
-  -- and the next number stays, or is one more behind a RETURN
-  heard_tag : (frames : List Frame) (turn : Turn) (tag : ℕ) (f : Frame) → tag ≡ tag_after (length (returns_in frames)) → MaySay name tag turn f
-      → tag_after_turn turn tag ≡ tag_after (length (returns_in (frames ++ f ∷ [])))
+  finished_tag : (frames : List Frame) (tag : ℕ) (f : Frame) (back : Finish) → tag ≡ tag_after (length (finishes_in frames)) → f ≡ finish_frame tag back
+      → tag_after_turn Serving tag ≡ tag_after (length (finishes_in (frames ++ f ∷ [])))
+  finished_tag frames tag f back is said =
+      let more : length (finishes_in (frames ++ f ∷ [])) ≡ length (finishes_in frames) + 1
+      = ap (λ (g : Frame). length (finishes_in (frames ++ g ∷ []))) said ∙ (ap length (finishes_push frames tag back) ∙ length-append (finishes_in frames) (back ∷ [])) in
+      (ap (λ (k : ℕ). (k + 1) % 2 ^ 32) is ∙ mod-add-mod (length (finishes_in frames) + 1) (2 ^ 32) 1) ∙ ap tag_after (sym more)
+
+  -- and the next number stays, or is one more behind a RETURN and a FORWARD
+  heard_tag : (frames : List Frame) (turn : Turn) (tag : ℕ) (f : Frame) → tag ≡ tag_after (length (finishes_in frames)) → MaySay name tag turn f
+      → tag_after_turn turn tag ≡ tag_after (length (finishes_in (frames ++ f ∷ [])))
   heard_tag frames AwaitsReady tag f is may =
-      is ∙ ap tag_after (ap length (sym (append-nil (returns_in frames)) ∙ (sym (returns_append frames (ready_frame name ∷ [])) ∙ ap (λ (g : Frame). returns_in (frames ++ g ∷ [])) (sym may))))
-  heard_tag frames AwaitsNext tag f is may = is ∙ ap tag_after (ap length (sym (returns_next frames) ∙ ap (λ (g : Frame). returns_in (frames ++ g ∷ [])) (sym may)))
-  heard_tag frames Serving tag f is (value, code, payload, said) =
-      let back : Return = record { value = value; code = code; payload = payload } in
-      let more : length (returns_in (frames ++ f ∷ [])) ≡ length (returns_in frames) + 1
-      = ap (λ (g : Frame). length (returns_in (frames ++ g ∷ []))) said ∙ (ap length (returns_push frames tag back) ∙ length-append (returns_in frames) (back ∷ [])) in
-      (ap (λ (k : ℕ). (k + 1) % 2 ^ 32) is ∙ mod-add-mod (length (returns_in frames) + 1) (2 ^ 32) 1) ∙ ap tag_after (sym more)
+      is ∙ ap tag_after (ap length (sym (append-nil (finishes_in frames)) ∙ (sym (finishes_append frames (ready_frame name ∷ [])) ∙ ap (λ (g : Frame). finishes_in (frames ++ g ∷ [])) (sym may))))
+  heard_tag frames AwaitsNext tag f is may = is ∙ ap tag_after (ap length (sym (finishes_next frames) ∙ ap (λ (g : Frame). finishes_in (frames ++ g ∷ [])) (sym may)))
+  heard_tag frames Serving tag f is (inl (value, code, payload, said)) = finished_tag frames tag f (Returns (record { value = value; code = code; payload = payload })) is said
+  heard_tag frames Serving tag f is (inr (service, payload, said)) = finished_tag frames tag f (Forwards (record { service = service; payload = payload })) is said
   heard_tag frames AwaitsInvoke tag f is may = absurd may
   heard_tag frames Exited tag f is may = absurd may
 
@@ -112,8 +120,8 @@ module _ {L : Type 0} where
       → IsOf (id_of (standing_of c)) c.pipe.whose → IsKept c
   kept_begun c asked said turn tag wrote read reads writes whose = record {
     sound = record {
-      says = subst (λ (t : Turn). Says c.name (length (returns_in c.said)) c.said t) (sym turn)
-          (subst (λ (fs : List Frame). Says c.name (length (returns_in fs)) fs AwaitsReady) (sym said) Silent);
+      says = subst (λ (t : Turn). Says c.name (length (finishes_in c.said)) c.said t) (sym turn)
+          (subst (λ (fs : List Frame). Says c.name (length (finishes_in fs)) fs AwaitsReady) (sym said) Silent);
       took = subst (λ (fs : List Frame). Wrote c.pipe fs) (sym asked) wrote;
       gave = subst (λ (fs : List Frame). GaveFirst c.pipe.gave fs) (sym said) (told_more c.pipe.gave _ _ (λ octets e. (c.pipe.rest, e)) read.told);
       reads = reads;
@@ -121,7 +129,7 @@ module _ {L : Type 0} where
       whose = whose;
     };
     read = subst (λ (fs : List Frame). HasRead c.pipe fs) (sym said) read;
-    tag = tag ∙ ap (λ (fs : List Frame). tag_after (length (returns_in fs))) (sym said);
+    tag = tag ∙ ap (λ (fs : List Frame). tag_after (length (finishes_in fs))) (sym said);
   }
 
   -- with one more frame of its program
@@ -151,7 +159,7 @@ module _ {L : Type 0} where
       let read = read_same old.pipe new.pipe old.said gave rest place kept.read in
       subst IsKept (sym made) (record {
         sound = record {
-          says = Invoked (subst (λ (t : Turn). Says old.name (length (returns_in old.said)) old.said t) idle kept.sound.says);
+          says = Invoked (subst (λ (t : Turn). Says old.name (length (finishes_in old.said)) old.said t) idle kept.sound.says);
           took = took_more old.pipe.took new.pipe.took old.asked f kept.sound.took took;
           gave = told_more new.pipe.gave _ _ (λ octets e. (new.pipe.rest, e)) read.told;
           reads = reads ∙ kept.sound.reads;
@@ -204,7 +212,7 @@ gave_unwritten cause name tag turn pipe frames before counts read = absurd count
 module _ {L : Type 0} where
   -- as a frame was to be written
   pub unsent_over : (old new : Course L) (turn : Turn) (asked : List Frame) (f : Frame) (cause : StopCause) → new ≡ record old { pipe = new.pipe; asked = asked; turn = turn }
-      → due_in turn asked ≡ old.asked ++ f ∷ [] → is_writing turn ≡ true → Says old.name (length (returns_in old.said)) old.said turn → IsKept old
+      → due_in turn asked ≡ old.asked ++ f ∷ [] → is_writing turn ≡ true → Says old.name (length (finishes_in old.said)) old.said turn → IsKept old
       → CountsWrites cause old.pipe.writes new.pipe.writes → (cause ≡ WriteFault → GrewByPart old.pipe.took new.pipe.took (spelled f)) → (cause ≡ Starved → new.pipe.took ≡ old.pipe.took)
       → new.pipe.gave ≡ old.pipe.gave → new.pipe.rest ≡ old.pipe.rest → new.pipe.place ≡ old.pipe.place → new.pipe.reads ≡ old.pipe.reads → new.pipe.whose ≡ old.pipe.whose
       → IsOver (ending_of new cause (unwritten cause))

@@ -11,20 +11,21 @@ use Rattle.xa_events.specs.declared.event.Event.{Event}
 use Rattle.xa_events.specs.declared.event.Event.TheVariants.{Take, Forward, End, Stop}
 use Rattle.xa_events.specs.declared.event.Taken.{Taken}
 use Rattle.xa_events.specs.declared.event.Ended.{Ended}
+use Rattle.xa_events.specs.declared.event.Forwarded.{Forwarded}
 use Rattle.xa_events.specs.declared.event.Stopped.{Stopped}
 use Rattle.xa_events.specs.declared.event.StopCause.{StopCause}
 use Rattle.xa_events.specs.declared.event.StopCause.TheVariants.{Shutdown}
 use Rattle.xa_events.specs.Words.{count, latest, AtEach}
-use Rattle.xa_pipe.specs.declared.hearing.Return.{Return}
+use Rattle.xa_pipe.specs.declared.hearing.Finish.TheVariants.{Returns, Forwards}
 use Rattle.xa_pipe.specs.declared.turn.Turn.TheVariants.{AwaitsReady, AwaitsNext, AwaitsInvoke, Serving, Exited}
 use Rattle.xa_pipe.specs.declared.turn.Written.TheVariants.{Whole, Cut, Missing}
-use Rattle.xa_pipe.specs.Frames.{is_of_life, is_take_in, written_at, ready_frame, next_frame, return_frame, farewell, frames_out}
-use Rattle.xa_pipe.specs.Life.{Turn, Written, LinkShows, Occurrence, IsLife, Took, EachCame, AllCame, EndsAs, stops_life, cause_of, cause_in, came_at, came_in, returns_in, outcome_by, lost_by, due, may_end}
+use Rattle.xa_pipe.specs.Frames.{is_of_life, is_take_in, written_at, ready_frame, next_frame, finish_frame, farewell, frames_out}
+use Rattle.xa_pipe.specs.Life.{Turn, Finish, Written, LinkShows, Occurrence, IsLife, Took, EachCame, AllCame, EndsAs, ComesTo, IsForwarded, stops_life, cause_of, cause_in, came_at, came_in, finishes_in, outcome_by, lost_by, due, may_end}
 use Rattle.xa_pipe.specs.Standing.{Standing, Ending, IsOver, id_of, returned, due_in}
 use Rattle.xa_pipe.specs.Changes.{begun, Heard, Fell, Greeted, Invoked, Unsent, ShutDown, Exits}
 use Rattle.xa_pipe.specs.Following.{is_of, Follows, Settled, EndsLast, HasStopped, IsSent, StandsIn}
-use Rattle.xa_pipe.proofs.Coming.{came_end, came_push}
-use Rattle.xa_pipe.proofs.Saying.{returns_append, returns_next, returns_push}
+use Rattle.xa_pipe.proofs.Coming.{came_end, came_forward, came_push}
+use Rattle.xa_pipe.proofs.Saying.{finishes_append, finishes_next, finishes_push}
 
 -- ---- events that are none of the life's
 
@@ -82,20 +83,20 @@ module _ (setup : Setup) where
   follows_idle life e own other old = record {
     alive = ends_idle life.server.0 life.generation.0 e own other ∙ old.alive;
     taken = taken_idle life.server.0 life.generation.0 e own other ∙ old.taken;
-    came = subst (λ (os : List Occurrence). EachCame setup (returns_in life.said) os) (sym (came_idle life.server.0 life.generation.0 e own other)) old.came;
+    came = subst (λ (os : List Occurrence). EachCame setup (finishes_in life.said) os) (sym (came_idle life.server.0 life.generation.0 e own other)) old.came;
   }
 
   pub settled_idle : (over : Ending) (e : Event) (own : List Event) → is_of over.life.server.0 over.life.generation.0 e ≡ false → Settled setup over own → Settled setup over (e ∷ own)
   settled_idle over e own other old = record {
     alive = ends_idle over.life.server.0 over.life.generation.0 e own other ∙ old.alive;
     taken = taken_idle over.life.server.0 over.life.generation.0 e own other ∙ old.taken;
-    came = subst (λ (os : List Occurrence). AllCame setup over.cause over.life.turn (returns_in over.life.said) os) (sym (came_idle over.life.server.0 over.life.generation.0 e own other)) old.came;
+    came = subst (λ (os : List Occurrence). AllCame setup over.cause over.life.turn (finishes_in over.life.said) os) (sym (came_idle over.life.server.0 over.life.generation.0 e own other)) old.came;
   }
 
   pub stopped_idle : (over : Ending) (e : Event) (own : List Event) → is_of over.life.server.0 over.life.generation.0 e ≡ false → HasStopped setup over own → HasStopped setup over (e ∷ own)
   stopped_idle over e own other old = record {
     taken = taken_idle over.life.server.0 over.life.generation.0 e own other ∙ old.taken;
-    came = subst (λ (os : List Occurrence). AllCame setup over.cause over.life.turn (returns_in over.life.said) os) (sym (came_idle over.life.server.0 over.life.generation.0 e own other)) old.came;
+    came = subst (λ (os : List Occurrence). AllCame setup over.cause over.life.turn (finishes_in over.life.said) os) (sym (came_idle over.life.server.0 over.life.generation.0 e own other)) old.came;
     stopped = cause_idle over.life.server.0 over.life.generation.0 e own other ∙ old.stopped;
     last = rw other old.last;
   }
@@ -111,22 +112,22 @@ module _ (setup : Setup) where
     came = subst (λ (os : List Occurrence). EachCame setup [] os) (sym nothing) tt;
   }
 
-  same_returns : (old new : Standing) (own : List Event) (link : LinkShows) (said : List Frame) (turn : Turn) → new ≡ record old { link = link; said = said; turn = turn }
-      → returns_in said ≡ returns_in old.said → Follows setup old own → Follows setup new own
-  same_returns old new own link said turn made none follows = subst (λ (s : Standing). Follows setup s own) (sym made) (record {
+  same_finishes : (old new : Standing) (own : List Event) (link : LinkShows) (said : List Frame) (turn : Turn) → new ≡ record old { link = link; said = said; turn = turn }
+      → finishes_in said ≡ finishes_in old.said → Follows setup old own → Follows setup new own
+  same_finishes old new own link said turn made none follows = subst (λ (s : Standing). Follows setup s own) (sym made) (record {
     alive = follows.alive;
     taken = follows.taken;
-    came = subst (λ (rs : List Return). EachCame setup rs (came_in old.server.0 old.generation.0 own)) (sym none) follows.came;
+    came = subst (λ (rs : List Finish). EachCame setup rs (came_in old.server.0 old.generation.0 own)) (sym none) follows.came;
   })
 
   -- its program greeted
   pub follows_greeted : (old new : Standing) (own : List Event) → Greeted new old → Follows setup old own → Follows setup new own
   follows_greeted old new own greeted follows =
-      same_returns old new own new.link _ AwaitsInvoke greeted.made (returns_append old.said (ready_frame old.name ∷ next_frame ∷ []) ∙ append-nil (returns_in old.said)) follows
+      same_finishes old new own new.link _ AwaitsInvoke greeted.made (finishes_append old.said (ready_frame old.name ∷ next_frame ∷ []) ∙ append-nil (finishes_in old.said)) follows
 
   -- its program said NEXT
   pub follows_next : (old new : Standing) (own : List Event) → Heard next_frame new old → Follows setup old own → Follows setup new own
-  follows_next old new own heard follows = same_returns old new own new.link _ _ heard.made (returns_next old.said) follows
+  follows_next old new own heard follows = same_finishes old new own new.link _ _ heard.made (finishes_next old.said) follows
 
   -- a request was taken and sent
   pub follows_take : (old new : Standing) (own : List Event) (t : Taken) (f : Frame) → is_of_life old.server.0 old.generation.0 t.server.0 t.generation.0 ≡ true → Invoked f new old
@@ -134,28 +135,42 @@ module _ (setup : Setup) where
   follows_take old new own t f its invoked follows = subst (λ (s : Standing). Follows setup s (Take t ∷ own)) (sym invoked.made) (record {
     alive = follows.alive;
     taken = taken_more old.server.0 old.generation.0 t own old.asked f its follows.taken;
-    came = subst (λ (os : List Occurrence). EachCame setup (returns_in old.said) os) (sym (append-nil (came_in old.server.0 old.generation.0 own))) follows.came;
+    came = subst (λ (os : List Occurrence). EachCame setup (finishes_in old.said) os) (sym (append-nil (came_in old.server.0 old.generation.0 own))) follows.came;
   })
 
-  -- its RETURN was heard, and the request ended as that says
-  pub follows_end : (old new : Standing) (own : List Event) (e : Ended) (back : Return) (tag : ℕ) → is_of_life old.server.0 old.generation.0 e.server.0 e.generation.0 ≡ true
-      → Heard (return_frame tag back.value back.code back.payload) new old → e.outcome ≡ outcome_by setup back.value back.code back.payload → Follows setup old own → Follows setup new (End e ∷ own)
-  follows_end old new own e back tag its heard ends follows = subst (λ (s : Standing). Follows setup s (End e ∷ own)) (sym heard.made) (record {
+  came_by : (old : Standing) (own : List Event) (back : Finish) (tag : ℕ) (last : Occurrence) (came : List Occurrence) → came ≡ came_in old.server.0 old.generation.0 own ++ last ∷ []
+      → ComesTo setup back last → EachCame setup (finishes_in old.said) (came_in old.server.0 old.generation.0 own) → EachCame setup (finishes_in (old.said ++ finish_frame tag back ∷ [])) came
+  came_by old own back tag last came is comes each =
+      subst (λ (os : List Occurrence). EachCame setup (finishes_in (old.said ++ finish_frame tag back ∷ [])) os) (sym is)
+      (subst (λ (rs : List Finish). EachCame setup rs (came_in old.server.0 old.generation.0 own ++ last ∷ [])) (sym (finishes_push old.said tag back))
+      (came_push setup (finishes_in old.said) (came_in old.server.0 old.generation.0 own) back last each comes))
+
+  -- its RETURN or FORWARD was heard, and the request ended as that says
+  pub follows_end : (old new : Standing) (own : List Event) (e : Ended) (back : Finish) (tag : ℕ) → is_of_life old.server.0 old.generation.0 e.server.0 e.generation.0 ≡ true
+      → Heard (finish_frame tag back) new old → ComesTo setup back (record { event = End e; before = own }) → Follows setup old own → Follows setup new (End e ∷ own)
+  follows_end old new own e back tag its heard comes follows = subst (λ (s : Standing). Follows setup s (End e ∷ own)) (sym heard.made) (record {
     alive = follows.alive;
     taken = follows.taken;
-    came = subst (λ (os : List Occurrence). EachCame setup (returns_in (old.said ++ return_frame tag back.value back.code back.payload ∷ [])) os) (sym (came_end old.server.0 old.generation.0 e own its))
-        (subst (λ (rs : List Return). EachCame setup rs (came_in old.server.0 old.generation.0 own ++ record { event = End e; before = own } ∷ [])) (sym (returns_push old.said tag back))
-        (came_push setup (returns_in old.said) (came_in old.server.0 old.generation.0 own) back (record { event = End e; before = own }) follows.came ends));
+    came = came_by old own back tag (record { event = End e; before = own }) (came_in old.server.0 old.generation.0 (End e ∷ own)) (came_end old.server.0 old.generation.0 e own its) comes follows.came;
+  })
+
+  -- its FORWARD was heard, and the request was forwarded
+  pub follows_forward : (old new : Standing) (own : List Event) (f : Forwarded) (back : Finish) (tag : ℕ) → is_of_life old.server.0 old.generation.0 f.server.0 f.generation.0 ≡ true
+      → Heard (finish_frame tag back) new old → ComesTo setup back (record { event = Forward f; before = own }) → Follows setup old own → Follows setup new (Forward f ∷ own)
+  follows_forward old new own f back tag its heard comes follows = subst (λ (s : Standing). Follows setup s (Forward f ∷ own)) (sym heard.made) (record {
+    alive = follows.alive;
+    taken = follows.taken;
+    came = came_by old own back tag (record { event = Forward f; before = own }) (came_in old.server.0 old.generation.0 (Forward f ∷ own)) (came_forward old.server.0 old.generation.0 f own its) comes follows.came;
   })
 
   -- ---- as it ends
 
-  none_lost : (cause : StopCause) (turn : Turn) (returns : List Return) (came : List Occurrence) → (turn ≡ Serving → ⊥) → EachCame setup returns came → AllCame setup cause turn returns came
-  none_lost cause AwaitsReady returns came free each = each
-  none_lost cause AwaitsNext returns came free each = each
-  none_lost cause AwaitsInvoke returns came free each = each
-  none_lost cause Serving returns came free each = absurd (free refl)
-  none_lost cause Exited returns came free each = each
+  none_lost : (cause : StopCause) (turn : Turn) (finishes : List Finish) (came : List Occurrence) → (turn ≡ Serving → ⊥) → EachCame setup finishes came → AllCame setup cause turn finishes came
+  none_lost cause AwaitsReady finishes came free each = each
+  none_lost cause AwaitsNext finishes came free each = each
+  none_lost cause AwaitsInvoke finishes came free each = each
+  none_lost cause Serving finishes came free each = absurd (free refl)
+  none_lost cause Exited finishes came free each = each
 
   -- with no request in hand
   settles : (old : Standing) (over : Ending) (own : List Event) (link : LinkShows) → over.life ≡ record old { link = link } → (old.turn ≡ Serving → ⊥) → Follows setup old own → Settled setup over own
@@ -165,7 +180,7 @@ module _ (setup : Setup) where
       by_life life cause is = subst (λ (s : Standing). Settled setup (record over { life = s; cause = cause }) own) (sym is) (record {
         alive = follows.alive;
         taken = follows.taken;
-        came = none_lost cause old.turn (returns_in old.said) (came_in old.server.0 old.generation.0 own) free follows.came;
+        came = none_lost cause old.turn (finishes_in old.said) (came_in old.server.0 old.generation.0 own) free follows.came;
       })
 
   pub settles_fallen : (old : Standing) (over : Ending) (own : List Event) → Fell over old → (old.turn ≡ Serving → ⊥) → Follows setup old own → Settled setup over own
@@ -183,7 +198,7 @@ module _ (setup : Setup) where
   loses over own e serving its ends follows = record {
     alive = follows.alive;
     taken = follows.taken;
-    came = subst (λ (t : Turn). AllCame setup over.cause t (returns_in over.life.said) (came_in over.life.server.0 over.life.generation.0 (End e ∷ own))) (sym serving)
+    came = subst (λ (t : Turn). AllCame setup over.cause t (finishes_in over.life.said) (came_in over.life.server.0 over.life.generation.0 (End e ∷ own))) (sym serving)
         (came_in over.life.server.0 over.life.generation.0 own, record { event = End e; before = own }, came_end over.life.server.0 over.life.generation.0 e own its, follows.came, ends);
   }
 
@@ -202,7 +217,7 @@ module _ (setup : Setup) where
       (subst (λ (s : Standing). Follows setup s (Take t ∷ own)) (sym unsent.life) (record {
         alive = follows.alive;
         taken = taken_more old.server.0 old.generation.0 t own old.asked f its follows.taken;
-        came = subst (λ (os : List Occurrence). EachCame setup (returns_in old.said) os) (sym (append-nil (came_in old.server.0 old.generation.0 own))) follows.came;
+        came = subst (λ (os : List Occurrence). EachCame setup (finishes_in old.said) os) (sym (append-nil (came_in old.server.0 old.generation.0 own))) follows.came;
       }))
 
   -- and its end is noted
@@ -210,7 +225,7 @@ module _ (setup : Setup) where
       → Settled setup over own → HasStopped setup over (Stop x ∷ own)
   stops over own x its why settled = record {
     taken = settled.taken;
-    came = subst (λ (os : List Occurrence). AllCame setup over.cause over.life.turn (returns_in over.life.said) os) (sym (append-nil (came_in over.life.server.0 over.life.generation.0 own))) settled.came;
+    came = subst (λ (os : List Occurrence). AllCame setup over.cause over.life.turn (finishes_in over.life.said) os) (sym (append-nil (came_in over.life.server.0 over.life.generation.0 own))) settled.came;
     stopped = rw its (ap (λ (c : StopCause). Some c) why);
     last = rw its (its, sym (count_own over.life.server.0 over.life.generation.0 (stops_life over.life.server.0 over.life.generation.0) (stops_none over.life.server.0 over.life.generation.0) own) ∙ settled.alive);
   }
@@ -268,16 +283,20 @@ module _ (server g : ℕ) where
   latest_own (Forward f ∷ past) = latest_own past ∙ sym (stepped_over (is_of_life server g f.server.0 f.generation.0) (Forward f) (filter (is_of server g) past) refl)
   latest_own (e ∷ past) = latest_own past
 
--- what came of RETURNs doesn't hang on what stood before the events
-each_alike : (setup : Setup) (returns : List Return) (came others : List Occurrence) → map event_in came ≡ map event_in others → EachCame setup returns came → EachCame setup returns others
+-- what came of RETURNs and FORWARDs doesn't hang on what stood before the events
+comes_alike : (setup : Setup) (back : Finish) (came other : Occurrence) → came.event ≡ other.event → ComesTo setup back came → ComesTo setup back other
+comes_alike setup (Returns back) came other same comes = subst (λ (e : Event). EndsAs (outcome_by setup back.value back.code back.payload) e) same comes
+comes_alike setup (Forwards forward) came other same comes = subst (λ (e : Event). IsForwarded forward.service forward.payload e) same comes
+
+each_alike : (setup : Setup) (finishes : List Finish) (came others : List Occurrence) → map event_in came ≡ map event_in others → EachCame setup finishes came → EachCame setup finishes others
 each_alike setup [] [] [] same each = tt
 each_alike setup [] [] (o ∷ others) same each = absurd (cc same)
 each_alike setup [] (c ∷ came) others same each = absurd each
-each_alike setup (r ∷ returns) [] others same each = absurd each
-each_alike setup (r ∷ returns) (c ∷ came) [] same each = absurd (cc same)
-each_alike setup (r ∷ returns) (c ∷ came) (o ∷ others) same each =
+each_alike setup (r ∷ finishes) [] others same each = absurd each
+each_alike setup (r ∷ finishes) (c ∷ came) [] same each = absurd (cc same)
+each_alike setup (r ∷ finishes) (c ∷ came) (o ∷ others) same each =
     let first : c.event ≡ o.event = cc same in
-    (subst (λ (e : Event). EndsAs (outcome_by setup r.value r.code r.payload) e) first each.0, each_alike setup returns came others (cc same) each.1)
+    (comes_alike setup r c o first each.0, each_alike setup finishes came others (cc same) each.1)
 
 -- a list that ends with an event, as one that has the same
 split_alike : (earlier : List Occurrence) (last : Occurrence) (others : List Occurrence) → map event_in (earlier ++ last ∷ []) ≡ map event_in others
@@ -291,15 +310,15 @@ split_alike (c ∷ earlier) last (o ∷ others) same =
     let more = split_alike earlier last others (cc same) in
     (o ∷ more.0, more.1, ap (λ (os : List Occurrence). o ∷ os) more.2, cc (first, more.3), more.4)
 
-all_alike : (setup : Setup) (cause : StopCause) (turn : Turn) (returns : List Return) (came others : List Occurrence) → map event_in came ≡ map event_in others → AllCame setup cause turn returns came
-    → AllCame setup cause turn returns others
-all_alike setup cause Serving returns came others same (earlier, last, is, each, lost) =
+all_alike : (setup : Setup) (cause : StopCause) (turn : Turn) (finishes : List Finish) (came others : List Occurrence) → map event_in came ≡ map event_in others → AllCame setup cause turn finishes came
+    → AllCame setup cause turn finishes others
+all_alike setup cause Serving finishes came others same (earlier, last, is, each, lost) =
     let parts = split_alike earlier last others (ap (map event_in) (sym is) ∙ same) in
-    (parts.0, parts.1, parts.2, each_alike setup returns earlier parts.0 parts.3 each, subst (λ (e : Event). EndsAs (lost_by cause) e) parts.4 lost)
-all_alike setup cause AwaitsReady returns came others same each = each_alike setup returns came others same each
-all_alike setup cause AwaitsNext returns came others same each = each_alike setup returns came others same each
-all_alike setup cause AwaitsInvoke returns came others same each = each_alike setup returns came others same each
-all_alike setup cause Exited returns came others same each = each_alike setup returns came others same each
+    (parts.0, parts.1, parts.2, each_alike setup finishes earlier parts.0 parts.3 each, subst (λ (e : Event). EndsAs (lost_by cause) e) parts.4 lost)
+all_alike setup cause AwaitsReady finishes came others same each = each_alike setup finishes came others same each
+all_alike setup cause AwaitsNext finishes came others same each = each_alike setup finishes came others same each
+all_alike setup cause AwaitsInvoke finishes came others same each = each_alike setup finishes came others same each
+all_alike setup cause Exited finishes came others same each = each_alike setup finishes came others same each
 
 -- ---- what was due
 
@@ -398,7 +417,7 @@ is_life setup over own past ended noted stands =
       written = over.written;
       stopped = sym why ∙ noted.stopped;
       says = ended.says;
-      came = all_alike setup over.cause over.life.turn (returns_in over.life.said) (came_in server g own) (came_in server g past) alike noted.came;
+      came = all_alike setup over.cause over.life.turn (finishes_in over.life.said) (came_in server g own) (came_in server g past) alike noted.came;
       may = ended.may;
       closed = stands.closed;
       counted = ended.counted;

@@ -1,4 +1,4 @@
--- What a program has said tells its RETURNs, and what it may say next.
+-- What a program has said tells its RETURNs and FORWARDs, and what it may say next.
 use Rattle.std.proofs.Common.{◌≡◌, ◌⊎◌, ℕ, ◌+◌, Bool, true, false, List, [], ◌∷◌, ◌++◌, length, inl, inr, refl, sym, ap, subst, ◌∙◌, append_assoc, append-nil, arith}
 use Rattle.std.specs.List.{All}
 use Rattle.std.proofs.lemmas.List.{length-append}
@@ -9,10 +9,10 @@ use Rattle.xa_frame.specs.declared.frame.Frame.{Frame}
 use Rattle.xa_frame.specs.declared.frame.Body.{Body}
 use Rattle.xa_frame.specs.declared.frame.Body.TheVariants.{Next}
 use Rattle.xa_frame.specs.Spelling.{HasSpelling}
-use Rattle.xa_pipe.specs.declared.hearing.Return.{Return}
-use Rattle.xa_pipe.specs.Frames.{next_frame, ready_frame, return_frame}
-use Rattle.xa_pipe.specs.Life.{Says, Turn, MaySay, turn_behind, tag_after, return_of, returns_in}
-use Rattle.xa_pipe.specs.Life.Says.{Silent, Named, Free, Invoked, Answers}
+use Rattle.xa_pipe.specs.declared.hearing.Finish.TheVariants.{Returns, Forwards}
+use Rattle.xa_pipe.specs.Frames.{next_frame, ready_frame, return_frame, forward_frame, finish_frame}
+use Rattle.xa_pipe.specs.Life.{Says, Turn, Finish, MaySay, turn_behind, tag_after, finish_of, finishes_in}
+use Rattle.xa_pipe.specs.Life.Says.{Silent, Named, Free, Invoked, Answers, Passes}
 use Rattle.xa_pipe.specs.declared.turn.Turn.TheVariants.{AwaitsReady, AwaitsNext, AwaitsInvoke, Serving, Exited}
 
 -- ---- each frame has a spelling
@@ -26,39 +26,49 @@ all_spelt (Named h) = All-cons HasSpelling _ [] h (All-nil HasSpelling)
 all_spelt (Free says) = All-push HasSpelling _ _ (all_spelt says) next_spelled
 all_spelt (Invoked says) = all_spelt says
 all_spelt (Answers value code payload says h) = All-push HasSpelling _ _ (all_spelt says) h
+all_spelt (Passes service payload says h) = All-push HasSpelling _ _ (all_spelt says) h
 
--- ---- its RETURNs
+-- ---- its RETURNs and FORWARDs
 
-pub returns_append : (fs gs : List Frame) → returns_in (fs ++ gs) ≡ returns_in fs ++ returns_in gs
-returns_append [] gs = refl
-returns_append (f ∷ fs) gs = ap (λ (rs : List Return). return_of f.body ++ rs) (returns_append fs gs) ∙ sym (append_assoc (return_of f.body) (returns_in fs) (returns_in gs))
+pub finishes_append : (fs gs : List Frame) → finishes_in (fs ++ gs) ≡ finishes_in fs ++ finishes_in gs
+finishes_append [] gs = refl
+finishes_append (f ∷ fs) gs = ap (λ (rs : List Finish). finish_of f.body ++ rs) (finishes_append fs gs) ∙ sym (append_assoc (finish_of f.body) (finishes_in fs) (finishes_in gs))
 
--- a frame that is no RETURN adds none
-pub returns_next : (frames : List Frame) → returns_in (frames ++ next_frame ∷ []) ≡ returns_in frames
-returns_next frames = returns_append frames (next_frame ∷ []) ∙ append-nil (returns_in frames)
+-- a frame that is neither adds none
+pub finishes_next : (frames : List Frame) → finishes_in (frames ++ next_frame ∷ []) ≡ finishes_in frames
+finishes_next frames = finishes_append frames (next_frame ∷ []) ∙ append-nil (finishes_in frames)
 
--- and a RETURN is one more
-pub returns_push : (frames : List Frame) (tag : ℕ) (back : Return) → returns_in (frames ++ return_frame tag back.value back.code back.payload ∷ []) ≡ returns_in frames ++ back ∷ []
-returns_push frames tag back = returns_append frames (return_frame tag back.value back.code back.payload ∷ [])
+-- and one that is adds itself
+finish_is : (tag : ℕ) (back : Finish) → finish_of (finish_frame tag back).body ≡ back ∷ []
+finish_is tag (Returns back) = refl
+finish_is tag (Forwards forward) = refl
+
+pub finishes_push : (frames : List Frame) (tag : ℕ) (back : Finish) → finishes_in (frames ++ finish_frame tag back ∷ []) ≡ finishes_in frames ++ back ∷ []
+finishes_push frames tag back =
+    finishes_append frames (finish_frame tag back ∷ [])
+    ∙ ap (λ (rs : List Finish). finishes_in frames ++ rs) (append-nil (finish_of (finish_frame tag back).body) ∙ finish_is tag back)
+
+counted : (n tag : ℕ) (frames : List Frame) (back : Finish) → n ≡ length (finishes_in frames) → n + 1 ≡ length (finishes_in (frames ++ finish_frame tag back ∷ []))
+counted n tag frames back is =
+    ap (λ (k : ℕ). k + 1) is
+    ∙ (sym (length-append (finishes_in frames) (back ∷ [])) ∙ ap length (sym (finishes_push frames tag back)))
 
 -- n counts them
-pub returned_is : {name : List ℕ} {n : ℕ} {frames : List Frame} {turn : Turn} → Says name n frames turn → n ≡ length (returns_in frames)
+pub returned_is : {name : List ℕ} {n : ℕ} {frames : List Frame} {turn : Turn} → Says name n frames turn → n ≡ length (finishes_in frames)
 returned_is Silent = refl
 returned_is (Named h) = refl
-returned_is (Free {n} {frames} says) = returned_is says ∙ ap length (sym (returns_next frames))
+returned_is (Free {n} {frames} says) = returned_is says ∙ ap length (sym (finishes_next frames))
 returned_is (Invoked says) = returned_is says
-returned_is (Answers {n} {frames} value code payload says h) =
-    let back : Return = record { value = value; code = code; payload = payload } in
-    ap (λ (k : ℕ). k + 1) (returned_is says)
-    ∙ (sym (length-append (returns_in frames) (back ∷ [])) ∙ ap length (sym (returns_push frames (tag_after n) back)))
+returned_is (Answers {n} {frames} value code payload says h) = counted n (tag_after n) frames (Returns (record { value = value; code = code; payload = payload })) (returned_is says)
+returned_is (Passes {n} {frames} service payload says h) = counted n (tag_after n) frames (Forwards (record { service = service; payload = payload })) (returned_is says)
 
-no_returns : (returns : List Return) → 0 ≡ length returns → returns ≡ []
-no_returns [] none = refl
-no_returns (back ∷ returns) none = absurd (omega (arith, none))
+no_finishes : (finishes : List Finish) → 0 ≡ length finishes → finishes ≡ []
+no_finishes [] none = refl
+no_finishes (back ∷ finishes) none = absurd (omega (arith, none))
 
 -- none was said
-pub none_returned : {name : List ℕ} {frames : List Frame} {turn : Turn} → Says name 0 frames turn → returns_in frames ≡ []
-none_returned {name} {frames} says = no_returns (returns_in frames) (returned_is says)
+pub none_returned : {name : List ℕ} {frames : List Frame} {turn : Turn} → Says name 0 frames turn → finishes_in frames ≡ []
+none_returned {name} {frames} says = no_finishes (finishes_in frames) (returned_is says)
 
 -- ---- whose turn it is
 
@@ -95,6 +105,7 @@ turn_is (Named h) = refl
 turn_is (Free {n} {frames} says) = ends_with frames next_frame
 turn_is (Invoked says) = turn_is says
 turn_is (Answers {n} {frames} value code payload says h) = ends_with frames (return_frame (tag_after n) value code payload) ∙ sym (behind_return value)
+turn_is (Passes {n} {frames} service payload says h) = ends_with frames (forward_frame (tag_after n) service payload)
 
 -- ---- what is said next
 
@@ -139,7 +150,9 @@ module _ {name : List ℕ} where
   next_at (Free {n} {frames} says) fs ks k e = at_end next_frame says refl (next_at says) fs ks k (snoc_cases fs frames ks next_frame k e)
   next_at (Invoked says) fs ks k e = next_at says fs ks k e
   next_at (Answers {n} {frames} value code payload says h) fs ks k e =
-      at_end (return_frame (tag_after n) value code payload) says (value, code, payload, refl) (next_at says) fs ks k (snoc_cases fs frames ks _ k e)
+      at_end (return_frame (tag_after n) value code payload) says (inl (value, code, payload, refl)) (next_at says) fs ks k (snoc_cases fs frames ks _ k e)
+  next_at (Passes {n} {frames} service payload says h) fs ks k e =
+      at_end (forward_frame (tag_after n) service payload) says (inr (service, payload, refl)) (next_at says) fs ks k (snoc_cases fs frames ks _ k e)
 
 module _ (name : List ℕ) where
   serves : (n m : ℕ) (turn : Turn) (k : Frame) → n ≡ m → is_free turn ≡ true → MaySay name (tag_after m) turn k → MaySay name (tag_after n) Serving k
@@ -149,7 +162,7 @@ module _ (name : List ℕ) where
   serves n m Serving k same free may = subst (λ (i : ℕ). MaySay name (tag_after i) Serving k) (sym same) may
   serves n m Exited k same free may = absurd (cc free)
 
-  -- behind an INVOKE comes its RETURN
+  -- behind an INVOKE comes its RETURN or its FORWARD
   pub answers_next : (n whole : ℕ) (fs ks : List Frame) (k : Frame) (turn : Turn) → Says name n fs Serving → Says name whole (fs ++ k ∷ ks) turn → MaySay name (tag_after n) Serving k
   answers_next n whole fs ks k turn here says =
       let next = next_at says fs ks k refl in

@@ -13,13 +13,12 @@ use Rattle.xa_events.specs.declared.event.Event.{Event}
 use Rattle.xa_events.specs.declared.event.Outcome.TheVariants.{Starved as StarvedOutcome}
 use Rattle.xa_events.specs.declared.event.StopCause.{StopCause}
 use Rattle.xa_events.specs.declared.event.StopCause.TheVariants.{Shutdown, Exit, EndOfInput, ReadFault, WriteFault, BadBytes, OutOfTurn, Starved}
-use Rattle.xa_pipe.specs.declared.hearing.Return.{Return}
-use Rattle.xa_pipe.specs.Life.{Says, Turn, Written, LifeId, LinkShows, Occurrence, EndsAs, EachCame, AllCame, MaySay, IsLife, IsCounted, Shows, came_in, returns_in, lost_by, may_end, tag_after}
+use Rattle.xa_pipe.specs.Life.{Says, Turn, Finish, Written, LifeId, LinkShows, Occurrence, EndsAs, EachCame, AllCame, MaySay, IsLife, IsCounted, Shows, came_in, finishes_in, lost_by, may_end, tag_after}
 use Rattle.xa_pipe.specs.declared.turn.Turn.TheVariants.{AwaitsReady, AwaitsNext, AwaitsInvoke, Serving, Exited}
 use Rattle.xa_pipe.specs.Whole.{GivesAll, CameAsSaid}
 use Rattle.xa_pipe.proofs.Ceasing.{stood}
 use Rattle.xa_pipe.proofs.Coming.{came_length}
-use Rattle.xa_pipe.proofs.Saying.{all_spelt, returns_append, answers_next}
+use Rattle.xa_pipe.proofs.Saying.{all_spelt, finishes_append, answers_next}
 
 -- ---- two lists of frames in the same octets
 
@@ -42,45 +41,45 @@ fronts (f ∷ fs) (g ∷ gs) x y hf hg e =
 -- ---- a life that ends with a request in hand
 
 module _ (name : List ℕ) (returned n : ℕ) (fs : List Frame) (turn : Turn) (here : Says name returned fs Serving) (left : Option (List ℕ)) (others : List ℕ) (held : left ≡ Some others) (rest y : List ℕ) (written : Written) where
-  -- where its RETURN stands whole, the life doesn't end there but by want of memory
-  whole_return : (k : Frame) (ks : List Frame) → Says name n (fs ++ k ∷ ks) turn → HasSpelling k → rest ++ others ≡ spelled k ++ y
+  -- where its RETURN or FORWARD stands whole, the life doesn't end there but by want of memory
+  whole_finish : (k : Frame) (ks : List Frame) → Says name n (fs ++ k ∷ ks) turn → HasSpelling k → rest ++ others ≡ spelled k ++ y
       → (cause : StopCause) → may_end cause Serving written ≡ true → IsCounted cause 0 0
       → Shows (record { name = name; tag = tag_after returned; frames = fs; turn = Serving; written = written }) cause rest left → cause ≡ Starved
-  whole_return k ks says spelling stands Shutdown may counted shows = absurd cc may
-  whole_return k ks says spelling stands Exit may counted shows = absurd cc may
-  whole_return k ks says spelling stands EndOfInput may counted (partial, empty) =
+  whole_finish k ks says spelling stands Shutdown may counted shows = absurd cc may
+  whole_finish k ks says spelling stands Exit may counted shows = absurd cc may
+  whole_finish k ks says spelling stands EndOfInput may counted (partial, empty) =
       let none : others ≡ [] = subst (λ (told : Option (List ℕ)). Empty told) held empty in
       let stands_so : rest ≡ spelled k ++ y = sym (append-nil rest) ∙ (ap (λ (xs : List ℕ). rest ++ xs) (sym none) ∙ stands) in
       absurd (cc (sym (is_partial rest partial) ∙ is_whole rest k y (record { spelling = spelling; whole = stands_so })))
-  whole_return k ks says spelling stands ReadFault may counted shows = absurd (omega (arith, counted.0))
-  whole_return k ks says spelling stands WriteFault may counted shows = absurd (omega (arith, counted.1))
-  whole_return k ks says spelling stands (BadBytes place) may counted (at, malformed) =
+  whole_finish k ks says spelling stands ReadFault may counted shows = absurd (omega (arith, counted.0))
+  whole_finish k ks says spelling stands WriteFault may counted shows = absurd (omega (arith, counted.1))
+  whole_finish k ks says spelling stands (BadBytes place) may counted (at, malformed) =
       absurd ((still_malformed rest others malformed).not_whole k y (record { spelling = spelling; whole = stands }))
-  whole_return k ks says spelling stands (OutOfTurn kind tag) may counted (f, more, begins, is_kind, is_tag, not) =
+  whole_finish k ks says spelling stands (OutOfTurn kind tag) may counted (f, more, begins, is_kind, is_tag, not) =
       let same = no_other f k (more ++ others) y begins.spelling spelling
       (sym (append_assoc (spelled f) more others) ∙ (ap (λ (xs : List ℕ). xs ++ others) (sym begins.whole) ∙ stands)) in
       absurd (not (subst (λ (h : Frame). MaySay name (tag_after returned) Serving h) (sym same.0) (answers_next name returned n fs ks k turn here says)))
-  whole_return k ks says spelling stands Starved may counted shows = refl
+  whole_finish k ks says spelling stands Starved may counted shows = refl
 
--- ---- what each RETURN came to
+-- ---- what each RETURN and FORWARD came to
 
--- what came of some RETURNs is as said, whatever more would be said
-said_front : (setup : Setup) (returns more : List Return) (came : List Occurrence) → EachCame setup returns came → CameAsSaid setup (returns ++ more) came
+-- what came of some of them is as said, whatever more would be said
+said_front : (setup : Setup) (finishes more : List Finish) (came : List Occurrence) → EachCame setup finishes came → CameAsSaid setup (finishes ++ more) came
 said_front setup [] more [] each = tt
 said_front setup [] more (c ∷ came) each = absurd each
-said_front setup (r ∷ returns) more [] each = absurd each
-said_front setup (r ∷ returns) more (c ∷ []) each = inl each.0
-said_front setup (r ∷ returns) more (c ∷ d ∷ came) each = (each.0, said_front setup returns more (d ∷ came) each.1)
+said_front setup (r ∷ finishes) more [] each = absurd each
+said_front setup (r ∷ finishes) more (c ∷ []) each = inl each.0
+said_front setup (r ∷ finishes) more (c ∷ d ∷ came) each = (each.0, said_front setup finishes more (d ∷ came) each.1)
 
 -- and the one behind them may be lost where memory runs out
-said_lost : (setup : Setup) (returns more : List Return) (earlier : List Occurrence) (last : Occurrence) → EachCame setup returns earlier → EndsAs StarvedOutcome last.event
-    → length (earlier ++ last ∷ []) ≤ length (returns ++ more) → CameAsSaid setup (returns ++ more) (earlier ++ last ∷ [])
+said_lost : (setup : Setup) (finishes more : List Finish) (earlier : List Occurrence) (last : Occurrence) → EachCame setup finishes earlier → EndsAs StarvedOutcome last.event
+    → length (earlier ++ last ∷ []) ≤ length (finishes ++ more) → CameAsSaid setup (finishes ++ more) (earlier ++ last ∷ [])
 said_lost setup [] [] [] last each lost few = absurd (omega (arith, few))
 said_lost setup [] (r ∷ more) [] last each lost few = inr lost
 said_lost setup [] more (c ∷ earlier) last each lost few = absurd each
-said_lost setup (r ∷ returns) more [] last each lost few = absurd each
-said_lost setup (r ∷ returns) more (c ∷ []) last each lost few = (each.0, said_lost setup returns more [] last each.1 lost (omega (arith, few)))
-said_lost setup (r ∷ returns) more (c ∷ d ∷ earlier) last each lost few = (each.0, said_lost setup returns more (d ∷ earlier) last each.1 lost (omega (arith, few)))
+said_lost setup (r ∷ finishes) more [] last each lost few = absurd each
+said_lost setup (r ∷ finishes) more (c ∷ []) last each lost few = (each.0, said_lost setup finishes more [] last each.1 lost (omega (arith, few)))
+said_lost setup (r ∷ finishes) more (c ∷ d ∷ earlier) last each lost few = (each.0, said_lost setup finishes more (d ∷ earlier) last each.1 lost (omega (arith, few)))
 
 -- ---- the law
 
@@ -89,49 +88,49 @@ none_more xs [] few = append-nil xs
 none_more xs (y ∷ ys) few = absurd (omega (arith, few, length-append xs (y ∷ ys)))
 
 module _ (setup : Setup) (name : List ℕ) (returned n : ℕ) (frames all : List Frame) (last_turn : Turn) (cause : StopCause) (written : Written) (says : Says name n all last_turn) (came : List Occurrence)
-    (left : Option (List ℕ)) (others rest more : List ℕ) (held : left ≡ Some others) (few : length came ≤ length (returns_in all)) where
+    (left : Option (List ℕ)) (others rest more : List ℕ) (held : left ≡ Some others) (few : length came ≤ length (finishes_in all)) where
   abbrev Both : Type 0
   Both = Continues frames all (rest ++ others) more ⊎ Continues all frames more (rest ++ others)
 
-  longer : (fs ks gs : List Frame) → gs ≡ fs ++ ks → returns_in gs ≡ returns_in fs ++ returns_in ks
-  longer fs ks gs same = ap (λ (hs : List Frame). returns_in hs) same ∙ returns_append fs ks
+  longer : (fs ks gs : List Frame) → gs ≡ fs ++ ks → finishes_in gs ≡ finishes_in fs ++ finishes_in ks
+  longer fs ks gs same = ap (λ (hs : List Frame). finishes_in hs) same ∙ finishes_append fs ks
 
   -- what came of the requests, of which none was in hand
-  none_in_hand : EachCame setup (returns_in frames) came → Both → CameAsSaid setup (returns_in all) came
-  none_in_hand each (inl (ks, same, stands)) = subst (λ (rs : List Return). CameAsSaid setup rs came) (sym (longer frames ks all same)) (said_front setup (returns_in frames) (returns_in ks) came each)
+  none_in_hand : EachCame setup (finishes_in frames) came → Both → CameAsSaid setup (finishes_in all) came
+  none_in_hand each (inl (ks, same, stands)) = subst (λ (rs : List Finish). CameAsSaid setup rs came) (sym (longer frames ks all same)) (said_front setup (finishes_in frames) (finishes_in ks) came each)
   none_in_hand each (inr (ks, same, stands)) =
       let so = longer all ks frames same in
-      let many = came_length setup (returns_in frames) came each in
-      let alike : returns_in frames ≡ returns_in all = so ∙ none_more (returns_in all) (returns_in ks) (omega (arith, few, many, ap length so)) in
-      subst (λ (rs : List Return). CameAsSaid setup rs came) alike
-      (subst (λ (rs : List Return). CameAsSaid setup rs came) (append-nil (returns_in frames)) (said_front setup (returns_in frames) [] came each))
+      let many = came_length setup (finishes_in frames) came each in
+      let alike : finishes_in frames ≡ finishes_in all = so ∙ none_more (finishes_in all) (finishes_in ks) (omega (arith, few, many, ap length so)) in
+      subst (λ (rs : List Finish). CameAsSaid setup rs came) alike
+      (subst (λ (rs : List Finish). CameAsSaid setup rs came) (append-nil (finishes_in frames)) (said_front setup (finishes_in frames) [] came each))
 
-  one_in_hand : (earlier : List Occurrence) (last : Occurrence) → came ≡ earlier ++ last ∷ [] → EachCame setup (returns_in frames) earlier → EndsAs (lost_by cause) last.event
+  one_in_hand : (earlier : List Occurrence) (last : Occurrence) → came ≡ earlier ++ last ∷ [] → EachCame setup (finishes_in frames) earlier → EndsAs (lost_by cause) last.event
       → Says name returned frames Serving → may_end cause Serving written ≡ true → IsCounted cause 0 0
-      → Shows (record { name = name; tag = tag_after returned; frames = frames; turn = Serving; written = written }) cause rest left → Both → CameAsSaid setup (returns_in all) came
+      → Shows (record { name = name; tag = tag_after returned; frames = frames; turn = Serving; written = written }) cause rest left → Both → CameAsSaid setup (finishes_in all) came
   one_in_hand earlier last is each lost here may counted shows (inl ([], same, stands)) =
-      let many = came_length setup (returns_in frames) earlier each in
-      absurd (omega (arith, few, many, ap length is, length-append earlier (last ∷ []), ap length (ap (λ (fs : List Frame). returns_in fs) (same ∙ append-nil frames))))
+      let many = came_length setup (finishes_in frames) earlier each in
+      absurd (omega (arith, few, many, ap length is, length-append earlier (last ∷ []), ap length (ap (λ (fs : List Frame). finishes_in fs) (same ∙ append-nil frames))))
   one_in_hand earlier last is each lost here may counted shows (inl (k ∷ ks, same, stands)) =
       let so : Says name n (frames ++ k ∷ ks) last_turn = subst (λ (fs : List Frame). Says name n fs last_turn) same says in
       let spelt = All-head HasSpelling k ks (All-behind frames (k ∷ ks) (all_spelt so)) in
-      let starved = whole_return name returned n frames last_turn here left others held rest (all_spelled ks ++ more) written k ks so spelt
+      let starved = whole_finish name returned n frames last_turn here left others held rest (all_spelled ks ++ more) written k ks so spelt
       (stands ∙ append_assoc (spelled k) (all_spelled ks) more) cause may counted shows in
       let wide = longer frames (k ∷ ks) all same in
-      let enough = subst (λ (rs : List Return). length (earlier ++ last ∷ []) ≤ length rs) wide (subst (λ (os : List Occurrence). length os ≤ length (returns_in all)) is few) in
-      let ended = said_lost setup (returns_in frames) (returns_in (k ∷ ks)) earlier last each (subst (λ (c : StopCause). EndsAs (lost_by c) last.event) starved lost) enough in
-      subst (λ (os : List Occurrence). CameAsSaid setup (returns_in all) os) (sym is)
-      (subst (λ (rs : List Return). CameAsSaid setup rs (earlier ++ last ∷ [])) (sym wide) ended)
+      let enough = subst (λ (rs : List Finish). length (earlier ++ last ∷ []) ≤ length rs) wide (subst (λ (os : List Occurrence). length os ≤ length (finishes_in all)) is few) in
+      let ended = said_lost setup (finishes_in frames) (finishes_in (k ∷ ks)) earlier last each (subst (λ (c : StopCause). EndsAs (lost_by c) last.event) starved lost) enough in
+      subst (λ (os : List Occurrence). CameAsSaid setup (finishes_in all) os) (sym is)
+      (subst (λ (rs : List Finish). CameAsSaid setup rs (earlier ++ last ∷ [])) (sym wide) ended)
     where
       All-behind : (fs gs : List Frame) → All HasSpelling (fs ++ gs) → All HasSpelling gs
       All-behind [] gs h = h
       All-behind (f ∷ fs) gs h = All-behind fs gs (All-tail HasSpelling f (fs ++ gs) h)
   one_in_hand earlier last is each lost here may counted shows (inr (ks, same, stands)) =
-      let many = came_length setup (returns_in frames) earlier each in
-      absurd (omega (arith, few, many, ap length is, length-append earlier (last ∷ []), ap length (longer all ks frames same), length-append (returns_in all) (returns_in ks)))
+      let many = came_length setup (finishes_in frames) earlier each in
+      absurd (omega (arith, few, many, ap length is, length-append earlier (last ∷ []), ap length (longer all ks frames same), length-append (finishes_in all) (finishes_in ks)))
 
-  by_turn : (turn : Turn) → Says name returned frames turn → AllCame setup cause turn (returns_in frames) came → may_end cause turn written ≡ true → IsCounted cause 0 0
-      → Shows (record { name = name; tag = tag_after returned; frames = frames; turn = turn; written = written }) cause rest left → Both → CameAsSaid setup (returns_in all) came
+  by_turn : (turn : Turn) → Says name returned frames turn → AllCame setup cause turn (finishes_in frames) came → may_end cause turn written ≡ true → IsCounted cause 0 0
+      → Shows (record { name = name; tag = tag_after returned; frames = frames; turn = turn; written = written }) cause rest left → Both → CameAsSaid setup (finishes_in all) came
   by_turn AwaitsReady here each may counted shows both = none_in_hand each both
   by_turn AwaitsNext here each may counted shows both = none_in_hand each both
   by_turn AwaitsInvoke here each may counted shows both = none_in_hand each both
@@ -139,7 +138,7 @@ module _ (setup : Setup) (name : List ℕ) (returned n : ℕ) (frames all : List
   by_turn Exited here each may counted shows both = none_in_hand each both
 
 pub ends_as_said : (setup : Setup) (life : LifeId) (past : List Event) (link : LinkShows) (frames : List Frame) → IsLife setup life past link → link.reads ≡ 0 → link.writes ≡ 0 → GivesAll life.name frames link
-    → length (came_in life.server life.generation past) ≤ length (returns_in frames) → CameAsSaid setup (returns_in frames) (came_in life.server life.generation past)
+    → length (came_in life.server life.generation past) ≤ length (finishes_in frames) → CameAsSaid setup (finishes_in frames) (came_in life.server life.generation past)
 ends_as_said setup id past link frames life no_reads no_writes gives few =
     let at = stood id.name (tag_after life.returned) life.frames life.turn life.written in
     let told = subst (λ (t : Option (List ℕ)). IfSome t (λ octets. (rest : List ℕ) × (octets ≡ all_spelled life.frames ++ rest) × Shows at life.cause rest link.left)) gives.given life.gave_frames in

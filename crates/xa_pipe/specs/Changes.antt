@@ -6,7 +6,7 @@ use Rattle.xa_types.specs.declared.data.Data.{Data}
 use Rattle.xa_link.specs.Told.{Grew}
 use Rattle.xa_frame.specs.declared.frame.Frame.{Frame}
 use Rattle.xa_frame.specs.declared.frame.Body.{Body}
-use Rattle.xa_frame.specs.declared.frame.Body.TheVariants.{Return as ReturnBody}
+use Rattle.xa_frame.specs.declared.frame.Body.TheVariants.{Return as ReturnBody, Forward as ForwardBody}
 use Rattle.xa_frame.specs.Spelling.{spelled}
 use Rattle.xa_events.specs.declared.event.StopCause.TheVariants.{Exit}
 use Rattle.xa_pipe.specs.declared.turn.Turn.TheVariants.{AwaitsReady, AwaitsNext, AwaitsInvoke, Serving}
@@ -27,6 +27,7 @@ abbrev pub turn_after : Turn → Body → Turn
 turn_after AwaitsReady body = AwaitsNext
 turn_after AwaitsNext body = AwaitsInvoke
 turn_after Serving (ReturnBody value code payload) = turn_behind value
+turn_after Serving (ForwardBody service payload) = AwaitsNext
 turn_after turn body = turn
 
 -- the life with one more frame of its program

@@ -10,7 +10,7 @@ use Rattle.xa_events.specs.Request.{sent_as}
 use Rattle.xa_frame.specs.declared.frame.Frame.{Frame}
 use Rattle.xa_pipe.specs.declared.turn.Turn.TheVariants.{AwaitsInvoke}
 use Rattle.xa_pipe.specs.Frames.{is_of_life, is_take_in, invocation, invoke_with}
-use Rattle.xa_pipe.specs.Life.{EachCame, AllCame, StopsClosed, stops_life, came_in, cause_of, returns_in}
+use Rattle.xa_pipe.specs.Life.{EachCame, AllCame, StopsClosed, stops_life, came_in, cause_of, finishes_in}
 use Rattle.xa_pipe.specs.Standing.{Standing, Ending}
 
 -- the event is one of that life: a take, what became of it, or the life's end
@@ -21,17 +21,17 @@ is_of server g (End e) = is_of_life server g e.server.0 e.generation.0
 is_of server g (Stop x) = is_of_life server g x.server.0 x.generation.0
 is_of server g _ = false
 
--- so far there was a take for each INVOKE, each RETURN came to its event, and no end of the life was noted
+-- so far there was a take for each INVOKE, each RETURN and FORWARD came to its event, and no end of the life was noted
 pub record Follows (setup : Setup) (life : Standing) (own : List Event) : Type 0 where
   pub alive : count (stops_life life.server.0 life.generation.0) own ≡ 0
   pub taken : count (is_take_in life.server.0 life.generation.0) own ≡ length life.asked
-  pub came : EachCame setup (returns_in life.said) (came_in life.server.0 life.generation.0 own)
+  pub came : EachCame setup (finishes_in life.said) (came_in life.server.0 life.generation.0 own)
 
 -- of a life that ended: so it was, and the request in hand was lost with it
 pub record Settled (setup : Setup) (over : Ending) (own : List Event) : Type 0 where
   pub alive : count (stops_life over.life.server.0 over.life.generation.0) own ≡ 0
   pub taken : count (is_take_in over.life.server.0 over.life.generation.0) own ≡ length over.life.asked
-  pub came : AllCame setup over.cause over.life.turn (returns_in over.life.said) (came_in over.life.server.0 over.life.generation.0 own)
+  pub came : AllCame setup over.cause over.life.turn (finishes_in over.life.said) (came_in over.life.server.0 over.life.generation.0 own)
 
 -- the newest of these events is the end of the life, and no other is
 abbrev pub EndsLast : ℕ → ℕ → List Event → Type 0
@@ -41,7 +41,7 @@ EndsLast server g (e ∷ earlier) = (stops_life server g e ≡ true) × (count (
 -- and that it ended was noted, with its cause, behind its other events
 pub record HasStopped (setup : Setup) (over : Ending) (own : List Event) : Type 0 where
   pub taken : count (is_take_in over.life.server.0 over.life.generation.0) own ≡ length over.life.asked
-  pub came : AllCame setup over.cause over.life.turn (returns_in over.life.said) (came_in over.life.server.0 over.life.generation.0 own)
+  pub came : AllCame setup over.cause over.life.turn (finishes_in over.life.said) (came_in over.life.server.0 over.life.generation.0 own)
   pub stopped : cause_of over.life.server.0 over.life.generation.0 own ≡ Some over.cause
   pub last : EndsLast over.life.server.0 over.life.generation.0 (filter (is_of over.life.server.0 over.life.generation.0) own)
 

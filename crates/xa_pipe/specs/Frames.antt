@@ -10,7 +10,9 @@ use Rattle.xa_events.specs.declared.event.StopCause.TheVariants.{Shutdown}
 use Rattle.xa_events.specs.Words.{count, from_each}
 use Rattle.xa_events.specs.Request.{SentAs, sent_as}
 use Rattle.xa_frame.specs.declared.frame.Frame.{Frame}
-use Rattle.xa_frame.specs.declared.frame.Body.TheVariants.{Ready, Next, Return, Invoke, Shutdown as ShutdownBody}
+use Rattle.xa_frame.specs.declared.frame.Body.TheVariants.{Ready, Next, Return, Forward, Invoke, Shutdown as ShutdownBody}
+use Rattle.xa_pipe.specs.declared.hearing.Finish.{Finish}
+use Rattle.xa_pipe.specs.declared.hearing.Finish.TheVariants.{Returns, Forwards}
 
 -- the event is of that life of that server
 abbrev pub is_of_life : ℕ → ℕ → ℕ → ℕ → Bool
@@ -38,6 +40,15 @@ shutdown_frame = record { tag = 0; body = ShutdownBody }
 -- the RETURN of the invocation with that number
 abbrev pub return_frame : ℕ → Rval → ℤ → Data → Frame
 return_frame tag value code payload = record { tag = tag; body = Return value code payload }
+
+-- the FORWARD of the invocation with that number
+abbrev pub forward_frame : ℕ → List ℕ → Data → Frame
+forward_frame tag service payload = record { tag = tag; body = Forward service payload }
+
+-- the frame by which a service is done with the invocation of that number
+abbrev pub finish_frame : ℕ → Finish → Frame
+finish_frame tag (Returns back) = return_frame tag back.value back.code back.payload
+finish_frame tag (Forwards forward) = forward_frame tag forward.service forward.payload
 
 -- ---- what the monitor writes: an INVOKE for each take, and SHUTDOWN at a shutdown
 

@@ -1,6 +1,6 @@
--- A life of a server: what its program says, what that comes to, how the life ends, and what shows that (after tpreturn of XATMI, and TPEXIT of
--- Tuxedo; frames and causes are this project's own).
-use Rattle.std.specs.Prelude.{◌≡◌, ℕ, ℤ, ◌+◌, ◌-◌, ◌<◌, ◌^◌, ◌%◌, min, Bool, true, false, List, [], ◌∷◌, ◌++◌, length, take, Option, Some, None, IfSome, if◌then◌else◌}
+-- A life of a server: what its program says, what that comes to, how the life ends, and what shows that (after tpreturn of XATMI, and TPEXIT and
+-- tpforward of Tuxedo; frames and causes are this project's own).
+use Rattle.std.specs.Prelude.{◌≡◌, ◌⊎◌, ℕ, ℤ, ◌+◌, ◌-◌, ◌<◌, ◌^◌, ◌%◌, min, Bool, true, false, List, [], ◌∷◌, ◌++◌, length, take, Option, Some, None, IfSome, if◌then◌else◌}
 use Rattle.xa_types.specs.declared.data.Data.{Data}
 use Rattle.xa_types.specs.declared.setup.Setup.{Setup}
 use Rattle.xa_types.specs.declared.ids.Generation.{Generation}
@@ -11,23 +11,24 @@ use Rattle.xa_types.specs.Setup.{queue_of}
 use Rattle.xa_link.specs.Told.{Empty}
 use Rattle.xa_frame.specs.declared.frame.Frame.{Frame}
 use Rattle.xa_frame.specs.declared.frame.Body.{Body}
-use Rattle.xa_frame.specs.declared.frame.Body.TheVariants.{Return as ReturnBody}
+use Rattle.xa_frame.specs.declared.frame.Body.TheVariants.{Return as ReturnBody, Forward as ForwardBody}
 use Rattle.xa_frame.specs.Spelling.{spelled, all_spelled, kind_octet, HasSpelling}
 use Rattle.xa_frame.specs.Stream.{IsPartial, IsMalformed, Begins}
 use Rattle.xa_events.specs.declared.event.Event.{Event}
 use Rattle.xa_events.specs.declared.event.Event.TheVariants.{Forward, End, Stop}
 use Rattle.xa_events.specs.declared.event.Outcome.{Outcome}
-use Rattle.xa_events.specs.declared.event.Outcome.TheVariants.{Returned, Failed, BadReturn, Died, Starved}
+use Rattle.xa_events.specs.declared.event.Outcome.TheVariants.{Returned, Failed, BadReturn, BadForward, Died, Starved}
 use Rattle.xa_events.specs.declared.event.StopCause.{StopCause}
 use Rattle.xa_events.specs.declared.event.StopCause.TheVariants.{Shutdown, Exit, EndOfInput, ReadFault, WriteFault, BadBytes, OutOfTurn, Starved as StarvedStop}
 use Rattle.xa_events.specs.Words.{latest, from_each, AtEach}
 use Rattle.xa_events.specs.Queue.{is_closed}
-use Rattle.xa_pipe.specs.declared.hearing.Return.{Return}
+pub use Rattle.xa_pipe.specs.declared.hearing.Finish.{Finish}
+use Rattle.xa_pipe.specs.declared.hearing.Finish.TheVariants.{Returns, Forwards}
 pub use Rattle.xa_pipe.specs.declared.turn.Turn.{Turn}
 use Rattle.xa_pipe.specs.declared.turn.Turn.TheVariants.{AwaitsReady, AwaitsNext, AwaitsInvoke, Serving, Exited}
 pub use Rattle.xa_pipe.specs.declared.turn.Written.{Written}
 use Rattle.xa_pipe.specs.declared.turn.Written.TheVariants.{Whole, Cut, Missing}
-use Rattle.xa_pipe.specs.Frames.{is_of_life, next_frame, ready_frame, shutdown_frame, return_frame, frames_out}
+use Rattle.xa_pipe.specs.Frames.{is_of_life, next_frame, ready_frame, shutdown_frame, return_frame, forward_frame, frames_out}
 
 -- ---- what the program says
 
@@ -36,11 +37,12 @@ abbrev pub turn_behind : Rval → Turn
 turn_behind ExitValue = Exited
 turn_behind value = AwaitsNext
 
--- the number of the invocation after so many RETURNs, modulo 2^32
+-- the number of the invocation after so many that were answered, modulo 2^32
 abbrev pub tag_after : ℕ → ℕ
 tag_after n = (n + 1) % 2 ^ 32
 
--- the program has said these frames, n of them RETURNs, and this comes next: READY and NEXT, and to each INVOKE its RETURN and NEXT; each has a spelling
+-- the program has said these frames, n of them RETURNs and FORWARDs, and this comes next: READY and NEXT, and to each INVOKE its RETURN or its FORWARD,
+-- and NEXT; each has a spelling
 pub data Says (name : List ℕ) : ℕ → List Frame → Turn → Type 0 where
   Silent : Says name 0 [] AwaitsReady
   Named : HasSpelling (ready_frame name) → Says name 0 (ready_frame name ∷ []) AwaitsNext
@@ -49,6 +51,8 @@ pub data Says (name : List ℕ) : ℕ → List Frame → Turn → Type 0 where
   Answers : {n : ℕ} {frames : List Frame} (value : Rval) (code : ℤ) (payload : Data) → Says name n frames Serving
       → HasSpelling (return_frame (tag_after n) value code payload)
       → Says name (n + 1) (frames ++ return_frame (tag_after n) value code payload ∷ []) (turn_behind value)
+  Passes : {n : ℕ} {frames : List Frame} (service : List ℕ) (payload : Data) → Says name n frames Serving → HasSpelling (forward_frame (tag_after n) service payload)
+      → Says name (n + 1) (frames ++ forward_frame (tag_after n) service payload ∷ []) AwaitsNext
 
 -- ---- what that comes to
 
@@ -71,25 +75,33 @@ abbrev pub EndsAs : Outcome → Event → Type 0
 EndsAs outcome (End e) = e.outcome ≡ outcome
 EndsAs outcome e = ⊥
 
--- a RETURN comes to that event: the request ends as it says
-abbrev pub ComesTo : Setup → Return → Occurrence → Type 0
-ComesTo setup back came = EndsAs (outcome_by setup back.value back.code back.payload) came.event
+-- the request is forwarded to that service with that data, or fails to be, and ends (Tuxedo, tpforward)
+abbrev pub IsForwarded : List ℕ → Data → Event → Type 0
+IsForwarded service payload (Forward f) = (f.service ≡ service) × (f.payload ≡ payload)
+IsForwarded service payload (End e) = (version : ℕ) × (e.outcome ≡ BadForward version)
+IsForwarded service payload e = ⊥
+
+-- what the program said comes to that event: by a RETURN the request ends as it says, and by a FORWARD it is forwarded
+abbrev pub ComesTo : Setup → Finish → Occurrence → Type 0
+ComesTo setup (Returns back) came = EndsAs (outcome_by setup back.value back.code back.payload) came.event
+ComesTo setup (Forwards forward) came = IsForwarded forward.service forward.payload came.event
 
 -- each comes to one event, in order
-abbrev pub EachCame : Setup → List Return → List Occurrence → Type 0
+abbrev pub EachCame : Setup → List Finish → List Occurrence → Type 0
 EachCame setup [] [] = Unit {0}
-EachCame setup (back ∷ returns) (came ∷ others) = ComesTo setup back came × EachCame setup returns others
-EachCame setup returns others = ⊥
+EachCame setup (back ∷ finishes) (came ∷ others) = ComesTo setup back came × EachCame setup finishes others
+EachCame setup finishes others = ⊥
 
--- what the frame returns
-abbrev pub return_of : Body → List Return
-return_of (ReturnBody value code payload) = (record { value = value; code = code; payload = payload }) ∷ []
-return_of body = []
+-- how a service is done with its request by the frame
+abbrev pub finish_of : Body → List Finish
+finish_of (ReturnBody value code payload) = Returns (record { value = value; code = code; payload = payload }) ∷ []
+finish_of (ForwardBody service payload) = Forwards (record { service = service; payload = payload }) ∷ []
+finish_of body = []
 
--- the RETURNs of these frames
-abbrev pub returns_in : List Frame → List Return
-returns_in [] = []
-returns_in (f ∷ frames) = return_of f.body ++ returns_in frames
+-- the RETURNs and FORWARDs of these frames
+abbrev pub finishes_in : List Frame → List Finish
+finishes_in [] = []
+finishes_in (f ∷ frames) = finish_of f.body ++ finishes_in frames
 
 -- the event is what a take of the life came to
 abbrev pub came_at : ℕ → ℕ → Event → List Event → List Occurrence
@@ -106,15 +118,15 @@ abbrev pub lost_by : StopCause → Outcome
 lost_by StarvedStop = Starved
 lost_by cause = Died
 
--- each RETURN came to its event, and the request in hand was lost with the life: no more than one ends as Starved
-abbrev pub AllCame : Setup → StopCause → Turn → List Return → List Occurrence → Type 0
-AllCame setup cause Serving returns came =
-    (earlier : List Occurrence) × (last : Occurrence) × (came ≡ earlier ++ last ∷ []) × EachCame setup returns earlier × EndsAs (lost_by cause) last.event
-AllCame setup cause turn returns came = EachCame setup returns came
+-- each RETURN and FORWARD came to its event, and the request in hand was lost with the life: no more than one ends as Starved
+abbrev pub AllCame : Setup → StopCause → Turn → List Finish → List Occurrence → Type 0
+AllCame setup cause Serving finishes came =
+    (earlier : List Occurrence) × (last : Occurrence) × (came ≡ earlier ++ last ∷ []) × EachCame setup finishes earlier × EndsAs (lost_by cause) last.event
+AllCame setup cause turn finishes came = EachCame setup finishes came
 
 -- ---- how the life ends
 
--- where a life ended: what the program had said, whose turn it was, the tag that a RETURN had to have, and whether the last frame was written
+-- where a life ended: what the program had said, whose turn it was, the tag that a RETURN or a FORWARD had to have, and whether the last frame was written
 pub record LastTurn : Type 0 where
   pub name : List ℕ
   pub tag : ℕ
@@ -130,7 +142,8 @@ awaiting name tag frames turn = record { name = name; tag = tag; frames = frames
 abbrev pub MaySay : List ℕ → ℕ → Turn → Frame → Type 0
 MaySay name tag AwaitsReady f = f ≡ ready_frame name
 MaySay name tag AwaitsNext f = f ≡ next_frame
-MaySay name tag Serving f = (value : Rval) × (code : ℤ) × (payload : Data) × (f ≡ return_frame tag value code payload)
+MaySay name tag Serving f = ((value : Rval) × (code : ℤ) × (payload : Data) × (f ≡ return_frame tag value code payload))
+    ⊎ ((service : List ℕ) × (payload : Data) × (f ≡ forward_frame tag service payload))
 MaySay name tag turn f = ⊥
 
 -- a frame of the program is to come
@@ -255,7 +268,7 @@ pub record IsLife (setup : Setup) (life : LifeId) (past : List Event) (link : Li
   pub written : Written
   pub stopped : cause_of life.server life.generation past ≡ Some cause
   pub says : Says life.name returned frames turn
-  pub came : AllCame setup cause turn (returns_in frames) (came_in life.server life.generation past)
+  pub came : AllCame setup cause turn (finishes_in frames) (came_in life.server life.generation past)
   pub may : may_end cause turn written ≡ true
   pub closed : turn ≡ AwaitsInvoke → AtEach (StopsClosed setup life.server life.generation) past
   pub counted : IsCounted cause link.reads link.writes

@@ -8,7 +8,7 @@ use Rattle.xa_events.specs.declared.event.StopCause.{StopCause}
 use Rattle.xa_events.specs.declared.event.StopCause.TheVariants.{Shutdown, Exit}
 use Rattle.xa_pipe.specs.declared.turn.Turn.TheVariants.{AwaitsInvoke}
 use Rattle.xa_pipe.specs.Frames.{shutdown_frame}
-use Rattle.xa_pipe.specs.Life.{Turn, Written, LifeId, LinkShows, LastTurn, Says, IsOf, IsCounted, Took, Gave, returns_in, tag_after, may_end}
+use Rattle.xa_pipe.specs.Life.{Turn, Written, LifeId, LinkShows, LastTurn, Says, IsOf, IsCounted, Took, Gave, finishes_in, tag_after, may_end}
 
 -- what a life is: its server's name and number, its generation, what its link shows, the INVOKEs that were written to it, what its program said,
 -- and what comes next
@@ -21,11 +21,11 @@ pub record Standing : Type 0 where
   pub said : List Frame
   pub turn : Turn
 
--- how many RETURNs its program said
+-- how many invocations its program answered, by a RETURN or a FORWARD
 abbrev pub returned : Standing → ℕ
-returned life = length (returns_in life.said)
+returned life = length (finishes_in life.said)
 
--- the tag of the next RETURN, which is the number of the INVOKE in hand or else of the next one
+-- the tag of the next RETURN or FORWARD, which is the number of the INVOKE in hand or else of the next one
 abbrev pub tag_of : Standing → ℕ
 tag_of life = tag_after (returned life)
 

@@ -9,7 +9,7 @@ ghost use Rattle.xa_pipe.specs.Ended.{pipes_show, are_killed, are_open};
 ghost use Rattle.xa_pipe.specs.Standing.{IsOver, is_killed, is_open};
 ghost use Rattle.xa_pipe.specs.Kept.{ending_of, tag_after_turn};
 
-use crate::hearing::{is_next, is_ready, is_return, out_of_turn};
+use crate::hearing::{is_finish, is_next, is_ready, out_of_turn};
 use crate::noted::{Asked, Said};
 use crate::over::{EndedLife, Pipes};
 use crate::pipe::Pipe;
@@ -40,7 +40,7 @@ fn may_say(frame: &Frame, name: &Name, tag: u32, turn: Turn) -> bool
     match turn {
         Turn::AwaitsReady => is_ready(frame, name),
         Turn::AwaitsNext => is_next(frame),
-        Turn::Serving => is_return(frame, tag),
+        Turn::Serving => is_finish(frame, tag),
         Turn::AwaitsInvoke | Turn::Exited => false,
     }
 }
@@ -63,6 +63,7 @@ fn turn_after(turn: Turn, body: &Body) -> Turn
         (Turn::AwaitsReady, _) => Turn::AwaitsNext,
         (Turn::AwaitsNext, _) => Turn::AwaitsInvoke,
         (Turn::Serving, Body::Return(value, _, _)) => turn_behind(*value),
+        (Turn::Serving, Body::Forward(..)) => Turn::AwaitsNext,
         (turn, _) => turn,
     }
 }

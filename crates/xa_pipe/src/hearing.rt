@@ -2,7 +2,7 @@
 ghost use Rattle.std.specs.Prelude.{◌≡◌, ◌++◌, ◌∷◌, [], ℕ, List, IfOk, IfErr, OnOk, true, false};
 ghost use Rattle.xa_frame.specs.declared.frame.Frame.{Frame};
 ghost use Rattle.xa_frame.specs.Spelling.{HasSpelling, kind_octet};
-ghost use Rattle.xa_pipe.specs.Frames.{ready_frame, next_frame, return_frame};
+ghost use Rattle.xa_pipe.specs.Frames.{ready_frame, next_frame, finish_frame};
 ghost use Rattle.xa_events.specs.declared.event.StopCause.TheVariants.{OutOfTurn};
 ghost use Rattle.xa_pipe.specs.Life.{MaySay, awaiting};
 ghost use Rattle.xa_pipe.specs.declared.turn.Turn.TheVariants.{AwaitsReady, AwaitsNext, Serving};
@@ -12,7 +12,7 @@ use crate::pipe::Pipe;
 use xa_events::StopCause;
 use xa_frame::{Body, Frame, kind_octet};
 use xa_link::Link;
-use xa_types::{Data, Name, Rval};
+use xa_types::{Data, Name, Octets, Rval};
 
 /// What a service returned: how, with which code, and with which data.
 #[derive(Drop)]
@@ -20,6 +20,20 @@ pub struct Return {
     pub value: Rval,
     pub code: i32,
     pub payload: Data,
+}
+
+/// To which service, as its name was written, a service forwarded its request, and with which data.
+#[derive(Drop)]
+pub struct Forward {
+    pub service: Octets,
+    pub payload: Data,
+}
+
+/// How a service is done with its request.
+#[derive(Drop)]
+pub enum Finish {
+    Returns(Return),
+    Forwards(Forward),
 }
 
 pub(crate) fn out_of_turn(frame: &Frame) -> StopCause
@@ -48,12 +62,12 @@ pub(crate) fn is_next(frame: &Frame) -> bool
     }
 }
 
-pub(crate) fn is_return(frame: &Frame, number: u32) -> bool
+pub(crate) fn is_finish(frame: &Frame, number: u32) -> bool
     ensures yes { result ≡ true → MaySay [] number Serving frame.now }
     ensures no { result ≡ false → MaySay [] number Serving frame.now → ⊥ }
 {
     match &frame.body {
-        Body::Return(..) => frame.tag == number,
+        Body::Return(..) | Body::Forward(..) => frame.tag == number,
         _ => false,
     }
 }
@@ -82,38 +96,35 @@ fn next_in(frame: &Frame) -> Result<(), StopCause>
     }
 }
 
-// What the frame returns, where it is a RETURN to that invocation.
-fn return_in(frame: Frame, number: u32) -> Result<Return, StopCause>
-    ensures yes { IfOk result (λ back. frame ≡ return_frame number back.value back.code back.payload) }
-    ensures no { IfErr result (λ cause. (cause ≡ OutOfTurn (kind_octet frame.body) frame.tag)
-        × ((name : List ℕ) → MaySay name number Serving frame → ⊥)) }
+// How a service is done by a RETURN or a FORWARD.
+pub(crate) fn finished(frame: Frame) -> Finish
+    requires { MaySay [] frame.tag Serving frame }
+    ensures { frame ≡ finish_frame frame.tag result }
 {
-    let refused = out_of_turn(&frame);
-    let Frame { tag, body } = frame;
+    let Frame { tag: _, body } = frame;
     match body {
-        Body::Return(value, code, payload) if tag == number => Ok(Return {
+        Body::Return(value, code, payload) => Finish::Returns(Return {
             value,
             code,
             payload,
         }),
-        _ => Err(refused),
+        Body::Forward(service, payload) => Finish::Forwards(Forward { service, payload }),
+        _ => unreachable!(),
     }
 }
 
-// What a RETURN returns.
-pub(crate) fn returned(frame: Frame) -> Return
-    requires { MaySay [] frame.tag Serving frame }
-    ensures { frame ≡ return_frame frame.tag result.value result.code result.payload }
+// How a service is done with that invocation, where the frame is a RETURN or a FORWARD to it; else it is out of turn.
+fn finish_in(frame: Frame, number: u32) -> Result<Finish, StopCause>
+    ensures yes { IfOk result (λ back. frame ≡ finish_frame number back) }
+    ensures no { IfErr result (λ cause. (cause ≡ OutOfTurn (kind_octet frame.body) frame.tag)
+        × ((name : List ℕ) → MaySay name number Serving frame → ⊥)) }
 {
-    let Frame { tag: _, body } = frame;
-    match body {
-        Body::Return(value, code, payload) => Return {
-            value,
-            code,
-            payload,
-        },
-        _ => unreachable!(),
+    if is_finish(&frame, number) {
+        return Ok(finished(frame));
     }
+    let cause = out_of_turn(&frame);
+    drop(frame);
+    Err(cause)
 }
 
 impl<L: Link> Pipe<L> {
@@ -166,11 +177,11 @@ impl<L: Link> Pipe<L> {
         next
     }
 
-    /// Reads the RETURN to that invocation. Else it answers why the life ended, as `greet` does.
-    pub fn hear(&mut self, number: u32) -> Result<Return, StopCause>
+    /// Reads the RETURN or the FORWARD to that invocation. Else it answers why the life ended, as `greet` does.
+    pub fn hear(&mut self, number: u32) -> Result<Finish, StopCause>
         ensures read { IfOk result (λ back. (frames : List Frame) → HasRead self.old frames
-            → HasRead self.new (frames ++ return_frame number back.value back.code back.payload ∷ [])) }
-        ensures spelling { IfOk result (λ back. HasSpelling (return_frame number back.value back.code back.payload)) }
+            → HasRead self.new (frames ++ finish_frame number back ∷ [])) }
+        ensures spelling { IfOk result (λ back. HasSpelling (finish_frame number back)) }
         ensures took { self.new.took ≡ self.old.took }
         ensures writes { self.new.writes ≡ self.old.writes }
         ensures whose { self.new.whose ≡ self.old.whose }
@@ -179,6 +190,6 @@ impl<L: Link> Pipe<L> {
         ensures counts { IfErr result (λ cause. CountsReads cause self.old.reads self.new.reads) }
     {
         let frame = self.read()?;
-        return_in(frame, number)
+        finish_in(frame, number)
     }
 }

@@ -1,8 +1,8 @@
 //! The monitor's end of the two pipes of one life of a server: what it writes, what it reads, and why a life ends.
 //!
-//! The server's program says READY with its name and NEXT, and to each INVOKE a RETURN and NEXT; after a RETURN with
-//! TPEXIT it says nothing more. A `Life` is one such life with its link; whoever calls it can't go on with a life that has
-//! ended. `Pipe` is what it reads and writes by.
+//! The server's program says READY with its name and NEXT, and to each INVOKE a RETURN or a FORWARD, and NEXT; after a
+//! RETURN with TPEXIT it says nothing more. A `Life` is one such life with its link; whoever calls it can't go on with a
+//! life that has ended. `Pipe` is what it reads and writes by.
 #![tactic(auto)]
 
 mod course;
@@ -14,7 +14,7 @@ mod over;
 mod pipe;
 mod turn;
 
-pub use hearing::Return;
+pub use hearing::{Finish, Forward, Return};
 pub use laws::{ends_as_said, is_life};
 pub use life::{Answered, Life};
 pub use over::{EndedLife, Pipes};

@@ -2,7 +2,7 @@
 ghost use Rattle.std.specs.Prelude.{◌≡◌, IfOk, IfErr, true, Some};
 ghost use Rattle.xa_link.specs.Told.{Empty};
 ghost use Rattle.xa_frame.specs.Spelling.{IsData};
-ghost use Rattle.xa_pipe.specs.Frames.{ready_frame, next_frame, return_frame};
+ghost use Rattle.xa_pipe.specs.Frames.{ready_frame, next_frame, finish_frame};
 ghost use Rattle.xa_pipe.specs.Life.{is_reading};
 ghost use Rattle.xa_pipe.specs.Standing.{IsSound, tag_of};
 ghost use Rattle.xa_pipe.specs.Kept.{unwritten};
@@ -10,7 +10,7 @@ ghost use Rattle.xa_frame.specs.declared.frame.Frame.{Frame};
 ghost use Rattle.xa_pipe.specs.Changes.{begun, Heard, Fell, Greeted, FellGreeting, next_invoke, Invoked, Unsent, ShutDown, Exits};
 
 use crate::course::Course;
-use crate::hearing::{Return, returned};
+use crate::hearing::{Finish, finished};
 use crate::noted::{Asked, Said};
 use crate::over::EndedLife;
 use crate::pipe::Pipe;
@@ -39,10 +39,10 @@ impl<L: Link> Model for Life<L> {
     ghost invariant = { λ l. IsKept l.course };
 }
 
-/// A life whose request was answered, and what its service returned.
+/// A life whose service is done with its request, and how.
 pub struct Answered<L: Link> {
     pub life: Life<L>,
-    pub back: Return,
+    pub back: Finish,
 }
 
 // A life whose program said something.
@@ -135,14 +135,14 @@ impl<L: Link> Life<L> {
         self.skip()
     }
 
-    /// Reads the RETURN to the request in hand. Else the life ends.
+    /// Reads the RETURN or the FORWARD to the request in hand. Else the life ends.
     pub fn hear(self) -> Result<Answered<L>, EndedLife<L>>
         requires { self.turn ≡ Turn.Serving }
-        ensures heard { IfOk result (λ a. Heard (return_frame (tag_of self) a.back.value a.back.code a.back.payload) a.life self) }
+        ensures heard { IfOk result (λ a. Heard (finish_frame (tag_of self) a.back) a.life self) }
         ensures over { IfErr result (λ over. Fell over self) }
     {
         let Spoken { life, frame } = self.listen()?;
-        let back = returned(frame);
+        let back = finished(frame);
         Ok(Answered { life, back })
     }
 

@@ -9,7 +9,7 @@ pub enum Turn {
     AwaitsNext,
     /// An INVOKE or SHUTDOWN of the monitor.
     AwaitsInvoke,
-    /// A RETURN of the program.
+    /// A RETURN or a FORWARD of the program.
     Serving,
     /// Nothing more, after a RETURN with TPEXIT.
     Exited,

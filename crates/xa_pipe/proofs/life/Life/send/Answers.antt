@@ -1,7 +1,7 @@
 use Rattle.std.proofs.Common.{List, length, ◌∷◌, [], ◌++◌, Err, refl, ap, subst}
 use Rattle.xa_frame.specs.declared.frame.Frame.{Frame}
 use Rattle.xa_pipe.specs.declared.turn.Turn.TheVariants.{AwaitsInvoke, Serving}
-use Rattle.xa_pipe.specs.Life.{Turn, Says, returns_in}
+use Rattle.xa_pipe.specs.Life.{Turn, Says, finishes_in}
 use Rattle.xa_pipe.specs.Life.Says.{Invoked as SaysInvoked}
 use Rattle.xa_pipe.specs.Pipe.{invoke_frame}
 use Rattle.xa_pipe.specs.Standing.{Standing}
@@ -24,7 +24,7 @@ end-requires g c =
     let f = invoke_frame c.args.service.now c.args.routine.now old.tag c.args.payload.now in
     rw c.unwritten.ensures
     (unsent_over old _ Serving (old.asked ++ f ∷ []) f c.in-Err.cause (ap (λ (asked : List Frame). record old { pipe = c.send-sent.new.self; asked = asked; turn = Serving }) c.note.ensures) refl refl
-    (SaysInvoked (subst (λ (t : Turn). Says old.name (length (returns_in old.said)) old.said t) (in_turn old c.args.self AwaitsInvoke c.self.view_is c.requires.turn) c.self.invariant.sound.says)) c.self.invariant
+    (SaysInvoked (subst (λ (t : Turn). Says old.name (length (finishes_in old.said)) old.said t) (in_turn old c.args.self AwaitsInvoke c.self.view_is c.requires.turn) c.self.invariant.sound.says)) c.self.invariant
     failed.why (λ is. failed.part (ap Err is)) (λ is. failed.starved (ap Err is)) failed.gave failed.rest failed.place failed.reads failed.whose)
 
 pub returns-in-Ok-clause-sent : goal.returns-in-Ok-clause-sent
