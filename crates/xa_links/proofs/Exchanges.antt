@@ -1,18 +1,20 @@
 -- A life of a server goes on by a request.
-use Rattle.std.proofs.Common.{◌≡◌, ◌⊎◌, ℕ, ◌+◌, ◌%◌, ◌^◌, ◌||◌, Bool, true, false, cond, ℤ, List, [], ◌∷◌, ◌++◌, length, Some, None, inl, inr, refl, sym, ◌∙◌, ap, subst, append-nil, arith, if◌then◌else◌}
+use Rattle.std.proofs.Common.{◌≡◌, ◌⊎◌, ℕ, ◌+◌, ◌%◌, ◌^◌, ◌||◌, Bool, true, false, cond, ℤ, List, [], ◌∷◌, ◌++◌, length, Some, None, inl, inr, refl, sym, ◌∙◌, ap, subst, append-nil, arith, if◌then◌else◌, eqb-true, ◌==◌, Option}
 use Rattle.std.specs.Prelude.{take, drop, IfSome, ◌&&◌}
+use Rattle.std.proofs.lemmas.Bool.{and_parts}
 use Rattle.std.proofs.lemmas.List.{length-append}
 use Rattle.std.proofs.Math.Seq.{drop-append_seam}
 use Rattle.std.proofs.lemmas.List.Elements.{All-nil, All-cons}
 use Rattle.xa_desk.specs.xa_types.declared.ids.Generation.{Generation}
 use Rattle.xa_desk.specs.xa_types.declared.ids.RequestId.{RequestId}
+use Rattle.xa_desk.specs.xa_types.declared.ids.ServerId.{ServerId}
 use Rattle.xa_desk.specs.xa_types.declared.call.Rval.{Rval}
 use Rattle.xa_desk.specs.xa_types.declared.call.Rval.TheVariants as rvals
 use Rattle.xa_desk.specs.xa_types.declared.data.Data.{Data}
 use Rattle.xa_desk.specs.xa_types.declared.setup.Setup.{Setup}
 use Rattle.xa_desk.specs.xa_types.Kind.{is_sound}
 use Rattle.xa_desk.specs.xa_events.declared.event.Event.{Event}
-use Rattle.xa_desk.specs.xa_events.declared.event.Event.TheVariants.{Take, End}
+use Rattle.xa_desk.specs.xa_events.declared.event.Event.TheVariants.{Take, Forward, End}
 use Rattle.xa_desk.specs.xa_events.declared.event.Taken.{Taken}
 use Rattle.xa_desk.specs.xa_events.declared.event.Ended.{Ended}
 use Rattle.xa_desk.specs.xa_events.declared.event.StopCause.TheVariants as causes
@@ -25,23 +27,23 @@ use Rattle.xa_desk.specs.xa_events.Words.{AtEach, count}
 use Rattle.xa_desk.specs.xa_events.Server.{after_end}
 use Rattle.xa_desk.specs.xa_events.Finishing.{returned as outcome_by_value, return_by, is_empty}
 use Rattle.xa_desk.specs.xa_frame.declared.frame.Frame.{Frame}
-use Rattle.xa_desk.specs.xa_lock.declared.makers.Made.{Made}
 use Rattle.xa_desk.specs.xa_queue.declared.entry.Entry.{Entry}
 use Rattle.xa_desk.specs.xa_held.declared.cargo.Invocation.{Invocation}
-use Rattle.xa_desk.specs.xa_held.Kept.{Brings}
 use Rattle.xa_desk.specs.xa_work.Work.{Standing as Working, theirs}
 use Rattle.xa_desk.specs.xa_caller.Drafts.{Cargo}
-use Rattle.xa_desk.specs.xa_pipe.declared.hearing.Return.{Return}
+use Rattle.xa_desk.specs.xa_pipe.declared.hearing.Forward.{Forward as Onward}
+use Rattle.xa_desk.specs.xa_pipe.declared.hearing.Finish.{Finish}
+use Rattle.xa_desk.specs.xa_pipe.declared.hearing.Finish.TheVariants.{Returns, Forwards}
 use Rattle.xa_desk.specs.xa_pipe.declared.turn.Turn.{Turn}
 use Rattle.xa_desk.specs.xa_pipe.declared.turn.Turn.TheVariants.{AwaitsReady, AwaitsNext, AwaitsInvoke, Serving, Exited}
-use Rattle.xa_desk.specs.xa_pipe.Frames.{is_of_life, is_take_in, invocation, ready_frame, next_frame, return_frame}
-use Rattle.xa_desk.specs.xa_pipe.Life.{LinkShows, EachCame, came_in, outcome_of, outcome_by, turn_behind, returns_in}
+use Rattle.xa_desk.specs.xa_pipe.Frames.{is_of_life, is_take_in, invocation, ready_frame, next_frame, return_frame, forward_frame, finish_frame}
+use Rattle.xa_desk.specs.xa_pipe.Life.{LinkShows, EachCame, EndsAs, IsForwarded, ComesTo, came_in, outcome_of, outcome_by, turn_behind, finishes_in}
 use Rattle.xa_desk.specs.xa_pipe.Pipe.{invoke_frame}
 use Rattle.xa_desk.specs.xa_pipe.Standing.{Standing as Life, Ending, IsOver, returned, tag_of}
 use Rattle.xa_desk.specs.xa_pipe.Changes.{Heard, Fell, Greeted, FellGreeting, Invoked, Unsent, ShutDown, Exits, next_invoke, with_said, turn_after}
-use Rattle.xa_desk.specs.xa_pipe.Following.{Follows, Settled}
-use Rattle.xa_desk.proofs.xa_pipe.Followed.{follows_greeted, follows_next, follows_take, follows_end, settles_fallen, settles_shut, settles_exited, settles_lost, settles_unsent}
-use Rattle.xa_desk.proofs.xa_pipe.Saying.{returns_append, returns_next, returns_push}
+use Rattle.xa_desk.specs.xa_pipe.Following.{is_of, Follows, Settled}
+use Rattle.xa_desk.proofs.xa_pipe.Followed.{follows_greeted, follows_next, follows_take, follows_end, follows_forward, settles_fallen, settles_shut, settles_exited, settles_lost, settles_unsent}
+use Rattle.xa_desk.proofs.xa_pipe.Saying.{finishes_append, finishes_next, finishes_push}
 use Rattle.xa_desk.specs.xa_server.declared.closing.Closing.{Closing}
 use Rattle.xa_desk.specs.xa_server.declared.slot.ServerSlot.{ServerSlot}
 use Rattle.xa_desk.specs.xa_server.declared.slot.Last.TheVariants as lasts
@@ -56,16 +58,18 @@ use Rattle.xa_desk.specs.declared.domain.Domain.{Domain}
 use Rattle.xa_desk.specs.declared.desk.Desk.{Desk}
 use Rattle.xa_desk.specs.Desks.{Leads}
 use Rattle.xa_desk.specs.Found.{SawAtQueue}
-use Rattle.xa_desk.specs.Serving.{IsServing, IsTaken}
+use Rattle.xa_desk.specs.Serving.{IsServing, IsSentFor}
 use Rattle.xa_desk.specs.xa_events.Cases.{IsShut}
 use Rattle.xa_links.specs.declared.working.ServerWorker.{ServerWorker}
 use Rattle.xa_links.specs.Lives.{IsHanded}
-use Rattle.xa_links.specs.Steps.{Serves, Takes, is_exit, stop_by}
+use Rattle.xa_links.specs.Steps.{Takes, is_exit, stop_by}
 use Rattle.xa_links.specs.Standing.{SettlesBy, IsLast, IsAtWork, IsOff, IsIn, IsFree, HasTaken, MayDie, HasEnded}
-use Rattle.xa_links.specs.Behind.{is_lost}
+use Rattle.xa_links.specs.Behind.{is_lost, ends_by}
+use Rattle.xa_links.specs.Passing.{IsDoneBy, Passes}
+use Rattle.xa_links.specs.declared.telling.Told.{Told}
+use Rattle.xa_links.proofs.Onward.{ended_done}
 use Rattle.xa_links.proofs.Behind.{calm_push}
-use Rattle.xa_links.proofs.Stepping.{noted_steps}
-use Rattle.xa_links.proofs.Keeping.{OfLife, handed_wider, handed_led, going_on}
+use Rattle.xa_links.proofs.Keeping.{Sendings, OfLife, handed_wider, handed_led, going_on}
 use Rattle.xa_desk.proofs.Staying.{queue_stays}
 use Rattle.xa_desk.specs.xa_events.Server.{was_shut_down}
 use Rattle.xa_links.proofs.Lasting.{at_desk, at_kept, number_of, last_on, work_on, ends_done}
@@ -139,15 +143,15 @@ stays_turn rvals.Exit is = absurd (cc is)
 stays_turn rvals.Success is = refl
 stays_turn rvals.Fail is = refl
 
--- how many RETURNs there were
-returned_next : (frames : List Frame) → length (returns_in (frames ++ next_frame ∷ [])) ≡ length (returns_in frames)
-returned_next frames = ap length (returns_next frames)
+-- how many RETURNs and FORWARDs there were
+returned_next : (frames : List Frame) → length (finishes_in (frames ++ next_frame ∷ [])) ≡ length (finishes_in frames)
+returned_next frames = ap length (finishes_next frames)
 
-returned_push : (frames : List Frame) (tag : ℕ) (back : Return) → length (returns_in (frames ++ return_frame tag back.value back.code back.payload ∷ [])) ≡ length (returns_in frames) + 1
-returned_push frames tag back = ap length (returns_push frames tag back) ∙ length-append (returns_in frames) (back ∷ [])
+returned_push : (frames : List Frame) (tag : ℕ) (back : Finish) → length (finishes_in (frames ++ finish_frame tag back ∷ [])) ≡ length (finishes_in frames) + 1
+returned_push frames tag back = ap length (finishes_push frames tag back) ∙ length-append (finishes_in frames) (back ∷ [])
 
-returned_ready : (name : List ℕ) (frames : List Frame) → length (returns_in (frames ++ ready_frame name ∷ next_frame ∷ [])) ≡ length (returns_in frames)
-returned_ready name frames = ap length (returns_append frames (ready_frame name ∷ next_frame ∷ []) ∙ append-nil (returns_in frames))
+returned_ready : (name : List ℕ) (frames : List Frame) → length (finishes_in (frames ++ ready_frame name ∷ next_frame ∷ [])) ≡ length (finishes_in frames)
+returned_ready name frames = ap length (finishes_append frames (ready_frame name ∷ next_frame ∷ []) ∙ append-nil (finishes_in frames))
 
 -- whether the server was shut down is what its slot says
 pub shut_read : {d : Domain} {queue : ℕ} {slot : ServerSlot} {desk : Desk} → IsServing d queue slot desk → slot.shut ≡ true → was_shut_down slot.server.0 (theirs desk.caller.work) ≡ true
@@ -168,26 +172,48 @@ invoke_is life before t what its taken even =
     ∙ ap (λ (n : ℕ). invoke_frame what.service what.routine ((n + 1) % 2 ^ 32) what.payload ∷ []) (sym (taken ∙ even))
     ∙ ap (λ (b : Bool). invoke_frame what.service what.routine (cond b (count (is_take_in life.server.0 life.generation.0) before + 1) (count (is_take_in life.server.0 life.generation.0) before) % 2 ^ 32) what.payload ∷ []) (sym its)
 
--- the request in hand ended
-pub finish_serves : {L T : Type 0} {d : Domain} (w : ServerWorker L T) (outcome : Outcome) (closing : Closing) (slot' : ServerSlot) (desk' : Desk) → Leads d w.desk desk' → IsServing d w.queue.0 w.served.slot w.desk → IsServing d w.queue.0 slot' desk' → (finishes : Finishes outcome closing slot' w.served.slot desk'.caller.work w.desk.caller.work)
-    → (e : Ended) × Serves d w.queue.0 (End e ∷ []) w.served.slot slot' w.desk desk' × (e.server ≡ w.served.slot.server) × (e.generation ≡ life_in w.served.slot.doing) × (e.outcome ≡ outcome)
-    × (desk'.caller.work.own ≡ w.desk.caller.work.own ++ record { stamp = finishes.stamp; event = End e } ∷ [])
-finish_serves w outcome closing slot' desk' leads was serving finishes =
-    let ends = finishes.ends in
-    let e : Ended = record { request = ends.entry.request; server = w.served.slot.server; generation = life_in w.served.slot.doing; outcome = outcome } in (
-      e,
-      record {
-        steps = noted_steps finishes.stamp (End e) _ leads (number_of was) ends.noted;
-        serving = serving;
-        server = ap (λ (s : ServerSlot). s.server) finishes.left ∙ ap (λ (s : ServerSlot). s.server) ends.left;
-        made = ap (λ (s : ServerSlot). s.made) finishes.left ∙ ap (λ (s : ServerSlot). s.made) ends.left;
-        gone = ap (λ (s : ServerSlot). s.gone) finishes.left ∙ ap (λ (s : ServerSlot). s.gone) ends.left;
-      },
-      refl,
-      refl,
-      refl,
-      ap (λ (v : Working). v.own) ends.noted.made,
-    )
+-- the event takes the request out of the server's hand
+abbrev IsFinishing : Event → Type 0
+IsFinishing (End e) = Unit {0}
+IsFinishing (Forward f) = Unit {0}
+IsFinishing _ = ⊥
+
+forward_event : (service : List ℕ) (payload : Data) (e : Event) → IsForwarded service payload e → IsFinishing e
+forward_event service payload (End e) by = tt
+forward_event service payload (Forward f) by = tt
+forward_event service payload _ by = absurd by
+
+return_event : (outcome : Outcome) (e : Event) → EndsAs outcome e → IsFinishing e
+return_event outcome (End e) by = tt
+return_event outcome _ by = absurd by
+
+-- what a RETURN or a FORWARD comes to is such an event
+finished_event : (setup : Setup) (back : Finish) (e : Event) (before : List Event) → ComesTo setup back (record { event = e; before = before }) → IsFinishing e
+finished_event setup (Returns back) e before comes = return_event (outcome_by setup back.value back.code back.payload) e comes
+finished_event setup (Forwards forward) e before comes = forward_event forward.service forward.payload e comes
+
+follows_done : (setup : Setup) (old new : Life) (own : List Event) (e : Event) (back : Finish) (tag : ℕ) → is_of old.server.0 old.generation.0 e ≡ true → Heard (finish_frame tag back) new old → ComesTo setup back (record { event = e; before = own }) → Follows setup old own → Follows setup new (e ∷ own)
+follows_done setup old new own e back tag its heard comes follows = by e (finished_event setup back e own comes) its comes
+  where
+    by : (x : Event) → IsFinishing x → is_of old.server.0 old.generation.0 x ≡ true → ComesTo setup back (record { event = x; before = own }) → Follows setup new (x ∷ own)
+    by (End x) is ours here = follows_end setup old new own x back tag ours heard here follows
+    by (Forward f) is ours here = follows_forward setup old new own f back tag ours heard here follows
+    by _ is ours here = absurd is
+
+-- a forward ends no life
+keeps_on : (service : List ℕ) (payload : Data) (e : Event) → IsForwarded service payload e → ends_by e false ≡ false
+keeps_on service payload (Forward f) by = refl
+keeps_on service payload (End e) by = ap (λ (o : Outcome). is_lost o || false) by.1
+keeps_on service payload _ by = absurd by
+
+its_generation : (s h server g : ℕ) → is_of_life server g s h ≡ true → h ≡ g
+its_generation s h server g its = eqb-true h g (and_parts (s == server) (h == g) its).1
+
+-- the request in hand ended by its RETURN
+pub return_done : {L T : Type 0} {d : Domain} (w : ServerWorker L T) (value : Rval) (code : ℤ) (payload : Data) (conns : List RequestId) (closing : Closing) (slot' : ServerSlot) (desk' : Desk) → Leads d w.desk desk' → desk'.caller.seat ≡ w.desk.caller.seat → IsServing d w.queue.0 w.served.slot w.desk → IsServing d w.queue.0 slot' desk'
+    → Finishes (return_by d.setup conns value code payload) closing slot' w.served.slot desk'.caller.work w.desk.caller.work → (e : Ended) × IsDoneBy d w.queue.0 (End e) w.served.slot slot' w.desk desk' × (e.outcome ≡ return_by d.setup conns value code payload)
+return_done {L} {T} {d} w value code payload conns closing slot' desk' leads seat was serving finishes =
+    ended_done (return_by d.setup conns value code payload) closing leads (number_of was) serving seat (plain_idle value code payload (is_sound d.setup payload && is_empty conns)) finishes
 
 module _ {L T : Type 0} {d : Domain} {named : T → List ℕ} {shows : T → StarterShows} (w : ServerWorker L T) where
   -- ---- its program says something
@@ -201,7 +227,7 @@ module _ {L T : Type 0} {d : Domain} {named : T → List ℕ} {shows : T → Sta
         going = record { follows = follows_greeted d.setup old new (own_of w) greeted is.going.follows; handed = handed_still old.asked becomes (IsSentFor d w.queue.0 w.desk) (own_of w) is.going.handed };
         does = does_still old.asked becomes w.served.slot.doing is.does;
         turns = ap (λ (l : Life). l.turn) greeted.made;
-        asked = ap (λ (l : Life). length l.asked) greeted.made ∙ is.asked ∙ ap (λ (n : ℕ). n + 0) (sym (ap (λ (l : Life). length (returns_in l.said)) greeted.made ∙ returned_ready old.name old.said));
+        asked = ap (λ (l : Life). length l.asked) greeted.made ∙ is.asked ∙ ap (λ (n : ℕ). n + 0) (sym (ap (λ (l : Life). length (finishes_in l.said)) greeted.made ∙ returned_ready old.name old.said));
         room = is.room;
       }
 
@@ -214,7 +240,7 @@ module _ {L T : Type 0} {d : Domain} {named : T → List ℕ} {shows : T → Sta
         going = record { follows = follows_next d.setup old new (own_of w) heard is.going.follows; handed = handed_still old.asked becomes (IsSentFor d w.queue.0 w.desk) (own_of w) is.going.handed };
         does = does_still old.asked becomes w.served.slot.doing is.does;
         turns = ap (λ (l : Life). l.turn) heard.made ∙ ap (λ (t : Turn). turn_after t next_frame.body) is.turns;
-        asked = ap (λ (l : Life). length l.asked) heard.made ∙ is.asked ∙ ap (λ (n : ℕ). n + 0) (sym (ap (λ (l : Life). length (returns_in l.said)) heard.made ∙ returned_next old.said));
+        asked = ap (λ (l : Life). length l.asked) heard.made ∙ is.asked ∙ ap (λ (n : ℕ). n + 0) (sym (ap (λ (l : Life). length (finishes_in l.said)) heard.made ∙ returned_next old.said));
         room = is.room;
       }
 
@@ -227,13 +253,13 @@ module _ {L T : Type 0} {d : Domain} {named : T → List ℕ} {shows : T → Sta
       follows = record {
         alive = is.going.follows.alive;
         taken = is.going.follows.taken;
-        came = subst (λ (rs : List Return). EachCame d.setup rs (came_in old.server.0 old.generation.0 (own_of w))) (sym (returns_append old.said (ready_frame old.name ∷ []) ∙ append-nil (returns_in old.said))) is.going.follows.came;
+        came = subst (λ (rs : List Finish). EachCame d.setup rs (came_in old.server.0 old.generation.0 (own_of w))) (sym (finishes_append old.said (ready_frame old.name ∷ []) ∙ append-nil (finishes_in old.said))) is.going.follows.came;
       };
       handed = is.going.handed;
     };
     does = is.does;
     turns = ap (λ (t : Turn). turn_after t (ready_frame old.name).body) is.turns;
-    asked = is.asked ∙ ap (λ (rs : List Return). length rs + 0) (sym (returns_append old.said (ready_frame old.name ∷ []) ∙ append-nil (returns_in old.said)));
+    asked = is.asked ∙ ap (λ (rs : List Finish). length rs + 0) (sym (finishes_append old.said (ready_frame old.name ∷ []) ∙ append-nil (finishes_in old.said)));
     room = is.room;
   }
 
@@ -289,7 +315,7 @@ module _ {L T : Type 0} {d : Domain} {named : T → List ℕ} {shows : T → Sta
           };
           does = has.does ∙ ap (λ (l : Life). Busy l.generation has.t.request) (sym invoked.made);
           turns = ap (λ (l : Life). l.turn) invoked.made;
-          asked = ap (λ (l : Life). length l.asked) invoked.made ∙ length-append life.asked (f ∷ []) ∙ ap (λ (n : ℕ). n + 1) (has.asked ∙ ap (λ (l : Life). length (returns_in l.said)) (sym invoked.made));
+          asked = ap (λ (l : Life). length l.asked) invoked.made ∙ length-append life.asked (f ∷ []) ∙ ap (λ (n : ℕ). n + 1) (has.asked ∙ ap (λ (l : Life). length (finishes_in l.said)) (sym invoked.made));
           room = has.room;
         }
 
@@ -361,42 +387,65 @@ module _ {L T : Type 0} {d : Domain} {named : T → List ℕ} {shows : T → Sta
         room = is.room;
       }
 
-  -- ---- it returns
+  -- ---- it returns or forwards
+
+  -- the service is done with the request, and the server is idle
+  pub finished_in : (new old : Life) (request : RequestId) (back : Finish) (turn : Turn) (event : Event) (slot' : ServerSlot) (desk' : Desk) → Heard (finish_frame (tag_of old) back) new old → IsIn d named shows (Busy old.generation request) Serving 1 old w
+      → turn_after Serving (finish_frame (tag_of old) back).body ≡ turn → ComesTo d.setup back (record { event = event; before = own_of w }) → ends_by event false ≡ false → IsDoneBy d w.queue.0 event w.served.slot slot' w.desk desk'
+      → IsIn d named shows (Idle new.generation) turn 0 new (at_desk w slot' desk')
+  finished_in new old request back turn event slot' desk' heard is turns comes ends done =
+      let serves = done.serves in
+      let slot : ServerSlot = w.served.slot in
+      let lived : life_in slot.doing ≡ old.generation = ap life_in is.does in
+      let ours : is_of old.server.0 old.generation.0 event ≡ true =
+      ap (λ (s : ServerId). is_of s.0 old.generation.0 event) is.last.server ∙ ap (λ (g : Generation). is_of slot.server.0 g.0 event) (sym lived) ∙ done.its in
+      let becomes : Becomes old.asked new old = record { link = new.link; said = _; turn = _; made = heard.made } in
+      let at = work_on w slot' desk' (event ∷ []) old.generation serves (All-cons (OfLife slot.made) event [] (of_number event (finished_event d.setup back event (own_of w) comes) ours is.last.number) (All-nil (OfLife slot.made)))
+      (calm_push w.desk desk' (record { stamp = done.stamp; event = event }) serves.steps.leads done.noted done.seat ends) is.at in
+      let last = last_on w.name slot slot' old serves.server serves.made is.last in
+      record {
+        at = at_still old.asked becomes at;
+        last = last_still old.asked becomes last;
+        going = record {
+          follows = subst (Follows d.setup new) (sym {A = List Event} serves.steps.own) (follows_done d.setup old new (own_of w) event back (tag_of old) ours heard comes is.going.follows);
+          handed = subst (AtEach (IsHanded new.server.0 new.generation.0 new.asked (IsSentFor d w.queue.0 desk'))) (sym {A = List Event} serves.steps.own)
+              (finished_handed event (finished_event d.setup back event (own_of w) comes), handed_still old.asked becomes (IsSentFor d w.queue.0 desk') (own_of w) (handed_led old.server.0 old.generation.0 d w.queue.0 w.desk desk' old.asked (own_of w) serves.steps.leads is.going.handed));
+        };
+        does = done.idle ∙ ap Idle lived ∙ ap (λ (l : Life). Idle l.generation) (sym heard.made);
+        turns = ap (λ (l : Life). l.turn) heard.made ∙ ap (λ (t : Turn). turn_after t (finish_frame (tag_of old) back).body) is.turns ∙ turns;
+        asked = ap (λ (l : Life). length l.asked) heard.made ∙ is.asked ∙ sym (ap (λ (l : Life). length (finishes_in l.said)) heard.made ∙ returned_push old.said (tag_of old) back) ∙ add_none (returned new);
+        room = is.room;
+      }
+    where
+      add_none : (n : ℕ) → n ≡ n + 0
+      add_none n = omega arith
+
+      finished_handed : (e : Event) → IsFinishing e → IsHanded new.server.0 new.generation.0 new.asked (IsSentFor d w.queue.0 desk') e (own_of w)
+      finished_handed (End e) its = tt
+      finished_handed (Forward f) its = tt
+      finished_handed _ its = absurd its
+
+      -- it is of the life with that number
+      of_number : (e : Event) → IsFinishing e → is_of old.server.0 old.generation.0 e ≡ true → old.generation.0 ≡ w.served.slot.made → OfLife w.served.slot.made e
+      of_number (End e) its ours number = its_generation e.server.0 e.generation.0 old.server.0 old.generation.0 ours ∙ number
+      of_number (Forward f) its ours number = its_generation f.server.0 f.generation.0 old.server.0 old.generation.0 ours ∙ number
+      of_number _ its ours number = absurd its
 
   pub returned_in : (new old : Life) (request : RequestId) (value : Rval) (code : ℤ) (payload : Data) (conns : List RequestId) (closing : Closing) (slot' : ServerSlot) (desk' : Desk) → Heard (return_frame (tag_of old) value code payload) new old → IsIn d named shows (Busy old.generation request) Serving 1 old w
       → conns ≡ [] → Leads d w.desk desk' → desk'.caller.seat ≡ w.desk.caller.seat → IsServing d w.queue.0 slot' desk' → Finishes (return_by d.setup conns value code payload) closing slot' w.served.slot desk'.caller.work w.desk.caller.work
       → IsIn d named shows (Idle new.generation) (turn_behind value) 0 new (at_desk w slot' desk') × (is_exit value ≡ true → slot'.last ≡ lasts.Badly)
   returned_in new old request value code payload conns closing slot' desk' heard is none leads seat serving finishes =
-      let ended = finish_serves w (return_by d.setup conns value code payload) closing slot' desk' leads is.at.serving serving finishes in
-      let e : Ended = ended.0 in
-      let serves = ended.1 in
-      let slot : ServerSlot = w.served.slot in
-      let back : Return = record { value = value; code = code; payload = payload } in
-      let lived : life_in slot.doing ≡ old.generation = ap life_in is.does in
-      let gen : e.generation ≡ old.generation = ended.3 ∙ lived in
-      let its = is_its old.server.0 old.generation.0 e.server.0 e.generation.0 (ap (λ s. s.0) ended.2 ∙ ap (λ s. s.0) (sym is.last.server)) (ap (λ h. h.0) gen) in
-      let becomes : Becomes old.asked new old = record { link = new.link; said = _; turn = _; made = heard.made } in
-      let at = work_on w slot' desk' (End e ∷ []) old.generation serves (All-cons (OfLife slot.made) (End e) [] (ap (λ h. h.0) gen ∙ is.last.number) (All-nil (OfLife slot.made)))
-      (calm_push w.desk desk' (record { stamp = finishes.stamp; event = End e }) leads ended.5 seat (ap (λ (o : Outcome). is_lost o || false) ended.4 ∙ keeps_life d.setup conns value code payload)) is.at in
-      let last = last_on w.name slot slot' old serves.server serves.made is.last in (
-        record {
-          at = at_still old.asked becomes at;
-          last = last_still old.asked becomes last;
-          going = record {
-            follows = subst (Follows d.setup new) (sym {A = List Event} serves.steps.own) (follows_end d.setup old new (own_of w) e back (tag_of old) its heard (ended.4 ∙ return_is d.setup conns value code payload none) is.going.follows);
-            handed = subst (AtEach (IsHanded new.server.0 new.generation.0 new.asked (IsSentFor d w.queue.0 desk'))) (sym {A = List Event} serves.steps.own)
-                (tt, handed_still old.asked becomes (IsSentFor d w.queue.0 desk') (own_of w) (handed_led old.server.0 old.generation.0 d w.queue.0 w.desk desk' old.asked (own_of w) leads is.going.handed));
-          };
-          does = ap (λ (s : ServerSlot). s.doing) finishes.left ∙ ap (λ (s : ServerSlot). s.doing) finishes.ends.left ∙ plain_idle value code payload _ (life_in slot.doing) ∙ ap Idle lived ∙ ap (λ (l : Life). Idle l.generation) (sym heard.made);
-          turns = ap (λ (l : Life). l.turn) heard.made ∙ ap (λ (t : Turn). turn_after t (return_frame (tag_of old) value code payload).body) is.turns;
-          asked = ap (λ (l : Life). length l.asked) heard.made ∙ is.asked ∙ sym (ap (λ (l : Life). length (returns_in l.said)) heard.made ∙ returned_push old.said (tag_of old) back) ∙ add_none (returned new);
-          room = is.room;
-        },
+      let ended = return_done w value code payload conns closing slot' desk' leads seat is.at.serving serving finishes in
+      let back : Finish = Returns (record { value = value; code = code; payload = payload }) in (
+        finished_in new old request back (turn_behind value) (End ended.0) slot' desk' heard is refl (ended.2 ∙ return_is d.setup conns value code payload none) (ap (λ (o : Outcome). is_lost o || false) ended.2 ∙ keeps_life d.setup conns value code payload) ended.1,
         λ exits. ap (λ (s : ServerSlot). s.last) finishes.left ∙ ap (λ (s : ServerSlot). s.last) finishes.ends.left ∙ exits_badly d.setup conns value code payload exits,
       )
-    where
-      add_none : (n : ℕ) → n ≡ n + 0
-      add_none n = omega arith
+
+  -- the request went on, or its forward failed
+  pub forwarded_in : (new old : Life) (request : RequestId) (forward : Onward) (told : Option Told) (slot' : ServerSlot) (desk' : Desk) → Heard (forward_frame (tag_of old) forward.service forward.payload) new old → IsIn d named shows (Busy old.generation request) Serving 1 old w
+      → Passes d w.queue.0 forward.service forward.payload told w.served.slot slot' w.desk desk' → IsIn d named shows (Idle new.generation) AwaitsNext 0 new (at_desk w slot' desk')
+  forwarded_in new old request forward told slot' desk' heard is passes =
+      finished_in new old request (Forwards forward) AwaitsNext passes.event slot' desk' heard is refl passes.by (keeps_on forward.service forward.payload passes.event passes.by) passes.done
 
   pub in_turn : {doing : Doing} {turn turn' : Turn} {n : ℕ} {life : Life} → turn ≡ turn' → IsIn d named shows doing turn n life w → IsIn d named shows doing turn' n life w
   in_turn {doing} {turn} {turn'} {n} {life} same is = subst (λ (t : Turn). IsIn d named shows doing t n life w) same is

@@ -5,9 +5,8 @@ use Rattle.xa_desk.specs.xa_types.declared.stamp.Stamp.{Stamp}
 use Rattle.xa_desk.specs.xa_types.Setup.{queue_of}
 use Rattle.xa_desk.specs.xa_events.declared.event.Doing.TheVariants.{Idle}
 use Rattle.xa_desk.specs.xa_events.declared.event.Event.{Event}
-use Rattle.xa_desk.specs.xa_events.declared.event.Event.TheVariants.{Forward, End}
-use Rattle.xa_desk.specs.xa_events.declared.event.Outcome.TheVariants.{BadForward}
 use Rattle.xa_desk.specs.xa_pipe.Following.{is_of}
+use Rattle.xa_desk.specs.xa_pipe.Life.{IsForwarded}
 use Rattle.xa_desk.specs.xa_queue.declared.queue.Refusal.{Refusal}
 use Rattle.xa_desk.specs.xa_queue.declared.queue.Refusal.TheVariants as refusals
 use Rattle.xa_desk.specs.xa_work.declared.work.Halt.{Halt}
@@ -17,6 +16,9 @@ use Rattle.xa_desk.specs.xa_server.Doings.{life_in}
 use Rattle.xa_desk.specs.declared.domain.Domain.{Domain}
 use Rattle.xa_desk.specs.declared.desk.Desk.{Desk}
 use Rattle.xa_desk.specs.Halting.{IsHaltAt}
+use Rattle.xa_desk.specs.Passing.{IsPassing}
+use Rattle.xa_links.specs.declared.passing.Tried.{Tried}
+use Rattle.xa_links.specs.declared.passing.Tried.TheVariants as tries
 use Rattle.xa_links.specs.declared.telling.Told.{Told}
 use Rattle.xa_links.specs.Steps.{Steps, Serves, IsToldOf}
 
@@ -46,16 +48,11 @@ pub record IsDoneBy (d : Domain) (queue : ℕ) (event : Event) (slot slot' : Ser
   pub noted : new.caller.work.own ≡ old.caller.work.own ++ record { stamp = stamp; event = event } ∷ []
   pub seat : new.caller.seat ≡ old.caller.seat
 
--- the request went on to that service with that data, or it ended as a forward that failed, and its caller is to be told
-abbrev pub ForwardsBy : List ℕ → Data → Option Told → Event → Type 0
-ForwardsBy service payload None (Forward f) = (f.service ≡ service) × (f.payload ≡ payload)
-ForwardsBy service payload (Some told) (End e) = (version : ℕ) × (e.outcome ≡ BadForward version)
-ForwardsBy service payload told event = ⊥
-
+-- a forward to that service with that data is over: the request went on, or it ended as a forward that failed, and then its caller is to be told
 pub record Passes (d : Domain) (queue : ℕ) (service : List ℕ) (payload : Data) (told : Option Told) (slot slot' : ServerSlot) (old new : Desk) : Type 0 where
   pub event : Event
   pub done : IsDoneBy d queue event slot slot' old new
-  pub by : ForwardsBy service payload told event
+  pub by : IsForwarded service payload event
   pub to_tell : IfSome told (IsToldOf d new)
 
 -- at a halt it is in hand still, and nothing was noted
@@ -70,3 +67,9 @@ pub record Keeps (d : Domain) (queue : ℕ) (halt : Halt) (slot slot' : ServerSl
 abbrev pub PassesAs : Domain → ℕ → List ℕ → Data → Result (Option Told) Halt → ServerSlot → ServerSlot → Desk → Desk → Type 0
 PassesAs d queue service payload (Ok told) slot slot' old new = Passes d queue service payload told slot slot' old new
 PassesAs d queue service payload (Err halt) slot slot' old new = Keeps d queue halt slot slot' old new
+
+-- what one attempt comes to: that, or the request is out still, with the same data, to be put by that event
+abbrev pub TriedAs : Domain → ℕ → List ℕ → Data → Tried → ServerSlot → ServerSlot → Desk → Desk → Type 0
+TriedAs d queue service payload (tries.Passed told) slot slot' old new = Passes d queue service payload told slot slot' old new
+TriedAs d queue service payload (tries.Halted halt) slot slot' old new = Keeps d queue halt slot slot' old new
+TriedAs d queue service payload (tries.Again entry event) slot slot' old new = IsPassing d queue entry event slot' new × (slot' ≡ slot) × IsBack d old new × (entry.cargo.invocation.payload ≡ payload)

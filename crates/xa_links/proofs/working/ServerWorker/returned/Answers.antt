@@ -1,13 +1,13 @@
-use Rattle.std.proofs.Common.{[], ◌∷◌, inr, refl, sym, ◌∙◌, ap}
+use Rattle.std.proofs.Common.{[], ◌∷◌, refl, sym, ◌∙◌, ap}
 use Rattle.std.proofs.lemmas.List.Elements.{All-nil}
 use Rattle.xa_desk.specs.xa_events.declared.event.Event.TheVariants.{End}
 use Rattle.xa_desk.specs.xa_server.declared.slot.ServerSlot.{ServerSlot}
 use Rattle.xa_desk.specs.xa_server.Doings.{life_in}
 use Rattle.xa_links.proofs.Behind.{still_calm}
-use Rattle.xa_links.proofs.Stepping.{halted_own, halted_steps, halted_at, still_serves, told_steps}
+use Rattle.xa_links.proofs.Stepping.{halted_own, halted_steps, halted_at, still_serves}
 use Rattle.xa_links.proofs.Keeping.{OfLife}
-use Rattle.xa_links.proofs.Lasting.{at_desk, cut_ends, work_on, in_told, goes_by, goes_trans}
-use Rattle.xa_links.proofs.Exchanges.{finish_serves, returned_in, in_turn, exits_turn, stays_turn, next_in, falls_idle}
+use Rattle.xa_links.proofs.Lasting.{at_desk, cut_ends, work_on, goes_by, goes_trans}
+use Rattle.xa_links.proofs.Exchanges.{return_done, returned_in, in_turn, exits_turn, stays_turn}
 use Rattle.xa_links.proofs.working.ServerWorker.returned.Goals as goal
 
 pub returns-in-Err-clause-halted : goal.returns-in-Err-clause-halted
@@ -53,10 +53,8 @@ returns-in_err-exit-clause-goes g c =
     let b = c.requires.before in
     let slot' = c.finish-finished.new.slot in
     let desk' = c.finish-finished.new.self in
-    let leads = c.finish-finished.ensures.leads in
-    let serving = c.finish-finished.ensures.serving w.queue.0 b.2.at.serving in
-    let ended = finish_serves w _ c.in-Ok.closing slot' desk' leads b.2.at.serving serving c.in-Ok.ensures.ok in
-    let goes = goes_by w (at_desk w slot' desk') (End ended.0 ∷ []) ended.1.steps ended.1.server refl refl in
+    let ended = return_done w c.args.back.value c.args.back.code c.args.back.payload _ c.in-Ok.closing slot' desk' c.finish-finished.ensures.leads c.finish-finished.ensures.rest.1 b.2.at.serving (c.finish-finished.ensures.serving w.queue.0 b.2.at.serving) c.in-Ok.ensures.ok in
+    let goes = goes_by w (at_desk w slot' desk') (End ended.0 ∷ []) ended.1.serves.steps ended.1.serves.server refl refl in
     goes_trans w (at_desk w slot' desk') c.exit.new.self goes c.in_err-exit.ensures.goes
 
 pub returns-then-exits-clause-goes : goal.returns-then-exits-clause-goes
@@ -65,14 +63,12 @@ returns-then-exits-clause-goes g c =
     let b = c.requires.before in
     let slot' = c.finish-finished.new.slot in
     let desk' = c.finish-finished.new.self in
-    let leads = c.finish-finished.ensures.leads in
-    let serving = c.finish-finished.ensures.serving w.queue.0 b.2.at.serving in
-    let ended = finish_serves w _ c.in-Ok.closing slot' desk' leads b.2.at.serving serving c.in-Ok.ensures.ok in
-    let goes = goes_by w (at_desk w slot' desk') (End ended.0 ∷ []) ended.1.steps ended.1.server refl refl in
+    let ended = return_done w c.args.back.value c.args.back.code c.args.back.payload _ c.in-Ok.closing slot' desk' c.finish-finished.ensures.leads c.finish-finished.ensures.rest.1 b.2.at.serving (c.finish-finished.ensures.serving w.queue.0 b.2.at.serving) c.in-Ok.ensures.ok in
+    let goes = goes_by w (at_desk w slot' desk') (End ended.0 ∷ []) ended.1.serves.steps ended.1.serves.server refl refl in
     goes_trans w (at_desk w slot' desk') c.exit.new.self goes c.in_ok-exit.ensures.goes
 
-pub died-requires-clause-may : goal.died-requires-clause-may
-died-requires-clause-may g c =
+pub go_on-requires-clause-life : goal.go_on-requires-clause-life
+go_on-requires-clause-life g c =
     let w = c.args.self.now in
     let b = c.requires.before in
     let slot' = c.finish-finished.new.slot in
@@ -81,59 +77,14 @@ died-requires-clause-may g c =
     let serving = c.finish-finished.ensures.serving w.queue.0 b.2.at.serving in
     let unconnected = b.2.at.serving.stands.tables.worker.unconnected in
     let is = returned_in w c.args.life b.0 b.1 c.args.back.value c.args.back.code c.args.back.payload _ c.in-Ok.closing slot' desk' b.3 b.2 unconnected leads c.finish-finished.ensures.rest.1 serving c.in-Ok.ensures.ok in
-    let waits = in_turn (at_desk w slot' desk') (stays_turn c.args.back.value (sym c.is_exit-exits.ensures ∙ c.if-exits.false)) is.0 in
-    let free = in_told (at_desk w slot' desk') c.tell_if.new.desk _ _ 0 c.args.life c.tell_if.ensures waits in
-    falls_idle (at_desk w slot' c.tell_if.new.desk) c.args.life c.in-Err-read_next.over _ (inr refl) c.in-Err-read_next.ensures.over free
+    λ κs within. in_turn (at_desk w slot' desk') (stays_turn c.args.back.value (sym c.is_exit-exits.ensures ∙ c.if-exits.false)) is.0
 
-pub returns-in_err-died-in-Err-read_next-clause-goes : goal.returns-in_err-died-in-Err-read_next-clause-goes
-returns-in_err-died-in-Err-read_next-clause-goes g c =
+pub returns-clause-goes : goal.returns-clause-goes
+returns-clause-goes g c =
     let w = c.args.self.now in
     let b = c.requires.before in
     let slot' = c.finish-finished.new.slot in
     let desk' = c.finish-finished.new.self in
-    let leads = c.finish-finished.ensures.leads in
-    let serving = c.finish-finished.ensures.serving w.queue.0 b.2.at.serving in
-    let ended = finish_serves w _ c.in-Ok.closing slot' desk' leads b.2.at.serving serving c.in-Ok.ensures.ok in
-    let goes = goes_by w (at_desk w slot' desk') (End ended.0 ∷ []) ended.1.steps ended.1.server refl refl in
-    let on = goes_by (at_desk w slot' desk') (at_desk w slot' c.tell_if.new.desk) [] (told_steps c.tell_if.ensures) refl refl refl in
-    goes_trans w (at_desk w slot' c.tell_if.new.desk) c.died.new.self (goes_trans w (at_desk w slot' desk') (at_desk w slot' c.tell_if.new.desk) goes on) c.in_err-died-in-Err-read_next.ensures.goes
-
-pub returns-in-Ok-read_next-clause-goes : goal.returns-in-Ok-read_next-clause-goes
-returns-in-Ok-read_next-clause-goes g c =
-    let w = c.args.self.now in
-    let b = c.requires.before in
-    let slot' = c.finish-finished.new.slot in
-    let desk' = c.finish-finished.new.self in
-    let leads = c.finish-finished.ensures.leads in
-    let serving = c.finish-finished.ensures.serving w.queue.0 b.2.at.serving in
-    let ended = finish_serves w _ c.in-Ok.closing slot' desk' leads b.2.at.serving serving c.in-Ok.ensures.ok in
-    let goes = goes_by w (at_desk w slot' desk') (End ended.0 ∷ []) ended.1.steps ended.1.server refl refl in
-    let on = goes_by (at_desk w slot' desk') (at_desk w slot' c.tell_if.new.desk) [] (told_steps c.tell_if.ensures) refl refl refl in
-    goes_trans w (at_desk w slot' desk') (at_desk w slot' c.tell_if.new.desk) goes on
-
-pub returns-in-Ok-read_next-clause-exchanged : goal.returns-in-Ok-read_next-clause-exchanged
-returns-in-Ok-read_next-clause-exchanged g c =
-    let w = c.args.self.now in
-    let b = c.requires.before in
-    let slot' = c.finish-finished.new.slot in
-    let desk' = c.finish-finished.new.self in
-    let leads = c.finish-finished.ensures.leads in
-    let serving = c.finish-finished.ensures.serving w.queue.0 b.2.at.serving in
-    let unconnected = b.2.at.serving.stands.tables.worker.unconnected in
-    let is = returned_in w c.args.life b.0 b.1 c.args.back.value c.args.back.code c.args.back.payload _ c.in-Ok.closing slot' desk' b.3 b.2 unconnected leads c.finish-finished.ensures.rest.1 serving c.in-Ok.ensures.ok in
-    let waits = in_turn (at_desk w slot' desk') (stays_turn c.args.back.value (sym c.is_exit-exits.ensures ∙ c.if-exits.false)) is.0 in
-    let free = in_told (at_desk w slot' desk') c.tell_if.new.desk _ _ 0 c.args.life c.tell_if.ensures waits in
-    next_in (at_desk w slot' c.tell_if.new.desk) c.in-Ok-read_next.life c.args.life c.in-Ok-read_next.ensures.next free
-
-pub returns-in_ok-died-in-Err-read_next-clause-goes : goal.returns-in_ok-died-in-Err-read_next-clause-goes
-returns-in_ok-died-in-Err-read_next-clause-goes g c =
-    let w = c.args.self.now in
-    let b = c.requires.before in
-    let slot' = c.finish-finished.new.slot in
-    let desk' = c.finish-finished.new.self in
-    let leads = c.finish-finished.ensures.leads in
-    let serving = c.finish-finished.ensures.serving w.queue.0 b.2.at.serving in
-    let ended = finish_serves w _ c.in-Ok.closing slot' desk' leads b.2.at.serving serving c.in-Ok.ensures.ok in
-    let goes = goes_by w (at_desk w slot' desk') (End ended.0 ∷ []) ended.1.steps ended.1.server refl refl in
-    let on = goes_by (at_desk w slot' desk') (at_desk w slot' c.tell_if.new.desk) [] (told_steps c.tell_if.ensures) refl refl refl in
-    goes_trans w (at_desk w slot' c.tell_if.new.desk) c.died.new.self (goes_trans w (at_desk w slot' desk') (at_desk w slot' c.tell_if.new.desk) goes on) c.in_ok-died-in-Err-read_next.ensures.goes
+    let ended = return_done w c.args.back.value c.args.back.code c.args.back.payload _ c.in-Ok.closing slot' desk' c.finish-finished.ensures.leads c.finish-finished.ensures.rest.1 b.2.at.serving (c.finish-finished.ensures.serving w.queue.0 b.2.at.serving) c.in-Ok.ensures.ok in
+    let goes = goes_by w (at_desk w slot' desk') (End ended.0 ∷ []) ended.1.serves.steps ended.1.serves.server refl refl in
+    goes_trans w (at_desk w slot' desk') c.go_on.new.self goes c.go_on.ensures.goes
