@@ -7,7 +7,7 @@ use crate::rows::none_fails;
 use std::alloc::Global;
 use xa_events::StopCause;
 use xa_link::{Link, MemoryLink, MemoryYard, Starter, Yard};
-use xa_pipe::{Answered, EndedLife, Life, Pipes};
+use xa_pipe::{Answered, EndedLife, Finish, Life, Pipes};
 use xa_types::{Data, Generation, Name, Rval, ServerId};
 
 const READY: &[u8] = b"XA\x01\x01\0\0\0\x02\0\0\0\0\x01S";
@@ -21,6 +21,13 @@ const EXIT: &[u8] = b"XA\x01\x04\0\0\0\x06\0\0\0\x01\x02\0\0\0\x07\0";
 
 const OTHER: &[u8] = b"XA\x01\x04\0\0\0\x06\0\0\0\x02\0\0\0\0\x07\0";
 
+// A FORWARD of the first invocation to the service TO without data, one of the second, and one with the tag 0.
+const FORWARD: &[u8] = b"XA\x01\x05\0\0\0\x04\0\0\0\x01\x02TO\0";
+
+const LATER: &[u8] = b"XA\x01\x05\0\0\0\x04\0\0\0\x02\x02TO\0";
+
+const UNTAGGED: &[u8] = b"XA\x01\x05\0\0\0\x04\0\0\0\0\x02TO\0";
+
 // What is left of the pipes of a life that ended.
 #[derive(Clone, Copy, PartialEq, Eq)]
 enum Left {
@@ -33,7 +40,7 @@ enum Left {
 // what is left of its pipes.
 type Course = (&'static [&'static [u8]], [u64; 2], StopCause, Left);
 
-static COURSES: [Course; 12] = [
+static COURSES: [Course; 24] = [
     (
         &[READY, NEXT, RETURN, NEXT],
         [0, 0],
@@ -91,6 +98,82 @@ static COURSES: [Course; 12] = [
         StopCause::OutOfTurn(0x04, 1),
         Left::Killed,
     ),
+    // FORWARD in place of RETURN
+    (
+        &[READY, NEXT, FORWARD, NEXT],
+        [0, 0],
+        StopCause::Shutdown,
+        Left::Open,
+    ),
+    (
+        &[READY, NEXT, FORWARD],
+        [0, 0],
+        StopCause::EndOfInput,
+        Left::Killed,
+    ),
+    (
+        &[READY, NEXT, FORWARD, RETURN],
+        [0, 0],
+        StopCause::OutOfTurn(0x04, 1),
+        Left::Killed,
+    ),
+    (
+        &[READY, NEXT, b"XA\x01\x05\0\0\0\x04\0\0\0\x01\x02TO"],
+        [2, 0],
+        StopCause::ReadFault,
+        Left::Killed,
+    ),
+    (
+        &[READY, NEXT, b"XA\x01\x05\0\0\0\x04\0\0\0\x01\x03TO\0"],
+        [0, 0],
+        StopCause::BadBytes(26),
+        Left::Killed,
+    ),
+    // with another tag
+    (
+        &[READY, NEXT, LATER],
+        [0, 0],
+        StopCause::OutOfTurn(0x05, 2),
+        Left::Killed,
+    ),
+    (
+        &[READY, NEXT, UNTAGGED],
+        [0, 0],
+        StopCause::OutOfTurn(0x05, 0),
+        Left::Killed,
+    ),
+    // in place of READY
+    (
+        &[UNTAGGED],
+        [0, 0],
+        StopCause::OutOfTurn(0x05, 0),
+        Left::Killed,
+    ),
+    // in place of NEXT
+    (
+        &[READY, UNTAGGED],
+        [0, 0],
+        StopCause::OutOfTurn(0x05, 0),
+        Left::Killed,
+    ),
+    (
+        &[READY, NEXT, FORWARD, FORWARD],
+        [0, 0],
+        StopCause::OutOfTurn(0x05, 1),
+        Left::Killed,
+    ),
+    (
+        &[READY, NEXT, FORWARD, LATER],
+        [0, 0],
+        StopCause::OutOfTurn(0x05, 2),
+        Left::Killed,
+    ),
+    (
+        &[READY, NEXT, RETURN, FORWARD],
+        [0, 0],
+        StopCause::OutOfTurn(0x05, 1),
+        Left::Killed,
+    ),
 ];
 
 const ONE_SERVER: &[u8] = b"queue = [{ name = 'Q' }]
@@ -102,11 +185,12 @@ fn serve<L: Link>(life: Life<L>, service: &Name) -> Result<EndedLife<L>, EndedLi
 {
     let life = life.greet()?.send(service, service, &Data::Absent)?;
     let Answered { life, back } = life.hear()?;
-    let value = back.value;
-    drop(back);
-    match value {
-        Rval::Exit => Ok(life.exit()),
-        _ => Ok(life.read_next()?.shut_down()),
+    match back {
+        Finish::Returns(back) => match back.value {
+            Rval::Exit => Ok(life.exit()),
+            Rval::Success | Rval::Fail => Ok(life.read_next()?.shut_down()),
+        },
+        Finish::Forwards(_) => Ok(life.read_next()?.shut_down()),
     }
 }
 
@@ -145,7 +229,13 @@ fn yard_of(alloc: Global, said: &[&[u8]], [reads, writes]: [u64; 2]) -> Option<M
     Some(MemoryYard::new(alloc, Vec::from_array(alloc, lives).ok()?))
 }
 
-fn is_right(alloc: Global, (said, fails, cause, left): Course) -> Option<bool> {
+fn is_right(
+    alloc: Global,
+    said: &[&[u8]],
+    fails: [u64; 2],
+    cause: StopCause,
+    left: Left,
+) -> Option<bool> {
     let mut yard = yard_of(alloc, said, fails)?;
     let mut starters = yard.starters(&setup_of(alloc, ONE_SERVER)?).ok()?;
     let starter = starters.as_mut_slice().get_mut(0)?;
@@ -154,8 +244,21 @@ fn is_right(alloc: Global, (said, fails, cause, left): Course) -> Option<bool> {
 
 fn first_wrong(alloc: Global) -> Option<usize> {
     for (place, row) in COURSES.iter().enumerate() {
-        if is_right(alloc, *row) != Some(true) {
+        let (said, fails, cause, left) = *row;
+        if is_right(alloc, said, fails, cause, left) != Some(true) {
             return Some(place);
+        }
+    }
+    None
+}
+
+// So many octets of a FORWARD come, and then no more.
+fn first_wrong_cut(alloc: Global) -> Option<usize> {
+    for count in 0..FORWARD.len() {
+        let said = [READY, NEXT, &FORWARD[..count]];
+        let ends = is_right(alloc, &said, [0, 0], StopCause::EndOfInput, Left::Killed);
+        if ends != Some(true) {
+            return Some(count);
         }
     }
     None
@@ -164,4 +267,9 @@ fn first_wrong(alloc: Global) -> Option<usize> {
 #[test]
 fn each_life_ends_by_its_cause(rt: HostRuntime) {
     none_fails(&rt, first_wrong(rt.alloc()));
+}
+
+#[test]
+fn a_forward_that_is_cut_ends_its_life(rt: HostRuntime) {
+    none_fails(&rt, first_wrong_cut(rt.alloc()));
 }

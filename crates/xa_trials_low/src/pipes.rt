@@ -4,7 +4,7 @@ use crate::rows::none_fails;
 use std::alloc::Global;
 use xa_events::StopCause;
 use xa_link::{Link, MemoryLink};
-use xa_pipe::Pipe;
+use xa_pipe::{Finish, Pipe};
 use xa_types::{Data, Name};
 
 const READY: &[u8] = b"XA\x01\x01\0\0\0\x02\0\0\0\0\x01S";
@@ -16,11 +16,36 @@ const RETURN: &[u8] = b"XA\x01\x04\0\0\0\x0f\0\0\0\x01\0\0\0\0\x07\x01\0\0\0\x05
 
 const SHORT: &[u8] = b"XA\x01\x04\0\0\0\x0f\0\0\0\x01\0\0\0\0\x07\x01\0\0\0\x05";
 
-// What the program says, the read of five octets that fails, or 0, and the code that is returned or why the life ends.
-type Said = (&'static [&'static [u8]], u64, Result<i32, StopCause>);
+// A FORWARD of the first invocation to the service TO with hello.
+const FORWARD: &[u8] = b"XA\x01\x05\0\0\0\x0d\0\0\0\x01\x02TO\x01\0\0\0\x05hello";
 
-static SAID: [Said; 16] = [
-    (&[READY, NEXT, RETURN, NEXT], 0, Ok(7)),
+// How a service is done with its request: with that code, or by a forward to that service with these octets.
+#[derive(Clone, Copy)]
+enum Done {
+    Returned(i32),
+    Forwarded(&'static [u8], &'static [u8]),
+}
+
+// What the program says, the read of five octets that fails, or 0, and how its service is done or why the life ends.
+type Said = (&'static [&'static [u8]], u64, Result<Done, StopCause>);
+
+static SAID: [Said; 18] = [
+    (&[READY, NEXT, RETURN, NEXT], 0, Ok(Done::Returned(7))),
+    (
+        &[READY, NEXT, FORWARD, NEXT],
+        0,
+        Ok(Done::Forwarded(b"TO", b"hello")),
+    ),
+    (
+        &[
+            READY,
+            NEXT,
+            b"XA\x01\x05\0\0\0\x09\0\0\0\x01\x03A b\x01\0\0\0\0",
+            NEXT,
+        ],
+        0,
+        Ok(Done::Forwarded(b"A b", b"")),
+    ),
     (&[], 0, Err(StopCause::EndOfInput)),
     (&[READY, NEXT, SHORT], 0, Err(StopCause::EndOfInput)),
     (&[READY, NEXT, RETURN], 0, Err(StopCause::EndOfInput)),
@@ -68,17 +93,31 @@ static SAID: [Said; 16] = [
         Err(StopCause::OutOfTurn(0x03, 1)),
     ),
     (
-        &[READY, NEXT, b"XA\x01\x05\0\0\0\x04\0\0\0\x01\x02TO\0"],
+        &[READY, NEXT, b"XA\x01\x05\0\0\0\x04\0\0\0\x02\x02TO\0"],
         0,
-        Err(StopCause::OutOfTurn(0x05, 1)),
+        Err(StopCause::OutOfTurn(0x05, 2)),
     ),
 ];
 
-fn talk<L: Link>(pipe: &mut Pipe<L>, server: &Name) -> Result<i32, StopCause> {
+fn talk<L: Link>(pipe: &mut Pipe<L>, server: &Name) -> Result<Finish, StopCause> {
     pipe.greet(server)?;
-    let code = pipe.hear(1)?.code;
+    let back = pipe.hear(1)?;
     pipe.read_next()?;
-    Ok(code)
+    Ok(back)
+}
+
+fn is_octets(data: &Data, octets: &[u8]) -> bool {
+    matches!(data, Data::Octet(held) if held.slice() == octets)
+}
+
+fn is_done(back: &Finish, want: Done) -> bool {
+    match (back, want) {
+        (Finish::Returns(back), Done::Returned(code)) => back.code == code,
+        (Finish::Forwards(forward), Done::Forwarded(service, octets)) => {
+            forward.service.slice() == service && is_octets(&forward.payload, octets)
+        }
+        _ => false,
+    }
 }
 
 // The link of a program that says these.
@@ -87,10 +126,14 @@ fn saying(alloc: Global, said: &[&[u8]], fails: u64) -> Option<Pipe<MemoryLink>>
     Some(Pipe::new(alloc, link_of(alloc, &octets, [fails, 0, 0], 5)?))
 }
 
-fn hears(pipe: &mut Pipe<MemoryLink>, want: Result<i32, StopCause>) -> bool {
-    match Name::read(b"S") {
-        Ok(server) => talk(pipe, &server) == want,
-        Err(_) => false,
+fn hears(pipe: &mut Pipe<MemoryLink>, want: Result<Done, StopCause>) -> bool {
+    let Ok(server) = Name::read(b"S") else {
+        return false;
+    };
+    match (talk(pipe, &server), want) {
+        (Ok(back), Ok(done)) => is_done(&back, done),
+        (Err(cause), Err(other)) => cause == other,
+        _ => false,
     }
 }
 
