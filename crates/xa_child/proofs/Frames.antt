@@ -1,13 +1,14 @@
 -- Lists of a child's frames, and their spellings.
-use Rattle.std.proofs.Common.{◌≡◌, ℕ, ◌+◌, ◌<◌, ◌^◌, ◌&&◌, Bool, true, false, if◌then◌else◌, pos, List, [], ◌∷◌, ◌++◌, append_assoc, append-nil, length, take, get_or, add-one, Some, codes, int_lt, ◌||◌, ◌≤◌, length-append, length-take, refl, sym, ◌∙◌, ap, subst, arith, rules}
+use Rattle.std.proofs.Common.{◌≡◌, ℕ, ◌+◌, ◌<◌, ◌^◌, ◌&&◌, ◌==◌, Bool, true, false, if◌then◌else◌, pos, List, [], ◌∷◌, ◌++◌, append_assoc, append-nil, length, take, get_or, add-one, Option, Some, None, codes, int_lt, ◌||◌, ◌≤◌, length-append, length-take, length-drop, refl, sym, ◌∙◌, ap, subst, arith, rules}
 use Rattle.std.proofs.Math.Bool.{and_assoc}
 use Rattle.std.proofs.Math.Seq.{take-suc}
+use Rattle.std.proofs.lemmas.List.Quantifiers.{position-Some}
 use Rattle.std.proofs.lemmas.List.Elements.{All-nil, All-cons, All-head}
 use Rattle.std.specs.List.{All}
 use Rattle.std.specs.Str.{bytes_eq}
 use Rattle.xa_types.specs.Name.{IsName}
 use Rattle.xa_types.specs.declared.data.Data.{Data}
-use Rattle.xa_types.specs.declared.data.Data.TheVariants.{Absent, Struct}
+use Rattle.xa_types.specs.declared.data.Data.TheVariants.{Absent, Octet, Struct}
 use Rattle.xa_types.specs.declared.call.Rval.TheVariants.{Success, Fail, Exit}
 use Rattle.xa_frame.specs.declared.frame.Frame.{Frame}
 use Rattle.xa_frame.specs.declared.frame.Body.{Body}
@@ -17,7 +18,7 @@ use Rattle.xa_frame.proofs.FrameLemmas.{all_spelled-push}
 use Rattle.xa_child.specs.declared.child.Said.{Said}
 use Rattle.xa_child.specs.Entry.{is_entry, account, amount, booked}
 use Rattle.xa_child.specs.Said.{frame_of, all_said}
-use Rattle.xa_child.specs.Child.{ChildState, admits, admits_all, after, after_all, answer, answer_body, counted, said, greeting, returned, transferred, accounted, no_entry, next, followed, is_die, is_exit}
+use Rattle.xa_child.specs.Child.{ChildState, admits, admits_all, after, after_all, answer, answer_body, counted, said, greeting, returned, transferred, accounted, passed, passed_text, space_in, no_entry, next, followed, is_die, is_exit}
 
 pub admits_all-append : (s : ChildState) (xs ys : List Frame) → admits_all s (xs ++ ys) ≡ (admits_all s xs && admits_all (after_all s xs) ys)
 admits_all-append s [] ys = refl
@@ -72,17 +73,33 @@ unfolding accounted
 accounted_body (Struct subtype octets) h = accounted_if (is_entry subtype octets) (int_lt (amount octets) (pos 1)) subtype octets h
 accounted_body payload h = no_entry_body
 
-returned_if : (echo len fail exit transfer acct : Bool) (payload : Data) → IsData payload → IsBody (if echo then Return Success (pos 0) payload else (if len then Return Success (pos (counted payload)) Absent else (if fail then Return Fail (pos 7) payload else (if exit then Return Exit (pos 1) Absent else (if transfer then transferred payload else (if acct then accounted payload else Return Fail (pos 99) Absent))))))
-returned_if true len fail exit transfer acct payload h = search rules
-returned_if false true fail exit transfer acct payload h = search rules
-returned_if false false true exit transfer acct payload h = search rules
-returned_if false false false true transfer acct payload h = search rules
-returned_if false false false false true acct payload h = transferred_body payload h
-returned_if false false false false false true payload h = accounted_body payload h
-returned_if false false false false false false payload h = search rules
+space_low : (octets : List ℕ) (place : ℕ) → space_in octets ≡ Some place → place ≤ 255
+space_low octets place is =
+    let first = position-Some (λ octet. octet == 0x20) (take 256 octets) place 0 is in
+    omega (arith, simp length-take at first.0)
+
+passed_text_body : (place : Option ℕ) (octets : List ℕ) → ((at : ℕ) → place ≡ Some at → at ≤ 255) → length octets ≤ 65_536 → IsBody (passed_text place octets)
+passed_text_body None octets low h = search rules
+passed_text_body (Some place) octets low h = (simp length-take (omega (arith, low place refl)), simp length-drop (omega arith))
+
+passed_body : (payload : Data) → IsData payload → IsBody (passed payload)
+unfolding passed
+passed_body (Octet octets) h = passed_text_body (space_in octets) octets (λ place is. space_low octets place is) h
+passed_body Absent h = search rules
+passed_body (Struct subtype octets) h = search rules
+
+returned_if : (echo len fail exit transfer acct pass : Bool) (payload : Data) → IsData payload → IsBody (if echo then Return Success (pos 0) payload else (if len then Return Success (pos (counted payload)) Absent else (if fail then Return Fail (pos 7) payload else (if exit then Return Exit (pos 1) Absent else (if transfer then transferred payload else (if acct then accounted payload else (if pass then passed payload else Return Fail (pos 99) Absent)))))))
+returned_if true len fail exit transfer acct pass payload h = search rules
+returned_if false true fail exit transfer acct pass payload h = search rules
+returned_if false false true exit transfer acct pass payload h = search rules
+returned_if false false false true transfer acct pass payload h = search rules
+returned_if false false false false true acct pass payload h = transferred_body payload h
+returned_if false false false false false true pass payload h = accounted_body payload h
+returned_if false false false false false false true payload h = passed_body payload h
+returned_if false false false false false false false payload h = search rules
 
 returned_body : (routine : List ℕ) (payload : Data) → IsData payload → IsBody (returned routine payload)
-returned_body routine payload h = returned_if (bytes_eq routine (codes "ECHO")) (bytes_eq routine (codes "LEN")) (bytes_eq routine (codes "FAIL")) (is_exit routine) (bytes_eq routine (codes "TRANSFER")) (bytes_eq routine (codes "ACCT")) payload h
+returned_body routine payload h = returned_if (bytes_eq routine (codes "ECHO")) (bytes_eq routine (codes "LEN")) (bytes_eq routine (codes "FAIL")) (is_exit routine) (bytes_eq routine (codes "TRANSFER")) (bytes_eq routine (codes "ACCT")) (bytes_eq routine (codes "PASS")) payload h
 
 -- what is said to a frame that has a spelling has one
 served_spelling : (b : Bool) (fs : List Frame) → All HasSpelling fs → All HasSpelling (if b then [] else fs)

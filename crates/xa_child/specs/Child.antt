@@ -1,5 +1,6 @@
 -- A server's program, the child: which frames it admits, and what it says to each of them.
-use Rattle.std.specs.Prelude.{ℕ, ◌+◌, ◌-◌, ◌%◌, ◌^◌, min, ◌==◌, ◌&&◌, ◌||◌, not, Bool, true, false, if◌then◌else◌, pos, int_lt, List, [], ◌∷◌, ◌++◌, length, codes}
+use Rattle.std.specs.Prelude.{ℕ, ◌+◌, ◌-◌, ◌%◌, ◌^◌, min, ◌==◌, ◌&&◌, ◌||◌, not, Bool, true, false, if◌then◌else◌, pos, int_lt, Option, Some, None, List, [], ◌∷◌, ◌++◌, length, take, drop, codes}
+use Rattle.std.specs.List.{position}
 use Rattle.std.specs.Str.{bytes_eq}
 use Rattle.xa_types.specs.declared.data.Data.{Data}
 use Rattle.xa_types.specs.declared.data.Data.TheVariants.{Absent, Octet, Struct}
@@ -65,6 +66,19 @@ unfoldable pub accounted : Data → Body
 accounted (Struct subtype octets) = if is_entry subtype octets then accounted_entry subtype octets else no_entry
 accounted payload = no_entry
 
+-- the place of a text's first space, if that is among its first 256 octets: a word has at most 255
+abbrev pub space_in : List ℕ → Option ℕ
+space_in octets = position (λ octet. octet == 0x20) (take 256 octets)
+
+abbrev pub passed_text : Option ℕ → List ℕ → Body
+passed_text None octets = Return Success (pos 0) (Octet octets)
+passed_text (Some place) octets = Forward (take place octets) (Octet (drop (place + 1) octets))
+
+-- PASS passes a text on to the service that it names before its first space, with what follows that; other data it gives back
+unfoldable pub passed : Data → Body
+passed (Octet octets) = passed_text (space_in octets) octets
+passed payload = Return Success (pos 0) payload
+
 -- the routine EXIT, whose RETURN ends the child
 abbrev pub is_exit : List ℕ → Bool
 is_exit routine = bytes_eq routine (codes "EXIT")
@@ -79,7 +93,8 @@ returned routine payload =
     else (if is_exit routine then Return Exit (pos 1) Absent
     else (if bytes_eq routine (codes "TRANSFER") then transferred payload
     else (if bytes_eq routine (codes "ACCT") then accounted payload
-    else Return Fail (pos 99) Absent)))))
+    else (if bytes_eq routine (codes "PASS") then passed payload
+    else Return Fail (pos 99) Absent))))))
 
 -- the routine DIE, which returns nothing and ends the child
 abbrev pub is_die : List ℕ → Bool

@@ -1,8 +1,8 @@
 // The sample routines of a server's program.
-ghost use Rattle.std.specs.Prelude.{◌≡◌, ◌++◌, codes, length, pos, IfOk};
+ghost use Rattle.std.specs.Prelude.{◌≡◌, ◌<◌, ◌++◌, codes, length, pos, IfOk, IfSome};
 ghost use Rattle.std.specs.Str.{bytes_eq};
 ghost use Rattle.xa_frame.specs.declared.frame.Body.TheVariants.{Return};
-ghost use Rattle.xa_child.specs.Child.{accounted, counted, is_die, is_exit, returned, transferred};
+ghost use Rattle.xa_child.specs.Child.{accounted, counted, is_die, is_exit, passed, returned, space_in, transferred};
 ghost use Rattle.xa_child.specs.Entry.{booked, is_entry};
 ghost use Rattle.xa_child.specs.Said.{body_of, data_of};
 
@@ -28,6 +28,9 @@ const FAILED: i32 = 7;
 
 /// The code of a routine that the program doesn't have.
 const UNKNOWN: i32 = 99;
+
+/// How many octets a word and a space behind it have at most.
+const WORD_AND_SPACE: usize = 256;
 
 /// What a routine says.
 #[derive(Drop)]
@@ -118,6 +121,34 @@ fn acct(alloc: Global, payload: &Data) -> Result<Outcome<'_>, NoMemory>
     }
 }
 
+// Where the first space of a text stands, if it is among the first 256 octets.
+fn space_in(octets: &[u8]) -> Option<usize>
+    ensures place { result ≡ space_in octets.now }
+    ensures within { IfSome result (λ place. place < length octets.now) }
+{
+    octets
+        .iter()
+        .take(WORD_AND_SPACE)
+        .position(|octet| *octet == b' ')
+}
+
+#[tactic(auto, unfolding(crate::specs::Child::passed))]
+fn pass(alloc: Global, payload: &Data) -> Result<Outcome<'_>, NoMemory>
+    ensures { IfOk result (λ outcome. body_of outcome ≡ passed payload.now) }
+{
+    let back = Outcome::Returned(Rval::Success, 0, Some(payload));
+    let Data::Octet(octets) = payload else {
+        return Ok(back);
+    };
+    let octets = octets.slice();
+    let Some(place) = space_in(octets) else {
+        return Ok(back);
+    };
+    let service = Octets::of(alloc, &octets[..place])?;
+    let rest = Octets::of(alloc, &octets[place + 1..])?;
+    Ok(Outcome::Made(Body::Forward(service, Data::Octet(rest))))
+}
+
 /// What a routine other than DIE says to its request's data.
 pub fn said_by<'a>(
     alloc: Global,
@@ -143,6 +174,9 @@ pub fn said_by<'a>(
     }
     if is(routine, b"ACCT") {
         return acct(alloc, payload);
+    }
+    if is(routine, b"PASS") {
+        return pass(alloc, payload);
     }
     Ok(Outcome::Returned(Rval::Fail, UNKNOWN, None))
 }

@@ -83,7 +83,7 @@ enum Piece {
 // it, or FORWARD to a service.
 #[derive(Clone, Copy)]
 enum Saying {
-    Succeeds(Piece),
+    Succeeds(Option<Piece>),
     Fails(i32, Option<Piece>),
     Exits(i32),
     Forwards(&'static [u8], Piece),
@@ -156,12 +156,32 @@ const OTHER: Piece = Piece::Struct(
 
 const TEXT: Piece = Piece::Octet(b"\0\0\0\x07\0\0\0\0\0\0\0\xfarent\0\0\0\0\0\0\0\0\0\0\0\0");
 
+// The longest word, of 255 octets; the same with a space and an octet behind it; and with an octet more before these.
+const WORD: &[u8] = b"aaaaaaaaaaaaaaaaaaaaaaaaaaaaaaaaaaaaaaaaaaaaaaaaaaaaaaaaaaaaaaaa\
+    aaaaaaaaaaaaaaaaaaaaaaaaaaaaaaaaaaaaaaaaaaaaaaaaaaaaaaaaaaaaaaaa\
+    aaaaaaaaaaaaaaaaaaaaaaaaaaaaaaaaaaaaaaaaaaaaaaaaaaaaaaaaaaaaaaaa\
+    aaaaaaaaaaaaaaaaaaaaaaaaaaaaaaaaaaaaaaaaaaaaaaaaaaaaaaaaaaaaaaa";
+
+const WORD_AND_MORE: Piece = Piece::Octet(
+    b"aaaaaaaaaaaaaaaaaaaaaaaaaaaaaaaaaaaaaaaaaaaaaaaaaaaaaaaaaaaaaaaa\
+    aaaaaaaaaaaaaaaaaaaaaaaaaaaaaaaaaaaaaaaaaaaaaaaaaaaaaaaaaaaaaaaa\
+    aaaaaaaaaaaaaaaaaaaaaaaaaaaaaaaaaaaaaaaaaaaaaaaaaaaaaaaaaaaaaaaa\
+    aaaaaaaaaaaaaaaaaaaaaaaaaaaaaaaaaaaaaaaaaaaaaaaaaaaaaaaaaaaaaaa x",
+);
+
+const NO_WORD: Piece = Piece::Octet(
+    b"aaaaaaaaaaaaaaaaaaaaaaaaaaaaaaaaaaaaaaaaaaaaaaaaaaaaaaaaaaaaaaaa\
+    aaaaaaaaaaaaaaaaaaaaaaaaaaaaaaaaaaaaaaaaaaaaaaaaaaaaaaaaaaaaaaaa\
+    aaaaaaaaaaaaaaaaaaaaaaaaaaaaaaaaaaaaaaaaaaaaaaaaaaaaaaaaaaaaaaaa\
+    aaaaaaaaaaaaaaaaaaaaaaaaaaaaaaaaaaaaaaaaaaaaaaaaaaaaaaaaaaaaaaaa x",
+);
+
 // A routine, the data of its request, and what it says.
 type Routine = (&'static [u8], Option<Piece>, Saying);
 
-static ROUTINES: [Routine; 26] = [
-    (b"ACCT", Some(RENT), Saying::Succeeds(BOOKED)),
-    (b"ACCT", Some(LEAST), Saying::Succeeds(LEAST_BOOKED)),
+static ROUTINES: [Routine; 41] = [
+    (b"ACCT", Some(RENT), Saying::Succeeds(Some(BOOKED))),
+    (b"ACCT", Some(LEAST), Saying::Succeeds(Some(LEAST_BOOKED))),
     (b"ACCT", Some(NOTHING), Saying::Fails(2, Some(NOTHING))),
     (b"ACCT", Some(VOID), Saying::Fails(2, Some(VOID))),
     (b"ACCT", Some(SHORT), Saying::Fails(4, None)),
@@ -184,12 +204,75 @@ static ROUTINES: [Routine; 26] = [
     (b"TRANSFER", Some(OTHER), Saying::Fails(4, None)),
     (b"TRANSFER", Some(TEXT), Saying::Fails(4, None)),
     (b"TRANSFER", None, Saying::Fails(4, None)),
-    (b"ECHO", Some(VOID), Saying::Succeeds(VOID)),
+    (b"ECHO", Some(VOID), Saying::Succeeds(Some(VOID))),
     (b"FAIL", Some(TEXT), Saying::Fails(7, Some(TEXT))),
     (b"EXIT", Some(TEXT), Saying::Exits(1)),
     (b"EXIT", None, Saying::Exits(1)),
     (b"ACC", Some(RENT), Saying::Fails(99, None)),
     (b"TRANSFERS", Some(RENT), Saying::Fails(99, None)),
+    (
+        b"PASS",
+        Some(Piece::Octet(b"A hi")),
+        Saying::Forwards(b"A", Piece::Octet(b"hi")),
+    ),
+    (
+        b"PASS",
+        Some(Piece::Octet(b"B C hi")),
+        Saying::Forwards(b"B", Piece::Octet(b"C hi")),
+    ),
+    (
+        b"PASS",
+        Some(Piece::Octet(b"A  x")),
+        Saying::Forwards(b"A", Piece::Octet(b" x")),
+    ),
+    (
+        b"PASS",
+        Some(Piece::Octet(b"A ")),
+        Saying::Forwards(b"A", Piece::Octet(b"")),
+    ),
+    (
+        b"PASS",
+        Some(Piece::Octet(b" x")),
+        Saying::Forwards(b"", Piece::Octet(b"x")),
+    ),
+    (
+        b"PASS",
+        Some(Piece::Octet(b" ")),
+        Saying::Forwards(b"", Piece::Octet(b"")),
+    ),
+    (
+        b"PASS",
+        Some(WORD_AND_MORE),
+        Saying::Forwards(WORD, Piece::Octet(b"x")),
+    ),
+    (b"PASS", Some(NO_WORD), Saying::Succeeds(Some(NO_WORD))),
+    (
+        b"PASS",
+        Some(Piece::Octet(b"hi")),
+        Saying::Succeeds(Some(Piece::Octet(b"hi"))),
+    ),
+    (
+        b"PASS",
+        Some(Piece::Octet(b"A\thi\n")),
+        Saying::Succeeds(Some(Piece::Octet(b"A\thi\n"))),
+    ),
+    (
+        b"PASS",
+        Some(Piece::Octet(b"")),
+        Saying::Succeeds(Some(Piece::Octet(b""))),
+    ),
+    (
+        b"PASS",
+        Some(Piece::Struct(b"entry", b"A hi")),
+        Saying::Succeeds(Some(Piece::Struct(b"entry", b"A hi"))),
+    ),
+    (b"PASS", None, Saying::Succeeds(None)),
+    (b"PAS", Some(Piece::Octet(b"A hi")), Saying::Fails(99, None)),
+    (
+        b"PASSES",
+        Some(Piece::Octet(b"A hi")),
+        Saying::Fails(99, None),
+    ),
 ];
 
 fn data_of(alloc: Global, piece: Option<Piece>) -> Option<Data> {
@@ -217,7 +300,7 @@ fn is_piece(payload: &Data, piece: Option<Piece>) -> bool {
 fn is_said(body: &Body, saying: Saying) -> bool {
     match (body, saying) {
         (Body::Return(Rval::Success, 0, payload), Saying::Succeeds(want)) => {
-            is_piece(payload, Some(want))
+            is_piece(payload, want)
         }
         (Body::Return(Rval::Fail, code, payload), Saying::Fails(number, want)) => {
             *code == number && is_piece(payload, want)
