@@ -1,16 +1,17 @@
 -- The lives of a server as its worker goes on.
 use Rattle.std.proofs.Common.{◌≡◌, ◌≢◌, ◌<◌, ◌≤◌, ℕ, zero, suc, ◌+◌, ◌==◌, ◌&&◌, Bool, true, false, cond, List, [], ◌∷◌, ◌++◌, map, Option, None, refl, sym, ◌∙◌, ap, subst, append-nil, arith}
 use Rattle.std.specs.Prelude.{reverse, take, drop}
-use Rattle.std.specs.List.{All, cons_option, filter_map, flat_map}
+use Rattle.std.specs.List.{All, cons_option, filter_map}
+
 use Rattle.std.proofs.lemmas.Bool.{ne_eqb, false≢true}
 use Rattle.std.proofs.Common.{eq-eqb, eqb-true}
-use Rattle.std.proofs.lemmas.Grind.{flat_map-append}
 use Rattle.std.proofs.lemmas.List.{map_push}
 use Rattle.std.proofs.lemmas.List.Elements.{All-nil, All-cons, All-head, All-tail, All-push, All-append, All-weaker, Contains-append_left}
 use Rattle.xa_desk.specs.xa_types.declared.ids.Generation.{Generation}
 use Rattle.xa_desk.specs.xa_types.declared.setup.Setup.{Setup}
 use Rattle.xa_desk.specs.xa_events.declared.event.Event.{Event}
-use Rattle.xa_desk.specs.xa_events.declared.event.Event.TheVariants.{Take, Gone, End, Stop}
+use Rattle.xa_desk.specs.xa_events.declared.event.Event.TheVariants.{Take, Forward, Gone, End, Stop}
+use Rattle.xa_desk.specs.xa_events.declared.event.Taken.{Taken}
 use Rattle.xa_desk.specs.xa_events.Words.{AtEach, count}
 use Rattle.xa_desk.specs.xa_events.Homes.{of_worker}
 use Rattle.xa_desk.specs.xa_events.Homes.Home.{QueueHome}
@@ -18,12 +19,10 @@ use Rattle.xa_desk.specs.xa_events.Caller.{tick_in}
 use Rattle.xa_desk.specs.xa_events.Cases.{IsShut}
 use Rattle.xa_desk.specs.xa_frame.declared.frame.Frame.{Frame}
 use Rattle.xa_desk.specs.xa_stamp.declared.home.Stamped.{Stamped}
-use Rattle.xa_desk.specs.xa_lock.declared.makers.Made.{Made}
 use Rattle.xa_desk.specs.xa_crew.Seen.{past_in, SawQueue}
 use Rattle.xa_desk.proofs.xa_crew.Lists.{count_part, past_in-append}
-use Rattle.xa_desk.specs.xa_held.Notes.{made_of}
+use Rattle.xa_desk.specs.xa_held.declared.cargo.Invocation.{Invocation}
 use Rattle.xa_desk.specs.xa_work.Work.{Standing as Working, theirs}
-use Rattle.xa_desk.specs.xa_caller.declared.cargo.Filling.{Filling}
 use Rattle.xa_desk.specs.xa_pipe.Frames.{is_of_life, is_take_in}
 use Rattle.xa_desk.specs.xa_pipe.Life.{stops_life}
 use Rattle.xa_desk.specs.xa_pipe.Standing.{Standing as Life, Ending}
@@ -32,7 +31,8 @@ use Rattle.xa_desk.proofs.xa_pipe.Followed.{stopped_idle}
 use Rattle.xa_desk.specs.declared.domain.Domain.{Domain}
 use Rattle.xa_desk.specs.declared.desk.Desk.{Desk}
 use Rattle.xa_desk.specs.Whole.{entries_of}
-use Rattle.xa_desk.specs.Desks.{Leads, queue_page}
+use Rattle.xa_desk.specs.Desks.{Leads}
+use Rattle.xa_desk.specs.Serving.{IsSentFor}
 use Rattle.xa_links.specs.Lives.{generation_in, lives_in, fails_start, failed_starts, IsHanded, EndsShut, IsLived}
 use Rattle.xa_links.specs.Steps.{Steps}
 use Rattle.xa_links.specs.Standing.{HasLived, IsGoing}

@@ -1,15 +1,21 @@
 -- A server that is done with its request, or passes it on.
-use Rattle.std.proofs.Common.{◌≡◌, ◌<◌, ℕ, ◌+◌, ◌^◌, true, List, [], ◌∷◌, ◌++◌, Option, Some, None, Result, Ok, Err, refl, sym, ◌∙◌, ap, subst, append-nil, length}
-use Rattle.std.specs.Prelude.{IfSome, IfOk, IfErr}
+use Rattle.std.proofs.Common.{◌≡◌, ◌<◌, ℕ, ◌+◌, ◌^◌, Bool, true, false, if◌then◌else◌, List, [], ◌∷◌, ◌++◌, Option, Some, None, Result, Ok, Err, refl, sym, ◌∙◌, ap, subst, append-nil, length}
+use Rattle.std.specs.Prelude.{IfSome, nat_lt, ◌&&◌}
+use Rattle.std.specs.List.{find}
 use Rattle.std.proofs.lemmas.List.Elements.{All-contains}
 use Rattle.xa_desk.specs.xa_types.declared.data.Data.{Data}
 use Rattle.xa_desk.specs.xa_types.declared.ids.Generation.{Generation}
 use Rattle.xa_desk.specs.xa_types.declared.row.Row.{Row}
 use Rattle.xa_desk.specs.xa_types.declared.stamp.Stamp.{Stamp}
+use Rattle.xa_desk.specs.xa_types.declared.setup.Setup.{Setup}
+use Rattle.xa_desk.specs.xa_types.Found.{FoundRows}
+use Rattle.xa_desk.specs.xa_types.Kind.{is_accepted, kind_of, is_sound}
+use Rattle.xa_desk.specs.xa_types.Name.{is_name}
 use Rattle.xa_desk.specs.xa_types.Rows.{row_for}
 use Rattle.xa_desk.specs.xa_events.declared.event.Event.{Event}
 use Rattle.xa_desk.specs.xa_events.declared.event.Event.TheVariants.{Forward, End}
 use Rattle.xa_desk.specs.xa_events.declared.event.Ended.{Ended}
+use Rattle.xa_desk.specs.xa_events.declared.event.Taken.{Taken}
 use Rattle.xa_desk.specs.xa_events.declared.event.Doing.TheVariants.{Idle}
 use Rattle.xa_desk.specs.xa_events.declared.event.Outcome.{Outcome}
 use Rattle.xa_desk.specs.xa_events.declared.event.Outcome.TheVariants.{BadForward}
@@ -29,7 +35,8 @@ use Rattle.xa_desk.specs.xa_server.declared.closing.Closing.{Closing}
 use Rattle.xa_desk.specs.xa_server.declared.slot.ServerSlot.{ServerSlot}
 use Rattle.xa_desk.specs.xa_server.Changes.{Finishes}
 use Rattle.xa_desk.specs.xa_server.Doings.{life_in}
-use Rattle.xa_desk.specs.xa_server.Forwarding.{Fails, GoesOn, forwarded_by}
+use Rattle.xa_desk.specs.xa_server.declared.forwarding.Forwarding.TheVariants.{On, Failed}
+use Rattle.xa_desk.specs.xa_server.Forwarding.{Fails, GoesOn, ForwardsAs, Passes as PassesOut, forwarded_by, row_or, way_of}
 use Rattle.xa_desk.specs.xa_server.Noting.{HaltsWith}
 use Rattle.xa_desk.specs.declared.domain.Domain.{Domain}
 use Rattle.xa_desk.specs.declared.desk.Desk.{Desk}
@@ -37,16 +44,16 @@ use Rattle.xa_desk.specs.Desks.{IsDesk, Leads}
 use Rattle.xa_desk.specs.Found.{ShowsWhy}
 use Rattle.xa_desk.specs.Halting.{IsHaltAt}
 use Rattle.xa_desk.specs.Passing.{IsPassing, holding, forwarded_to}
-use Rattle.xa_desk.specs.Serving.{IsServing, IsToTell, Sees}
+use Rattle.xa_desk.specs.Serving.{IsServing, IsTaken, IsToTell, Sees}
 use Rattle.xa_desk.proofs.Stopping.{same_leads}
 use Rattle.xa_links.specs.declared.passing.Tried.{Tried}
 use Rattle.xa_links.specs.declared.passing.Tried.TheVariants as tries
 use Rattle.xa_links.specs.declared.telling.Told.{Told}
 use Rattle.xa_links.specs.Passing.{IsBack, IsDoneBy, Passes, Keeps, TriedAs, PassesAs, its_queue, halt_by}
 use Rattle.xa_links.specs.Steps.{Steps, Serves, IsToldOf}
-use Rattle.xa_links.proofs.Deaths.{is_its}
+use Rattle.xa_links.proofs.Deaths.{is_its, told_of}
 use Rattle.xa_links.proofs.Lasting.{number_of}
-use Rattle.xa_links.proofs.Stepping.{still_steps, one_steps, noted_steps, seen_steps, halted_steps, halted_own, halted_at, steps_trans}
+use Rattle.xa_links.proofs.Stepping.{still_steps, still_serves, one_steps, noted_steps, seen_steps, halted_steps, halted_own, halted_at, steps_trans}
 
 -- ---- an event by which the server is done
 
@@ -204,10 +211,7 @@ module _ {d : Domain} {queue : ℕ} {slot slot' last : ServerSlot} {a b c : Desk
         to_tell = passes.to_tell;
       }
     where
-      abbrev done_its : ServerSlot → Event → Type 0
-      done_its s e = is_of s.server.0 (life_in s.doing).0 e ≡ true
-
-      its_from : (e : Event) → done_its slot' e → done_its slot e
+      its_from : (e : Event) → is_of slot'.server.0 (life_in slot'.doing).0 e ≡ true → is_of slot.server.0 (life_in slot.doing).0 e ≡ true
       its_from e its = ap (λ s. is_of s.0 (life_in slot.doing).0 e) (sym same.server) ∙ ap (λ doing. is_of slot'.server.0 (life_in doing).0 e) (sym same.does) ∙ its
 
   pub keeps_from : (halt : Halt) → Keeps d queue halt slot' last b c → Keeps d queue halt slot last a c
@@ -230,10 +234,10 @@ module _ {d : Domain} {queue : ℕ} {slot slot' last : ServerSlot} {a b c : Desk
   same_server same = record { server = ap (λ (s : ServerSlot). s.server) same; made = ap (λ (s : ServerSlot). s.made) same; gone = ap (λ (s : ServerSlot). s.gone) same; does = ap (λ (s : ServerSlot). s.doing) same }
 
   pub tried_from : (service : List ℕ) (payload payload' : Data) (tried : Tried) → slot' ≡ slot → payload' ≡ payload → IsBack d a b → TriedAs d queue service payload' tried slot' last b c → TriedAs d queue service payload tried slot last a c
-  tried_from service payload payload' (tries.Passed told) same data back passes =
-      subst (λ (x : Data). Passes d queue service x told slot last a c) data (passes_from (same_server same) back.steps back.own back.seat service payload' told passes)
-  tried_from service payload payload' (tries.Halted halt) same data back keeps = keeps_from (same_server same) back.steps back.own back.seat halt keeps
-  tried_from service payload payload' (tries.Again entry event) same data back (passing, still, further, its) = (passing, still ∙ same, back_trans back further, its ∙ data)
+  tried_from service payload payload' (tries.Passed told) same its_data back passes =
+      subst (λ (x : Data). Passes d queue service x told slot last a c) its_data (passes_from (same_server same) back.steps back.own back.seat service payload' told passes)
+  tried_from service payload payload' (tries.Halted halt) same its_data back keeps = keeps_from (same_server same) back.steps back.own back.seat halt keeps
+  tried_from service payload payload' (tries.Again entry event) same its_data back (passing, still, further, its) = (passing, still ∙ same, back_trans back further, its ∙ its_data)
 
 -- what a queue refused is out still
 pub still_out : {d : Domain} (entry back : Entry Cargo) (event : Event) (slot slot' : ServerSlot) (desk : Desk) → slot' ≡ slot → back ≡ entry → IsPassing d (its_queue d slot) entry event slot' desk → IsPassing d (its_queue d slot') back event slot' desk
@@ -245,4 +249,52 @@ pub goes_somewhere : {d : Domain} {queue : ℕ} (entry : Entry Cargo) (event : E
 goes_somewhere {d} entry event slot desk passing =
     let places = All-contains (λ (row : Row). (0 < row.queue.0) × (row.queue.0 < length d.queues.items + 1)) desk.reader.found.rows passing.row passing.found.places passing.among in
     subst (λ (e : Event). 0 < forwarded_to e) (sym passing.event_is) places.0
+
+-- ---- what a forward of the slot comes to, by the way that it goes
+
+module _ {version : ℕ} {payload : Data} {slot slot' : ServerSlot} {old new : Caller} where
+  pub failed_as : (way : Result Row ℕ) (closing : Closing) → ForwardsAs version payload way (Failed closing) slot' slot new old → (named : ℕ) × Fails named closing slot' slot new old
+  failed_as (Ok row) closing is = absurd is
+  failed_as (Err named) closing is = (named, is)
+
+  pub passed_as : (way : Result Row ℕ) (entry : Entry Cargo) (event : Event) → ForwardsAs version payload way (On entry event) slot' slot new old → (row : Row) × (way ≡ Ok row) × PassesOut version row payload entry event slot' slot new old
+  passed_as (Ok row) entry event is = (row, refl, is)
+  passed_as (Err named) entry event is = absurd is
+
+-- what goes on goes to a service that is named
+pub way_named : (setup : Setup) (service : List ℕ) (payload : Data) (hop : ℕ) (found : FoundRows) (row : Row) → way_of setup service payload hop found ≡ Ok row → is_name service ≡ true
+way_named setup service payload hop found row is = by (is_name service) (is_sound setup payload && nat_lt hop 32) (row_or found.version (find (λ (r : Row). is_accepted setup r.accepts (kind_of payload)) found.rows)) is
+  where
+    by : (named rest : Bool) (way : Result Row ℕ) → (if named && rest then way else Err 0) ≡ Ok row → named ≡ true
+    by true rest way so = refl
+    by false rest way so = absurd (cc so)
+
+module _ {d : Domain} {queue : ℕ} where
+  pub if_taken : {t : Taken} {old new : Desk} → ((entry : Entry Cargo) → IsTaken d queue t old entry → IsTaken d queue t new entry) → (hand : Option (Entry Cargo)) → IfSome hand (IsTaken d queue t old) → IfSome hand (IsTaken d queue t new)
+  if_taken on None is = tt
+  if_taken on (Some entry) is = on entry is
+
+  -- the forward failed by itself, by its request, or by what was found
+  pub fails_at_once : (service : List ℕ) (payload : Data) (named : ℕ) (closing : Closing) (told : Option Told) {slot slot' : ServerSlot} {old new : Desk} → IsServing d queue slot old → Leads d old new → IsServing d queue slot' new → new.caller.seat ≡ old.caller.seat → Fails named closing slot' slot new.caller old.caller
+      → IfSome told (λ t. t.closing ≡ closing) → IsToTell d new closing → Passes d queue service payload told slot slot' old new
+  fails_at_once service payload named closing told {slot} {slot'} {old} {new} was leads serving seat fails is to =
+      let ended = ended_done (BadForward named) closing leads (number_of was) serving seat (λ g. refl) fails.finishes in
+      record { event = End ended.0; done = ended.1; by = (named, ended.2); to_tell = told_of d new closing told is to }
+
+  -- it is out, with nothing noted
+  pub out_same : {version : ℕ} {row : Row} {payload : Data} {entry : Entry Cargo} {event : Event} {slot slot' : ServerSlot} {new old : Caller} → PassesOut version row payload entry event slot' slot new old → SameServer slot slot'
+  out_same out = record { server = ap (λ (s : ServerSlot). s.server) out.left; made = ap (λ (s : ServerSlot). s.made) out.left; gone = ap (λ (s : ServerSlot). s.gone) out.left; does = ap (λ (s : ServerSlot). s.doing) out.left }
+
+  pub out_steps : {a b : Desk} → Leads d a b → b.caller ≡ a.caller → Steps d [] a b
+  out_steps leads same = still_steps leads (ap (λ (c : Caller). c.work.id) same) (ap (λ (c : Caller). c.work.clients) same) (ap (λ (c : Caller). c.work.own) same)
+
+  -- at a halt
+  pub keeps_at_once : (halt : Halt) {slot slot' : ServerSlot} {old new : Desk} → Leads d old new → IsServing d queue slot' new → slot' ≡ slot → new.caller.seat ≡ old.caller.seat → HaltsWith 3 new.caller.work old.caller.work halt → Keeps d queue halt slot slot' old new
+  keeps_at_once halt {slot} {slot'} {old} {new} leads serving same seat halts = record {
+    serves = still_serves (halted_steps 3 halt leads halts) serving same;
+    does = ap (λ (s : ServerSlot). s.doing) same;
+    own = halted_own old new 3 halt halts;
+    seat = seat;
+    halts = halted_at old new 3 halt halts;
+  }
 

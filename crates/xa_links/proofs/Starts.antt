@@ -30,7 +30,7 @@ use Rattle.xa_desk.specs.declared.domain.Domain.{Domain}
 use Rattle.xa_desk.specs.declared.desk.Desk.{Desk}
 use Rattle.xa_desk.specs.declared.stopped.Stopped.TheVariants.{Here}
 use Rattle.xa_desk.specs.Desks.{Leads}
-use Rattle.xa_desk.specs.Serving.{IsServing}
+use Rattle.xa_desk.specs.Serving.{IsServing, IsSentFor}
 use Rattle.xa_links.specs.declared.working.ServerWorker.{ServerWorker}
 use Rattle.xa_links.specs.Lives.{generation_in, lives_in, failed_starts, starts_of, HasStarted, HasStartedSoFar, IsHanded, IsLived}
 use Rattle.xa_links.specs.Working.{cut_in}

@@ -9,5 +9,5 @@ invariant-loop g l = record {
   same : l.slot ≡ l.fn.slot;
   passing : IsPassing l.domain (its_queue l.domain l.fn.slot) l.entry l.event l.slot l.desk;
   back : IsBack l.domain l.fn.desk l.desk;
-  payload : l.entry.cargo.invocation.payload ≡ l.first.cargo.invocation.payload;
+  payload : l.entry.cargo.invocation.payload ≡ l.fn.first.cargo.invocation.payload;
 }
