@@ -1,5 +1,5 @@
 -- A server's worker at its queue: what its pass gives, and what goes on as it visits.
-use Rattle.std.proofs.Common.{◌≡◌, ◌<◌, ℕ, zero, suc, ◌+◌, true, false, List, [], map, refl, sym, ◌∙◌, ap, subst, arith, eq-eqb}
+use Rattle.std.proofs.Common.{◌≡◌, ◌<◌, ℕ, zero, suc, ◌+◌, true, false, List, [], map, Option, refl, sym, ◌∙◌, ap, subst, arith, eq-eqb}
 use Rattle.std.specs.Prelude.{IfSome}
 use Rattle.std.specs.List.{All}
 use Rattle.std.proofs.lemmas.List.Elements.{All-nil, All-cons, All-append}
@@ -32,11 +32,11 @@ use Rattle.xa_told.specs.xa_server.declared.slot.ServerSlot.{ServerSlot}
 use Rattle.xa_told.specs.xa_server.Slot.{Tables, Stands}
 use Rattle.xa_desk.specs.declared.domain.Domain.{Domain}
 use Rattle.xa_desk.specs.declared.desk.Desk.{Desk}
-use Rattle.xa_desk.specs.Desks.{IsDesk}
+use Rattle.xa_desk.specs.Desks.{IsDesk, page_at}
 use Rattle.xa_desk.proofs.Visiting.{QueuePass, HasPass, Step, its_pass, page_is, now_has, looked_leads}
 use Rattle.xa_desk.proofs.Showing.{saw_there, closed_seen, waits}
 use Rattle.xa_desk.specs.Found.{SawAtQueue}
-use Rattle.xa_desk.specs.Serving.{IsServing}
+use Rattle.xa_desk.specs.Serving.{IsServing, Sees as SeesStamp}
 
 -- a server of a queue has a number
 has_number : (setup : Setup) (server queue : ℕ) → queue_of setup server ≡ queue → 0 < queue → 0 < server
@@ -58,6 +58,18 @@ tables_seeing slot last w tables = let few = tables.few in record {
 
 pub stands_seeing : (slot : ServerSlot) (last : Stamp) (w : Working) → Stands slot w → Stands slot (seeing last w)
 stands_seeing slot last w stands = record { tables = tables_seeing slot last w stands.tables; hand = stands.hand }
+
+-- a look at the board leaves what its worker has
+pub looked_serves : (d : Domain) (queue : ℕ) (slot : ServerSlot) (old new : Desk) → SeesStamp old.caller new.caller → new.queues.items ≡ old.queues.items → IsServing d queue slot old → IsServing d queue slot new
+looked_serves d queue slot old new sees queues serving = record {
+  stands = subst (λ (c : Caller). Stands slot c.work) (sym sees.1) (stands_seeing slot sees.0 old.caller.work serving.stands);
+  idle = ap (λ (c : Caller). c.phase) sees.1 ∙ serving.idle;
+  its = serving.its;
+  some = serving.some;
+  least = serving.least;
+  left = λ left. subst (λ (l : List (Option QueuePass)). All (IsOther slot.server) (page_at l queue).own) (sym {A = List (Option QueuePass)} queues) (serving.left left);
+  hand = serving.hand;
+}
 
 module _ {d : Domain} {queue k : ℕ} {desk : Desk} {slot : ServerSlot} {p : QueuePass} (is : IsDesk d desk) (serving : IsServing d queue slot desk) (has : HasPass d queue k desk p) where
   -- the pass saw what the queue is, of which the server is one
