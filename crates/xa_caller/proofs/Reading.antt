@@ -5,7 +5,7 @@ use Rattle.std.proofs.lemmas.Bool.{and_from, lt-ltb}
 use Rattle.xa_types.specs.declared.setup.Setup.{Setup}
 use Rattle.xa_types.specs.declared.call.Mode.TheVariants.{Reply}
 use Rattle.xa_events.specs.declared.event.Event.{Event}
-use Rattle.xa_events.specs.declared.event.Event.TheVariants.{Accept, Answer, Refuse, Priority, Start, StartFailed, End, Stop, Take, Gone}
+use Rattle.xa_events.specs.declared.event.Event.TheVariants.{Accept, Answer, Refuse, Priority, Start, StartFailed, End, Stop, Take, Gone, Forward}
 use Rattle.xa_events.specs.State.{caller_of}
 use Rattle.xa_events.specs.declared.event.Accepted.{Accepted}
 use Rattle.xa_events.specs.declared.event.Replied.{Replied}
@@ -15,7 +15,7 @@ use Rattle.xa_events.specs.Words.{added, without}
 use Rattle.xa_events.specs.Board.{boot}
 use Rattle.xa_events.specs.Homes.{worker_of, home_of, at_home}
 use Rattle.xa_events.specs.Homes.Home.{CallerHome}
-use Rattle.xa_caller.specs.Serving.{IsOfServer, IsAtQueue, version_ended, raised}
+use Rattle.xa_caller.specs.Serving.{IsOfServer, IsAtQueue, IsForwardBy, version_ended, raised}
 use Rattle.xa_events.specs.Caller.{op_of, accepted_in, version_in, wants_reply, newest_call, accepted, open_descriptors, versions, ticks, has_left, is_leaving, version_of, priority_asked}
 use Rattle.xa_events.specs.Conversation.{connections, closes_connection}
 use Rattle.xa_types.specs.declared.ids.RequestId.{RequestId}
@@ -168,6 +168,24 @@ reads_aside setup clients worker (Take t) view op n least priority phase kind r 
 reads_aside setup clients worker (Gone s) view op n least priority phase kind r =
     record { called = r.called; just = r.just; accepted = r.accepted; descriptors = r.descriptors; floor = r.floor; stands = r.stands; stays = r.stays; set = r.set; unconnected = r.unconnected }
 reads_aside setup clients worker _ view op n least priority phase kind r = absurd kind
+
+-- the caller's server forwarded a request: a version was read, and what was set is used up
+pub reads_forwarded : (setup : Setup) (clients worker : ℕ) (e : Event) (view : CallerView) (op n least version : ℕ) (priority : Option (Bool × ℤ)) (phase : Phase) → IsForwardBy version e → worker_of clients e ≡ worker → least ≤ version
+    → Reads setup view op n least priority phase → Reads setup (caller_after clients worker e view) op n version None phase
+reads_forwarded setup clients worker (Forward f) view op n least version priority phase kind its recent r =
+    let low = r.floor in
+    record {
+      called = r.called;
+      just = r.just;
+      accepted = r.accepted;
+      descriptors = r.descriptors;
+      floor = greatest_one_more view.versions _ (boot setup) version (λ v is. let one = some_is (if_some (caller_of clients f.server.0 == worker) (Some f.version) v is).1 in omega (arith, kind, one)) (omega (arith, low, recent));
+      stands = r.stands;
+      stays = r.stays;
+      set = ap (λ b. priority_asked (newer b (Forward f) view.set)) (eq-eqb (caller_of clients f.server.0) worker its);
+      unconnected = r.unconnected;
+    }
+reads_forwarded setup clients worker _ view op n least version priority phase kind its recent r = absurd kind
 
 -- where these events stand
 pub served_here : (setup : Setup) (clients worker : ℕ) (e : Event) → IsOfServer e → worker_of clients e ≡ worker → home_of setup clients e ≡ CallerHome worker

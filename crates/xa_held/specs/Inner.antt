@@ -2,7 +2,7 @@
 use Rattle.std.specs.List.{All}
 use Rattle.xa_held.specs.declared.kept_queue.KeptQueue.TheInside.{Inside}
 use Rattle.xa_held.specs.Notes.{IsOwn}
-use Rattle.xa_held.specs.Kept.{Kept, IsRight, IsBrought}
+use Rattle.xa_held.specs.Kept.{Kept, IsRight, IsBrought, IsSentLast}
 
 module _ {A : Type 0} where
   abbrev pub kept_of : Inside A → Kept A
@@ -11,4 +11,5 @@ module _ {A : Type 0} where
   pub record IsKept (k : Inside A) : Type 0 where
     pub right : All (IsRight k.cells.value) k.queue.waiting
     pub brought : All (IsBrought k.queue.entries) k.queue.waiting
+    pub last : All (IsSentLast k.queue) k.queue.waiting
     pub owners : All (IsOwn k.clients) k.queue.entries

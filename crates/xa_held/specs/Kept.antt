@@ -1,17 +1,21 @@
 -- A queue under a lock, as it stands (this project's own).
-use Rattle.std.specs.Prelude.{◌≡◌, ℕ, List, [], ◌∷◌, ◌++◌, map}
+use Rattle.std.specs.Prelude.{◌≡◌, ℕ, List, [], ◌∷◌, ◌++◌, map, IsSomeAnd}
 use Rattle.xa_cell.specs.declared.cells.Cells.{Cells}
 use Rattle.xa_cell.specs.declared.view.Opening.{Opening}
 use Rattle.xa_cell.specs.Known.{named, IsTicketOf}
 use Rattle.std.specs.List.{Contains}
 use Rattle.xa_types.specs.declared.call.Mode.TheVariants.{Reply}
 use Rattle.xa_types.specs.declared.ids.RequestId.{RequestId}
+use Rattle.xa_types.specs.declared.setup.Setup.{Setup}
 use Rattle.xa_events.specs.declared.event.Event.{Event}
 use Rattle.xa_events.specs.declared.event.Event.TheVariants.{Accept, Forward}
+use Rattle.xa_events.specs.Words.{latest}
+use Rattle.xa_events.specs.Request.{is_entry_of}
 use Rattle.xa_frame.specs.Spelling.{IsData}
 use Rattle.xa_lock.specs.declared.makers.Made.{Made}
 use Rattle.xa_queue.specs.declared.entry.Entry.{Entry}
-use Rattle.xa_queue.specs.Queue.{Standing}
+use Rattle.xa_queue.specs.Queue.{Standing, past_of}
+use Rattle.xa_queue.specs.Reading.{AllNew, Fits}
 use Rattle.xa_held.specs.declared.cargo.Cargo.{Cargo}
 use Rattle.xa_held.specs.declared.cargo.Invocation.{Invocation}
 use Rattle.xa_held.specs.declared.kept_queue.Setting.{Setting}
@@ -44,6 +48,10 @@ module _ {A : Type 0} where
     pub entry_is : Made
     pub stands : Contains entries entry_is
     pub brings : Brings entry.request entry.cargo.invocation entry_is.noted.event
+
+  -- if no request was sent there while it waited there, the entry is how its request was sent there last
+  abbrev pub IsSentLast : Standing (Cargo A) → Entry (Cargo A) → Type 0
+  IsSentLast q entry = (setup : Setup) → Fits setup q → AllNew setup q.id.0 (past_of q) → IsSomeAnd (latest (is_entry_of entry.request) (past_of q)) (Brings entry.request entry.cargo.invocation)
 
   -- what it is from its beginning to its end
   abbrev pub setting_of : Kept A → Setting A

@@ -20,7 +20,7 @@ use Rattle.xa_queue.specs.Queue.{none_left}
 use Rattle.xa_queue.specs.Changes.{Notes, NotesAs, IsWorn, put_refused, with_entry, with_gone, Takes, Sweeps}
 use Rattle.xa_held.specs.declared.cargo.Cargo.{Cargo}
 use Rattle.xa_held.specs.Notes.{one, told}
-use Rattle.xa_held.specs.Kept.{Kept, IsRight, IsBrought}
+use Rattle.xa_held.specs.Kept.{Kept, IsRight, IsBrought, IsSentLast}
 
 module _ {A : Type 0} (Change : List Made → (Kept A → Kept A → Type 0) → Type 0) where
   -- nothing is noted and nothing changes: of the queue this holds
@@ -40,7 +40,7 @@ module _ {A : Type 0} (Change : List Made → (Kept A → Kept A → Type 0) →
   PutAs seen maker event entry (Err back) = (back.entry ≡ entry) × Stays (λ old. (put_refused seen old.queue ≡ Some back.why) ⊎ (back.why ≡ refusals.NoMemory))
 
   abbrev pub TookAs : Stamp → CallerId → ServerId → Generation → Result (Taken (Cargo A)) Worn → Type 0
-  TookAs seen maker server generation (Ok (takes.Request out)) = Change (told maker out.noted) (λ old new. Takes seen maker server generation out new.queue old.queue × IsRight old.cells out.entry × IsBrought old.queue.entries out.entry)
+  TookAs seen maker server generation (Ok (takes.Request out)) = Change (told maker out.noted) (λ old new. Takes seen maker server generation out new.queue old.queue × IsRight old.cells out.entry × IsBrought old.queue.entries out.entry × IsSentLast old.queue out.entry)
   TookAs seen maker server generation (Ok takes.Empty) = Stays (λ old. (old.queue.waiting ≡ []) × (old.queue.closed ≡ false))
   TookAs seen maker server generation (Ok takes.Closed) = Stays (λ old. (old.queue.waiting ≡ []) × (old.queue.closed ≡ true))
   TookAs seen maker server generation (Err worn) = WornAtEntry seen worn

@@ -100,6 +100,7 @@ impl<A> KeptQueue<A> {
         requires brings { Brings entry.request entry.cargo.invocation event }
         ensures { PutAs (Becomes self.old self.new) seen maker event entry result }
     {
+        let _waits = self.queue.len();
         self.queue.put(seen, maker, event, entry)
     }
 

@@ -13,4 +13,4 @@ down-requires-clause-deserted g c =
     (subst (λ (k : Kept g.row.A.Denot). all_gone (gone_in (notes_of k)) k.queue.servers ≡ true) (sym c.self.view_is) c.requires.deserted)
 
 pub invariant_of-self-2 : goal.invariant_of-self-2
-invariant_of-self-2 g c = quiet_kept c.self.inside c.args.seen c.args.maker c.in_ok-noted.noted _ _ c.down.new.self c.in_ok-noted.ensures.noted refl refl tt c.self.invariant
+invariant_of-self-2 g c = quiet_kept c.self.inside c.args.seen c.args.maker c.in_ok-noted.noted _ _ c.down.new.self c.in_ok-noted.ensures.noted refl refl (λ r. refl) tt c.self.invariant

@@ -8,4 +8,4 @@ pub invariant_of-self : goal.invariant_of-self
 invariant_of-self g c =
     let its = subst (λ (k : Kept g.row.A.Denot). IsEntry k.queue.id c.args.entry c.args.event) (sym c.self.view_is) c.requires.event in
     let right = subst (λ (k : Kept g.row.A.Denot). IsRight k.cells c.args.entry) (sym c.self.view_is) c.requires.right in
-    put_kept c.self.inside c.args.seen c.args.maker c.args.event c.args.entry c.put.result c.put.new.self its right c.requires.brings c.put.ensures.noted c.put.ensures.kept c.self.invariant
+    put_kept c.self.inside c.args.seen c.args.maker c.args.event c.args.entry c.put.result c.put.new.self its right c.requires.brings c.len-waits.ensures.reads c.put.ensures.noted c.put.ensures.kept c.self.invariant
