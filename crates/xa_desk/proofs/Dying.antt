@@ -1,6 +1,5 @@
 -- The end of a life, and of the request that its server has in hand.
-use Rattle.std.proofs.Common.{◌≡◌, ◌⊎◌, ℕ, Bool, true, false, [], Result, Ok, Err, None, inl, inr, refl, sym, ◌∙◌, ap, subst}
-use Rattle.xa_desk.proofs.Taking.{taken_on}
+use Rattle.std.proofs.Common.{◌≡◌, ◌⊎◌, ℕ, Bool, true, false, [], Result, Ok, Err, Option, None, inl, inr, refl, sym, ◌∙◌, ap, subst}
 use Rattle.std.specs.Prelude.{IfOk, IfErr, IfSome, cond}
 use Rattle.std.specs.List.{All}
 use Rattle.xa_told.specs.xa_types.declared.stamp.Worn.{Worn}
@@ -14,9 +13,13 @@ use Rattle.xa_told.specs.xa_events.Answers.{reply_of}
 use Rattle.xa_told.specs.xa_events.Cases.{is_starved}
 use Rattle.xa_told.specs.xa_events.Request.Settlement.{EndedBy}
 use Rattle.xa_told.specs.xa_events.State.{caller_of}
+use Rattle.xa_told.specs.xa_held.Kept.{IsRight}
 use Rattle.xa_told.specs.xa_held.Notes.{IsOther}
 use Rattle.xa_told.specs.xa_cell.Known.{IsTicketOf}
+use Rattle.xa_told.specs.xa_queue.declared.entry.Entry.{Entry}
 use Rattle.xa_told.specs.xa_work.Work.{Standing as Working}
+use Rattle.xa_told.specs.xa_caller.Caller.{Standing as Caller}
+use Rattle.xa_told.specs.xa_caller.Drafts.{Cargo}
 use Rattle.xa_told.specs.xa_server.declared.closing.Closing.{Closing}
 use Rattle.xa_told.specs.xa_server.declared.slot.ServerSlot.{ServerSlot}
 use Rattle.xa_told.specs.xa_server.Changes.{Dies, DiesFrom, DiesWorn}
@@ -26,10 +29,10 @@ use Rattle.xa_told.proofs.xa_server.Telling.{death_backed}
 use Rattle.xa_desk.specs.declared.domain.Domain.{Domain}
 use Rattle.xa_desk.specs.declared.desk.Desk.{Desk}
 use Rattle.xa_desk.specs.Desks.{IsDesk, Leads, queue_page}
-use Rattle.xa_desk.specs.Serving.{IsTaken, IsServing, IsToTell}
-use Rattle.xa_desk.proofs.Leading.{leads_trans, starts_same}
+use Rattle.xa_desk.specs.Serving.{IsServing, IsToTell}
+use Rattle.xa_desk.proofs.Leading.{leads_trans}
 use Rattle.xa_desk.proofs.Stopping.{stop_leads, same_leads}
-use Rattle.xa_desk.proofs.Ending.{IsPlain, reworked, end_leads, names_its, closes_ticket, not_empty}
+use Rattle.xa_desk.proofs.Ending.{IsPlain, reworked, plain_leads, names_its, closes_ticket, not_empty}
 
 -- a death is no shutdown, and ends a request by itself
 not_shutdown : (cause : StopCause) → is_death cause ≡ true → cause ≡ Shutdown → ⊥
@@ -39,32 +42,32 @@ plain_death : (cause : StopCause) → IsPlain (outcome_of cause)
 plain_death cause = by (is_starved cause)
   where
     by : (b : Bool) → IsPlain (cond b outcomes.Starved outcomes.Died)
-    by true = (refl, tt)
-    by false = (refl, tt)
+    by true = refl
+    by false = refl
 
 -- what a server's worker has goes on with its slot, where no pass changed
-pub serving_on : (d : Domain) (queue : ℕ) (desk : Desk) (slot slot' : ServerSlot) (new : Working) → IsServing d queue slot desk → Stands slot' new → slot'.server ≡ slot.server → slot'.gone ≡ slot.gone
-    → (slot'.hand ≡ None) ⊎ (slot'.hand ≡ slot.hand) → IsServing d queue slot' (reworked desk new)
-serving_on d queue desk slot slot' new serving stands server gone hand = record {
+pub serving_on : (d : Domain) (queue : ℕ) (desk : Desk) (slot slot' : ServerSlot) (new : Caller) → IsServing d queue slot desk → Stands slot' new.work → new.phase ≡ desk.caller.phase → slot'.server ≡ slot.server → slot'.gone ≡ slot.gone → IfSome slot'.hand (IsRight d.cells) → IsServing d queue slot' (record desk { caller = new })
+serving_on d queue desk slot slot' new serving stands phase server gone hand = record {
   stands = stands;
-  idle = serving.idle;
+  idle = phase ∙ serving.idle;
   its = ap (λ s. queue_of d.setup s.0) server ∙ serving.its;
   some = serving.some;
   least = serving.least;
   left = λ left. subst (λ s. All (IsOther s) (queue_page desk queue).own) (sym server) (serving.left (sym gone ∙ left));
-  hand = by hand;
+  hand = hand;
 }
-  where
-    by : (slot'.hand ≡ None) ⊎ (slot'.hand ≡ slot.hand) → IfSome slot'.hand (IsTaken d queue (reworked desk new))
-    by (inl none) = subst (λ h. IfSome h (IsTaken d queue (reworked desk new))) (sym none) tt
-    by (inr same) = subst (λ h. IfSome h (IsTaken d queue (reworked desk new))) (sym same) (taken_on d queue desk (reworked desk new) (starts_same (queue_page desk queue).seen) slot.hand serving.hand)
+
+-- nothing is in hand, or what was
+pub hand_on : (d : Domain) (hand hand' : Option (Entry Cargo)) → (hand' ≡ None) ⊎ (hand' ≡ hand) → IfSome hand (IsRight d.cells) → IfSome hand' (IsRight d.cells)
+hand_on d hand hand' (inl none) right = subst (λ h. IfSome h (IsRight d.cells)) (sym none) tt
+hand_on d hand hand' (inr same) right = subst (λ h. IfSome h (IsRight d.cells)) (sym same) right
 
 module _ (d : Domain) (queue : ℕ) (desk : Desk) (slot : ServerSlot) (cause : StopCause) (is : IsDesk d desk) (serving : IsServing d queue slot desk) (death : is_death cause ≡ true) where
   dies_leads : (doing : Doing) (closing : Closing) (slot' : ServerSlot) (new : Working) → DiesFrom doing cause closing slot' slot new desk.caller.work → Leads d desk (reworked desk new)
   dies_leads (Busy generation request) closing slot' new dies =
       let made = dies.ends.noted.made in
       let number = serving.stands.tables.worker.number in
-      let ended = end_leads d queue desk slot dies.ended (outcome_of cause) dies.stamp desk.caller.work.room dies.between is serving (plain_death cause) dies.ends in
+      let ended = plain_leads d queue desk slot dies.ended (outcome_of cause) dies.stamp desk.caller.work.room dies.between is serving (plain_death cause) dies.ends in
       let server = ap (λ (s : ServerSlot). s.server) dies.ends.left in
       leads_trans d desk (reworked desk dies.between) (reworked desk new) ended
       (stop_leads d queue (reworked desk dies.between) (record dies.ended { hand = None }) slot' cause dies.stop new ended.desk
@@ -75,16 +78,16 @@ module _ (d : Domain) (queue : ℕ) (desk : Desk) (slot : ServerSlot) (cause : S
   pub died_leads : (slot' : ServerSlot) (new : Working) (r : Result Closing Worn) → IfOk r (λ closing. Dies cause closing slot' slot new desk.caller.work) → IfErr r (λ worn. DiesWorn cause worn slot' slot new desk.caller.work) → Leads d desk (reworked desk new)
   died_leads slot' new (Ok closing) dies worn = dies_leads slot.doing closing slot' new dies
   died_leads slot' new (Err end) dies (at, inl same) = subst (λ (w : Working). Leads d desk (reworked desk w)) (sym same.1) (same_leads d desk is)
-  died_leads slot' new (Err end) dies (at, inr ended) = end_leads d queue desk slot slot' (outcome_of cause) ended.0 desk.caller.work.room new is serving (plain_death cause) ended.1
+  died_leads slot' new (Err end) dies (at, inr ended) = plain_leads d queue desk slot slot' (outcome_of cause) ended.0 desk.caller.work.room new is serving (plain_death cause) ended.1
 
   dies_told : (doing : Doing) (closing : Closing) (slot' : ServerSlot) (new : Working) → DiesFrom doing cause closing slot' slot new desk.caller.work → IfSome closing.ticket (IsTicketOf d.cells) × (new.own ≡ [] → ⊥)
   dies_told (Busy generation request) closing slot' new dies =
-      (closes_ticket d queue desk (reply_of (EndedBy (outcome_of cause))) dies.stamp slot.hand closing dies.closes serving.hand, not_empty dies.between.own _ new.own (ap (λ (w : Working). w.own) dies.stops.noted.made))
+      (closes_ticket d (reply_of (EndedBy (outcome_of cause))) dies.stamp slot.hand closing dies.closes serving.hand, not_empty dies.between.own _ new.own (ap (λ (w : Working). w.own) dies.stops.noted.made))
   dies_told _ closing slot' new dies = (subst (λ t. IfSome t (IsTicketOf d.cells)) (sym dies.nobody) tt, not_empty desk.caller.work.own _ new.own (ap (λ (w : Working). w.own) dies.stops.noted.made))
 
   pub died_told : (slot' : ServerSlot) (new : Working) (r : Result Closing Worn) → IfOk r (λ closing. Dies cause closing slot' slot new desk.caller.work) → IfOk r (IsToTell d (reworked desk new))
   died_told slot' new (Ok closing) dies =
-      let backed = death_backed cause closing slot' slot new desk.caller.work dies (names_its d queue desk slot.hand serving.hand) in
+      let backed = death_backed cause closing slot' slot new desk.caller.work dies (names_its d slot.hand serving.hand) in
       let told = dies_told slot.doing closing slot' new dies in
       record { backed = backed.0; ticket = told.0; reached = backed.1; noted = λ answered. told.1 }
   died_told slot' new (Err worn) dies = tt
@@ -97,7 +100,10 @@ module _ (d : Domain) (queue : ℕ) (desk : Desk) (slot : ServerSlot) (cause : S
   )
   dies_serving _ closing slot' new dies = (ap (λ (s : ServerSlot). s.server) dies.stops.left, ap (λ (s : ServerSlot). s.gone) dies.stops.left, inr (ap (λ (s : ServerSlot). s.hand) dies.stops.left))
 
+  on : (slot' : ServerSlot) (new : Working) → Stands slot' new → slot'.server ≡ slot.server → slot'.gone ≡ slot.gone → (slot'.hand ≡ None) ⊎ (slot'.hand ≡ slot.hand) → IsServing d queue slot' (reworked desk new)
+  on slot' new stands server gone hand = serving_on d queue desk slot slot' (record desk.caller { work = new }) serving stands refl server gone (hand_on d slot.hand slot'.hand hand serving.hand)
+
   pub died_serving : (slot' : ServerSlot) (new : Working) (r : Result Closing Worn) → Stands slot' new → IfOk r (λ closing. Dies cause closing slot' slot new desk.caller.work) → IfErr r (λ worn. DiesWorn cause worn slot' slot new desk.caller.work) → IsServing d queue slot' (reworked desk new)
-  died_serving slot' new (Ok closing) stands dies worn = let is' = dies_serving slot.doing closing slot' new dies in serving_on d queue desk slot slot' new serving stands is'.0 is'.1 is'.2
-  died_serving slot' new (Err end) stands dies (at, inl same) = serving_on d queue desk slot slot' new serving stands (ap (λ (s : ServerSlot). s.server) same.0) (ap (λ (s : ServerSlot). s.gone) same.0) (inr (ap (λ (s : ServerSlot). s.hand) same.0))
-  died_serving slot' new (Err end) stands dies (at, inr ended) = serving_on d queue desk slot slot' new serving stands (ap (λ (s : ServerSlot). s.server) ended.1.left) (ap (λ (s : ServerSlot). s.gone) ended.1.left) (inr (ap (λ (s : ServerSlot). s.hand) ended.1.left))
+  died_serving slot' new (Ok closing) stands dies worn = let is' = dies_serving slot.doing closing slot' new dies in on slot' new stands is'.0 is'.1 is'.2
+  died_serving slot' new (Err end) stands dies (at, inl same) = on slot' new stands (ap (λ (s : ServerSlot). s.server) same.0) (ap (λ (s : ServerSlot). s.gone) same.0) (inr (ap (λ (s : ServerSlot). s.hand) same.0))
+  died_serving slot' new (Err end) stands dies (at, inr ended) = on slot' new stands (ap (λ (s : ServerSlot). s.server) ended.1.left) (ap (λ (s : ServerSlot). s.gone) ended.1.left) (inr (ap (λ (s : ServerSlot). s.hand) ended.1.left))

@@ -12,6 +12,7 @@ use Rattle.xa_told.specs.xa_crew.Seen.{past_in}
 use Rattle.xa_told.specs.xa_queue.declared.told.GivenUp.{GivenUp}
 use Rattle.xa_told.specs.xa_queue.Changes.{next_stamp}
 use Rattle.xa_told.specs.xa_held.Joins.{SawLeft, events_at}
+use Rattle.xa_told.specs.xa_held.Kept.{IsRight}
 use Rattle.xa_told.specs.xa_held.Steps.{GaveUpAs}
 use Rattle.xa_told.specs.xa_held.Visits.{Visits}
 use Rattle.xa_told.proofs.xa_held.Lefts.{saw_left, saw_others}
@@ -22,10 +23,10 @@ use Rattle.xa_desk.specs.declared.domain.Domain.{Domain}
 use Rattle.xa_desk.specs.declared.desk.Desk.{Desk}
 use Rattle.xa_desk.specs.Desks.{Leads}
 use Rattle.xa_desk.specs.Found.{SawAtQueue}
-use Rattle.xa_desk.specs.Serving.{IsTaken, IsServing, IsDeserted, LeftOthers, LeavesAs}
+use Rattle.xa_desk.specs.Serving.{IsServing, IsDeserted, LeftOthers, LeavesAs}
 use Rattle.xa_desk.proofs.Showing.{setting, saw_there}
 use Rattle.xa_desk.proofs.Visiting.{QueuePass, Step, its_pass, page_is, now_has, later, event_leads}
-use Rattle.xa_desk.proofs.Taking.{taken_still, notes_serve}
+use Rattle.xa_desk.proofs.Taking.{notes_serve}
 
 module _ {d : Domain} {queue k : ℕ} {desk new : Desk} {p p' : QueuePass} {last : Stamp} {slot : ServerSlot} (step : Step d queue k desk new p p' last) (serving : IsServing d queue slot desk) (seen : Stamp) (maker : CallerId) (server : ServerId) (done : GivenUp)
     (saw : seen ≡ desk.caller.work.stamp) (serves : server ≡ slot.server) (left : GaveUpAs (Visits (page_of p) (page_of p')) seen maker server (Ok done)) (caller : new.caller ≡ noted_off done.noted.stamp done.noted.event.value desk.caller) where
@@ -44,7 +45,7 @@ module _ {d : Domain} {queue k : ℕ} {desk new : Desk} {p p' : QueuePass} {last
   left_serves : (slot' : ServerSlot) → Stands slot' new.caller.work → slot' ≡ record slot { gone = true } → IsServing d queue slot' new
   left_serves slot' stands slot_is =
       notes_serve step serving maker done.noted left caller (Gone slot.server) event slot' (λ stays. absurd (cc (stays, ap (λ (s : ServerSlot). s.gone) slot_is))) stands (ap (λ (s : ServerSlot). s.server) slot_is)
-      (subst (λ h. IfSome h (IsTaken d queue new)) (sym (ap (λ (s : ServerSlot). s.hand) slot_is)) (taken_still step serving left slot.hand serving.hand))
+      (subst (λ h. IfSome h (IsRight d.cells)) (sym (ap (λ (s : ServerSlot). s.hand) slot_is)) serving.hand)
 
   -- it was the last there, or another is left
   left_last : (done.last ≡ true → IsDeserted d queue new) × (done.last ≡ false → SawAtQueue d queue new (LeftOthers d queue slot.server.0))

@@ -25,6 +25,7 @@ pub mod Replying
 pub mod Prioritizing
 pub mod Taking
 pub mod Requests
+pub mod Passes
 -- what crates above cite of the lemmas of those below
 pub use Rattle.xa_told.proofs.xa_types
 pub use Rattle.xa_told.proofs.xa_events

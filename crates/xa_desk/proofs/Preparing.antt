@@ -47,7 +47,7 @@ use Rattle.xa_desk.proofs.Refusing.{IsSame, same_as, refuse_goes}
 use Rattle.xa_desk.proofs.Staying.{found_stays}
 
 -- what was found passes the test, and where nothing was, none does
-passes_found : {X : Type 0} (p : X → Bool) (xs : List X) (x : X) → find p xs ≡ Some x → p x ≡ true
+pub passes_found : {X : Type 0} (p : X → Bool) (xs : List X) (x : X) → find p xs ≡ Some x → p x ≡ true
 passes_found p [] x is = absurd (cc is)
 passes_found p (y ∷ rest) x is = elim (cases_Bool (p y)) [
   | inl here ↦ subst (λ r. p r ≡ true) (cc (sym (ap (λ b. if b then Some y else find p rest) here) ∙ is)) here

@@ -85,7 +85,7 @@ module _ {d : Domain} {found : FoundRows} (ask : Ask) {old : Desk} {entry : Entr
 
   pub brings : Brings entry.request entry.cargo.invocation event
   brings = subst (λ (e : Entry Cargo). Brings e.request e.cargo.invocation event) (sym aimed.entry_is)
-      (subst (λ (e : Event). Brings aimed.draft.asked.request (record { service = aimed.row.service; routine = aimed.row.routine; payload = ask.payload }) e) (sym aimed.event_is) (refl, refl, refl, refl, refl))
+      (subst (λ (e : Event). Brings aimed.draft.asked.request (record { service = aimed.row.service; routine = aimed.row.routine; hop = 0; payload = ask.payload }) e) (sym aimed.event_is) (refl, refl, refl, refl, refl, refl))
 
   pub in_range : IsDomain d → (1 ≤ entry.priority) × (entry.priority ≤ 100)
   in_range domain = subst (λ (e : Entry Cargo). (1 ≤ e.priority) × (e.priority ≤ 100)) (sym aimed.entry_is) (asked_priority aimed.row.priority old.caller.priority (row_priority d.setup domain.configured ask.service aimed.row its))

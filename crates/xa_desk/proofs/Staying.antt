@@ -1,5 +1,6 @@
 -- What a worker found and saw stands as it goes on.
 use Rattle.std.proofs.Common.{◌≡◌, ◌≤◌, ℕ, ◌+◌, true, false, List, sym, ◌∙◌, ap, subst, arith}
+use Rattle.std.specs.Prelude.{IsSomeAnd}
 use Rattle.std.proofs.lemmas.List.Elements.{All-weaker}
 use Rattle.xa_told.specs.xa_types.declared.data.Data.{Data}
 use Rattle.xa_told.specs.xa_types.declared.row.Row.{Row}
@@ -7,10 +8,14 @@ use Rattle.xa_told.specs.xa_types.Found.{FoundRows}
 use Rattle.xa_told.specs.xa_types.Kind.{is_accepted, kind_of}
 use Rattle.xa_told.specs.xa_events.declared.event.Event.{Event}
 use Rattle.xa_told.specs.xa_events.declared.event.Event.TheVariants.{Accept}
+use Rattle.xa_told.specs.xa_events.declared.event.Taken.{Taken}
 use Rattle.xa_told.specs.xa_events.Board.{published}
 use Rattle.xa_told.specs.xa_events.Cases.{RowStands, RowAdmits}
+use Rattle.xa_told.specs.xa_events.Request.{is_entry_of}
+use Rattle.xa_told.specs.xa_events.Words.{latest}
 use Rattle.xa_told.specs.xa_crew.Seen.{past_in, SawSince}
 use Rattle.xa_told.specs.xa_held.Joins.{changes_at}
+use Rattle.xa_told.specs.xa_held.Kept.{Brings}
 use Rattle.xa_told.specs.xa_queue.declared.entry.Entry.{Entry}
 use Rattle.xa_told.specs.xa_caller.Drafts.{Cargo, accepted_by, entry_by}
 use Rattle.xa_desk.specs.declared.domain.Domain.{Domain}
@@ -18,6 +23,7 @@ use Rattle.xa_desk.specs.declared.desk.Desk.{Desk}
 use Rattle.xa_desk.specs.Whole.{entries_of}
 use Rattle.xa_desk.specs.Desks.{Leads, page_in}
 use Rattle.xa_desk.specs.Found.{SawOnBoard, SawAtQueue, SawItsOwnAt, HasFound, IsAimed}
+use Rattle.xa_desk.specs.Serving.{IsTaken}
 
 module _ (d : Domain) (old new : Desk) (leads : Leads d old new) where
   pub board_stays : (P : List Event → Type 0) → SawOnBoard d old P → SawOnBoard d new P
@@ -34,6 +40,10 @@ module _ (d : Domain) (old new : Desk) (leads : Leads d old new) where
       let past = ap past_in own in
       let is = ap (λ i. i.0) id in
       subst (λ (n : ℕ). SawSince d.setup d.clients (entries_of whole) stamp n queue P (past_in new.caller.work.own)) (sym is) (subst (SawSince d.setup d.clients (entries_of whole) stamp old.caller.work.id.0 queue P) (sym {A = List Event} past) seen)
+
+  -- and a request that was taken is as it was sent
+  pub taken_stays : (queue : ℕ) (t : Taken) (entry : Entry Cargo) → new.caller.work.id ≡ old.caller.work.id → new.caller.work.own ≡ old.caller.work.own → IsTaken d queue t old entry → IsTaken d queue t new entry
+  taken_stays queue t entry id own taken = record { its = taken.its; sent = λ whole on. taken.sent whole (leads.before whole on); last = itself_stays queue (λ past. IsSomeAnd (latest (is_entry_of entry.request) past) (Brings entry.request entry.cargo.invocation)) id own taken.last }
 
   -- where the board wasn't visited, and the least version is what it was, or the one that was found
   pub found_stays : (service : List ℕ) (found : FoundRows) → new.board ≡ old.board → new.caller.least ≤ found.version → HasFound d service found old → HasFound d service found new

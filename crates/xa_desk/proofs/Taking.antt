@@ -1,13 +1,11 @@
 -- A server's worker at its queue: what its pass gives, and what goes on as it visits.
-use Rattle.std.proofs.Common.{◌≡◌, ℕ, ◌+◌, true, false, List, [], map, Option, Some, None, refl, sym, ◌∙◌, ap, subst, arith, eq-eqb}
-use Rattle.xa_told.specs.xa_lock.Pages.{StartsWith}
-use Rattle.xa_told.proofs.xa_held.Seen.{sees_more}
+use Rattle.std.proofs.Common.{◌≡◌, ◌<◌, ℕ, zero, suc, ◌+◌, true, false, List, [], map, Option, refl, sym, ◌∙◌, ap, subst, arith, eq-eqb}
 use Rattle.std.specs.Prelude.{IfSome}
-use Rattle.std.specs.List.{All, Contains, flat_map}
-use Rattle.std.proofs.lemmas.Grind.{flat_map-append}
-use Rattle.std.proofs.lemmas.List.Elements.{All-nil, All-cons, All-append, Contains-append_left}
+use Rattle.std.specs.List.{All}
+use Rattle.std.proofs.lemmas.List.Elements.{All-nil, All-cons, All-append}
 use Rattle.xa_told.specs.xa_types.declared.ids.CallerId.{CallerId}
 use Rattle.xa_told.specs.xa_types.declared.ids.ServerId.{ServerId}
+use Rattle.xa_told.specs.xa_types.declared.setup.Setup.{Setup}
 use Rattle.xa_told.specs.xa_types.declared.stamp.Stamp.{Stamp}
 use Rattle.xa_told.specs.xa_types.Setup.{queue_of}
 use Rattle.xa_told.specs.xa_events.declared.event.Event.{Event}
@@ -21,8 +19,8 @@ use Rattle.xa_told.specs.xa_queue.Queue.{has_server, gives_up}
 use Rattle.xa_told.specs.xa_held.declared.kept_queue.QueueNote.{QueueNote}
 use Rattle.xa_told.specs.xa_held.declared.kept_queue.QueueNote.TheVariants.{By}
 use Rattle.xa_told.specs.xa_held.declared.kept_queue.Setting.{Setting}
-use Rattle.xa_told.specs.xa_held.Notes.{made_of, IsOther, told}
-use Rattle.xa_told.specs.xa_held.Kept.{Kept}
+use Rattle.xa_told.specs.xa_held.Notes.{IsOther, told}
+use Rattle.xa_told.specs.xa_held.Kept.{Kept, IsRight}
 use Rattle.xa_told.specs.xa_held.Visits.{Sees, Visits}
 use Rattle.xa_told.proofs.xa_held.Front.{note}
 use Rattle.xa_told.specs.xa_work.Work.{Standing as Working, seeing}
@@ -31,33 +29,46 @@ use Rattle.xa_told.specs.xa_caller.declared.cargo.Filling.{Filling}
 use Rattle.xa_told.specs.xa_caller.Drafts.{Cargo}
 use Rattle.xa_told.specs.xa_caller.Serving.{noted_off}
 use Rattle.xa_told.specs.xa_server.declared.slot.ServerSlot.{ServerSlot}
-use Rattle.xa_told.specs.xa_server.Slot.{Stands}
+use Rattle.xa_told.specs.xa_server.Slot.{Tables, Stands}
 use Rattle.xa_desk.specs.declared.domain.Domain.{Domain}
 use Rattle.xa_desk.specs.declared.desk.Desk.{Desk}
-use Rattle.xa_desk.specs.Desks.{IsDesk, queue_page}
+use Rattle.xa_desk.specs.Desks.{IsDesk, page_at}
 use Rattle.xa_desk.proofs.Visiting.{QueuePass, HasPass, Step, its_pass, page_is, now_has, looked_leads}
 use Rattle.xa_desk.proofs.Showing.{saw_there, closed_seen, waits}
 use Rattle.xa_desk.specs.Found.{SawAtQueue}
-use Rattle.xa_desk.specs.Serving.{IsTaken, IsServing}
+use Rattle.xa_desk.specs.Serving.{IsServing, Sees as SeesStamp}
 
--- a request in hand was brought by what a desk that saw as much sees
-pub taken_on : (d : Domain) (queue : ℕ) (desk new : Desk) → StartsWith (queue_page new queue).seen (queue_page desk queue).seen → (hand : Option (Entry Cargo)) → IfSome hand (IsTaken d queue desk) → IfSome hand (IsTaken d queue new)
-taken_on d queue desk new more None is = tt
-taken_on d queue desk new more (Some entry) is =
-    let old : List (QueueNote Filling) = (queue_page desk queue).seen in
-    let stands = subst (λ (l : List Made). Contains l is.brought) (sym (flat_map-append (made_of {A = Filling}) old more.0)) (Contains-append_left (flat_map made_of old) (flat_map made_of more.0) is.brought is.stands) in
-    record { right = is.right; brought = is.brought; stands = subst (λ (l : List (QueueNote Filling)). Contains (flat_map made_of l) is.brought) (sym more.1) stands; brings = is.brings }
+-- a server of a queue has a number
+has_number : (setup : Setup) (server queue : ℕ) → queue_of setup server ≡ queue → 0 < queue → 0 < server
+has_number setup zero queue is some = absurd (omega (arith, is, some))
+has_number setup (suc n) queue is some = omega arith
 
--- the slot stands also where its worker saw a stamp
+-- and so its worker
+pub its_some : {d : Domain} {queue : ℕ} {desk : Desk} {slot : ServerSlot} → IsServing d queue slot desk → 0 < desk.caller.work.id.0
+its_some {d} {queue} {desk} {slot} serving = let number = serving.stands.tables.worker.number in let some = has_number d.setup slot.server.0 queue serving.its serving.some in omega (arith, number, some)
+
+-- the slot's tables stand also where its worker saw a stamp
+pub tables_seeing : (slot : ServerSlot) (last : Stamp) (w : Working) → Tables slot w → Tables slot (seeing last w)
+tables_seeing slot last w tables = let few = tables.few in record {
+  worker = record { number = tables.worker.number; rule = tables.worker.rule; none = tables.worker.none; unconnected = tables.worker.unconnected };
+  reads = tables.reads;
+  few = omega (arith, few);
+  ready = tables.ready;
+}
+
 pub stands_seeing : (slot : ServerSlot) (last : Stamp) (w : Working) → Stands slot w → Stands slot (seeing last w)
-stands_seeing slot last w stands = let few = stands.tables.few in record {
-  tables = record {
-    worker = record { number = stands.tables.worker.number; rule = stands.tables.worker.rule; none = stands.tables.worker.none; unconnected = stands.tables.worker.unconnected };
-    reads = stands.tables.reads;
-    few = omega (arith, few);
-    ready = stands.tables.ready;
-  };
-  hand = stands.hand;
+stands_seeing slot last w stands = record { tables = tables_seeing slot last w stands.tables; hand = stands.hand }
+
+-- a look at the board leaves what its worker has
+pub looked_serves : (d : Domain) (queue : ℕ) (slot : ServerSlot) (old new : Desk) → SeesStamp old.caller new.caller → new.queues.items ≡ old.queues.items → IsServing d queue slot old → IsServing d queue slot new
+looked_serves d queue slot old new sees queues serving = record {
+  stands = subst (λ (c : Caller). Stands slot c.work) (sym sees.1) (stands_seeing slot sees.0 old.caller.work serving.stands);
+  idle = ap (λ (c : Caller). c.phase) sees.1 ∙ serving.idle;
+  its = serving.its;
+  some = serving.some;
+  least = serving.least;
+  left = λ left. subst (λ (l : List (Option QueuePass)). All (IsOther slot.server) (page_at l queue).own) (sym {A = List (Option QueuePass)} queues) (serving.left left);
+  hand = serving.hand;
 }
 
 module _ {d : Domain} {queue k : ℕ} {desk : Desk} {slot : ServerSlot} {p : QueuePass} (is : IsDesk d desk) (serving : IsServing d queue slot desk) (has : HasPass d queue k desk p) where
@@ -78,11 +89,8 @@ module _ {d : Domain} {queue k : ℕ} {desk : Desk} {slot : ServerSlot} {p : Que
 -- a step of a server's worker at its queue
 module _ {d : Domain} {queue k : ℕ} {desk new : Desk} {p p' : QueuePass} {last : Stamp} {slot : ServerSlot} (step : Step d queue k desk new p p' last) (serving : IsServing d queue slot desk) where
   module _ {more : List Made} {How : Kept Filling → Kept Filling → Type 0} (visits : Visits (page_of p) (page_of p') more How) where
-    pub taken_still : (hand : Option (Entry Cargo)) → IfSome hand (IsTaken d queue desk) → IfSome hand (IsTaken d queue new)
-    taken_still = taken_on d queue desk new (subst (λ page. StartsWith page.seen (queue_page desk queue).seen) (sym (page_is (now_has step))) (subst (λ page. StartsWith (page_of p').seen page.seen) (sym (page_is step.has)) (sees_more visits)))
-
     -- it serves still, where it noted that no server but, it may be, its own is given up
-    pub serving_visits : (slot' : ServerSlot) → (slot'.gone ≡ false → (slot.gone ≡ false) × All (IsOther slot.server) (map (note {A = Filling}) more)) → Stands slot' new.caller.work → new.caller.phase ≡ desk.caller.phase → slot'.server ≡ slot.server → IfSome slot'.hand (IsTaken d queue new) → IsServing d queue slot' new
+    pub serving_visits : (slot' : ServerSlot) → (slot'.gone ≡ false → (slot.gone ≡ false) × All (IsOther slot.server) (map (note {A = Filling}) more)) → Stands slot' new.caller.work → new.caller.phase ≡ desk.caller.phase → slot'.server ≡ slot.server → IfSome slot'.hand (IsRight d.cells) → IsServing d queue slot' new
     serving_visits slot' others stands phase server hand = record {
       stands = stands;
       idle = phase ∙ serving.idle;
@@ -100,7 +108,7 @@ module _ {d : Domain} {queue k : ℕ} {desk new : Desk} {p p' : QueuePass} {last
   -- it saw the queue's last stamp, and noted nothing
   module _ {How : Kept Filling → Kept Filling → Type 0} (visits : Visits (page_of p) (page_of p') [] How) (caller : new.caller ≡ record desk.caller { work = seeing last desk.caller.work }) where
     pub looks_serve : IsServing d queue slot new
-    looks_serve = serving_visits visits slot (λ left. (left, All-nil (IsOther slot.server))) (subst (λ (c : Caller). Stands slot c.work) (sym caller) (stands_seeing slot last desk.caller.work serving.stands)) (ap (λ (c : Caller). c.phase) caller) refl (taken_still visits slot.hand serving.hand)
+    looks_serve = serving_visits visits slot (λ left. (left, All-nil (IsOther slot.server))) (subst (λ (c : Caller). Stands slot c.work) (sym caller) (stands_seeing slot last desk.caller.work serving.stands)) (ap (λ (c : Caller). c.phase) caller) refl serving.hand
 
     -- a queue that was found closed, with none that waits, was seen so
     pub looks_shut : visits.new.queue.waiting ≡ [] → visits.new.queue.closed ≡ true → SawAtQueue d queue new (IsShut d.setup queue)
@@ -114,7 +122,7 @@ module _ {d : Domain} {queue k : ℕ} {desk new : Desk} {p p' : QueuePass} {last
 
   -- it noted an event there, which gives up no server but, it may be, this one
   pub notes_serve : (maker : CallerId) (out : Noted) {How : Kept Filling → Kept Filling → Type 0} → Visits (page_of p) (page_of p') (told maker out) How → new.caller ≡ noted_off out.stamp out.event.value desk.caller → (e : Event) → out.event.value ≡ e
-      → (slot' : ServerSlot) → (slot'.gone ≡ false → (slot.gone ≡ false) × (has_server slot.server (gives_up e) ≡ false)) → Stands slot' new.caller.work → slot'.server ≡ slot.server → IfSome slot'.hand (IsTaken d queue new) → IsServing d queue slot' new
+      → (slot' : ServerSlot) → (slot'.gone ≡ false → (slot.gone ≡ false) × (has_server slot.server (gives_up e) ≡ false)) → Stands slot' new.caller.work → slot'.server ≡ slot.server → IfSome slot'.hand (IsRight d.cells) → IsServing d queue slot' new
   notes_serve maker out visits caller e event slot' others stands server hand =
       let made : Made = record { maker = maker; noted = record { stamp = out.stamp; event = out.event.value } } in
       serving_visits visits slot'

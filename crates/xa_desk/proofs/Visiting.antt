@@ -146,7 +146,7 @@ module _ {d : Domain} {queue k : ℕ} {old new : Desk} {p p' : QueuePass} {last 
     there = let count = step.is.count in let low = step.has.low in ap (λ l. slice_index_or l k None) items ∙ get_or-set_same old.queues.items k (Some p') None (omega (arith, low, count));
   }
 
-  other_there : (j : ℕ) → j ≢ k → slice_index_or new.queues.items j None ≡ slice_index_or old.queues.items j None
+  pub other_there : (j : ℕ) → j ≢ k → slice_index_or new.queues.items j None ≡ slice_index_or old.queues.items j None
   other_there j apart = ap (λ l. slice_index_or l j None) items ∙ get_or-set_other old.queues.items k j (Some p') None apart
 
   pass_before : IsQueuePass d old.caller.work k p

@@ -56,5 +56,5 @@ returns-in-Ok-Request g c =
     let step = stepped new c.take_at-pass.result.pass c.take_at-pass.result.last c.requires.desk c.from-place.ensures c.requires.serving.some c.requires.serving.least c.take_from-pass.ensures.was _ c.take_from-pass.ensures.rest c.put_back.ensures refl c.index.result.now c.index.ensures c.take_at-pass.ensures.lock c.take_at-pass.ensures.reached in
     let took = subst (TookAs (Visits (page_of c.take_from-pass.result) (page_of c.take_at-pass.result.pass)) c.stamp.result c.id.result c.server.result c.life.result) (c.in-Ok-Request.is ∙ ap Ok c.in-Ok-Request.field-0-is) c.take_at-pass.ensures.taken in
     let caller = c.begin.ensures.rest ∙ ap (λ (w : Working). record old { work = w }) c.begin.ensures.noted in
-    let goes = took_goes step c.requires.serving c.stamp.result c.id.result c.server.result c.life.result out c.stamp.ensures.value c.server.ensures took caller c.life.ensures c.begin.new.self c.begin.ensures.stands c.begin.ensures.slot in
+    let goes = took_goes step c.requires.serving c.stamp.result c.id.result c.server.result c.life.result out c.stamp.ensures.value c.id.ensures.value c.server.ensures took caller c.life.ensures c.begin.new.self c.begin.ensures.stands c.begin.ensures.slot in
     record { leads = goes.0; serving = goes.1; taken = goes.2; board = (refl, refl) }
