@@ -47,6 +47,14 @@ silent (Invoked says) e = absurd (cc e)
 silent (Answers value code payload says h) e = absurd (not_ready value e)
 silent (Passes service payload says h) e = absurd (cc e)
 
+-- the number of the next INVOKE is one more behind a RETURN and a FORWARD
+finished_tag : (frames : List Frame) (tag : ℕ) (f : Frame) (back : Finish) → tag ≡ tag_after (length (finishes_in frames)) → f ≡ finish_frame tag back
+    → tag_after_turn Serving tag ≡ tag_after (length (finishes_in (frames ++ f ∷ [])))
+finished_tag frames tag f back is said =
+    let more : length (finishes_in (frames ++ f ∷ [])) ≡ length (finishes_in frames) + 1
+    = ap (λ (g : Frame). length (finishes_in (frames ++ g ∷ []))) said ∙ (ap length (finishes_push frames tag back) ∙ length-append (finishes_in frames) (back ∷ [])) in
+    (ap (λ (k : ℕ). (k + 1) % 2 ^ 32) is ∙ mod-add-mod (length (finishes_in frames) + 1) (2 ^ 32) 1) ∙ ap tag_after (sym more)
+
 module _ (name : List ℕ) where
   -- a frame that may come next is said in turn
   heard_says : (n : ℕ) (frames : List Frame) (turn : Turn) (f : Frame) → Says name n frames turn → MaySay name (tag_after n) turn f → HasSpelling f
@@ -64,13 +72,6 @@ module _ (name : List ℕ) where
       (says_again (Passes service payload says (subst HasSpelling is h)))
   heard_says n frames AwaitsInvoke f says may h = absurd may
   heard_says n frames Exited f says may h = absurd may
-
-  finished_tag : (frames : List Frame) (tag : ℕ) (f : Frame) (back : Finish) → tag ≡ tag_after (length (finishes_in frames)) → f ≡ finish_frame tag back
-      → tag_after_turn Serving tag ≡ tag_after (length (finishes_in (frames ++ f ∷ [])))
-  finished_tag frames tag f back is said =
-      let more : length (finishes_in (frames ++ f ∷ [])) ≡ length (finishes_in frames) + 1
-      = ap (λ (g : Frame). length (finishes_in (frames ++ g ∷ []))) said ∙ (ap length (finishes_push frames tag back) ∙ length-append (finishes_in frames) (back ∷ [])) in
-      (ap (λ (k : ℕ). (k + 1) % 2 ^ 32) is ∙ mod-add-mod (length (finishes_in frames) + 1) (2 ^ 32) 1) ∙ ap tag_after (sym more)
 
   -- and the next number stays, or is one more behind a RETURN and a FORWARD
   heard_tag : (frames : List Frame) (turn : Turn) (tag : ℕ) (f : Frame) → tag ≡ tag_after (length (finishes_in frames)) → MaySay name tag turn f

@@ -202,7 +202,7 @@ module _ (setup : Setup) where
         (came_in over.life.server.0 over.life.generation.0 own, record { event = End e; before = own }, came_end over.life.server.0 over.life.generation.0 e own its, follows.came, ends);
   }
 
-  -- as its RETURN was to come
+  -- as its RETURN or FORWARD was to come
   pub settles_lost : (old : Standing) (over : Ending) (own : List Event) (e : Ended) → Fell over old → old.turn ≡ Serving → is_of_life over.life.server.0 over.life.generation.0 e.server.0 e.generation.0 ≡ true
       → e.outcome ≡ lost_by over.cause → Follows setup old own → Settled setup over (End e ∷ own)
   settles_lost old over own e fell serving its ends follows =
