@@ -7,7 +7,7 @@ use xa_report::events::{Event, StopCause};
 use xa_report::link::{MemoryYard, OpenGate};
 
 // The clock stands at 0, so each start counts by each GRACE.
-const TWO_STARTS: &[u8] = b"[[queue]]\nname = \"Q\"\n\
+pub const TWO_STARTS: &[u8] = b"[[queue]]\nname = \"Q\"\n\
     [[server]]\nname = \"S\"\nqueue = \"Q\"\nrestart = true\nmaxgen = 2\ngrace = 1\n\
     [[service]]\nname = \"ECHO\"\nqueues = [\"Q\"]\n";
 
@@ -15,7 +15,7 @@ const THREE_STARTS: &[u8] = b"[[queue]]\nname = \"Q\"\n\
     [[server]]\nname = \"S\"\nqueue = \"Q\"\nrestart = true\nmaxgen = 3\n\
     [[service]]\nname = \"ECHO\"\nqueues = [\"Q\"]\n";
 
-const NO_RESTART: &[u8] = b"[[queue]]\nname = \"Q\"\n\
+pub const NO_RESTART: &[u8] = b"[[queue]]\nname = \"Q\"\n\
     [[server]]\nname = \"S\"\nqueue = \"Q\"\nmaxgen = 3\n\
     [[service]]\nname = \"ECHO\"\nqueues = [\"Q\"]\n";
 
@@ -39,20 +39,20 @@ const ANSWERS: Option<Life<'static>> = Some((&[READY, NEXT, SUCCESS, NEXT], SOUN
 // Its first INVOKE or SHUTDOWN can't be written.
 const UNWRITTEN: Option<Life<'static>> = Some((&[READY, NEXT], [&[], &[1], &[]]));
 
-const NONE: &[u8] = b"client a\n";
+pub const NONE: &[u8] = b"client a\n";
 
-const ONE: &[u8] = b"client a\ncall ECHO text \"k\"\n";
+pub const ONE: &[u8] = b"client a\ncall ECHO text \"k\"\n";
 
-const TWO: &[u8] = b"client a\ncall ECHO none\ncall ECHO none\n";
+pub const TWO: &[u8] = b"client a\ncall ECHO none\ncall ECHO none\n";
 
 const THREE: &[u8] = b"client a\ncall ECHO none\ncall ECHO none\ncall ECHO none\n";
 
 const FIVE: &[u8] = b"client a\ncall ECHO text \"x\"\ncall ECHO text \"y\"\ncall ECHO text \"z\"\n\
     call ECHO text \"w\"\ncall ECHO none\n";
 
-// What is noted of the server: its starts by their generations, the ends of its lives, and that it is given up.
+/// What is noted of the server: its starts by their generations, the ends of its lives, and that it is given up.
 #[derive(Clone, Copy, PartialEq, Eq)]
-enum Noted {
+pub enum Noted {
     Start(u64),
     StartFailed(u64),
     Stop(StopCause),
@@ -67,8 +67,8 @@ const SHUT: Noted = Noted::Stop(StopCause::Shutdown);
 
 const WRITE_FAILED: Noted = Noted::Stop(StopCause::WriteFault);
 
-// The configuration, the script, the server's lives or `None` where it can't be started, the transcript, and what is noted.
-type Row = (
+/// The configuration, the script, the server's lives or `None` where it can't be started, the transcript, and what is noted.
+pub type Row = (
     &'static [u8],
     &'static [u8],
     &'static [Option<Life<'static>>],
@@ -241,7 +241,8 @@ fn is_served<R: Runtime>(
     }
 }
 
-fn serves<R: Runtime>(rt: &R, row: Row) -> bool {
+/// Whether the run of a row goes so.
+pub fn serves<R: Runtime>(rt: &R, row: Row) -> bool {
     match lives_of(rt.alloc(), row.2) {
         Some(mut yard) => is_served(rt, &mut yard, row),
         None => false,
