@@ -102,12 +102,12 @@ module _ {d : Domain} {queue : ℕ} {slot slot' : ServerSlot} {old new : Desk} w
         seat = ap (λ (c : Caller). c.seat) goes.noted;
       })
 
-  -- as the forward says
-  pub forward_by : (entry : Entry Cargo) (event : Event) (service : List ℕ) → IsPassing d queue entry event slot old → AreRowsOf d.setup service old.reader.found.rows → IsForwarded service entry.cargo.invocation.payload event
-  forward_by entry event service passing rows =
-      let row : Row = passing.row in
-      subst (IsForwarded service entry.cargo.invocation.payload) (sym passing.event_is)
-      (row-service d.setup service row (All-contains (λ (r : Row). r ≡ row_for d.setup service r.queue.0 r.routine) old.reader.found.rows row rows passing.among), refl)
+-- as the forward says
+pub forward_by : {d : Domain} {queue : ℕ} {slot : ServerSlot} {old : Desk} (entry : Entry Cargo) (event : Event) (service : List ℕ) → IsPassing d queue entry event slot old → AreRowsOf d.setup service old.reader.found.rows → IsForwarded service entry.cargo.invocation.payload event
+forward_by {d} {queue} {slot} {old} entry event service passing rows =
+    let row : Row = passing.row in
+    subst (IsForwarded service entry.cargo.invocation.payload) (sym passing.event_is)
+    (row-service d.setup service row (All-contains (λ (r : Row). r ≡ row_for d.setup service r.queue.0 r.routine) old.reader.found.rows row rows passing.among), refl)
 
 -- ---- nothing was noted
 
@@ -125,12 +125,12 @@ same_halt : {a b : Halt} → Some a ≡ Some b → a ≡ b
 same_halt same = cc same
 
 -- why a queue refused is how the worker halts, if it does
-pub halt_shown : {d : Domain} {queue : ℕ} {desk : Desk} (why : Refusal) (halt : Halt) → halt_by why ≡ Some halt → ShowsWhy d queue why desk → IsHaltAt desk halt
-halt_shown {d} {queue} {desk} (refusals.Worn stamp) halt is shows = subst (IsHaltAt desk) (same_halt is) shows
-halt_shown {d} {queue} {desk} refusals.NoMemory halt is shows = subst (IsHaltAt desk) (same_halt is) tt
-halt_shown refusals.Down halt is shows = absurd (cc is)
-halt_shown refusals.Closed halt is shows = absurd (cc is)
-halt_shown (refusals.Full n) halt is shows = absurd (cc is)
+pub halt_shown : (d : Domain) (queue : ℕ) (desk : Desk) (why : Refusal) (halt : Halt) → halt_by why ≡ Some halt → ShowsWhy d queue why desk → IsHaltAt desk halt
+halt_shown d queue desk (refusals.Worn stamp) halt is shows = subst (IsHaltAt desk) (same_halt is) shows
+halt_shown d queue desk refusals.NoMemory halt is shows = subst (IsHaltAt desk) (same_halt is) tt
+halt_shown d queue desk refusals.Down halt is shows = absurd (cc is)
+halt_shown d queue desk refusals.Closed halt is shows = absurd (cc is)
+halt_shown d queue desk (refusals.Full n) halt is shows = absurd (cc is)
 
 module _ {d : Domain} {queue : ℕ} {slot : ServerSlot} {old : Desk} where
   -- the request is in hand again, and its worker halts
@@ -187,7 +187,7 @@ pub record SameServer (slot slot' : ServerSlot) : Type 0 where
   pub gone : slot'.gone ≡ slot.gone
   pub does : slot'.doing ≡ slot.doing
 
-module _ {d : Domain} {queue : ℕ} {slot slot' last : ServerSlot} {a b c : Desk} (same : SameServer slot slot') (steps : Steps d [] a b) (own : b.caller.work.own ≡ a.caller.work.own) (seat : b.caller.seat ≡ a.caller.seat) where
+module _ (d : Domain) (queue : ℕ) (slot slot' last : ServerSlot) (a b c : Desk) (same : SameServer slot slot') (steps : Steps d [] a b) (own : b.caller.work.own ≡ a.caller.work.own) (seat : b.caller.seat ≡ a.caller.seat) where
   serves_from : (more : List Event) → Serves d queue more slot' last b c → Serves d queue more slot last a c
   serves_from more serves = record { steps = steps_from more serves.steps; serving = serves.serving; server = serves.server ∙ same.server; made = serves.made ∙ same.made; gone = serves.gone ∙ same.gone }
     where
@@ -229,15 +229,19 @@ module _ {d : Domain} {queue : ℕ} {slot slot' last : ServerSlot} {a b c : Desk
 
 -- ---- one attempt behind another
 
-module _ {d : Domain} {queue : ℕ} {slot slot' last : ServerSlot} {a b c : Desk} where
-  same_server : slot' ≡ slot → SameServer slot slot'
-  same_server same = record { server = ap (λ (s : ServerSlot). s.server) same; made = ap (λ (s : ServerSlot). s.made) same; gone = ap (λ (s : ServerSlot). s.gone) same; does = ap (λ (s : ServerSlot). s.doing) same }
+same_server : {slot slot' : ServerSlot} → slot' ≡ slot → SameServer slot slot'
+same_server same = record { server = ap (λ (s : ServerSlot). s.server) same; made = ap (λ (s : ServerSlot). s.made) same; gone = ap (λ (s : ServerSlot). s.gone) same; does = ap (λ (s : ServerSlot). s.doing) same }
 
-  pub tried_from : (service : List ℕ) (payload payload' : Data) (tried : Tried) → slot' ≡ slot → payload' ≡ payload → IsBack d a b → TriedAs d queue service payload' tried slot' last b c → TriedAs d queue service payload tried slot last a c
-  tried_from service payload payload' (tries.Passed told) same its_data back passes =
-      subst (λ (x : Data). Passes d queue service x told slot last a c) its_data (passes_from (same_server same) back.steps back.own back.seat service payload' told passes)
-  tried_from service payload payload' (tries.Halted halt) same its_data back keeps = keeps_from (same_server same) back.steps back.own back.seat halt keeps
-  tried_from service payload payload' (tries.Again entry event) same its_data back (passing, still, further, its) = (passing, still ∙ same, back_trans back further, its ∙ its_data)
+module _ (d : Domain) (slot slot' last : ServerSlot) (a b c : Desk) (same : slot' ≡ slot) (back : IsBack d a b) where
+  here_from : (service : List ℕ) (payload payload' : Data) (tried : Tried) → payload' ≡ payload → TriedAs d (its_queue d slot) service payload' tried slot' last b c → TriedAs d (its_queue d slot) service payload tried slot last a c
+  here_from service payload payload' (tries.Passed told) its_data passes =
+      subst (λ (x : Data). Passes d (its_queue d slot) service x told slot last a c) its_data (passes_from d (its_queue d slot) slot slot' last a b c (same_server same) back.steps back.own back.seat service payload' told passes)
+  here_from service payload payload' (tries.Halted halt) its_data keeps = keeps_from d (its_queue d slot) slot slot' last a b c (same_server same) back.steps back.own back.seat halt keeps
+  here_from service payload payload' (tries.Again entry event) its_data (passing, still, further, its) = (passing, still ∙ same, back_trans back further, its ∙ its_data)
+
+  pub tried_from : (service : List ℕ) (payload payload' : Data) (tried : Tried) → payload' ≡ payload → TriedAs d (its_queue d slot') service payload' tried slot' last b c → TriedAs d (its_queue d slot) service payload tried slot last a c
+  tried_from service payload payload' tried its_data is =
+      here_from service payload payload' tried its_data (subst (λ (s : ServerSlot). TriedAs d (its_queue d s) service payload' tried slot' last b c) same is)
 
 -- what a queue refused is out still
 pub still_out : {d : Domain} (entry back : Entry Cargo) (event : Event) (slot slot' : ServerSlot) (desk : Desk) → slot' ≡ slot → back ≡ entry → IsPassing d (its_queue d slot) entry event slot' desk → IsPassing d (its_queue d slot') back event slot' desk
@@ -252,7 +256,7 @@ goes_somewhere {d} entry event slot desk passing =
 
 -- ---- what a forward of the slot comes to, by the way that it goes
 
-module _ {version : ℕ} {payload : Data} {slot slot' : ServerSlot} {old new : Caller} where
+module _ (version : ℕ) (payload : Data) (slot slot' : ServerSlot) (old new : Caller) where
   pub failed_as : (way : Result Row ℕ) (closing : Closing) → ForwardsAs version payload way (Failed closing) slot' slot new old → (named : ℕ) × Fails named closing slot' slot new old
   failed_as (Ok row) closing is = absurd is
   failed_as (Err named) closing is = (named, is)
@@ -263,11 +267,18 @@ module _ {version : ℕ} {payload : Data} {slot slot' : ServerSlot} {old new : C
 
 -- what goes on goes to a service that is named
 pub way_named : (setup : Setup) (service : List ℕ) (payload : Data) (hop : ℕ) (found : FoundRows) (row : Row) → way_of setup service payload hop found ≡ Ok row → is_name service ≡ true
-way_named setup service payload hop found row is = by (is_name service) (is_sound setup payload && nat_lt hop 32) (row_or found.version (find (λ (r : Row). is_accepted setup r.accepts (kind_of payload)) found.rows)) is
+way_named setup service payload hop found row is = by (is_name service) (is_sound setup payload) (nat_lt hop 32) (row_or found.version (find (λ (r : Row). is_accepted setup r.accepts (kind_of payload)) found.rows)) is
   where
-    by : (named rest : Bool) (way : Result Row ℕ) → (if named && rest then way else Err 0) ≡ Ok row → named ≡ true
-    by true rest way so = refl
-    by false rest way so = absurd (cc so)
+    by : (named sound few : Bool) (way : Result Row ℕ) → (if named && sound && few then way else Err 0) ≡ Ok row → named ≡ true
+    by true sound few way so = refl
+    by false sound few way so = absurd (cc so)
+
+-- it is out, with nothing noted
+pub out_same : {version : ℕ} {row : Row} {payload : Data} {entry : Entry Cargo} {event : Event} {slot slot' : ServerSlot} {new old : Caller} → PassesOut version row payload entry event slot' slot new old → SameServer slot slot'
+out_same out = record { server = ap (λ (s : ServerSlot). s.server) out.left; made = ap (λ (s : ServerSlot). s.made) out.left; gone = ap (λ (s : ServerSlot). s.gone) out.left; does = ap (λ (s : ServerSlot). s.doing) out.left }
+
+pub out_steps : {d : Domain} {a b : Desk} → Leads d a b → b.caller ≡ a.caller → Steps d [] a b
+out_steps leads same = still_steps leads (ap (λ (c : Caller). c.work.id) same) (ap (λ (c : Caller). c.work.clients) same) (ap (λ (c : Caller). c.work.own) same)
 
 module _ {d : Domain} {queue : ℕ} where
   pub if_taken : {t : Taken} {old new : Desk} → ((entry : Entry Cargo) → IsTaken d queue t old entry → IsTaken d queue t new entry) → (hand : Option (Entry Cargo)) → IfSome hand (IsTaken d queue t old) → IfSome hand (IsTaken d queue t new)
@@ -280,13 +291,6 @@ module _ {d : Domain} {queue : ℕ} where
   fails_at_once service payload named closing told {slot} {slot'} {old} {new} was leads serving seat fails is to =
       let ended = ended_done (BadForward named) closing leads (number_of was) serving seat (λ g. refl) fails.finishes in
       record { event = End ended.0; done = ended.1; by = (named, ended.2); to_tell = told_of d new closing told is to }
-
-  -- it is out, with nothing noted
-  pub out_same : {version : ℕ} {row : Row} {payload : Data} {entry : Entry Cargo} {event : Event} {slot slot' : ServerSlot} {new old : Caller} → PassesOut version row payload entry event slot' slot new old → SameServer slot slot'
-  out_same out = record { server = ap (λ (s : ServerSlot). s.server) out.left; made = ap (λ (s : ServerSlot). s.made) out.left; gone = ap (λ (s : ServerSlot). s.gone) out.left; does = ap (λ (s : ServerSlot). s.doing) out.left }
-
-  pub out_steps : {a b : Desk} → Leads d a b → b.caller ≡ a.caller → Steps d [] a b
-  out_steps leads same = still_steps leads (ap (λ (c : Caller). c.work.id) same) (ap (λ (c : Caller). c.work.clients) same) (ap (λ (c : Caller). c.work.own) same)
 
   -- at a halt
   pub keeps_at_once : (halt : Halt) {slot slot' : ServerSlot} {old new : Desk} → Leads d old new → IsServing d queue slot' new → slot' ≡ slot → new.caller.seat ≡ old.caller.seat → HaltsWith 3 new.caller.work old.caller.work halt → Keeps d queue halt slot slot' old new

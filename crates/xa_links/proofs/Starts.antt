@@ -17,7 +17,7 @@ use Rattle.xa_desk.specs.xa_work.Work.{Standing as Working, theirs}
 use Rattle.xa_desk.specs.xa_work.declared.work.Halt.{Halt}
 use Rattle.xa_desk.specs.xa_pipe.declared.turn.Turn.TheVariants.{AwaitsReady}
 use Rattle.xa_desk.specs.xa_pipe.Frames.{is_take_in}
-use Rattle.xa_desk.specs.xa_pipe.Life.{Occurrence, stops_life, came_at, came_in, returns_in}
+use Rattle.xa_desk.specs.xa_pipe.Life.{Occurrence, stops_life, came_at, came_in, finishes_in}
 use Rattle.xa_desk.specs.xa_pipe.Standing.{Standing as Life, Ending}
 use Rattle.xa_desk.specs.xa_pipe.Following.{is_of, Follows}
 use Rattle.xa_desk.proofs.xa_pipe.Followed.{follows_begun}
@@ -159,7 +159,7 @@ module _ {L T : Type 0} {d : Domain} {named : T → List ℕ} {shows : T → Sta
         };
         does = ap (λ (s : ServerSlot). s.doing) starts.left ∙ ap Idle (sym gen);
         turns = ap (λ (l : Life). l.turn) begins.is;
-        asked = ap (λ (l : Life). length l.asked) begins.is ∙ ap (λ (l : Life). length (returns_in l.said) + 0) (sym begins.is);
+        asked = ap (λ (l : Life). length l.asked) begins.is ∙ ap (λ (l : Life). length (finishes_in l.said) + 0) (sym begins.is);
         room = room;
       }
 

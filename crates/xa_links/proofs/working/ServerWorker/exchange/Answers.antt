@@ -16,7 +16,7 @@ returned-requires-clause-before g c = λ κs within. (
   c.in-Ok.life,
   c.requires.taken.t.request,
   sent_in c.args.self.now c.args.life c.requires.taken c.invocation-asked.result.now c.invocation-asked.ensures c.in-Ok.life c.in-Ok.ensures.sent,
-  subst (λ (b : Finish). Heard (finish_frame (tag_of c.in-Ok.life) b) c.in-Ok-hear.life c.in-Ok.life) c.in-Returns.is c.in-Ok-hear.ensures.heard,
+  subst (λ (b : Finish). Heard (finish_frame (tag_of c.in-Ok.life) b) c.in-Ok-hear.field-0.life c.in-Ok.life) c.in-Returns.is c.in-Ok-hear.ensures.heard,
 )
 
 pub forwarded-requires-clause-before : goal.forwarded-requires-clause-before
@@ -26,7 +26,7 @@ forwarded-requires-clause-before g c = λ κs within.
       c.in-Ok.life,
       has.t,
       sent_in w c.args.life has c.invocation-asked.result.now c.invocation-asked.ensures c.in-Ok.life c.in-Ok.ensures.sent,
-      subst (λ (b : Finish). Heard (finish_frame (tag_of c.in-Ok.life) b) c.in-Ok-hear.life c.in-Ok.life) c.in-Forwards.is c.in-Ok-hear.ensures.heard,
+      subst (λ (b : Finish). Heard (finish_frame (tag_of c.in-Ok.life) b) c.in-Ok-hear.field-0.life c.in-Ok.life) c.in-Forwards.is c.in-Ok-hear.ensures.heard,
       subst (λ h. IfSome h (IsTaken c.args.domain.now w.queue.0 has.t w.desk)) (sym has.hand) has.taken,
     )
 
