@@ -1,10 +1,13 @@
 #!/usr/bin/env python3
-"""A server with the routine ECHO, written from docs/protocol.md.
+"""A server with the routines ECHO and PASS, written from docs/protocol.md.
 
 Started as `echo.py server NAME`, it reads frames from standard input and writes
 frames to standard output. ECHO returns the data of the request with TPSUCCESS
-and code 0, any other routine TPFAIL with code 99 and no data. Octets that are no
-frame, and a frame that may not come then, are told by their place, with status 10.
+and code 0. PASS forwards X_OCTET with a space among its first 256 octets to the
+service before the first space, with what follows it, and returns other data as
+ECHO does. Any other routine returns TPFAIL with code 99 and no data. Octets that
+are no frame, and a frame that may not come then, are told by their place, with
+status 10.
 """
 
 import io
@@ -12,11 +15,12 @@ import os
 import struct
 import sys
 
-READY, NEXT, RETURN, INVOKE, SHUTDOWN = 0x01, 0x02, 0x04, 0x11, 0x13
+READY, NEXT, RETURN, FORWARD, INVOKE, SHUTDOWN = 0x01, 0x02, 0x04, 0x05, 0x11, 0x13
 TPSUCCESS, TPFAIL = 0, 1
 ABSENT, X_OCTET, X_C_TYPE = 0, 1, 2
-MAX_MODE, MAX_BODY, MAX_DATA = 3, 66_000, 65_536
+MAX_MODE, MAX_BODY, MAX_DATA, MAX_WORD = 3, 66_000, 65_536, 255
 HEADER = struct.Struct(">2sBBII")
+OCTET_FRONT = struct.Struct(">BI")  # X_OCTET's kind and length, before its octets.
 
 
 class BadFrame(Exception):
@@ -75,6 +79,24 @@ def take_frame(stream):
     return kind, tag, take(stream, length)
 
 
+def returned(tag, value, code, data):
+    return frame(RETURN, tag, struct.pack(">Bi", value, code) + data)
+
+
+def forwarded(tag, service, octets):
+    """Pass the request on to that service, with X_OCTET."""
+    data = OCTET_FRONT.pack(X_OCTET, len(octets)) + octets
+    return frame(FORWARD, tag, bytes([len(service)]) + service + data)
+
+
+def passed(tag, data):
+    if data[0] == X_OCTET:
+        service, space, rest = data[OCTET_FRONT.size :].partition(b" ")
+        if space and len(service) <= MAX_WORD:
+            return forwarded(tag, service, rest)
+    return returned(tag, TPSUCCESS, 0, data)
+
+
 def answer(tag, body):
     take_name(body)  # The service: what is done depends on the routine alone.
     routine = take_name(body)
@@ -82,8 +104,10 @@ def answer(tag, body):
     data = take_data(body)
     require(not body.read())
     if routine == b"ECHO":
-        return frame(RETURN, tag, struct.pack(">Bi", TPSUCCESS, 0) + data)
-    return frame(RETURN, tag, struct.pack(">BiB", TPFAIL, 99, ABSENT))
+        return returned(tag, TPSUCCESS, 0, data)
+    if routine == b"PASS":
+        return passed(tag, data)
+    return returned(tag, TPFAIL, 99, bytes([ABSENT]))
 
 
 def write(octets):

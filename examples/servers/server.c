@@ -1,9 +1,11 @@
 /*
- * A server with the routine ECHO, as docs/protocol.md says it.
+ * A server with the routines ECHO and PASS, as docs/protocol.md says it.
  *
  * Started with the words `server NAME`, it reads frames from standard input and writes
  * frames to standard output. ECHO returns the data of the request with TPSUCCESS and
- * code 0, any other routine TPFAIL with code 99 and no data. Octets that are no frame,
+ * code 0. PASS forwards X_OCTET with a space among its first 256 octets to the service
+ * before the first space, with what follows it, and returns other data as ECHO does.
+ * Any other routine returns TPFAIL with code 99 and no data. Octets that are no frame,
  * and a frame that may not come then, are told by their place, with status 10.
  *
  *     cc -std=c11 -o server server.c
@@ -21,10 +23,11 @@
 #include <string.h>
 #include <unistd.h>
 
-enum { READY = 0x01, NEXT = 0x02, RETURN = 0x04, INVOKE = 0x11, SHUTDOWN = 0x13 };
+enum { READY = 0x01, NEXT = 0x02, RETURN = 0x04, FORWARD = 0x05, INVOKE = 0x11, SHUTDOWN = 0x13 };
 enum { TPSUCCESS = 0, TPFAIL = 1 };
 enum { ABSENT = 0, X_OCTET = 1, X_C_TYPE = 2 };
-enum { HEADER = 12, MAX_BODY = 66000, MAX_DATA = 65536, MAX_NAME = 31, MAX_MODE = 3 };
+enum { FRONT = 5 }; /* The kind and the length of X_OCTET, before its octets. */
+enum { HEADER = 12, MAX_BODY = 66000, MAX_DATA = 65536, MAX_NAME = 31, MAX_WORD = 255, MAX_MODE = 3 };
 enum { BAD_FRAME = 10 };
 
 static const uint8_t MARK[] = {0x58, 0x41, 0x01};
@@ -180,10 +183,45 @@ static void write_return(uint32_t tag, uint8_t value, int32_t code, struct octet
     write_octets(data.at, data.count);
 }
 
+/* Passes the request on to that service, with X_OCTET. */
+static void write_forward(uint32_t tag, struct octets service, struct octets text)
+{
+    uint8_t front[HEADER + 1 + MAX_WORD + FRONT], *at = front + HEADER;
+    *at++ = (uint8_t)service.count;
+    memcpy(at, service.at, service.count);
+    at += service.count;
+    *at++ = X_OCTET;
+    put_number(at, (uint32_t)text.count);
+    at += 4;
+    put_header(front, FORWARD, (size_t)(at - front) - HEADER + text.count, tag);
+    write_octets(front, (size_t)(at - front));
+    write_octets(text.at, text.count);
+}
+
+/* Forwards X_OCTET that has a space in time, and returns other data. */
+static void pass(uint32_t tag, struct octets data)
+{
+    struct octets text = {data.at, 0};
+    if (data.at[0] == X_OCTET)
+        text = (struct octets){data.at + FRONT, data.count - FRONT};
+    const uint8_t *space = memchr(text.at, ' ', text.count > MAX_WORD ? MAX_WORD + 1 : text.count);
+    if (space == NULL) {
+        write_return(tag, TPSUCCESS, 0, data);
+        return;
+    }
+    size_t length = (size_t)(space - text.at);
+    write_forward(tag, (struct octets){text.at, length}, (struct octets){space + 1, text.count - length - 1});
+}
+
+static bool is_word(struct octets octets, const char *word)
+{
+    return octets.count == strlen(word) && memcmp(octets.at, word, octets.count) == 0;
+}
+
 /* Answers INVOKE, where its body is one. */
 static bool answer_invoke(const struct frame *frame)
 {
-    static const uint8_t echo[] = {'E', 'C', 'H', 'O'}, absent[] = {ABSENT};
+    static const uint8_t absent[] = {ABSENT};
     struct octets rest = {frame->body, frame->length}, service, routine, data;
     uint32_t mode;
     /* What is done depends on the routine alone. */
@@ -191,8 +229,10 @@ static bool answer_invoke(const struct frame *frame)
         return false;
     if (!take_number(&rest, 1, &mode) || mode > MAX_MODE || !take_data(&rest, &data) || rest.count != 0)
         return false;
-    if (routine.count == sizeof echo && memcmp(routine.at, echo, sizeof echo) == 0)
+    if (is_word(routine, "ECHO"))
         write_return(frame->tag, TPSUCCESS, 0, data);
+    else if (is_word(routine, "PASS"))
+        pass(frame->tag, data);
     else
         write_return(frame->tag, TPFAIL, 99, (struct octets){absent, sizeof absent});
     write_next();

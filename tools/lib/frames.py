@@ -2,8 +2,8 @@
 
 import struct
 
-READY, NEXT, RETURN, INVOKE, SHUTDOWN = 0x01, 0x02, 0x04, 0x11, 0x13
-NAMES = {READY: "READY", NEXT: "NEXT", RETURN: "RETURN", INVOKE: "INVOKE", SHUTDOWN: "SHUTDOWN"}
+READY, NEXT, RETURN, FORWARD, INVOKE, SHUTDOWN = 0x01, 0x02, 0x04, 0x05, 0x11, 0x13
+NAMES = {READY: "READY", NEXT: "NEXT", RETURN: "RETURN", FORWARD: "FORWARD", INVOKE: "INVOKE", SHUTDOWN: "SHUTDOWN"}
 OUTCOMES = ["TPSUCCESS", "TPFAIL", "TPEXIT"]
 BEGINS, HEADER, MOST_BODY, MOST_DATA = b"XA\1", 12, 66_000, 65_536
 NO_DATA = b"\0"
@@ -65,8 +65,11 @@ class Body:
     def number(self, size, signed=False):
         return int.from_bytes(self.take(size), "big", signed=signed)
 
+    def word(self):
+        return self.take(self.number(1))
+
     def name(self):
-        found = self.take(self.number(1))
+        found = self.word()
         if not 1 <= len(found) <= 31 or found[0] == 0x2E or any(not 0x21 <= octet <= 0x7E for octet in found):
             raise NoFrame(f"{shown(found)} is no name")
         return found
@@ -100,6 +103,9 @@ def fields(kind, body):
         if outcome >= len(OUTCOMES):
             raise NoFrame(f"the u8 of RETURN is 0, 1 or 2, and not {outcome}")
         found["outcome"], found["code"] = OUTCOMES[outcome], rest.number(4, signed=True)
+        found["subtype"], found["data"] = rest.data()
+    elif kind == FORWARD:
+        found["service"] = rest.word()
         found["subtype"], found["data"] = rest.data()
     elif kind == INVOKE:
         found["service"], found["routine"], found["mode"] = rest.name(), rest.name(), rest.number(1)
@@ -135,4 +141,6 @@ def told(kind, tag, found):
         return f"{words} {tag}: {service}{by}, {shown_data(found['subtype'], found['data'])}"
     if kind == RETURN:
         return f"{words} {tag}: {found['outcome']}, code {found['code']}, {shown_data(found['subtype'], found['data'])}"
+    if kind == FORWARD:
+        return f"{words} {tag}: to {shown(found['service'])}, {shown_data(found['subtype'], found['data'])}"
     return words

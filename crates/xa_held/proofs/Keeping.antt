@@ -149,9 +149,9 @@ module _ {A : Type 0} where
       apart setup entry e its read new =
           let sends = enters k.queue.id entry e its in
           let none : has entry.request (map (λ (x : Entry (Cargo A)). x.request) k.queue.waiting) ≡ false =
-              ap (λ view. has entry.request view.waiting) read.view ∙ subst (λ (o : Option RequestId). IfSome o (λ r. has r (waiting setup k.queue.id.0 (past_of k.queue)) ≡ false)) sends.0 new in
+          ap (λ view. has entry.request view.waiting) read.view ∙ subst (λ (o : Option RequestId). IfSome o (λ r. has r (waiting setup k.queue.id.0 (past_of k.queue)) ≡ false)) sends.0 new in
           All-weaker (λ (x : Entry (Cargo A)). same_request entry.request x.request ≡ false) (λ (x : Entry (Cargo A)). is_entry_of x.request e ≡ false) (λ x far. sends.1 x.request ∙ far) k.queue.waiting
-              (none_of (λ (x : Entry (Cargo A)). same_request entry.request x.request) k.queue.waiting (sym (list_any-map (same_request entry.request) (λ (x : Entry (Cargo A)). x.request) k.queue.waiting) ∙ none))
+          (none_of (λ (x : Entry (Cargo A)). same_request entry.request x.request) k.queue.waiting (sym (list_any-map (same_request entry.request) (λ (x : Entry (Cargo A)). x.request) k.queue.waiting) ∙ none))
 
       put_last : (stamp : Stamp) (event : Event) (entry : Entry (Cargo A)) → IsEntry k.queue.id entry event → Brings entry.request entry.cargo.invocation event → ReadsAsNoted k.queue → All (IsSentLast k.queue) k.queue.waiting
           → All (IsSentLast (noted stamp maker event (with_entry entry k.queue))) (k.queue.waiting ++ entry ∷ [])

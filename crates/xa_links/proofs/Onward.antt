@@ -1,5 +1,5 @@
 -- A server that is done with its request, or passes it on.
-use Rattle.std.proofs.Common.{◌≡◌, ◌<◌, ℕ, ◌+◌, ◌^◌, true, List, [], ◌∷◌, ◌++◌, Option, Some, None, Result, Ok, Err, refl, sym, ◌∙◌, ap, subst, append-nil}
+use Rattle.std.proofs.Common.{◌≡◌, ◌<◌, ℕ, ◌+◌, ◌^◌, true, List, [], ◌∷◌, ◌++◌, Option, Some, None, Result, Ok, Err, refl, sym, ◌∙◌, ap, subst, append-nil, length}
 use Rattle.std.specs.Prelude.{IfSome, IfOk, IfErr}
 use Rattle.std.proofs.lemmas.List.Elements.{All-contains}
 use Rattle.xa_desk.specs.xa_types.declared.data.Data.{Data}
@@ -222,3 +222,27 @@ module _ {d : Domain} {queue : ℕ} {slot slot' last : ServerSlot} {a b c : Desk
   pub result_from : (service : List ℕ) (payload : Data) (r : Result (Option Told) Halt) → PassesAs d queue service payload r slot' last b c → PassesAs d queue service payload r slot last a c
   result_from service payload (Ok told) passes = passes_from service payload told passes
   result_from service payload (Err halt) keeps = keeps_from halt keeps
+
+-- ---- one attempt behind another
+
+module _ {d : Domain} {queue : ℕ} {slot slot' last : ServerSlot} {a b c : Desk} where
+  same_server : slot' ≡ slot → SameServer slot slot'
+  same_server same = record { server = ap (λ (s : ServerSlot). s.server) same; made = ap (λ (s : ServerSlot). s.made) same; gone = ap (λ (s : ServerSlot). s.gone) same; does = ap (λ (s : ServerSlot). s.doing) same }
+
+  pub tried_from : (service : List ℕ) (payload payload' : Data) (tried : Tried) → slot' ≡ slot → payload' ≡ payload → IsBack d a b → TriedAs d queue service payload' tried slot' last b c → TriedAs d queue service payload tried slot last a c
+  tried_from service payload payload' (tries.Passed told) same data back passes =
+      subst (λ (x : Data). Passes d queue service x told slot last a c) data (passes_from (same_server same) back.steps back.own back.seat service payload' told passes)
+  tried_from service payload payload' (tries.Halted halt) same data back keeps = keeps_from (same_server same) back.steps back.own back.seat halt keeps
+  tried_from service payload payload' (tries.Again entry event) same data back (passing, still, further, its) = (passing, still ∙ same, back_trans back further, its ∙ data)
+
+-- what a queue refused is out still
+pub still_out : {d : Domain} (entry back : Entry Cargo) (event : Event) (slot slot' : ServerSlot) (desk : Desk) → slot' ≡ slot → back ≡ entry → IsPassing d (its_queue d slot) entry event slot' desk → IsPassing d (its_queue d slot') back event slot' desk
+still_out {d} entry back event slot slot' desk same is passing =
+    subst (λ (s : ServerSlot). IsPassing d (its_queue d s) back event slot' desk) (sym same) (subst (λ (x : Entry Cargo). IsPassing d (its_queue d slot) x event slot' desk) (sym is) passing)
+
+-- it is out to a queue
+pub goes_somewhere : {d : Domain} {queue : ℕ} (entry : Entry Cargo) (event : Event) (slot : ServerSlot) (desk : Desk) → IsPassing d queue entry event slot desk → 0 < forwarded_to event
+goes_somewhere {d} entry event slot desk passing =
+    let places = All-contains (λ (row : Row). (0 < row.queue.0) × (row.queue.0 < length d.queues.items + 1)) desk.reader.found.rows passing.row passing.found.places passing.among in
+    subst (λ (e : Event). 0 < forwarded_to e) (sym passing.event_is) places.0
+

@@ -32,7 +32,7 @@ use Rattle.xa_caller.specs.xa_events.Words.{added, without, greatest}
 use Rattle.xa_caller.specs.xa_events.State.{caller_of}
 use Rattle.xa_caller.specs.xa_events.Server.{starts, start_in, after_end, doing_after, outcome_in, is_shutdown, is_shutdown_stop, doing, was_shut_down, last_outcome, may_start, may_start_as}
 use Rattle.xa_caller.specs.xa_events.Cases.{may_end_so, idle_stops, dying_stops, is_starved, StartWorker, TakeWorker, EndWorker, StopWorker}
-use Rattle.xa_caller.specs.xa_events.Caller.{open_descriptors, opens_descriptor, closes_descriptor, tick_in, ticks, tick_floor, version_of}
+use Rattle.xa_caller.specs.xa_events.Caller.{open_descriptors, opens_descriptor, closes_descriptor, tick_in, ticks, tick_floor, least_version, version_of}
 use Rattle.xa_caller.specs.xa_events.Conversation.{connections, opens_connection, closes_connection}
 use Rattle.xa_caller.specs.xa_events.Views.{newer, ServerView, server_view, server_after}
 use Rattle.xa_caller.proofs.xa_events.Owns.{server_more}
@@ -331,17 +331,20 @@ room_after Died g = omega arith
 room_after Starved g = omega arith
 
 module _ (slot : ServerSlot) (w : Standing) (tables : Tables slot w) where
-  pub may_ended : (e : Ended) → e.server ≡ slot.server → slot.doing ≡ Busy e.generation e.request → may_end_so w.setup e.outcome ≡ true → version_of e.outcome ≡ None → IsNext w (End e)
+  pub may_ended_by : (e : Ended) → e.server ≡ slot.server → slot.doing ≡ Busy e.generation e.request → may_end_so w.setup e.outcome ≡ true → ((version : ℕ) → version_of e.outcome ≡ Some version → least_version w.setup w.clients w.id.0 (theirs w) ≤ version) → IsNext w (End e)
   unfolding doing
-  may_ended e its busy may none = record {
+  may_ended_by e its busy may recent = record {
     its = ap (λ (s : ServerId). w.clients + s.0) its ∙ tables.worker.number;
     met = subst (λ (s : ServerId). EndWorker w.setup w.clients (record e { server = s }) (theirs w)) (sym its) (record {
       busy = tables.reads.moved ∙ busy;
       may = may;
       unconnected = λ is. ap (λ c. connections c (theirs w)) tables.worker.number ∙ tables.worker.unconnected;
-      not_older = λ version read. absurd (cc (none, read));
+      not_older = λ version read. subst (λ c. least_version w.setup w.clients c (theirs w) ≤ version) (sym tables.worker.number) (recent version read);
     });
   }
+
+  pub may_ended : (e : Ended) → e.server ≡ slot.server → slot.doing ≡ Busy e.generation e.request → may_end_so w.setup e.outcome ≡ true → version_of e.outcome ≡ None → IsNext w (End e)
+  may_ended e its busy may none = may_ended_by e its busy may (λ version read. absurd (cc (none, read)))
 
   pub ended_tables : (e : Ended) (stamp : Stamp) (room : ℕ) → e.server ≡ slot.server → w.stamp.0 < stamp.0 → room_for (after_end e.outcome e.generation) ≤ room
       → Tables (record slot { doing = after_end e.outcome e.generation; last = last_by e.outcome }) (more (record { stamp = stamp; event = End e }) room w)

@@ -1,6 +1,6 @@
 -- How a server forwards the request that it has in hand (after Tuxedo, tpforward; that 32 forwards are the most, and which version of the board a failed
 -- one names, is this project's own).
-use Rattle.std.specs.Prelude.{◌≡◌, ℕ, ℤ, ◌+◌, ◌≤◌, ◌<?◌, ◌&&◌, Bool, true, List, Option, Some, None, Result, Ok, Err, slice_get, if◌then◌else◌}
+use Rattle.std.specs.Prelude.{◌≡◌, ℕ, ℤ, ◌+◌, ◌≤◌, nat_lt, ◌&&◌, Bool, true, List, Option, Some, None, Result, Ok, Err, slice_get, if◌then◌else◌}
 use Rattle.std.specs.List.{find}
 use Rattle.xa_caller.specs.xa_types.declared.data.Data.{Data}
 use Rattle.xa_caller.specs.xa_types.declared.ids.RequestId.{RequestId}
@@ -18,7 +18,9 @@ use Rattle.xa_caller.specs.xa_events.declared.event.Forwarded.{Forwarded}
 use Rattle.xa_caller.specs.xa_events.declared.event.Outcome.TheVariants.{BadForward}
 use Rattle.xa_caller.specs.xa_events.Caller.{version_of}
 use Rattle.xa_caller.specs.xa_events.Cases.{priority_by}
+use Rattle.xa_caller.specs.xa_held.Kept.{Brings}
 use Rattle.xa_caller.specs.xa_queue.declared.entry.Entry.{Entry}
+use Rattle.xa_caller.specs.xa_work.declared.work.Halt.{Halt}
 use Rattle.xa_caller.specs.declared.outcomes.Aimed.{Aimed}
 use Rattle.xa_caller.specs.declared.outcomes.Aimed.TheVariants as aims
 use Rattle.xa_caller.specs.Caller.{Standing as Caller}
@@ -31,13 +33,13 @@ use Rattle.xa_server.specs.declared.slot.ServerSlot.{ServerSlot}
 use Rattle.xa_server.specs.declared.slot.Last.TheVariants as lasts
 use Rattle.xa_server.specs.Changes.{Finishes}
 use Rattle.xa_server.specs.Doings.{life_in}
-use Rattle.xa_server.specs.Slot.{Tables}
+use Rattle.xa_server.specs.Slot.{Tables, Stands}
 
 -- ---- which way a forward goes
 
 -- no service of that name is asked for, the data isn't sound, or the request was forwarded 32 times
 abbrev pub may_forward : Setup → List ℕ → Data → ℕ → Bool
-may_forward setup service payload hop = is_name service && is_sound setup payload && (hop <? 32)
+may_forward setup service payload hop = is_name service && is_sound setup payload && nat_lt hop 32
 
 abbrev pub row_or : ℕ → Option Row → Result Row ℕ
 row_or version (Some row) = Ok row
@@ -66,7 +68,7 @@ forwarded_by slot request hop version row asked payload = record {
 }
 
 -- what waits for it at the queue of that row, and the event that brings it there
-record GoesBy (version : ℕ) (row : Row) (asked : Option (Bool × ℤ)) (hop : ℕ) (payload : Data) (was entry : Entry Cargo) (event : Event) (slot : ServerSlot) : Type 0 where
+pub record GoesBy (version : ℕ) (row : Row) (asked : Option (Bool × ℤ)) (hop : ℕ) (payload : Data) (was entry : Entry Cargo) (event : Event) (slot : ServerSlot) : Type 0 where
   pub entered : entry ≡ entry_behind hop was.request row asked payload was.cargo.ticket
   pub forwards : event ≡ Forward (forwarded_by slot was.request hop version row asked payload)
 
@@ -103,7 +105,7 @@ pub record IsOnWay (entry : Entry Cargo) (event : Event) (slot : ServerSlot) (c 
   pub out : slot.hand ≡ None
   pub f : Forwarded
   pub is : event ≡ Forward f
-  pub request : f.request ≡ entry.request
+  pub brings : Brings entry.request entry.cargo.invocation (Forward f)
   pub server : f.server ≡ slot.server
   pub generation : f.generation ≡ life_in slot.doing
   pub few : f.hop ≤ 32
@@ -111,11 +113,23 @@ pub record IsOnWay (entry : Entry Cargo) (event : Event) (slot : ServerSlot) (c 
   pub recent : c.least ≤ f.version
   pub priority : f.priority ≡ priority_by c.work.setup f.service c.priority
 
+-- what holds behind a forward: the request is on its way, or else the slot stands
+abbrev pub LeftBy : Result Forwards Halt → ServerSlot → Caller → Type 0
+LeftBy (Ok (On entry event)) slot c = IsOnWay entry event slot c
+LeftBy (Ok (Failed closing)) slot c = Stands slot c.work
+LeftBy (Err halt) slot c = Stands slot c.work
+
 -- it is aimed by the row at that attempt, or there is none
 abbrev pub AimsOn : ℕ → Option (Bool × ℤ) → Entry Cargo → List Row → ℕ → ServerSlot → Aimed → Type 0
 AimsOn version asked entry rows attempt slot (aims.At aimed event) = (row : Row) × (slice_get rows attempt ≡ Some row) × GoesBy version row asked entry.cargo.invocation.hop entry.cargo.invocation.payload entry aimed event slot
 AimsOn version asked entry rows attempt slot (aims.Past back) = (slice_get rows attempt ≡ None) × (back ≡ entry)
 AimsOn version asked entry rows attempt slot (aims.NoMemory back) = back ≡ entry
+
+-- it is on its way still, by the event that was made anew, or else by the one before
+abbrev pub StaysOnWay : Event → ServerSlot → Caller → Aimed → Type 0
+StaysOnWay event slot c (aims.At aimed anew) = IsOnWay aimed anew slot c
+StaysOnWay event slot c (aims.Past back) = IsOnWay back event slot c
+StaysOnWay event slot c (aims.NoMemory back) = IsOnWay back event slot c
 
 -- it went on, by an event with that stamp
 pub record GoesOn (stamp : Stamp) (version : ℕ) (event : Event) (slot' slot : ServerSlot) (new old : Caller) : Type 0 where

@@ -1,17 +1,19 @@
 // A server that forwards its request.
-ghost use Rattle.std.specs.Prelude.{◌≡◌, ◌⊎◌, ◌≤◌, ◌<◌, ◌^◌, true, None, Some, IfOk, IfErr, OnErr};
+ghost use Rattle.std.specs.Prelude.{◌≡◌, ℕ, ◌≤◌, ◌<◌, ◌^◌, true, List, None, Some, IfOk, IfErr, OnErr};
 ghost use Rattle.xa_caller.specs.xa_types.Configured.{is_configured};
 ghost use Rattle.xa_caller.specs.xa_types.Kind.{is_sound};
 ghost use Rattle.xa_caller.specs.xa_types.Name.{is_name};
 ghost use Rattle.xa_caller.specs.declared.phase.Phase.TheVariants as phases;
 ghost use Rattle.xa_caller.specs.xa_events.declared.event.Doing.TheVariants as doings;
+ghost use Rattle.xa_caller.specs.xa_events.declared.event.Event.{Event as Happening};
 ghost use Rattle.xa_caller.specs.xa_events.declared.event.Event.TheVariants.{Forward};
 ghost use Rattle.xa_caller.specs.xa_queue.declared.entry.Entry.{Entry as EntryOf};
 ghost use Rattle.xa_caller.specs.Drafts.{Cargo as CargoOf, entry_behind};
 ghost use Rattle.xa_caller.specs.Caller.{AreRowsOf};
 ghost use Rattle.xa_caller.specs.Serving.{IsForwardBy};
+ghost use Rattle.xa_caller.specs.xa_work.Work.{Standing};
 ghost use Rattle.xa_server.specs.Doings.{IsBusy, InHand, life_in};
-ghost use Rattle.xa_server.specs.Forwarding.{way_of, hop_in, forwarded_by, Fails, ForwardsAs, IsOnWay, AimsOn, GoesOn};
+ghost use Rattle.xa_server.specs.Forwarding.{way_of, hop_in, forwarded_by, Fails, ForwardsAs, LeftBy, IsOnWay, AimsOn, StaysOnWay, GoesOn};
 ghost use Rattle.xa_server.specs.Noting.{HaltsWith};
 ghost use Rattle.xa_server.specs.Slot.{Stands, Tables};
 
@@ -84,6 +86,7 @@ impl ServerSlot {
         requires found { is_name service.now ≡ true → AreRowsOf setup.now service.now found.now.rows × (caller.old.least ≤ found.now.version) }
         ensures ok { IfOk result (λ forwarding. ForwardsAs found.now.version payload (way_of setup.now service.now payload (hop_in self.old.hand) found.now) forwarding self.new self.old caller.new caller.old) }
         ensures tables { Tables self.new caller.new.work }
+        ensures left { LeftBy result self.new caller.new }
         ensures halted { IfErr result (HaltsWith 3 caller.new.work caller.old.work) }
         ensures kept { OnErr result ((self.new ≡ self.old) × (caller.new ≡ record caller.old { work = caller.new.work })) }
     {
@@ -111,18 +114,23 @@ impl ServerSlot {
         requires stands { Stands self.old caller.old.work }
         requires idle { caller.old.phase ≡ phases.Idle }
         requires busy { IsBusy self.old.doing }
-        requires recent { (0 < version → ⊥) ⊎ (caller.old.least ≤ version) }
+        requires recent { 0 < version → caller.old.least ≤ version }
         ensures ok { IfOk result (λ closing. Fails version closing self.new self.old caller.new caller.old) }
         ensures stands { Stands self.new caller.new.work }
         ensures halted { IfErr result (HaltsWith 3 caller.new.work caller.old.work) }
         ensures kept { OnErr result ((self.new ≡ self.old) × (caller.new ≡ record caller.old { work = caller.new.work })) }
     {
+        let _itself = caller.id();
         let life = life_in(self.doing);
         let ended = self.end_with(Outcome::BadForward(version));
         let stamp = note_anew(caller, 3, Event::End(ended))?;
         self.doing = Doing::Idle(life);
         self.last = Last::Well;
-        Ok(close(take_out(&mut self.hand), Some(Answer::Error(Fault::SvcErr)), stamp))
+        Ok(close(
+            take_out(&mut self.hand),
+            Some(Answer::Error(Fault::SvcErr)),
+            stamp,
+        ))
     }
 
     // The event that forwards that request by that row.
@@ -161,7 +169,8 @@ impl ServerSlot {
         found: &Found,
         attempt: u32,
     ) -> Aimed
-        ensures { AimsOn found.now.version caller.now.priority entry found.now.rows attempt self.now result }
+        ensures aims { AimsOn found.now.version caller.now.priority entry found.now.rows attempt self.now result }
+        ensures on_way { (event : Happening) (service : List ℕ) → IsOnWay entry event self.now caller.now → AreRowsOf caller.now.work.setup service found.now.rows → caller.now.least ≤ found.now.version → StaysOnWay event self.now caller.now result }
     {
         let Some(row) = row_at(found, attempt) else {
             return Aimed::Past(entry);
@@ -191,6 +200,7 @@ impl ServerSlot {
         ensures goes { GoesOn stamp version event.value self.new self.old caller.new caller.old }
         ensures stands { Stands self.new caller.new.work }
     {
+        let _itself = caller.id();
         caller.forwarded(stamp, version, event);
         self.doing = Doing::Idle(life_in(self.doing));
         self.last = Last::Nothing;
@@ -222,6 +232,7 @@ impl ServerSlot {
         requires out { (self.old.doing ≡ doings.Busy (life_in self.old.doing) entry.request) × (self.old.hand ≡ None) }
         ensures hand { self.new ≡ record self.old { hand = Some entry } }
         ensures in_hand { InHand self.new.doing self.new.hand }
+        ensures stands { (w : Standing) → Tables self.old w → Stands self.new w }
     {
         put_in(&mut self.hand, entry);
     }

@@ -10,10 +10,12 @@ ghost use Rattle.xa_caller.specs.xa_types.declared.ids.ServerId.{ServerId};
 ghost use Rattle.xa_caller.specs.xa_types.Setup.{numbered};
 ghost use Rattle.xa_caller.specs.xa_events.State.{caller_of};
 ghost use Rattle.xa_restart.specs.Rule.{Standing as Restarts, IsRuleOf};
+ghost use Rattle.xa_caller.specs.xa_events.declared.event.Event.{Event};
 ghost use Rattle.xa_caller.specs.xa_events.declared.event.Event.TheVariants.{Sweep};
 ghost use Rattle.xa_caller.specs.xa_events.declared.event.Outcome.{Outcome};
 ghost use Rattle.xa_caller.specs.xa_events.declared.event.StopCause.{StopCause};
 ghost use Rattle.xa_caller.specs.xa_queue.declared.entry.Entry.{Entry};
+ghost use Rattle.xa_caller.specs.Caller.{Standing as Caller};
 ghost use Rattle.xa_caller.specs.Drafts.{Cargo};
 ghost use Rattle.xa_caller.specs.xa_events.Answers.{reply_of};
 ghost use Rattle.xa_caller.specs.xa_events.Request.Settlement.{EndedBy, SweptAway};
@@ -24,6 +26,7 @@ ghost use Rattle.xa_caller.specs.xa_cell.declared.view.View.{View};
 ghost use Rattle.xa_caller.specs.declared.cargo.Filling.{Filling};
 ghost use Rattle.xa_server.specs.declared.closing.Closing.{Closing};
 ghost use Rattle.xa_server.specs.declared.closing.Given.{Given};
+ghost use Rattle.xa_server.specs.Forwarding.{IsOnWay};
 ghost use Rattle.xa_server.specs.Changes.{new_slot, Ends, Closes, Finishes, Dies};
 ghost use Rattle.xa_server.specs.Told.{GivenAs, FilledByEnds, HasStamp, IsBacked, NamesIts};
 
@@ -38,6 +41,11 @@ pub fn new_slots_stand()
 /// domain.
 pub fn still_stands()
     ensures { (slot : ServerSlot) (old new : Standing) → SameWork new old → Stands slot old → Stands slot new }
+{}
+
+/// So a request that is out stays on its way, where what its caller set and read stays too.
+pub fn still_on_way()
+    ensures { (entry : Entry Cargo) (event : Event) (slot : ServerSlot) (old new : Caller) → SameWork new.work old.work → new.least ≡ old.least → new.priority ≡ old.priority → IsOnWay entry event slot old → IsOnWay entry event slot new }
 {}
 
 /// What a slot closes has its end among what its worker noted, with the stamp that the closing carries.

@@ -1,8 +1,8 @@
 // An event at the own home of the server's caller, with the room that it needs.
-ghost use Rattle.std.specs.Prelude.{◌≡◌, ◌<◌, None, IfOk, IfErr, OnErr};
+ghost use Rattle.std.specs.Prelude.{◌≡◌, ◌<◌, None, IfOk, IfErr, OnOk, OnErr};
 ghost use Rattle.xa_caller.specs.xa_work.Work.{IsNext};
 ghost use Rattle.xa_caller.specs.declared.phase.Phase.TheVariants as phases;
-ghost use Rattle.xa_caller.specs.Serving.{IsOfServer, version_ended};
+ghost use Rattle.xa_caller.specs.Serving.{IsOfServer, version_ended, raised};
 ghost use Rattle.xa_server.specs.Noting.{Notes, IsWorn, HaltsWith, with_room};
 
 use xa_caller::Caller;
@@ -10,7 +10,7 @@ use xa_caller::events::Event;
 use xa_caller::types::{Stamp, Worn};
 use xa_caller::work::Halt;
 
-// Notes the event, in room that was made before.
+// Notes the event, which names no version of the board, in room that was made before.
 pub(crate) fn note_in_room(caller: &mut Caller, event: Event) -> Result<Stamp, Worn>
     requires room { 0 < caller.old.work.room }
     requires idle { caller.old.phase ≡ phases.Idle }
@@ -24,21 +24,23 @@ pub(crate) fn note_in_room(caller: &mut Caller, event: Event) -> Result<Stamp, W
     caller.note(event)
 }
 
-// Notes the event, once there is room for so many: for it and what may follow.
+// Notes the event, once there is room for so many: for it and what may follow. The caller reads no version then before the
+// one that the event names.
 pub(crate) fn note_anew(caller: &mut Caller, room: u32, event: Event) -> Result<Stamp, Halt>
     requires room { 0 < room }
     requires idle { caller.old.phase ≡ phases.Idle }
-    requires kind { IsOfServer event × (version_ended event ≡ None) }
+    requires kind { IsOfServer event }
     requires next { IsNext caller.old.work event }
     ensures noted { IfOk result (λ stamp. Notes stamp event caller.new.work (with_room room caller.old.work)) }
-    ensures rest { caller.new ≡ record caller.old { work = caller.new.work } }
+    ensures rest { OnOk result (caller.new ≡ record caller.old { work = caller.new.work; least = raised (version_ended event) caller.old.least }) }
     ensures halted { IfErr result (HaltsWith room caller.new.work caller.old.work) }
+    ensures kept { OnErr result (caller.new ≡ record caller.old { work = caller.new.work }) }
 {
     if caller.reserve(room).is_err() {
         drop(event);
         return Err(Halt::NoMemory);
     }
-    match note_in_room(caller, event) {
+    match caller.note(event) {
         Ok(stamp) => Ok(stamp),
         Err(worn) => Err(Halt::Worn(worn.0)),
     }

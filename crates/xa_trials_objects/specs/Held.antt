@@ -41,12 +41,13 @@ pub record IsFor (cells : Cells ℕ) (request : RequestId) (ticket : Ticket ℕ)
 abbrev pub HasTicket : Cells ℕ → Entry (Cargo ℕ) → Type 0
 HasTicket cells entry = IsTicketOf cells entry.cargo.ticket
 
--- the entry may be put, with an event that has no data
+-- the entry may be put, with an event that has no data, as its caller sent it
 pub record IsFit (cells : Cells ℕ) (entry : Entry (Cargo ℕ)) : Type 0 where
   pub right : IsRight cells entry
   pub least : 1 ≤ entry.priority
   pub most : entry.priority ≤ 100
   pub absent : entry.cargo.invocation.payload ≡ Absent
+  pub first : entry.cargo.invocation.hop ≡ 0
 
 -- what is handed out has a ticket of these cells
 abbrev pub HandsOut : Cells ℕ → Taken (Cargo ℕ) → Type 0

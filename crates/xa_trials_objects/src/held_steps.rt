@@ -39,7 +39,8 @@ pub enum Told {
 
 // The event that brings an entry to that queue.
 fn event_of(id: QueueId, entry: &Carried) -> Event
-    requires { entry.now.cargo.invocation.payload ≡ Absent }
+    requires absent { entry.now.cargo.invocation.payload ≡ Absent }
+    requires first { entry.now.cargo.invocation.hop ≡ 0 }
     ensures entry { IsEntry id entry.now result }
     ensures brings { Brings entry.now.request entry.now.cargo.invocation result }
 {

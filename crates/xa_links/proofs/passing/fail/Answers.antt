@@ -1,0 +1,14 @@
+use Rattle.xa_links.proofs.Onward.{fails_on, fails_halted}
+use Rattle.xa_links.proofs.passing.fail.Goals as goal
+
+pub returns-in-Ok : goal.returns-in-Ok
+returns-in-Ok g c =
+    let p = c.requires.passing in
+    let failed = c.fail_to_pass.ensures in
+    λ service. fails_on c.args.entry p.0 service c.args.desk.now.reader.found.version (record { request = c.args.entry.request; closing = c.in-Ok.closing }) p.1 failed.leads (failed.serving _ p.0 p.1) failed.rest.1 c.in-Ok.ensures.ok c.in-Ok.ensures.told
+
+pub returns-in-Err : goal.returns-in-Err
+returns-in-Err g c =
+    let p = c.requires.passing in
+    let failed = c.fail_to_pass.ensures in
+    λ service. fails_halted c.args.entry service c.args.entry.cargo.invocation.payload c.in-Err.halt failed.leads (failed.serving _ p.0 p.1) failed.rest.1 c.in-Err.ensures.kept c.in-Err.ensures.halted
