@@ -1,9 +1,10 @@
 -- A life of a server, by its worker's own list, in the run.
-use Rattle.std.proofs.Common.{◌≡◌, ℕ, ◌+◌, ◌<◌, ◌%◌, ◌^◌, true, cond, List, [], ◌∷◌, ◌++◌, map, reverse, append-nil, sym, ◌∙◌, ap, subst, arith}
+use Rattle.std.proofs.Common.{◌≡◌, ℕ, ◌+◌, ◌<◌, ◌%◌, ◌^◌, ◌==◌, true, cond, List, [], ◌∷◌, ◌++◌, map, reverse, append-nil, sym, ◌∙◌, ap, subst, arith, eqb-true}
 use Rattle.std.specs.Prelude.{take, drop}
-use Rattle.std.specs.List.{All, Contains, filter, flat_map}
+use Rattle.std.specs.List.{All, filter}
 use Rattle.std.proofs.lemmas.List.{length-map}
-use Rattle.std.proofs.lemmas.List.Elements.{All-tail, All-weaker, filter-append}
+use Rattle.std.proofs.lemmas.Bool.{and_parts}
+use Rattle.std.proofs.lemmas.List.Elements.{All-weaker, filter-append}
 use Rattle.xa_joined.specs.xa_types.declared.ids.Generation.{Generation}
 use Rattle.xa_joined.specs.xa_types.Setup.{queue_of}
 use Rattle.xa_joined.specs.xa_events.Cases.{IsShut}
@@ -12,7 +13,6 @@ use Rattle.xa_joined.specs.xa_events.declared.event.Event.TheVariants.{Take}
 use Rattle.xa_joined.specs.xa_events.declared.event.Taken.{Taken}
 use Rattle.xa_joined.specs.xa_events.Homes.{of_worker}
 use Rattle.xa_joined.specs.xa_events.Homes.Home.{QueueHome}
-use Rattle.xa_joined.specs.xa_events.Laws.{LawOfEnds}
 use Rattle.xa_joined.specs.xa_events.Local.{worker_events}
 use Rattle.xa_joined.specs.xa_events.Queue.{is_closed}
 use Rattle.xa_joined.specs.xa_events.Request.{sent_as}
@@ -22,13 +22,10 @@ use Rattle.xa_joined.proofs.xa_events.Merge.{AtEach-here}
 use Rattle.xa_joined.specs.xa_stamp.declared.home.Stamped.{Stamped}
 use Rattle.xa_joined.specs.xa_stamp.Home.{Notes}
 use Rattle.xa_joined.specs.xa_stamp.Merge.{IsMerged}
-use Rattle.xa_joined.specs.xa_lock.declared.makers.Made.{Made}
 use Rattle.xa_joined.specs.xa_lock.Makers.{noted_in}
 use Rattle.xa_joined.specs.xa_crew.Seen.{SawFront, SawQueue}
 use Rattle.xa_joined.proofs.xa_crew.Lists.{AtEach-later}
 use Rattle.xa_joined.specs.xa_held.declared.cargo.Invocation.{Invocation}
-use Rattle.xa_joined.specs.xa_held.Kept.{Brings}
-use Rattle.xa_joined.specs.xa_held.Notes.{made_of}
 use Rattle.xa_joined.specs.xa_frame.declared.frame.Frame.{Frame}
 use Rattle.xa_joined.specs.xa_pipe.declared.turn.Turn.TheVariants.{AwaitsInvoke}
 use Rattle.xa_joined.specs.xa_pipe.Following.{is_of, IsSent, StandsIn}
@@ -41,8 +38,7 @@ use Rattle.xa_joined.specs.xa_work.Work.{Standing as Working, theirs}
 use Rattle.xa_joined.specs.xa_desk.declared.domain.Domain.{Domain}
 use Rattle.xa_joined.specs.xa_desk.declared.desk.Desk.{Desk}
 use Rattle.xa_joined.specs.xa_desk.Whole.{entries_of}
-use Rattle.xa_joined.specs.xa_desk.Desks.{queue_page}
-use Rattle.xa_joined.specs.xa_desk.Made.{IsMade}
+use Rattle.xa_joined.specs.xa_desk.Serving.{WasSentFor, IsSentFor}
 use Rattle.xa_joined.specs.xa_links.Lives.{lives_in, HasStarted, IsHanded, IsLived}
 use Rattle.xa_joined.specs.Joined.{Back, whole_of, kept_of, noted_of}
 use Rattle.xa_joined.specs.Ended.{ServerEnd, Ends}
@@ -50,17 +46,13 @@ use Rattle.xa_joined.specs.Served.{generations_of, IsLifeOf, IsStarterOf, IsCarr
 use Rattle.xa_joined.proofs.Going.{one_goes_on}
 use Rattle.xa_joined.proofs.Homes.{saw_new}
 use Rattle.xa_joined.proofs.Left.{same_homes}
-use Rattle.xa_joined.proofs.Merged.{merged_made}
-use Rattle.xa_carried.proofs.Merged.{law_of_ends, seen_too, closed_before}
+use Rattle.xa_carried.proofs.Entries.{AtEach-splits}
+use Rattle.xa_carried.proofs.Merged.{asked_before, closed_before}
 use Rattle.xa_carried.proofs.Numbered.{each_from, each_map}
 use Rattle.xa_carried.proofs.Own.{is_worker, its_noted}
 use Rattle.xa_carried.proofs.Readings.{of_life, stop_of_life, life_own, taken_own}
-use Rattle.xa_carried.proofs.Sent.{AtEach-splits, IsAsked, asked_frame, taken_as_brought}
+use Rattle.xa_carried.proofs.Sent.{IsAsked, asked_frame}
 use Rattle.xa_carried.proofs.SoFar.{Shown, shown, of_starts, of_lives}
-
-all_later : {X : Type 0} (P : X → Type 0) (front before : List X) → All P (front ++ before) → All P before
-all_later P [] before all = all
-all_later P (x ∷ front) before all = all_later P front before (All-tail P x (front ++ before) all)
 
 -- ---- what was written for a take
 
@@ -72,15 +64,14 @@ module _ (clients server g : ℕ) (asked : List Frame) where
   unfolding invocation
   same_number t before = ap (λ (n : ℕ). cond (is_of_life server g t.server.0 t.generation.0) (n + 1) n % 2 ^ 32) (taken_own clients server g before)
 
-  -- a take that was handed on by what brought its request came to its INVOKE
-  handed_sent : (brought : List Made) (t : Taken) (before : List Event) → ((made : Made) (what : Invocation) → Contains brought made → Brings t.request what made.noted.event → IsAsked what (sent_as t.request before))
-      → IsHanded server g asked brought (Take t) (its before) → IsSent server g asked (Take t) before
-  handed_sent brought t before said handed of_life =
+  -- a take that was handed on with what its request was sent for came to its INVOKE
+  handed_sent : (Sent : Taken → Invocation → Type 0) (t : Taken) (before : List Event) → ((what : Invocation) → Sent t what → IsAsked what (sent_as t.request before)) → IsHanded server g asked Sent (Take t) (its before) → IsSent server g asked (Take t) before
+  handed_sent Sent t before said handed of_life =
       let h = handed of_life in
-      let what = h.1 in
-      asked_frame what (invocation server g (Take t ∷ before)) (sent_as t.request before) (said h.0 what h.2 h.3)
+      let what = h.0 in
+      asked_frame what (invocation server g (Take t ∷ before)) (sent_as t.request before) (said what h.1)
       ∙ (sym (ap (λ (n : ℕ). invoke_frame what.service what.routine n what.payload ∷ []) (same_number t before))
-      ∙ (sym h.4 ∙ ap (λ (n : ℕ). take 1 (drop n asked)) (taken_own clients server g before)))
+      ∙ (sym h.2 ∙ ap (λ (n : ℕ). take 1 (drop n asked)) (taken_own clients server g before)))
 
 module _ (d : Domain) (b : Back) (domain : Working) (desks : List Desk) (servers : List ServerEnd) (homes : List Notes) (Whole : Type 0) (ends : Ends d b domain desks servers homes Whole) (events : List Event) (merged : IsMerged homes events) where
   abbrev past : List Event
@@ -103,22 +94,22 @@ module _ (d : Domain) (b : Back) (domain : Working) (desks : List Desk) (servers
     own = theirs shows.desk.caller.work
 
     abbrev Handed : Event → List Event → Type 0
-    Handed = IsHanded server g over.life.asked (flat_map made_of (queue_page shows.desk queue).seen)
+    Handed = IsHanded server g over.life.asked (IsSentFor d queue shows.desk)
 
     handed_at : (front before : List Event) (e : Event) → past ≡ front ++ e ∷ before → of_worker d.clients worker e ≡ true → Handed e (worker_events d.clients worker before)
     handed_at front before e split mine =
         let parted : own ≡ worker_events d.clients worker front ++ worker_events d.clients worker (e ∷ before) = sym shows.own ∙ (ap (worker_events d.clients worker) split ∙ filter-append (of_worker d.clients worker) front (e ∷ before)) in
         AtEach-here (of_worker d.clients worker) Handed e before mine (AtEach-later Handed (worker_events d.clients worker front) (worker_events d.clients worker (e ∷ before)) (subst (AtEach Handed) parted lived.handed))
 
+    asked_at : (t : Taken) (front before : List Event) → past ≡ front ++ Take t ∷ before → is_of_life server g t.server.0 t.generation.0 ≡ true → (what : Invocation) → IsSentFor d queue shows.desk t what → IsAsked what (sent_as t.request before)
+    asked_at t front before split is what sent =
+        let its : queue ≡ queue_of d.setup t.server.0 = sym (ap (queue_of d.setup) (eqb-true t.server.0 server (and_parts (t.server.0 == server) (t.generation.0 == g) is).0)) in
+        asked_before d b domain desks ends.left homes events ends.homes_are merged t front before split what
+        (subst (λ (q : ℕ). WasSentFor d.setup q (entries_of (whole_of d b) (QueueHome q)) t what) its (sent (whole_of d b) (one_goes_on d b domain desks ends.left worker shows.desk shows.there)))
+
     sent_at : (front before : List Event) (e : Event) → past ≡ front ++ e ∷ before → IsSent server g over.life.asked e before
     sent_at front before (Take t) split = λ is.
-        let made : All IsMade before = All-tail IsMade (Take t) before (all_later IsMade front (Take t ∷ before) (subst (All IsMade) split (merged_made d b domain desks homes events ends.left ends.homes_are merged))) in
-        let law : LawOfEnds (front ++ Take t ∷ before) = subst LawOfEnds split (law_of_ends d b domain desks ends.left homes events ends.homes_are merged) in
-        handed_sent d.clients server g over.life.asked (flat_map made_of (queue_page shows.desk queue).seen) t before
-        (λ brought what among brings.
-        let S : Event → Type 0 = λ e. Brings t.request what e → IsAsked what (sent_as t.request before) in
-        seen_too d b domain desks ends.left homes events ends.homes_are merged S (subst (All S) (sym split) (taken_as_brought what t front before law made)) (d.clients + server) shows.desk shows.there queue brought among brings)
-        (handed_at front before (Take t) split (of_life d.clients server g (Take t) is)) is
+        handed_sent d.clients server g over.life.asked (IsSentFor d queue shows.desk) t before (asked_at t front before split is) (handed_at front before (Take t) split (of_life d.clients server g (Take t) is)) is
     sent_at front before _ split = tt
 
     shut_before : over.life.turn ≡ AwaitsInvoke → AtEach (StopsClosed d.setup server g) past

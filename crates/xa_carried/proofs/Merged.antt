@@ -1,52 +1,53 @@
 -- The merge of what the workers of a domain noted: its requests, and what stands at a queue.
-use Rattle.std.proofs.Common.{◌≡◌, ℕ, ◌<◌, Bool, true, List, [], ◌∷◌, ◌++◌, reverse, Some, sym, ◌∙◌, ap, subst}
-use Rattle.std.specs.List.{All, Contains, filter, flat_map}
-use Rattle.std.proofs.lemmas.Grind.{flat_map-append}
-use Rattle.std.proofs.lemmas.List.Elements.{All-nil, All-cons, All-head, All-tail, All-contains, All-filter, filter-append}
-use Rattle.xa_joined.specs.xa_types.Setup.{numbered}
+use Rattle.std.proofs.Common.{◌≡◌, ℕ, ◌<◌, Bool, true, List, [], ◌∷◌, ◌++◌, append_assoc, reverse, Option, Some, sym, ◌∙◌, ap, subst}
+use Rattle.std.specs.Prelude.{IsSomeAnd}
+use Rattle.std.specs.List.{All, filter}
+use Rattle.std.proofs.lemmas.List.Elements.{All-tail, All-filter, filter-append}
+use Rattle.xa_joined.specs.xa_types.Setup.{queue_of}
 use Rattle.xa_joined.specs.xa_events.declared.event.Event.{Event}
-use Rattle.xa_joined.specs.xa_events.Homes.{at_home, of_worker}
+use Rattle.xa_joined.specs.xa_events.declared.event.Event.TheVariants.{Take}
+use Rattle.xa_joined.specs.xa_events.declared.event.Taken.{Taken}
+use Rattle.xa_joined.specs.xa_events.Homes.{of_worker}
 use Rattle.xa_joined.specs.xa_events.Homes.Home.{QueueHome}
-use Rattle.xa_joined.specs.xa_events.Laws.{LawOfEnds}
+use Rattle.xa_joined.specs.xa_events.Local.{Local, home_events}
 use Rattle.xa_joined.specs.xa_events.Queue.{is_close_of, is_closed}
-use Rattle.xa_joined.specs.xa_events.State.{State, opening}
+use Rattle.xa_joined.specs.xa_events.Request.{sent_as}
 use Rattle.xa_joined.specs.xa_events.Words.{AtEach}
 use Rattle.xa_joined.proofs.xa_events.Merge.{closed_own}
-use Rattle.xa_joined.proofs.xa_events.Stages.{along, Agree, agree_none, agree_more, ends_law}
 use Rattle.xa_joined.specs.xa_stamp.declared.home.Stamped.{Stamped}
 use Rattle.xa_joined.specs.xa_stamp.Home.{Notes}
 use Rattle.xa_joined.specs.xa_stamp.Merge.{IsMerged}
-use Rattle.xa_joined.specs.xa_lock.declared.makers.Made.{Made}
 use Rattle.xa_joined.specs.xa_lock.Makers.{noted_in}
 use Rattle.xa_joined.specs.xa_crew.Crew.{AreHomes, IsCrew}
 use Rattle.xa_joined.specs.xa_crew.Ending.{workers_of}
-use Rattle.xa_joined.specs.xa_crew.Seen.{past_in, SawFront}
+use Rattle.xa_joined.specs.xa_crew.Seen.{past_in, SawFront, IsNew}
 use Rattle.xa_joined.proofs.xa_crew.Before.{now}
-use Rattle.xa_joined.proofs.xa_crew.Joined.{own_home}
-use Rattle.xa_joined.proofs.xa_crew.Lists.{filter-yes}
+use Rattle.xa_joined.proofs.xa_crew.Joined.{crew_is_local, own_home}
+use Rattle.xa_joined.proofs.xa_crew.Lists.{filter-yes, past_in-append, AtEach-later}
 use Rattle.xa_joined.proofs.xa_crew.Placed.{IsMergeOf, merge_of}
 use Rattle.xa_joined.proofs.xa_crew.Workers.{AtEach-from, All-at, its_own}
 use Rattle.std.proofs.lemmas.Bool.{or_right}
-use Rattle.xa_joined.specs.xa_held.Kept.{Kept}
-use Rattle.xa_joined.specs.xa_held.Notes.{made_of}
-use Rattle.xa_joined.proofs.xa_held.Front.{made_in-notes}
-use Rattle.xa_joined.specs.xa_caller.declared.cargo.Filling.{Filling}
+use Rattle.xa_joined.specs.xa_held.declared.cargo.Invocation.{Invocation}
+use Rattle.xa_joined.specs.xa_held.Kept.{Brings}
 use Rattle.xa_joined.specs.xa_work.Work.{Standing as Working}
 use Rattle.xa_joined.specs.xa_desk.declared.domain.Domain.{Domain}
 use Rattle.xa_joined.specs.xa_desk.declared.desk.Desk.{Desk}
-use Rattle.xa_joined.specs.xa_desk.Desks.{queue_page}
+use Rattle.xa_joined.specs.xa_desk.Made.{IsMade}
+use Rattle.xa_joined.specs.xa_desk.Serving.{WasSentFor}
+use Rattle.xa_joined.specs.xa_desk.Whole.{entries_of}
 use Rattle.xa_joined.specs.Joined.{Back, AllLeft, whole_of, kept_of, noted_of}
-use Rattle.xa_joined.proofs.Crew.{desks_are_crew}
-use Rattle.xa_joined.proofs.Going.{one_goes_on}
-use Rattle.xa_joined.proofs.Left.{same_queue}
-use Rattle.xa_joined.proofs.Listed.{all_mapped, past_all}
-use Rattle.xa_joined.proofs.Merged.{merged_run}
-use Rattle.xa_joined.proofs.Recorded.{held, each_held, names, names_are}
 use Rattle.xa_joined.specs.Served.{HoldAll}
+use Rattle.xa_joined.proofs.Crew.{desks_are_crew}
+use Rattle.xa_joined.proofs.Homes.{homes_met, new_and_met}
+use Rattle.xa_joined.proofs.Left.{same_homes}
+use Rattle.xa_joined.proofs.Merged.{merged_made}
+use Rattle.xa_joined.proofs.Recorded.{held, each_held, names, names_are}
+use Rattle.xa_carried.proofs.Entries.{known, last_entry}
+use Rattle.xa_carried.proofs.Sent.{IsAsked, asked_as_brought}
 
-all_first : {X : Type 0} (P : X → Type 0) (xs ys : List X) → All P (xs ++ ys) → All P xs
-all_first P [] ys all = All-nil P
-all_first P (x ∷ xs) ys all = All-cons P x xs (All-head P x (xs ++ ys) all) (all_first P xs ys (All-tail P x (xs ++ ys) all))
+all_behind : {X : Type 0} (P : X → Type 0) (front before : List X) → All P (front ++ before) → All P before
+all_behind P [] before all = all
+all_behind P (x ∷ front) before all = all_behind P front before (All-tail P x (front ++ before) all)
 
 closed_more : (queue : ℕ) (e : Event) (past : List Event) → is_closed queue past ≡ true → is_closed queue (e ∷ past) ≡ true
 unfolding is_closed
@@ -70,24 +71,30 @@ module _ (d : Domain) (b : Back) (domain : Working) (desks : List Desk) (left : 
 
   -- ---- requests
 
-  pub law_of_ends : LawOfEnds past
-  law_of_ends =
-      (along (λ (s : State). Agree s × LawOfEnds s.past) (λ s e case h. (agree_more s e case h.0, (ends_law s e case h.0, h.1))) events (opening d.setup d.clients) _ (agree_none d.setup d.clients, tt)
-      (merged_run d b domain desks homes events left hold is)).1
+  local : Local d.setup d.clients past
+  local = crew_is_local d.setup d.clients workers (kept_of b) (noted_of domain desks) crew (names d b domain desks left) homes events the_homes is (homes_met d b domain desks left)
 
-  -- what holds of all events holds of what a desk saw at a queue
-  pub seen_too : (P : Event → Type 0) → All P past → (worker : ℕ) (desk : Desk) → numbered worker desks ≡ Some desk → (queue : ℕ) (made : Made) → Contains (flat_map made_of (queue_page desk queue).seen) made → P made.noted.event
-  seen_too P all worker desk there queue made among =
-      let M : Made → Type 0 = λ made. P made.noted.event in
-      let kept : Kept Filling = (whole_of d b).queues queue in
-      let goes = one_goes_on d b domain desks left worker desk there in
-      let front = goes.queues queue in
-      let at_queue : All M (kept_of b (QueueHome queue)) =
-      all_mapped (λ (x : Stamped). P x.event) (λ (entry : Made). entry.noted) (kept_of b (QueueHome queue)) (past_all P (held d b domain desks left (QueueHome queue))
-      (subst (All P) (own_home d.setup d.clients workers (kept_of b) (noted_of domain desks) crew (names d b domain desks left) homes events the_homes is (QueueHome queue)) (All-filter (at_home d.setup d.clients (QueueHome queue)) P past all))) in
-      let whole : kept_of b (QueueHome queue) ≡ flat_map made_of (queue_page desk queue).seen ++ flat_map made_of front.0 =
-      same_queue d b queue ∙ (sym (made_in-notes Filling kept.queue.entries) ∙ (ap (flat_map made_of) front.1 ∙ flat_map-append made_of (queue_page desk queue).seen front.0)) in
-      All-contains M (flat_map made_of (queue_page desk queue).seen) made (all_first M (flat_map made_of (queue_page desk queue).seen) (flat_map made_of front.0) (subst (All M) whole at_queue)) among
+  module _ (t : Taken) (front before : List Event) (split : past ≡ front ++ Take t ∷ before) where
+    abbrev queue : ℕ
+    queue = queue_of d.setup t.server.0
+
+    made_before : All IsMade before
+    made_before = All-tail IsMade (Take t) before (all_behind IsMade front (Take t ∷ before) (subst (All IsMade) split (merged_made d b domain desks homes events left hold is)))
+
+    -- a request was sent last as its queue's entries say, where it was taken from there
+    pub asked_before : (what : Invocation) → WasSentFor d.setup queue (entries_of (whole_of d b) (QueueHome queue)) t what → IsAsked what (sent_as t.request before)
+    asked_before what was =
+        let newer : List Event = past_in was.rest in
+        let earlier : List Event = past_in was.front in
+        let entry : Stamped = record { stamp = was.stamp; event = Take t } in
+        let parts : past_in (held d b domain desks left (QueueHome queue)) ≡ newer ++ Take t ∷ earlier =
+        ap past_in (sym (same_homes d b (QueueHome queue)) ∙ was.parts)
+        ∙ (past_in-append was.front (entry ∷ was.rest) ∙ (ap (λ (es : List Event). es ++ earlier) (past_in-append (entry ∷ []) was.rest) ∙ append_assoc newer (Take t ∷ []) earlier)) in
+        let here : home_events d.setup d.clients (QueueHome queue) past ≡ newer ++ Take t ∷ earlier =
+        own_home d.setup d.clients workers (kept_of b) (noted_of domain desks) crew (names d b domain desks left) homes events the_homes is (QueueHome queue) ∙ parts in
+        let new = (AtEach-later (IsNew d.setup queue) newer (Take t ∷ earlier) (subst (AtEach (IsNew d.setup queue)) parts ((new_and_met d b domain desks left).0 queue))).1 in
+        asked_as_brought t.request what before made_before ((known d.setup d.clients past local t front before split).shows t.request)
+        (subst (λ (o : Option Event). IsSomeAnd o (Brings t.request what)) (last_entry d.setup d.clients past local t front before split newer earlier here) (was.sent new))
 
   -- ---- what a worker showed of each event that it noted
 

@@ -62,7 +62,7 @@ module _ (d : Domain) (b : Back) (domain : Working) (desks : List Desk) (all : A
   each_if_new queue =
       subst (λ (o : Option (List Made)). AtEach (MetIfNew d.setup queue) (past_in (noted_in (list_in o)))) (sym (numbered_map (λ (kept : Kept Filling). kept.queue.entries) queue b.queues)) (by_queue queue (numbered queue b.queues) refl)
 
-  new_and_met : AllNew d.setup (kept_of b) × AllMet d.setup (kept_of b)
+  pub new_and_met : AllNew d.setup (kept_of b) × AllMet d.setup (kept_of b)
   new_and_met =
       queues_are_met d.setup d.clients (made_in b.board.notes) [] (map (λ (kept : Kept Filling). kept.queue.entries) b.queues) b.own (workers_of d.setup d.clients) (noted_of domain desks)
       (length-map b.queues (λ (kept : Kept Filling). kept.queue.entries) ∙ all.queues) (all.own ∙ all.count) (desks_are_crew d b domain desks all) board_met tt
