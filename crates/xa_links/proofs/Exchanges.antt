@@ -1,6 +1,6 @@
 -- A life of a server goes on by a request.
 use Rattle.std.proofs.Common.{◌≡◌, ◌⊎◌, ℕ, ◌+◌, ◌%◌, ◌^◌, ◌||◌, Bool, true, false, cond, ℤ, List, [], ◌∷◌, ◌++◌, length, Some, None, inl, inr, refl, sym, ◌∙◌, ap, subst, append-nil, arith, if◌then◌else◌, eqb-true, ◌==◌, Option}
-use Rattle.std.specs.Prelude.{take, drop, IfSome, ◌&&◌}
+use Rattle.std.specs.Prelude.{take, drop, ◌&&◌}
 use Rattle.std.proofs.lemmas.Bool.{and_parts}
 use Rattle.std.proofs.lemmas.List.{length-append}
 use Rattle.std.proofs.Math.Seq.{drop-append_seam}
@@ -29,7 +29,7 @@ use Rattle.xa_desk.specs.xa_events.Finishing.{returned as outcome_by_value, retu
 use Rattle.xa_desk.specs.xa_frame.declared.frame.Frame.{Frame}
 use Rattle.xa_desk.specs.xa_queue.declared.entry.Entry.{Entry}
 use Rattle.xa_desk.specs.xa_held.declared.cargo.Invocation.{Invocation}
-use Rattle.xa_desk.specs.xa_work.Work.{Standing as Working, theirs}
+use Rattle.xa_desk.specs.xa_work.Work.{theirs}
 use Rattle.xa_desk.specs.xa_caller.Drafts.{Cargo}
 use Rattle.xa_desk.specs.xa_pipe.declared.hearing.Forward.{Forward as Onward}
 use Rattle.xa_desk.specs.xa_pipe.declared.hearing.Finish.{Finish}

@@ -1,7 +1,7 @@
 -- Where a server's worker stands, as its desk and its slot go on.
 use Rattle.std.proofs.Common.{◌≡◌, ◌<◌, ◌⊎◌, ℕ, ◌+◌, Bool, false, true, List, [], ◌∷◌, ◌++◌, map, length, Option, Some, None, inl, inr, refl, sym, ◌∙◌, ap, subst, arith}
 use Rattle.std.specs.Prelude.{IfSome, ⊤}
-use Rattle.std.specs.List.{All, Contains}
+use Rattle.std.specs.List.{All}
 use Rattle.std.proofs.lemmas.Bool.{false≢true}
 use Rattle.std.proofs.lemmas.List.Elements.{All-nil, All-append, All-weaker}
 use Rattle.xa_desk.specs.xa_types.declared.ids.Generation.{Generation}
@@ -16,9 +16,7 @@ use Rattle.xa_desk.specs.xa_events.Server.{starts, is_gone, was_shut_down}
 use Rattle.xa_desk.specs.xa_stamp.declared.home.Stamped.{Stamped}
 use Rattle.xa_desk.specs.xa_crew.Seen.{past_in, SawQueue}
 use Rattle.xa_desk.proofs.xa_crew.Lists.{count_part}
-use Rattle.xa_desk.specs.xa_queue.declared.entry.Entry.{Entry}
 use Rattle.xa_desk.specs.xa_work.Work.{Standing as Working, theirs}
-use Rattle.xa_desk.specs.xa_caller.Drafts.{Cargo}
 use Rattle.xa_desk.specs.xa_pipe.declared.turn.Turn.TheVariants.{AwaitsInvoke}
 use Rattle.xa_desk.specs.xa_pipe.declared.turn.Turn.{Turn}
 use Rattle.xa_desk.specs.xa_pipe.Life.{stops_life}

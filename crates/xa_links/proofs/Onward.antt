@@ -1,5 +1,5 @@
 -- A server that is done with its request, or passes it on.
-use Rattle.std.proofs.Common.{◌≡◌, ◌<◌, ℕ, ◌+◌, ◌^◌, Bool, true, false, if◌then◌else◌, List, [], ◌∷◌, ◌++◌, Option, Some, None, Result, Ok, Err, refl, sym, ◌∙◌, ap, subst, append-nil, length}
+use Rattle.std.proofs.Common.{◌≡◌, ◌<◌, ℕ, ◌+◌, Bool, true, false, if◌then◌else◌, List, [], ◌∷◌, ◌++◌, Option, Some, None, Result, Ok, Err, refl, sym, ◌∙◌, ap, subst, append-nil, length}
 use Rattle.std.specs.Prelude.{IfSome, nat_lt, ◌&&◌}
 use Rattle.std.specs.List.{find}
 use Rattle.std.proofs.lemmas.List.Elements.{All-contains}
@@ -50,7 +50,7 @@ use Rattle.xa_links.specs.declared.passing.Tried.{Tried}
 use Rattle.xa_links.specs.declared.passing.Tried.TheVariants as tries
 use Rattle.xa_links.specs.declared.telling.Told.{Told}
 use Rattle.xa_links.specs.Passing.{IsBack, IsDoneBy, Passes, Keeps, TriedAs, PassesAs, its_queue, halt_by}
-use Rattle.xa_links.specs.Steps.{Steps, Serves, IsToldOf}
+use Rattle.xa_links.specs.Steps.{Steps, Serves}
 use Rattle.xa_links.proofs.Deaths.{is_its, told_of}
 use Rattle.xa_links.proofs.Lasting.{number_of}
 use Rattle.xa_links.proofs.Stepping.{still_steps, still_serves, one_steps, noted_steps, seen_steps, halted_steps, halted_own, halted_at, steps_trans}

@@ -15,11 +15,9 @@ use Rattle.xa_desk.specs.xa_stamp.declared.home.Stamped.{Stamped}
 use Rattle.xa_desk.specs.xa_crew.Seen.{past_in}
 use Rattle.xa_desk.specs.xa_crew.Crew.{IsOfDomain}
 use Rattle.xa_desk.proofs.xa_crew.Lists.{filter-none, past_in-append, past_in-filter}
-use Rattle.xa_desk.specs.xa_queue.declared.entry.Entry.{Entry}
 use Rattle.xa_desk.specs.xa_work.Work.{Standing as Working, theirs}
 use Rattle.xa_desk.proofs.xa_work.Noting.{theirs-more, not_theirs}
 use Rattle.xa_desk.specs.xa_caller.Caller.{Standing as Caller}
-use Rattle.xa_desk.specs.xa_caller.Drafts.{Cargo}
 use Rattle.xa_desk.specs.xa_caller.Serving.{noted_off}
 use Rattle.xa_desk.specs.xa_server.declared.slot.ServerSlot.{ServerSlot}
 use Rattle.xa_desk.specs.xa_server.Doings.{life_in}

@@ -1,6 +1,5 @@
 use Rattle.std.proofs.Common.{◌≡◌, [], Ok, refl, sym, ◌∙◌, ap, subst}
 use Rattle.std.specs.Prelude.{IfOk, IfErr, OnErr}
-use Rattle.xa_desk.specs.xa_types.Found.{FoundRows}
 use Rattle.xa_desk.specs.xa_types.declared.data.Data.{Data}
 use Rattle.xa_desk.specs.xa_queue.declared.entry.Entry.{Entry}
 use Rattle.xa_desk.specs.xa_caller.Caller.{Standing as Caller, AreRowsOf}
@@ -12,7 +11,7 @@ use Rattle.xa_desk.specs.Passing.{IsPassing, Leaves}
 use Rattle.xa_desk.specs.Serving.{IsServing}
 use Rattle.xa_links.specs.Passing.{PassesAs, its_queue}
 use Rattle.xa_links.proofs.Stepping.{steps_trans}
-use Rattle.xa_links.proofs.Onward.{SameServer, if_taken, failed_as, passed_as, fails_at_once, way_named, out_same, out_steps, passes_from, result_from, keeps_from, keeps_at_once}
+use Rattle.xa_links.proofs.Onward.{if_taken, failed_as, passed_as, fails_at_once, way_named, out_same, out_steps, passes_from, result_from, keeps_from, keeps_at_once}
 use Rattle.xa_links.proofs.passing.forward.Goals as goal
 
 pub forward-requires-clause-serving : goal.forward-requires-clause-serving

@@ -1,5 +1,4 @@
 use Rattle.std.proofs.Common.{refl, sym, ◌∙◌, subst}
-use Rattle.xa_desk.specs.xa_types.Found.{FoundRows}
 use Rattle.xa_desk.specs.xa_board.declared.reader.Reader.{Reader}
 use Rattle.xa_desk.specs.xa_caller.Caller.{AreRowsOf}
 use Rattle.xa_desk.specs.xa_server.declared.slot.ServerSlot.{ServerSlot}
