@@ -301,4 +301,3 @@ module _ {d : Domain} {queue : ℕ} where
     seat = seat;
     halts = halted_at old new 3 halt halts;
   }
-
