@@ -1,5 +1,5 @@
 -- A request that its server passes on.
-use Rattle.std.proofs.Common.{◌≡◌, ◌⊎◌, ◌≤◌, ◌<◌, ℕ, zero, suc, ◌+◌, ◌-◌, ◌&&◌, ◌==◌, max, Bool, true, false, if◌then◌else◌, List, [], ◌∷◌, ◌++◌, length, map, Option, Some, None, Result, Ok, Err, inl, inr, refl, sym, ◌∙◌, ap, subst, arith}
+use Rattle.std.proofs.Common.{◌≡◌, ◌⊎◌, ◌≤◌, ◌<◌, ℕ, zero, suc, ◌+◌, ◌&&◌, ◌==◌, max, Bool, true, false, if◌then◌else◌, List, [], ◌∷◌, length, map, Option, Some, None, Result, Ok, Err, inl, inr, refl, sym, ◌∙◌, ap, subst, arith}
 use Rattle.std.specs.Prelude.{IfOk, IfErr, IfSome, IsSomeAnd, OnErr, slice_index_or, nat_lt}
 use Rattle.std.specs.List.{All, Contains, find}
 use Rattle.std.proofs.lemmas.Bool.{cases_Bool}
@@ -24,16 +24,16 @@ use Rattle.xa_told.specs.xa_events.declared.event.Taken.{Taken}
 use Rattle.xa_told.specs.xa_events.Board.{published, listed_in}
 use Rattle.xa_told.specs.xa_events.Caller.{is_conversational, version_of}
 use Rattle.xa_told.specs.xa_events.Cases.{RowStands, RowAdmits}
-use Rattle.xa_told.specs.xa_events.Homes.{home_of, is_own_at}
+use Rattle.xa_told.specs.xa_events.Homes.{home_of}
 use Rattle.xa_told.specs.xa_events.Homes.Home.{BoardHome, QueueHome}
 use Rattle.xa_told.specs.xa_events.Local.{Forwardable}
 use Rattle.xa_told.specs.xa_events.Request.{is_entry_of}
 use Rattle.xa_told.specs.xa_events.State.{caller_of}
-use Rattle.xa_told.specs.xa_events.Words.{count, latest}
+use Rattle.xa_told.specs.xa_events.Words.{latest}
 use Rattle.xa_told.specs.xa_stamp.declared.home.Stamped.{Stamped}
 use Rattle.xa_told.specs.xa_lock.declared.makers.Made.{Made}
 use Rattle.xa_told.specs.xa_lock.Known.{known as page_of}
-use Rattle.xa_told.specs.xa_crew.Seen.{past_in, IfNew, IsBehind, SawFront, SawSince, SawFronts, WasTold}
+use Rattle.xa_told.specs.xa_crew.Seen.{past_in, IsBehind, SawFront, SawSince, SawFronts, WasTold}
 use Rattle.xa_told.specs.xa_queue.declared.entry.Entry.{Entry}
 use Rattle.xa_told.specs.xa_queue.Changes.{IsEntry, next_stamp}
 use Rattle.xa_told.proofs.xa_cell.Lists.{decided}
@@ -49,13 +49,12 @@ use Rattle.xa_told.specs.xa_held.Visits.{Sees, Visits}
 use Rattle.xa_told.proofs.xa_held.Front.{note}
 use Rattle.xa_told.specs.xa_frame.Spelling.{IsData}
 use Rattle.xa_told.specs.xa_work.declared.work.Halt.{Halt}
-use Rattle.xa_told.specs.xa_work.Work.{Standing as Working, seeing}
+use Rattle.xa_told.specs.xa_work.Work.{seeing}
 use Rattle.xa_told.specs.xa_caller.declared.cargo.Filling.{Filling}
 use Rattle.xa_told.specs.xa_caller.declared.outcomes.Aimed.{Aimed}
 use Rattle.xa_told.specs.xa_caller.declared.outcomes.Aimed.TheVariants as aims
 use Rattle.xa_told.specs.xa_caller.Caller.{Standing as Caller, AreRowsOf}
 use Rattle.xa_told.specs.xa_caller.Drafts.{Cargo, entry_behind}
-use Rattle.xa_told.specs.xa_caller.Serving.{IsForwardBy}
 use Rattle.xa_told.proofs.xa_caller.Next.{found-all, same_kinds, row-service}
 use Rattle.xa_told.proofs.xa_caller.Sound.{sound_is_data}
 use Rattle.xa_told.proofs.xa_caller.Unsent.{at-all}
@@ -109,6 +108,10 @@ may_forward request what (Some e) is = by e is
     by (Accept a) is = (ap is_conversational is.3, ap (λ n. n + 1) is.5)
     by (Forward f) is = ap (λ n. n + 1) is.4
     by _ is = absurd is
+
+-- what is weaker was seen too
+saw_weaker : (d : Domain) (queue : ℕ) (desk : Desk) (P Q : List Event → Type 0) → ((past : List Event) → P past → Q past) → SawItsOwnAt d queue desk P → SawItsOwnAt d queue desk Q
+saw_weaker d queue desk P Q less saw whole on stamp later = let it = saw whole on stamp later in record { front = it.front; stands = it.stands; before = it.before; shows = (λ news. less (past_in it.front) (it.shows.0 news), it.shows.1) }
 
 -- ---- a request that is out
 
@@ -213,12 +216,8 @@ module _ (d : Domain) (domain : IsDomain d) (desk : Desk) (is : IsDesk d desk) (
         (passing_by slot serving (ap (λ (s : ServerSlot). s.server) left) (ap (λ (s : ServerSlot). s.gone) left) service (found by.0) row (found-all accepting (Contains Found.rows) Found.rows row by.2 (All-contains_itself Found.rows)) hop payload held entry event
         (record { entered = goes.entered; forwards = goes.forwards ∙ ap (λ (s : ServerSlot). Forward (forwarded_by s held.request hop Found.version row desk.caller.priority payload)) (sym left) }) (subst (IsOnWay entry event slot') passes.same way)
         right (sound_is_data d.setup payload domain.configured by.1) (passes_found accepting Found.rows row by.2)
-        (λ whole on stamp less. weaker_front (entries_of whole (QueueHome queue)) stamp (λ past. IfNew d.setup queue (λ p. IsSomeAnd (latest (is_entry_of held.request) p) (Brings held.request held.cargo.invocation)) past × (count (own_at queue) past ≡ count (own_at queue) (past_in desk.caller.work.own)))
-        (λ past. IfNew d.setup queue (λ p. IsSomeAnd (latest (is_entry_of held.request) p) (Forwardable hop)) past × (count (own_at queue) past ≡ count (own_at queue) (past_in desk.caller.work.own)))
-        (λ past shows. (λ news. may_forward held.request held.cargo.invocation (latest (is_entry_of held.request) past) (shows.0 news), shows.1)) (its.last whole on stamp less)))
-      where
-        own_at : ℕ → Event → Bool
-        own_at queue = is_own_at d.setup d.clients desk.caller.work.id.0 queue
+        (saw_weaker d queue desk (λ past. IsSomeAnd (latest (is_entry_of held.request) past) (Brings held.request held.cargo.invocation)) (λ past. IsSomeAnd (latest (is_entry_of held.request) past) (Forwardable hop))
+        (λ past. may_forward held.request held.cargo.invocation (latest (is_entry_of held.request) past)) its.last))
 
   ways_lead : (queue : ℕ) → IsServing d queue slot desk → (way : Result Row ℕ) → So way → (forwarding : Forwarding) → ForwardsAs Found.version payload way forwarding slot' slot new desk.caller → Leads d desk (record desk { caller = new })
   ways_lead queue serving (Ok row) by (On entry event) passes = subst (λ (c : Caller). Leads d desk (record desk { caller = c })) (sym passes.same) (same_leads d desk is)
@@ -280,9 +279,6 @@ module _ {d : Domain} {queue : ℕ} {entry : Entry Cargo} {event : Event} {slot 
   pub place_in : (0 < forwarded_to event) × (forwarded_to event < length d.queues.items + 1)
   place_in = let InPlace : ℕ → Type 0 = λ n. (0 < n) × (n < length d.queues.items + 1) in subst InPlace (sym to_is) (All-contains (λ (row : Row). InPlace row.queue.0) old.reader.found.rows Its passing.found.places passing.among)
 
-  pub brings : Brings entry.request entry.cargo.invocation event
-  brings = subst (Brings entry.request entry.cargo.invocation) (sym passing.way.is) passing.way.brings
-
   pub in_range : IsDomain d → (1 ≤ entry.priority) × (entry.priority ≤ 100)
   in_range domain = subst (λ (e : Entry Cargo). (1 ≤ e.priority) × (e.priority ≤ 100)) (sym passing.entry_is) (asked_priority Its.priority old.caller.priority (row_priority d.setup domain.configured passing.service Its its_row))
 
@@ -293,9 +289,6 @@ module _ {d : Domain} {queue : ℕ} {entry : Entry Cargo} {event : Event} {slot 
       let wrap : ℕ → QueueId = λ n. record { 0 = n } in
       let id : Its.queue ≡ pass.its.id = ap wrap (sym to_is ∙ there.at ∙ sym pass.is.id) in
       (pass.its, pass.sees, subst (IsEntry pass.its.id entry) (sym passing.event_is) (refl, id, ap (λ (e : Entry Cargo). e.priority) (sym passing.entry_is)), subst (λ cells. IsRight cells entry) (sym pass.is.cells) passing.serving.hand)
-
-  pub is_by : IsForwardBy Version event
-  is_by = subst (IsForwardBy Version) (sym passing.event_is) refl
 
   module _ {k : ℕ} {new : Desk} {p p' : QueuePass} {last : Stamp} (step : Step d (forwarded_to event) k old new p p' last) where
     -- the queue took it

@@ -1,5 +1,5 @@
 -- What a desk knows and shows goes on, as its caller sets the priority of its next request.
-use Rattle.std.proofs.Common.{◌≡◌, ◌≤◌, ℕ, ℤ, Bool, None, Result, Ok, Err, [], ◌∷◌, ◌++◌, refl, sym, ap, subst, arith}
+use Rattle.std.proofs.Common.{◌≡◌, ◌≤◌, ℕ, ℤ, Bool, None, Result, Ok, Err, [], ◌∷◌, refl, sym, ap, subst, arith}
 use Rattle.std.specs.Prelude.{IfOk, OnErr}
 use Rattle.xa_told.specs.xa_types.declared.call.Op.TheVariants.{Priority as PriorityOp}
 use Rattle.xa_told.specs.xa_types.declared.stamp.Stamp.{Stamp}

@@ -1,5 +1,5 @@
--- The events that the workers of a domain make: those of tpcall, of tpsprio and tpforward (after Tuxedo) and of servers' lives. The machine has others, of which none is made here (this
--- project's own).
+-- The events that the workers of a domain make: those of tpcall, of tpsprio and tpforward (after Tuxedo), and of servers' lives. The machine has others,
+-- of which none is made here (this project's own).
 use Rattle.std.specs.Prelude.{◌≡◌}
 use Rattle.xa_told.specs.xa_types.declared.call.Mode.TheVariants.{Reply}
 use Rattle.xa_told.specs.xa_types.declared.fault.Fault.{Fault}

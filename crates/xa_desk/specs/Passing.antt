@@ -1,5 +1,5 @@
 -- A server's worker that passes its request on to another service (after Tuxedo, tpforward).
-use Rattle.std.specs.Prelude.{◌≡◌, ℕ, ◌<◌, true, List, Option, Some, None, IfSome, IsSomeAnd, Result, Ok, Err}
+use Rattle.std.specs.Prelude.{◌≡◌, ℕ, true, List, Some, IsSomeAnd}
 use Rattle.std.specs.List.{Contains}
 use Rattle.xa_told.specs.xa_types.declared.row.Row.{Row}
 use Rattle.xa_told.specs.xa_types.Kind.{is_accepted, kind_of}

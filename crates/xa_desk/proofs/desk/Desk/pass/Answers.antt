@@ -1,4 +1,4 @@
-use Rattle.std.proofs.Common.{refl, sym, ◌∙◌, ap, subst}
+use Rattle.std.proofs.Common.{refl, sym, ◌∙◌, subst}
 use Rattle.xa_told.specs.xa_types.Found.{FoundRows}
 use Rattle.xa_told.specs.xa_events.declared.event.Event.{Event}
 use Rattle.xa_told.specs.xa_lock.Known.{known as page_of}
