@@ -1,7 +1,8 @@
 -- The merge of what the workers of a domain noted: its requests, and what stands at a queue.
-use Rattle.std.proofs.Common.{◌≡◌, ℕ, ◌<◌, Bool, true, List, [], ◌∷◌, ◌++◌, append_assoc, reverse, Option, Some, sym, ◌∙◌, ap, subst}
+use Rattle.std.proofs.Common.{◌≡◌, ℕ, ◌<◌, Bool, true, List, [], ◌∷◌, ◌++◌, append_assoc, reverse, Option, sym, ◌∙◌, ap, subst}
 use Rattle.std.specs.Prelude.{IsSomeAnd}
 use Rattle.std.specs.List.{All, filter}
+use Rattle.std.proofs.lemmas.Bool.{or_right}
 use Rattle.std.proofs.lemmas.List.Elements.{All-tail, All-filter, filter-append}
 use Rattle.xa_joined.specs.xa_types.Setup.{queue_of}
 use Rattle.xa_joined.specs.xa_events.declared.event.Event.{Event}
@@ -26,7 +27,6 @@ use Rattle.xa_joined.proofs.xa_crew.Joined.{crew_is_local, own_home}
 use Rattle.xa_joined.proofs.xa_crew.Lists.{filter-yes, past_in-append, AtEach-later}
 use Rattle.xa_joined.proofs.xa_crew.Placed.{IsMergeOf, merge_of}
 use Rattle.xa_joined.proofs.xa_crew.Workers.{AtEach-from, All-at, its_own}
-use Rattle.std.proofs.lemmas.Bool.{or_right}
 use Rattle.xa_joined.specs.xa_held.declared.cargo.Invocation.{Invocation}
 use Rattle.xa_joined.specs.xa_held.Kept.{Brings}
 use Rattle.xa_joined.specs.xa_work.Work.{Standing as Working}

@@ -22,11 +22,11 @@ use Rattle.xa_joined.specs.xa_pipe.Pipe.{invoke_frame}
 use Rattle.xa_joined.specs.xa_desk.Made.{IsMade}
 
 -- it was sent to be answered, for that service, routine and data
-abbrev Is : Invocation → SentAs → Type 0
-Is what sent = (sent.service ≡ what.service) × (sent.routine ≡ what.routine) × (sent.mode ≡ Reply) × (sent.payload ≡ what.payload)
+abbrev AsAsked : Invocation → SentAs → Type 0
+AsAsked what sent = (sent.service ≡ what.service) × (sent.routine ≡ what.routine) × (sent.mode ≡ Reply) × (sent.payload ≡ what.payload)
 
 abbrev pub IsAsked : Invocation → Option SentAs → Type 0
-IsAsked what o = IsSomeAnd o (Is what)
+IsAsked what o = IsSomeAnd o (AsAsked what)
 
 pub asked_frame : (what : Invocation) (number : ℕ) (o : Option SentAs) → IsAsked what o → invoke_with number o ≡ invoke_frame what.service what.routine number what.payload ∷ []
 asked_frame what number None asked = absurd asked
@@ -66,11 +66,11 @@ module _ (r : RequestId) where
   -- ---- the rest is the last entry's
 
   module _ (what : Invocation) where
-    asked_passed : (f : Forwarded) (before : Option SentAs) → Brings r what (Forward f) → Wants before → IfSome (option_map (passed f) before) (Is what)
+    asked_passed : (f : Forwarded) (before : Option SentAs) → Brings r what (Forward f) → Wants before → IfSome (option_map (passed f) before) (AsAsked what)
     asked_passed f None brings wants = tt
     asked_passed f (Some sent) brings wants = (brings.1, brings.2, wants, brings.3)
 
-    asked_here : (e : Event) (before : Option SentAs) → is_entry_of r e ≡ true → Brings r what e → Wants before → IfSome (sent_after r e before) (Is what)
+    asked_here : (e : Event) (before : Option SentAs) → is_entry_of r e ≡ true → Brings r what e → Wants before → IfSome (sent_after r e before) (AsAsked what)
     asked_here (Accept a) before its brings wants = rw its (brings.1, brings.2, brings.3, brings.4)
     asked_here (Forward f) before its brings wants = rw its (asked_passed f before brings wants)
     asked_here _ before its brings wants = absurd brings
@@ -80,20 +80,20 @@ module _ (r : RequestId) where
     same_sent (Forward f) before none = rw none refl
     same_sent _ before none = refl
 
-    asked_last : (past : List Event) → All IsMade past → IsSomeAnd (latest (is_entry_of r) past) (Brings r what) → IfSome (sent_as r past) (Is what)
+    asked_last : (past : List Event) → All IsMade past → IsSomeAnd (latest (is_entry_of r) past) (Brings r what) → IfSome (sent_as r past) (AsAsked what)
     unfolding sent_as
     asked_last [] made brings = absurd brings
     asked_last (e ∷ past) made brings =
         let made_before = All-tail IsMade e past made in
         elim (cases_Bool (is_entry_of r e)) [
           | inl y ↦ asked_here e (sent_as r past) y (subst (λ (o : Option Event). IsSomeAnd o (Brings r what)) (latest_yes (is_entry_of r) e past y) brings) (wants_reply past made_before)
-          | inr n ↦ subst (λ (o : Option SentAs). IfSome o (Is what)) (sym (same_sent e (sent_as r past) n)) (asked_last past made_before (subst (λ (o : Option Event). IsSomeAnd o (Brings r what)) (latest_no (is_entry_of r) e past n) brings))
+          | inr n ↦ subst (λ (o : Option SentAs). IfSome o (AsAsked what)) (sym (same_sent e (sent_as r past) n)) (asked_last past made_before (subst (λ (o : Option Event). IsSomeAnd o (Brings r what)) (latest_no (is_entry_of r) e past n) brings))
         ]
 
-    some_sent : (past : List Event) (o : Option Event) → Shows r past o → IsSomeAnd o (Brings r what) → IfSome (sent_as r past) (Is what) → IsAsked what (sent_as r past)
+    some_sent : (past : List Event) (o : Option Event) → Shows r past o → IsSomeAnd o (Brings r what) → IfSome (sent_as r past) (AsAsked what) → IsAsked what (sent_as r past)
     some_sent past None shows brings its = absurd brings
-    some_sent past (Some (Accept a)) shows brings its = both (Is what) (λ (sent : SentAs). sent.mode ≡ a.mode) (sent_as r past) its shows.1
-    some_sent past (Some (Forward f)) shows brings its = both (Is what) (λ (sent : SentAs). is_conversational sent.mode ≡ false) (sent_as r past) its shows.1
+    some_sent past (Some (Accept a)) shows brings its = both (AsAsked what) (λ (sent : SentAs). sent.mode ≡ a.mode) (sent_as r past) its shows.1
+    some_sent past (Some (Forward f)) shows brings its = both (AsAsked what) (λ (sent : SentAs). is_conversational sent.mode ≡ false) (sent_as r past) its shows.1
     some_sent past (Some _) shows brings its = absurd brings
 
     -- what the last entry brought is how the request was sent
