@@ -1,5 +1,5 @@
 -- What a server shows of its returns and forwards by its own events and by what it saw (this project's own).
-use Rattle.std.specs.Prelude.{◌≡◌, ◌⊎◌, ℕ, ◌+◌, ◌<◌, ◌≤◌, true, false, List, length, IsSomeAnd, map, reverse}
+use Rattle.std.specs.Prelude.{◌≡◌, ◌⊎◌, ℕ, ◌+◌, ◌≤◌, true, false, List, length, IsSomeAnd, map, reverse}
 use Rattle.std.specs.List.{All}
 use Rattle.xa_types.specs.declared.data.Data.{Data}
 use Rattle.xa_types.specs.declared.row.Row.{Row}
@@ -15,6 +15,7 @@ use Rattle.xa_events.specs.Words.{latest, count, AtEach}
 use Rattle.xa_events.specs.State.{caller_of}
 use Rattle.xa_events.specs.Caller.{is_conversational}
 use Rattle.xa_events.specs.Request.{is_entry_of}
+use Rattle.xa_events.specs.Board.{boot}
 use Rattle.xa_events.specs.Homes.{Home}
 use Rattle.xa_events.specs.Local.{worker_events}
 use Rattle.xa_events.specs.Calls.{IsShutOut, is_accepted_by}
@@ -45,7 +46,7 @@ module _ (setup : Setup) (clients : ℕ) (entries : Home → List Stamped) (stam
   abbrev pub ForwardEndsOwn : List ℕ → Data → Ended → Outcome → List Event → Type 0
   ForwardEndsOwn service payload e (BadForward v) own =
       ((v ≡ 0) × (FailsItself setup (caller_of clients e.server.0) service payload own ⊎ SawSpent e own))
-      ⊎ ((0 < v) × SawFailing (caller_of clients e.server.0) service payload v own)
+      ⊎ ((boot setup ≤ v) × SawFailing (caller_of clients e.server.0) service payload v own)
   ForwardEndsOwn service payload e outcome own = ForwardEnds setup clients service payload e outcome own
 
   -- the event may be what became of it, behind these events of the server's own: but for what is named, the server knows it itself

@@ -96,8 +96,8 @@ abbrev pub name_of : Setup → ℕ → List ℕ
 name_of setup server = server_name_in (numbered server setup.servers)
 
 -- the life is one of that server, which has the name that is configured, and its link shows what the events say of it
-abbrev pub IsLifeOf : Setup → List Event → ℕ → Ending → Type 0
-IsLifeOf setup past server over = (over.life.server.0 ≡ server) × IsLife setup (record { name = name_of setup server; server = server; generation = over.life.generation.0 }) past over.life.link
+abbrev pub IsLifeOf : Setup → ℕ → List Event → ℕ → Ending → Type 0
+IsLifeOf setup clients past server over = (over.life.server.0 ≡ server) × IsLife setup clients (record { name = name_of setup server; server = server; generation = over.life.generation.0 }) past over.life.link
 
 abbrev pub generations_of : List Ending → List Generation
 generations_of lives = map (λ (over : Ending). over.life.generation) lives
@@ -114,10 +114,10 @@ pub record IsStarterOf (setup : Setup) (server : ℕ) (named : List ℕ) (shown 
 
 -- what went through the pipes is the history's: each server has its starter, which was asked for the server's starts, the lives are the
 -- starts that succeeded, and each link's octets are those of its events
-pub record IsCarried {S : Type 0} (named : S → List ℕ) (shows : S → StarterShows) (setup : Setup) (past : List Event) (lives : List (List Ending)) (starters : List S) : Type 0 where
+pub record IsCarried {S : Type 0} (named : S → List ℕ) (shows : S → StarterShows) (setup : Setup) (clients : ℕ) (past : List Event) (lives : List (List Ending)) (starters : List S) : Type 0 where
   pub all : length starters ≡ length setup.servers
   pub lives_are : AreLives setup past lives
-  pub pipes : EachNumbered (λ server its. All (IsLifeOf setup past server) its) 1 lives
+  pub pipes : EachNumbered (λ server its. All (IsLifeOf setup clients past server) its) 1 lives
   pub each : EachNumbered (λ server starter. IsStarterOf setup server (named starter) (shows starter) past) 1 starters
 
 -- ---- how a run ends
@@ -125,7 +125,7 @@ pub record IsCarried {S : Type 0} (named : S → List ℕ) (shows : S → Starte
 -- the merged events are the whole history, and the pipes are its
 pub record IsServedWhole {S : Type 0} (named : S → List ℕ) (shows : S → StarterShows) (setup : Setup) (clients : List Client) (events : List Event) (lives : List (List Ending)) (starters : List S) : Type 0 where
   pub machine : IsHistory setup clients events
-  pub carried : IsCarried named shows setup (reverse events) lives starters
+  pub carried : IsCarried named shows setup (length clients) (reverse events) lives starters
 
 -- each server's starts that succeeded are its lives that ended, and then that which went on at the halt; where a server has no list it was not started
 pub record AreLivesSoFar (setup : Setup) (past : List Event) (lives : List (List Ending)) (cut : List (List Generation)) : Type 0 where

@@ -29,6 +29,7 @@ use Rattle.xa_desk.specs.Desks.{GoesOn}
 use Rattle.xa_desk.specs.Found.{SawAtQueue}
 use Rattle.xa_desk.specs.Serving.{IsSentFor, LeftOthers, IsSwept}
 use Rattle.xa_links.specs.Behind.{TellsLast}
+use Rattle.xa_links.specs.Reasons.{ShowsReason}
 
 -- ---- its starts
 
@@ -83,7 +84,7 @@ pub record IsLived (d : Domain) (name : List ℕ) (queue server : ℕ) (desk : D
   pub over_is : IsOver over
   pub its : over.life.server.0 ≡ server
   pub named : over.life.name ≡ name
-  pub stopped : HasStopped d.setup over (theirs desk.caller.work)
+  pub stopped : HasStopped d.setup (ShowsReason d desk) over (theirs desk.caller.work)
   pub shut : over.life.turn ≡ AwaitsInvoke → EndsShut d queue desk over
   pub handed : AtEach (IsHanded server over.life.generation.0 over.life.asked (IsSentFor d queue desk)) (theirs desk.caller.work)
 

@@ -42,6 +42,7 @@ use Rattle.xa_desk.specs.Halting.{IsStopAt}
 use Rattle.xa_links.specs.Lives.{lives_in, failed_starts, HasStarted, IsHanded, IsLived, ServerShows}
 use Rattle.xa_links.specs.Steps.{IsToldOf}
 use Rattle.xa_links.specs.Behind.{ToldAll, ToldBy}
+use Rattle.xa_links.specs.Reasons.{ShowsReason}
 use Rattle.xa_links.specs.Working.{cut_in}
 
 -- ---- lives
@@ -61,14 +62,14 @@ pub record IsLast (name : List ℕ) (slot : ServerSlot) (life : Life) : Type 0 w
 
 -- it went as these events say, and each request of theirs that it took was handed on
 pub record IsGoing (d : Domain) (queue : ℕ) (desk : Desk) (own : List Event) (life : Life) : Type 0 where
-  pub follows : Follows d.setup life own
+  pub follows : Follows d.setup (ShowsReason d desk) life own
   pub handed : AtEach (IsHanded life.server.0 life.generation.0 life.asked (IsSentFor d queue desk)) own
 
 -- what the end of a life comes to, by what its server does: with a request in hand it is settled behind the end of that
-abbrev pub SettlesBy : Domain → Ending → List Event → Doing → Type 0
-SettlesBy d over own (doings.Idle g) = (g ≡ over.life.generation) × Settled d.setup over own
-SettlesBy d over own (doings.Busy g request) = (g ≡ over.life.generation) × ((e : Ended) → is_of_life over.life.server.0 over.life.generation.0 e.server.0 e.generation.0 ≡ true → e.outcome ≡ lost_by over.cause → Settled d.setup over (End e ∷ own))
-SettlesBy d over own doing = ⊥
+abbrev pub SettlesBy : Domain → Desk → Ending → List Event → Doing → Type 0
+SettlesBy d desk over own (doings.Idle g) = (g ≡ over.life.generation) × Settled d.setup (ShowsReason d desk) over own
+SettlesBy d desk over own (doings.Busy g request) = (g ≡ over.life.generation) × ((e : Ended) → is_of_life over.life.server.0 over.life.generation.0 e.server.0 e.generation.0 ≡ true → e.outcome ≡ lost_by over.cause → Settled d.setup (ShowsReason d desk) over (End e ∷ own))
+SettlesBy d desk over own doing = ⊥
 
 -- ---- the worker
 
@@ -145,7 +146,7 @@ module _ {L T : Type 0} (d : Domain) (named : T → List ℕ) (shows : T → Sta
     pub at : IsAtWork w (over.life.generation ∷ [])
     pub last : IsLast w.name w.served.slot over.life
     pub handed : AtEach (IsHanded over.life.server.0 over.life.generation.0 over.life.asked (IsSentFor d w.queue.0 w.desk)) (theirs w.desk.caller.work)
-    pub settles : SettlesBy d over (theirs w.desk.caller.work) w.served.slot.doing
+    pub settles : SettlesBy d w.desk over (theirs w.desk.caller.work) w.served.slot.doing
     pub shut : over.life.turn ≡ AwaitsInvoke → SawAtQueue d w.queue.0 w.desk (IsShut d.setup w.queue.0)
     pub dies : may_end over.cause over.life.turn over.written ≡ true → is_death over.cause ≡ true
     pub room : vec_len w.served.lives < vec_capacity w.served.lives

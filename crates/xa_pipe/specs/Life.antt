@@ -16,12 +16,14 @@ use Rattle.xa_frame.specs.Spelling.{spelled, all_spelled, kind_octet, HasSpellin
 use Rattle.xa_frame.specs.Stream.{IsPartial, IsMalformed, Begins}
 use Rattle.xa_events.specs.declared.event.Event.{Event}
 use Rattle.xa_events.specs.declared.event.Event.TheVariants.{Forward, End, Stop}
+use Rattle.xa_events.specs.declared.event.Ended.{Ended}
 use Rattle.xa_events.specs.declared.event.Outcome.{Outcome}
 use Rattle.xa_events.specs.declared.event.Outcome.TheVariants.{Returned, Failed, BadReturn, BadForward, Died, Starved}
 use Rattle.xa_events.specs.declared.event.StopCause.{StopCause}
 use Rattle.xa_events.specs.declared.event.StopCause.TheVariants.{Shutdown, Exit, EndOfInput, ReadFault, WriteFault, BadBytes, OutOfTurn, Starved as StarvedStop}
 use Rattle.xa_events.specs.Words.{latest, from_each, AtEach}
 use Rattle.xa_events.specs.Queue.{is_closed}
+use Rattle.xa_events.specs.Finishing.{ForwardEnds}
 pub use Rattle.xa_pipe.specs.declared.hearing.Finish.{Finish}
 use Rattle.xa_pipe.specs.declared.hearing.Finish.TheVariants.{Returns, Forwards}
 pub use Rattle.xa_pipe.specs.declared.turn.Turn.{Turn}
@@ -75,22 +77,30 @@ abbrev pub EndsAs : Outcome → Event → Type 0
 EndsAs outcome (End e) = e.outcome ≡ outcome
 EndsAs outcome e = ⊥
 
--- the request is forwarded to that service with that data, or fails to be, and ends (Tuxedo, tpforward)
-abbrev pub IsForwarded : List ℕ → Data → Event → Type 0
-IsForwarded service payload (Forward f) = (f.service ≡ service) × (f.payload ≡ payload)
-IsForwarded service payload (End e) = (version : ℕ) × (e.outcome ≡ BadForward version)
-IsForwarded service payload e = ⊥
+-- why a forward to that service with that data may have failed, where its request ended so behind these events
+abbrev pub Reasons : Type 1
+Reasons = List ℕ → Data → Ended → List Event → Type 0
+
+-- as the machine says it
+abbrev pub MayFail : Setup → ℕ → Reasons
+MayFail setup clients service payload e before = ForwardEnds setup clients service payload e e.outcome before
+
+-- the request is forwarded to that service with that data, or that fails for a reason, and it ends (Tuxedo, tpforward)
+abbrev pub IsForwarded : Reasons → List ℕ → Data → Event → List Event → Type 0
+IsForwarded Why service payload (Forward f) before = (f.service ≡ service) × (f.payload ≡ payload)
+IsForwarded Why service payload (End e) before = ((version : ℕ) × (e.outcome ≡ BadForward version)) × Why service payload e before
+IsForwarded Why service payload e before = ⊥
 
 -- what the program said comes to that event: by a RETURN the request ends as it says, and by a FORWARD it is forwarded
-abbrev pub ComesTo : Setup → Finish → Occurrence → Type 0
-ComesTo setup (Returns back) came = EndsAs (outcome_by setup back.value back.code back.payload) came.event
-ComesTo setup (Forwards forward) came = IsForwarded forward.service forward.payload came.event
+abbrev pub ComesTo : Setup → Reasons → Finish → Occurrence → Type 0
+ComesTo setup Why (Returns back) came = EndsAs (outcome_by setup back.value back.code back.payload) came.event
+ComesTo setup Why (Forwards forward) came = IsForwarded Why forward.service forward.payload came.event came.before
 
 -- each comes to one event, in order
-abbrev pub EachCame : Setup → List Finish → List Occurrence → Type 0
-EachCame setup [] [] = Unit {0}
-EachCame setup (back ∷ finishes) (came ∷ others) = ComesTo setup back came × EachCame setup finishes others
-EachCame setup finishes others = ⊥
+abbrev pub EachCame : Setup → Reasons → List Finish → List Occurrence → Type 0
+EachCame setup Why [] [] = Unit {0}
+EachCame setup Why (back ∷ finishes) (came ∷ others) = ComesTo setup Why back came × EachCame setup Why finishes others
+EachCame setup Why finishes others = ⊥
 
 -- how a service is done with its request by the frame
 abbrev pub finish_of : Body → List Finish
@@ -119,10 +129,10 @@ lost_by StarvedStop = Starved
 lost_by cause = Died
 
 -- each RETURN and FORWARD came to its event, and the request in hand was lost with the life: no more than one ends as Starved
-abbrev pub AllCame : Setup → StopCause → Turn → List Finish → List Occurrence → Type 0
-AllCame setup cause Serving finishes came =
-    (earlier : List Occurrence) × (last : Occurrence) × (came ≡ earlier ++ last ∷ []) × EachCame setup finishes earlier × EndsAs (lost_by cause) last.event
-AllCame setup cause turn finishes came = EachCame setup finishes came
+abbrev pub AllCame : Setup → Reasons → StopCause → Turn → List Finish → List Occurrence → Type 0
+AllCame setup Why cause Serving finishes came =
+    (earlier : List Occurrence) × (last : Occurrence) × (came ≡ earlier ++ last ∷ []) × EachCame setup Why finishes earlier × EndsAs (lost_by cause) last.event
+AllCame setup Why cause turn finishes came = EachCame setup Why finishes came
 
 -- ---- how the life ends
 
@@ -259,8 +269,8 @@ pub record LinkShows : Type 0 where
 abbrev pub IsOf : LifeId → Option (List ℕ × Generation) → Type 0
 IsOf life whose = whose ≡ Some (life.name, record { 0 = life.generation })
 
--- how a life went and why it ended, by its events and by what its link shows
-pub record IsLife (setup : Setup) (life : LifeId) (past : List Event) (link : LinkShows) : Type 0 where
+-- how a life went and why it ended, by its events, in a domain of so many clients, and by what its link shows
+pub record IsLife (setup : Setup) (clients : ℕ) (life : LifeId) (past : List Event) (link : LinkShows) : Type 0 where
   pub cause : StopCause
   pub turn : Turn
   pub returned : ℕ
@@ -268,7 +278,7 @@ pub record IsLife (setup : Setup) (life : LifeId) (past : List Event) (link : Li
   pub written : Written
   pub stopped : cause_of life.server life.generation past ≡ Some cause
   pub says : Says life.name returned frames turn
-  pub came : AllCame setup cause turn (finishes_in frames) (came_in life.server life.generation past)
+  pub came : AllCame setup (MayFail setup clients) cause turn (finishes_in frames) (came_in life.server life.generation past)
   pub may : may_end cause turn written ≡ true
   pub closed : turn ≡ AwaitsInvoke → AtEach (StopsClosed setup life.server life.generation) past
   pub counted : IsCounted cause link.reads link.writes

@@ -4,7 +4,7 @@ use Rattle.xa_types.specs.declared.setup.Setup.{Setup}
 use Rattle.xa_frame.specs.declared.frame.Frame.{Frame}
 use Rattle.xa_frame.specs.Spelling.{all_spelled}
 use Rattle.xa_events.specs.declared.event.Outcome.TheVariants.{Starved}
-use Rattle.xa_pipe.specs.Life.{Says, Turn, Finish, LinkShows, Occurrence, EndsAs, ComesTo}
+use Rattle.xa_pipe.specs.Life.{Says, Turn, Finish, LinkShows, Occurrence, Reasons, EndsAs, ComesTo}
 
 -- What the link gave and what it still holds begins with these frames, which a program says in turn; they are whole, and anything may follow them.
 pub record GivesAll (name : List ℕ) (frames : List Frame) (link : LinkShows) : Type 0 where
@@ -19,8 +19,8 @@ pub record GivesAll (name : List ℕ) (frames : List Frame) (link : LinkShows) :
   pub whole : octets ++ others ≡ all_spelled frames ++ more
 
 -- each take came to what its RETURN or FORWARD says, but that memory may have run out for the last
-abbrev pub CameAsSaid : Setup → List Finish → List Occurrence → Type 0
-CameAsSaid setup finishes [] = Unit {0}
-CameAsSaid setup [] (came ∷ others) = ⊥
-CameAsSaid setup (back ∷ finishes) (came ∷ []) = ComesTo setup back came ⊎ EndsAs Starved came.event
-CameAsSaid setup (back ∷ finishes) (came ∷ next ∷ others) = ComesTo setup back came × CameAsSaid setup finishes (next ∷ others)
+abbrev pub CameAsSaid : Setup → Reasons → List Finish → List Occurrence → Type 0
+CameAsSaid setup Why finishes [] = Unit {0}
+CameAsSaid setup Why [] (came ∷ others) = ⊥
+CameAsSaid setup Why (back ∷ finishes) (came ∷ []) = ComesTo setup Why back came ⊎ EndsAs Starved came.event
+CameAsSaid setup Why (back ∷ finishes) (came ∷ next ∷ others) = ComesTo setup Why back came × CameAsSaid setup Why finishes (next ∷ others)

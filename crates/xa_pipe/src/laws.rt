@@ -3,7 +3,7 @@ ghost use Rattle.std.specs.Prelude.{◌≡◌, ◌≤◌, ℕ, List, length};
 ghost use Rattle.xa_types.specs.declared.setup.Setup.{Setup};
 ghost use Rattle.xa_frame.specs.declared.frame.Frame.{Frame};
 ghost use Rattle.xa_events.specs.declared.event.Event.{Event};
-ghost use Rattle.xa_pipe.specs.Life.{LifeId, LinkShows, IsLife, came_in, finishes_in};
+ghost use Rattle.xa_pipe.specs.Life.{LifeId, LinkShows, Reasons, MayFail, IsLife, came_in, finishes_in};
 ghost use Rattle.xa_pipe.specs.Whole.{GivesAll, CameAsSaid};
 ghost use Rattle.xa_pipe.specs.Standing.{Ending, IsOver, id_of};
 ghost use Rattle.xa_pipe.specs.Following.{HasStopped, StandsIn};
@@ -12,15 +12,15 @@ ghost use Rattle.xa_pipe.specs.Following.{HasStopped, StandsIn};
 /// in turn, each request came to what that says, but that memory may have run out for the last. Nothing shows that it had
 /// really run out.
 pub fn ends_as_said()
-    ensures { (setup : Setup) (life : LifeId) (past : List Event) (link : LinkShows) (frames : List Frame)
-        → IsLife setup life past link → link.reads ≡ 0 → link.writes ≡ 0 → GivesAll life.name frames link
+    ensures { (setup : Setup) (clients : ℕ) (life : LifeId) (past : List Event) (link : LinkShows) (frames : List Frame)
+        → IsLife setup clients life past link → link.reads ≡ 0 → link.writes ≡ 0 → GivesAll life.name frames link
         → length (came_in life.server life.generation past) ≤ length (finishes_in frames)
-        → CameAsSaid setup (finishes_in frames) (came_in life.server life.generation past) }
+        → CameAsSaid setup (MayFail setup clients) (finishes_in frames) (came_in life.server life.generation past) }
 {}
 
 /// A life whose events a worker noted one by one beside what the life did, went and ended as those say, in each run in which
 /// the worker's events stand.
 pub fn is_life()
-    ensures { (setup : Setup) (over : Ending) (own past : List Event) → IsOver over → HasStopped setup over own → StandsIn setup over own past
-        → IsLife setup (id_of over.life) past over.life.link }
+    ensures { (setup : Setup) (clients : ℕ) (Why : Reasons) (over : Ending) (own past : List Event) → IsOver over → HasStopped setup Why over own → StandsIn setup clients Why over own past
+        → IsLife setup clients (id_of over.life) past over.life.link }
 {}
