@@ -9,7 +9,7 @@ use Rattle.xa_told.specs.xa_types.Kind.{is_accepted, kind_of, is_sound}
 use Rattle.xa_told.specs.xa_types.Setup.{capacity_of}
 use Rattle.xa_told.specs.xa_events.declared.event.Event.{Event}
 use Rattle.xa_told.specs.xa_events.declared.event.Event.TheVariants.{Accept}
-use Rattle.xa_told.specs.xa_events.Board.{published, listed_in}
+use Rattle.xa_told.specs.xa_events.Board.{boot, published, listed_in}
 use Rattle.xa_told.specs.xa_events.Homes.Home.{BoardHome, QueueHome}
 use Rattle.xa_told.specs.xa_events.Queue.{is_down, is_closed, waiting}
 use Rattle.xa_told.specs.xa_events.Cases.{RowStands, RowAdmits}
@@ -43,12 +43,13 @@ abbrev pub SawItsOwnAt : Domain → ℕ → Desk → (List Event → Type 0) →
 SawItsOwnAt d queue desk P = (whole : Whole) → GoesOn d whole desk → (stamp : Stamp) → desk.caller.work.stamp.0 < stamp.0
     → SawSince d.setup d.clients (entries_of whole) stamp desk.caller.work.id.0 queue P (past_in desk.caller.work.own)
 
--- the rows of the service that were found are those that the version lists, which is no older than what the caller read and was seen, and each of them
--- stands there
+-- the rows of the service that were found are those that the version lists, which is no older than the boot's and what the caller read, and was seen, and
+-- each of them stands there
 pub record HasFound (d : Domain) (service : List ℕ) (found : FoundRows) (desk : Desk) : Type 0 where
   pub rows : AreRowsOf d.setup service found.rows
   pub places : All (λ (row : Row). (0 < row.queue.0) × (row.queue.0 < length d.queues.items + 1)) found.rows
   pub recent : desk.caller.least ≤ found.version
+  pub booted : boot d.setup ≤ found.version
   pub seen : found.version ≤ published (past_in (changes_at (board_page desk).seen))
   pub listed : SawOnBoard d desk (λ past. (found.version ≤ published past) × (listed_in d.setup past found.version service false ≡ found.rows))
   pub stand : (payload : Data) → All (λ (row : Row). is_accepted d.setup row.accepts (kind_of payload) ≡ true

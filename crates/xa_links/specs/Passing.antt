@@ -9,6 +9,7 @@ use Rattle.xa_desk.specs.xa_pipe.Following.{is_of}
 use Rattle.xa_desk.specs.xa_pipe.Life.{IsForwarded}
 use Rattle.xa_desk.specs.xa_queue.declared.queue.Refusal.{Refusal}
 use Rattle.xa_desk.specs.xa_queue.declared.queue.Refusal.TheVariants as refusals
+use Rattle.xa_desk.specs.xa_work.Work.{theirs}
 use Rattle.xa_desk.specs.xa_work.declared.work.Halt.{Halt}
 use Rattle.xa_desk.specs.xa_work.declared.work.Halt.TheVariants as halts
 use Rattle.xa_desk.specs.xa_server.declared.slot.ServerSlot.{ServerSlot}
@@ -20,6 +21,7 @@ use Rattle.xa_desk.specs.Passing.{IsPassing}
 use Rattle.xa_links.specs.declared.passing.Tried.{Tried}
 use Rattle.xa_links.specs.declared.passing.Tried.TheVariants as tries
 use Rattle.xa_links.specs.declared.telling.Told.{Told}
+use Rattle.xa_links.specs.Reasons.{ShowsReason}
 use Rattle.xa_links.specs.Steps.{Steps, Serves, IsToldOf}
 
 -- the number of the queue at which the slot's server is
@@ -52,7 +54,7 @@ pub record IsDoneBy (d : Domain) (queue : ℕ) (event : Event) (slot slot' : Ser
 pub record Passes (d : Domain) (queue : ℕ) (service : List ℕ) (payload : Data) (told : Option Told) (slot slot' : ServerSlot) (old new : Desk) : Type 0 where
   pub event : Event
   pub done : IsDoneBy d queue event slot slot' old new
-  pub by : IsForwarded service payload event
+  pub by : IsForwarded (ShowsReason d new) service payload event (theirs old.caller.work)
   pub to_tell : IfSome told (IsToldOf d new)
 
 -- at a halt it is in hand still, and nothing was noted
