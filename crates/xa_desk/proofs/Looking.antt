@@ -46,6 +46,7 @@ module _ {d : Domain} {old new : Desk} {p p' : LockPass BoardNote} (step : Board
         rows = found_configured (page_of p) (page_of p') [] name false found last d.setup looks sees;
         places = All-weaker (IsPlaced d.setup) (λ (row : Row). (0 < row.queue.0) × (row.queue.0 < length d.queues.items + 1)) (λ row is. let least_of = is.least in (is.some, omega (arith, least_of, queues))) found.rows (found_placed (page_of p) (page_of p') [] name false found last d.setup looks sees);
         recent = omega (arith, least, same, grows);
+        booted = let booted = (board_before step).booted in omega (arith, booted, grows);
         seen = subst (λ (o : Option (LockPass BoardNote)). found.version ≤ published (past_in (changes_at (page_in o).seen))) (sym step.now) (omega (arith, found_seen looks));
         listed = λ whole on stamp less. found_listed (page_of p) (page_of p') whole.board.notes name false found stamp d.setup looks sees (board_front step whole on) (later stamp less);
         stand = λ payload. All-weaker (Contains found.rows) (λ (row : Row). is_accepted d.setup row.accepts (kind_of payload) ≡ true → SawOnBoard d new (RowStands d.setup found.version name row.queue.0 (RowAdmits d.setup false row.routine payload)))

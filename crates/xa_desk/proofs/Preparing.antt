@@ -54,7 +54,7 @@ passes_found p (y ∷ rest) x is = elim (cases_Bool (p y)) [
   | inr n ↦ passes_found p rest x (sym (ap (λ b. if b then Some y else find p rest) n) ∙ is)
 ]
 
-none_passes : {X : Type 0} (p : X → Bool) (xs : List X) → find p xs ≡ None → list_any p xs ≡ false
+pub none_passes : {X : Type 0} (p : X → Bool) (xs : List X) → find p xs ≡ None → list_any p xs ≡ false
 none_passes p [] is = refl
 none_passes p (y ∷ rest) is = elim (cases_Bool (p y)) [
   | inl here ↦ absurd (cc (sym (ap (λ b. if b then Some y else find p rest) here) ∙ is))

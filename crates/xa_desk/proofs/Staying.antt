@@ -51,6 +51,7 @@ module _ (d : Domain) (old new : Desk) (leads : Leads d old new) where
     rows = has.rows;
     places = has.places;
     recent = recent;
+    booted = has.booted;
     seen = subst (λ o. found.version ≤ published (past_in (changes_at (page_in o).seen))) (sym board) has.seen;
     listed = board_stays _ has.listed;
     stand = λ payload. All-weaker (λ (row : Row). is_accepted d.setup row.accepts (kind_of payload) ≡ true → SawOnBoard d old (RowStands d.setup found.version service row.queue.0 (RowAdmits d.setup false row.routine payload)))

@@ -3,6 +3,7 @@ pub mod Stepping
 pub mod Keeping
 pub mod Lasting
 pub mod Deaths
+pub mod Reasons
 pub mod Onward
 pub mod Exchanges
 pub mod Starts

@@ -21,8 +21,9 @@ use Rattle.xa_desk.specs.xa_events.declared.event.Outcome.{Outcome}
 use Rattle.xa_desk.specs.xa_events.declared.event.Outcome.TheVariants.{BadForward}
 use Rattle.xa_desk.specs.xa_events.Server.{after_end}
 use Rattle.xa_desk.specs.xa_pipe.Following.{is_of}
-use Rattle.xa_desk.specs.xa_pipe.Life.{IsForwarded}
+use Rattle.xa_desk.specs.xa_pipe.Life.{Reasons, IsForwarded}
 use Rattle.xa_desk.specs.xa_stamp.declared.home.Stamped.{Stamped}
+use Rattle.xa_desk.specs.xa_board.declared.reader.Reader.{Reader}
 use Rattle.xa_desk.specs.xa_queue.declared.entry.Entry.{Entry}
 use Rattle.xa_desk.specs.xa_queue.declared.queue.Refusal.{Refusal}
 use Rattle.xa_desk.specs.xa_queue.declared.queue.Refusal.TheVariants as refusals
@@ -36,30 +37,34 @@ use Rattle.xa_desk.specs.xa_server.declared.slot.ServerSlot.{ServerSlot}
 use Rattle.xa_desk.specs.xa_server.Changes.{Finishes}
 use Rattle.xa_desk.specs.xa_server.Doings.{life_in}
 use Rattle.xa_desk.specs.xa_server.declared.forwarding.Forwarding.TheVariants.{On, Failed}
-use Rattle.xa_desk.specs.xa_server.Forwarding.{Fails, GoesOn, ForwardsAs, Passes as PassesOut, forwarded_by, row_or, way_of}
+use Rattle.xa_desk.specs.xa_server.Forwarding.{Fails, GoesOn, ForwardsAs, Passes as PassesOut, forwarded_by, row_or, way_of, hop_in}
 use Rattle.xa_desk.specs.xa_server.Noting.{HaltsWith}
 use Rattle.xa_desk.specs.declared.domain.Domain.{Domain}
 use Rattle.xa_desk.specs.declared.desk.Desk.{Desk}
 use Rattle.xa_desk.specs.Desks.{IsDesk, Leads}
-use Rattle.xa_desk.specs.Found.{ShowsWhy}
+use Rattle.xa_desk.specs.Found.{HasFound, ShowsWhy}
 use Rattle.xa_desk.specs.Halting.{IsHaltAt}
 use Rattle.xa_desk.specs.Passing.{IsPassing, holding, forwarded_to}
 use Rattle.xa_desk.specs.Serving.{IsServing, IsTaken, IsToTell, Sees}
+use Rattle.xa_desk.proofs.Staying.{found_stays}
 use Rattle.xa_desk.proofs.Stopping.{same_leads}
 use Rattle.xa_links.specs.declared.passing.Tried.{Tried}
 use Rattle.xa_links.specs.declared.passing.Tried.TheVariants as tries
 use Rattle.xa_links.specs.declared.telling.Told.{Told}
-use Rattle.xa_links.specs.Passing.{IsBack, IsDoneBy, Passes, Keeps, TriedAs, PassesAs, its_queue, halt_by}
+use Rattle.xa_links.specs.Reasons.{ShowsReason}
+use Rattle.xa_links.specs.Passing.{TookNothing, IsBack, IsDoneBy, Passes, Keeps, TriedAs, PassesAs, its_queue, halt_by}
 use Rattle.xa_links.specs.Steps.{Steps, Serves}
 use Rattle.xa_links.proofs.Deaths.{is_its, told_of}
 use Rattle.xa_links.proofs.Lasting.{number_of}
+use Rattle.xa_links.proofs.Reasons.{shows_reason, shut_shown, way_shown}
 use Rattle.xa_links.proofs.Stepping.{still_steps, still_serves, one_steps, noted_steps, seen_steps, halted_steps, halted_own, halted_at, steps_trans}
 
 -- ---- an event by which the server is done
 
 module _ {d : Domain} {queue : ℕ} {slot slot' : ServerSlot} {old new : Desk} where
   pub ended_done : (outcome : Outcome) (closing : Closing) → Leads d old new → old.caller.work.clients + slot.server.0 ≡ old.caller.work.id.0 → IsServing d queue slot' new → new.caller.seat ≡ old.caller.seat → ((g : Generation) → after_end outcome g ≡ Idle g)
-      → Finishes outcome closing slot' slot new.caller.work old.caller.work → (e : Ended) × IsDoneBy d queue (End e) slot slot' old new × (e.outcome ≡ outcome)
+      → (ends : Finishes outcome closing slot' slot new.caller.work old.caller.work) → (e : Ended) × IsDoneBy d queue (End e) slot slot' old new × (e.outcome ≡ outcome) × (e.server ≡ slot.server) × (e.request ≡ ends.ends.entry.request) × (old.caller.work.stamp.0 < ends.stamp.0)
+      × (new.caller.work.own ≡ old.caller.work.own ++ record { stamp = ends.stamp; event = End e } ∷ [])
   ended_done outcome closing leads number serving seat idle finishes =
       let ends = finishes.ends in
       let e : Ended = record { request = ends.entry.request; server = slot.server; generation = life_in slot.doing; outcome = outcome } in (
@@ -79,6 +84,10 @@ module _ {d : Domain} {queue : ℕ} {slot slot' : ServerSlot} {old new : Desk} w
           seat = seat;
         },
         refl,
+        refl,
+        refl,
+        (let next = ends.noted.next in omega (arith, next)),
+        ap (λ (w : Working). w.own) ends.noted.made,
       )
 
   -- the request went on
@@ -103,23 +112,32 @@ module _ {d : Domain} {queue : ℕ} {slot slot' : ServerSlot} {old new : Desk} w
       })
 
 -- as the forward says
-pub forward_by : {d : Domain} {queue : ℕ} {slot : ServerSlot} {old : Desk} (entry : Entry Cargo) (event : Event) (service : List ℕ) → IsPassing d queue entry event slot old → AreRowsOf d.setup service old.reader.found.rows → IsForwarded service entry.cargo.invocation.payload event
-forward_by {d} {queue} {slot} {old} entry event service passing rows =
+pub forward_by : {d : Domain} {queue : ℕ} {slot : ServerSlot} {old : Desk} (Why : Reasons) (own : List Event) (entry : Entry Cargo) (event : Event) (service : List ℕ) → IsPassing d queue entry event slot old → AreRowsOf d.setup service old.reader.found.rows → IsForwarded Why service entry.cargo.invocation.payload event own
+forward_by {d} {queue} {slot} {old} Why own entry event service passing rows =
     let row : Row = passing.row in
-    subst (IsForwarded service entry.cargo.invocation.payload) (sym passing.event_is)
+    subst (λ (e : Event). IsForwarded Why service entry.cargo.invocation.payload e own) (sym passing.event_is)
     (row-service d.setup service row (All-contains (λ (r : Row). r ≡ row_for d.setup service r.queue.0 r.routine) old.reader.found.rows row rows passing.among), refl)
 
 -- ---- nothing was noted
 
 module _ {d : Domain} where
   pub back_none : (desk : Desk) → IsDesk d desk → IsBack d desk desk
-  back_none desk is = record { steps = still_steps (same_leads d desk is) refl refl refl; own = refl; seat = refl; reader = refl }
+  back_none desk is = record { steps = still_steps (same_leads d desk is) refl refl refl; own = refl; seat = refl; reader = refl; found = λ service has. has }
 
-  pub back_seen : {old new : Desk} → Leads d old new → Sees old.caller new.caller → new.reader ≡ old.reader → IsBack d old new
-  back_seen leads sees reader = record { steps = seen_steps leads sees; own = ap (λ (c : Caller). c.work.own) sees.1; seat = ap (λ (c : Caller). c.seat) sees.1; reader = reader }
+  pub back_seen : {old new : Desk} → Leads d old new → Sees old.caller new.caller → new.board ≡ old.board → new.reader ≡ old.reader → IsBack d old new
+  back_seen {old} {new} leads sees board reader = record {
+    steps = seen_steps leads sees;
+    own = ap (λ (c : Caller). c.work.own) sees.1;
+    seat = ap (λ (c : Caller). c.seat) sees.1;
+    reader = reader;
+    found = λ service has.
+        let least = ap (λ (c : Caller). c.least) sees.1 in
+        let recent = has.recent in
+        subst (λ (f : FoundRows). HasFound d service f new) (sym (ap (λ (r : Reader). r.found) reader)) (found_stays d old new leads service old.reader.found board (omega (arith, least, recent)) has);
+  }
 
   pub back_trans : {a b c : Desk} → IsBack d a b → IsBack d b c → IsBack d a c
-  back_trans ab bc = record { steps = steps_trans [] [] ab.steps bc.steps; own = bc.own ∙ ab.own; seat = bc.seat ∙ ab.seat; reader = bc.reader ∙ ab.reader }
+  back_trans ab bc = record { steps = steps_trans [] [] ab.steps bc.steps; own = bc.own ∙ ab.own; seat = bc.seat ∙ ab.seat; reader = bc.reader ∙ ab.reader; found = λ service has. bc.found service (ab.found service has) }
 
 same_halt : {a b : Halt} → Some a ≡ Some b → a ≡ b
 same_halt same = cc same
@@ -134,8 +152,8 @@ halt_shown d queue desk (refusals.Full n) halt is shows = absurd (cc is)
 
 module _ {d : Domain} {queue : ℕ} {slot : ServerSlot} {old : Desk} where
   -- the request is in hand again, and its worker halts
-  pub retaken : (entry : Entry Cargo) (event : Event) (service : List ℕ) (payload : Data) (halt : Halt) {slot' : ServerSlot} {new : Desk} → IsPassing d queue entry event slot new → IsBack d old new → IsHaltAt new halt → slot' ≡ holding entry slot → TriedAs d queue service payload (tries.Halted halt) slot slot' old new
-  retaken entry event service payload halt {slot'} {new} passing back halts is = subst (λ (s : ServerSlot). Keeps d queue halt slot s old new) (sym is) (record {
+  pub retaken : (entry : Entry Cargo) (event : Event) (service : List ℕ) (payload : Data) (next : ℕ) (halt : Halt) {slot' : ServerSlot} {new : Desk} → IsPassing d queue entry event slot new → IsBack d old new → IsHaltAt new halt → slot' ≡ holding entry slot → TriedAs d queue service payload next (tries.Halted halt) slot slot' old new
+  retaken entry event service payload next halt {slot'} {new} passing back halts is = subst (λ (s : ServerSlot). Keeps d queue halt slot s old new) (sym is) (record {
     serves = record { steps = back.steps; serving = passing.serving; server = refl; made = refl; gone = refl };
     does = refl;
     own = back.own;
@@ -143,11 +161,15 @@ module _ {d : Domain} {queue : ℕ} {slot : ServerSlot} {old : Desk} where
     halts = halts;
   })
 
-  -- the forward failed
-  pub fails_on : (entry : Entry Cargo) (event : Event) (service : List ℕ) (version : ℕ) (told : Told) {slot' : ServerSlot} {new : Desk} → IsPassing d queue entry event slot old → Leads d old new → IsServing d queue slot' new → new.caller.seat ≡ old.caller.seat
-      → Fails version told.closing slot' (holding entry slot) new.caller old.caller → IsToTell d new told.closing → Passes d queue service entry.cargo.invocation.payload (Some told) slot slot' old new
-  fails_on entry event service version told {slot'} {new} passing leads serving seat fails to =
-      let ended = ended_done {slot = holding entry slot} (BadForward version) told.closing leads (number_of passing.serving) serving seat (λ g. refl) fails.finishes in
+  -- the forward failed, as no queue took the request
+  pub fails_on : (entry : Entry Cargo) (event : Event) (service : List ℕ) (told : Told) {slot' : ServerSlot} {new : Desk} → IsDesk d old → IsPassing d queue entry event slot old → HasFound d service old.reader.found old → TookNothing d old old.reader.found.rows
+      → Leads d old new → IsServing d queue slot' new → new.caller.seat ≡ old.caller.seat → Fails old.reader.found.version told.closing slot' (holding entry slot) new.caller old.caller → IsToTell d new told.closing
+      → Passes d queue service entry.cargo.invocation.payload (Some told) slot slot' old new
+  fails_on entry event service told {slot'} {new} is passing has none leads serving seat fails to =
+      let version = old.reader.found.version in
+      let payload = entry.cargo.invocation.payload in
+      let number = number_of passing.serving in
+      let ended = ended_done {slot = holding entry slot} (BadForward version) told.closing leads number serving seat (λ g. refl) fails.finishes in
       let done = ended.1 in
       record {
         event = End ended.0;
@@ -159,13 +181,13 @@ module _ {d : Domain} {queue : ℕ} {slot : ServerSlot} {old : Desk} where
           noted = done.noted;
           seat = done.seat;
         };
-        by = (version, ended.2);
+        by = ((version, ended.2), shows_reason d old new is leads slot.server number service payload ended.0 (BadForward version) fails.finishes.stamp ended.3 ended.2 ended.5 ended.6 (shut_shown d old new is leads slot.server number service payload ended.0 ended.3 has none));
         to_tell = to;
       }
 
-  pub fails_halted : (entry : Entry Cargo) (service : List ℕ) (payload : Data) (halt : Halt) {slot' : ServerSlot} {new : Desk} → Leads d old new → IsServing d queue slot' new → new.caller.seat ≡ old.caller.seat → slot' ≡ holding entry slot → HaltsWith 3 new.caller.work old.caller.work halt
-      → TriedAs d queue service payload (tries.Halted halt) slot slot' old new
-  fails_halted entry service payload halt {slot'} {new} leads serving seat is halts = record {
+  pub fails_halted : (entry : Entry Cargo) (service : List ℕ) (payload : Data) (next : ℕ) (halt : Halt) {slot' : ServerSlot} {new : Desk} → Leads d old new → IsServing d queue slot' new → new.caller.seat ≡ old.caller.seat → slot' ≡ holding entry slot → HaltsWith 3 new.caller.work old.caller.work halt
+      → TriedAs d queue service payload next (tries.Halted halt) slot slot' old new
+  fails_halted entry service payload next halt {slot'} {new} leads serving seat is halts = record {
     serves = record {
       steps = halted_steps 3 halt leads halts;
       serving = serving;
@@ -207,7 +229,7 @@ module _ (d : Domain) (queue : ℕ) (slot slot' last : ServerSlot) (a b c : Desk
           noted = done.noted ∙ ap (λ (l : List Stamped). l ++ record { stamp = done.stamp; event = passes.event } ∷ []) own;
           seat = done.seat ∙ seat;
         };
-        by = passes.by;
+        by = subst (IsForwarded (ShowsReason d c) service payload passes.event) steps.own passes.by;
         to_tell = passes.to_tell;
       }
     where
@@ -233,15 +255,15 @@ same_server : {slot slot' : ServerSlot} → slot' ≡ slot → SameServer slot s
 same_server same = record { server = ap (λ (s : ServerSlot). s.server) same; made = ap (λ (s : ServerSlot). s.made) same; gone = ap (λ (s : ServerSlot). s.gone) same; does = ap (λ (s : ServerSlot). s.doing) same }
 
 module _ (d : Domain) (slot slot' last : ServerSlot) (a b c : Desk) (same : slot' ≡ slot) (back : IsBack d a b) where
-  here_from : (service : List ℕ) (payload payload' : Data) (tried : Tried) → payload' ≡ payload → TriedAs d (its_queue d slot) service payload' tried slot' last b c → TriedAs d (its_queue d slot) service payload tried slot last a c
-  here_from service payload payload' (tries.Passed told) its_data passes =
+  here_from : (service : List ℕ) (payload payload' : Data) (next : ℕ) (tried : Tried) → payload' ≡ payload → TriedAs d (its_queue d slot) service payload' next tried slot' last b c → TriedAs d (its_queue d slot) service payload next tried slot last a c
+  here_from service payload payload' next (tries.Passed told) its_data passes =
       subst (λ (x : Data). Passes d (its_queue d slot) service x told slot last a c) its_data (passes_from d (its_queue d slot) slot slot' last a b c (same_server same) back.steps back.own back.seat service payload' told passes)
-  here_from service payload payload' (tries.Halted halt) its_data keeps = keeps_from d (its_queue d slot) slot slot' last a b c (same_server same) back.steps back.own back.seat halt keeps
-  here_from service payload payload' (tries.Again entry event) its_data (passing, still, further, its) = (passing, still ∙ same, back_trans back further, its ∙ its_data)
+  here_from service payload payload' next (tries.Halted halt) its_data keeps = keeps_from d (its_queue d slot) slot slot' last a b c (same_server same) back.steps back.own back.seat halt keeps
+  here_from service payload payload' next (tries.Again entry event) its_data (passing, still, further, its, by, tried) = (passing, still ∙ same, back_trans back further, its ∙ its_data, by, tried)
 
-  pub tried_from : (service : List ℕ) (payload payload' : Data) (tried : Tried) → payload' ≡ payload → TriedAs d (its_queue d slot') service payload' tried slot' last b c → TriedAs d (its_queue d slot) service payload tried slot last a c
-  tried_from service payload payload' tried its_data is =
-      here_from service payload payload' tried its_data (subst (λ (s : ServerSlot). TriedAs d (its_queue d s) service payload' tried slot' last b c) same is)
+  pub tried_from : (service : List ℕ) (payload payload' : Data) (next : ℕ) (tried : Tried) → payload' ≡ payload → TriedAs d (its_queue d slot') service payload' next tried slot' last b c → TriedAs d (its_queue d slot) service payload next tried slot last a c
+  tried_from service payload payload' next tried its_data is =
+      here_from service payload payload' next tried its_data (subst (λ (s : ServerSlot). TriedAs d (its_queue d s) service payload' next tried slot' last b c) same is)
 
 -- what a queue refused is out still
 pub still_out : {d : Domain} (entry back : Entry Cargo) (event : Event) (slot slot' : ServerSlot) (desk : Desk) → slot' ≡ slot → back ≡ entry → IsPassing d (its_queue d slot) entry event slot' desk → IsPassing d (its_queue d slot') back event slot' desk
@@ -257,9 +279,9 @@ goes_somewhere {d} entry event slot desk passing =
 -- ---- what a forward of the slot comes to, by the way that it goes
 
 module _ (version : ℕ) (payload : Data) (slot slot' : ServerSlot) (old new : Caller) where
-  pub failed_as : (way : Result Row ℕ) (closing : Closing) → ForwardsAs version payload way (Failed closing) slot' slot new old → (named : ℕ) × Fails named closing slot' slot new old
+  pub failed_as : (way : Result Row ℕ) (closing : Closing) → ForwardsAs version payload way (Failed closing) slot' slot new old → (named : ℕ) × (way ≡ Err named) × Fails named closing slot' slot new old
   failed_as (Ok row) closing is = absurd is
-  failed_as (Err named) closing is = (named, is)
+  failed_as (Err named) closing is = (named, refl, is)
 
   pub passed_as : (way : Result Row ℕ) (entry : Entry Cargo) (event : Event) → ForwardsAs version payload way (On entry event) slot' slot new old → (row : Row) × (way ≡ Ok row) × PassesOut version row payload entry event slot' slot new old
   passed_as (Ok row) entry event is = (row, refl, is)
@@ -272,6 +294,20 @@ way_named setup service payload hop found row is = by (is_name service) (is_soun
     by : (named sound few : Bool) (way : Result Row ℕ) → (if named && sound && few then way else Err 0) ≡ Ok row → named ≡ true
     by true sound few way so = refl
     by false sound few way so = absurd (cc so)
+
+-- by the first row that was found whose service accepts the data
+pub way_row : (setup : Setup) (service : List ℕ) (payload : Data) (hop : ℕ) (found : FoundRows) (row : Row) → way_of setup service payload hop found ≡ Ok row → find (λ (r : Row). is_accepted setup r.accepts (kind_of payload)) found.rows ≡ Some row
+way_row setup service payload hop found row is = by (is_name service) (is_sound setup payload) (nat_lt hop 32) (find (λ (r : Row). is_accepted setup r.accepts (kind_of payload)) found.rows) is
+  where
+    by : (named sound few : Bool) (first : Option Row) → (if named && sound && few then row_or found.version first else Err 0) ≡ Ok row → first ≡ Some row
+    by true true true (Some one) so = cc so
+    by true true true None so = absurd (cc so)
+    by false sound few first so = absurd (cc so)
+    by true false few first so = absurd (cc so)
+    by true true false first so = absurd (cc so)
+
+pub same_desk : (old new : Desk) → new ≡ record old { caller = new.caller } → new.caller ≡ old.caller → old ≡ new
+same_desk old new rest same = sym (rest ∙ ap (λ (c : Caller). record old { caller = c }) same)
 
 -- it is out, with nothing noted
 pub out_same : {version : ℕ} {row : Row} {payload : Data} {entry : Entry Cargo} {event : Event} {slot slot' : ServerSlot} {new old : Caller} → PassesOut version row payload entry event slot' slot new old → SameServer slot slot'
@@ -286,11 +322,21 @@ module _ {d : Domain} {queue : ℕ} where
   if_taken on (Some entry) is = on entry is
 
   -- the forward failed by itself, by its request, or by what was found
-  pub fails_at_once : (service : List ℕ) (payload : Data) (named : ℕ) (closing : Closing) (told : Option Told) {slot slot' : ServerSlot} {old new : Desk} → IsServing d queue slot old → Leads d old new → IsServing d queue slot' new → new.caller.seat ≡ old.caller.seat → Fails named closing slot' slot new.caller old.caller
+  pub fails_at_once : (service : List ℕ) (payload : Data) (named : ℕ) (closing : Closing) (told : Option Told) (t : Taken) {slot slot' : ServerSlot} {old new : Desk} → IsDesk d old → IfSome slot.hand (IsTaken d queue t old) → (is_name service ≡ true → HasFound d service old.reader.found old)
+      → way_of d.setup service payload (hop_in slot.hand) old.reader.found ≡ Err named → IsServing d queue slot old → Leads d old new → IsServing d queue slot' new → new.caller.seat ≡ old.caller.seat → Fails named closing slot' slot new.caller old.caller
       → IfSome told (λ t. t.closing ≡ closing) → IsToTell d new closing → Passes d queue service payload told slot slot' old new
-  fails_at_once service payload named closing told {slot} {slot'} {old} {new} was leads serving seat fails is to =
-      let ended = ended_done (BadForward named) closing leads (number_of was) serving seat (λ g. refl) fails.finishes in
-      record { event = End ended.0; done = ended.1; by = (named, ended.2); to_tell = told_of d new closing told is to }
+  fails_at_once service payload named closing told t {slot} {slot'} {old} {new} desk taken has way was leads serving seat fails is to =
+      let number = number_of was in
+      let ended = ended_done (BadForward named) closing leads number serving seat (λ g. refl) fails.finishes in
+      let entry = fails.finishes.ends.entry in
+      let hand = fails.finishes.ends.in_hand in
+      record {
+        event = End ended.0;
+        done = ended.1;
+        by = ((named, ended.2), shows_reason d old new desk leads slot.server number service payload ended.0 (BadForward named) fails.finishes.stamp ended.3 ended.2 ended.5 ended.6
+        (way_shown d old new desk leads slot.server number service payload ended.0 ended.3 queue entry named was.its ended.4 (subst (λ h. IfSome h (IsTaken d queue t old)) hand taken).last has (ap (λ h. way_of d.setup service payload (hop_in h) old.reader.found) (sym hand) ∙ way)));
+        to_tell = told_of d new closing told is to;
+      }
 
   -- at a halt
   pub keeps_at_once : (halt : Halt) {slot slot' : ServerSlot} {old new : Desk} → Leads d old new → IsServing d queue slot' new → slot' ≡ slot → new.caller.seat ≡ old.caller.seat → HaltsWith 3 new.caller.work old.caller.work halt → Keeps d queue halt slot slot' old new

@@ -1,10 +1,9 @@
 // A server's worker that passes its request on.
-ghost use Rattle.std.specs.Prelude.{◌≡◌, ℕ, true, List, [], IfSome};
+ghost use Rattle.std.specs.Prelude.{◌≡◌, ℕ, ◌+◌, ◌≤◌, true, List, [], IfSome};
 ghost use Rattle.xa_desk.specs.xa_types.Name.{is_name};
 ghost use Rattle.xa_desk.specs.xa_events.declared.event.Event.{Event as Passed};
 ghost use Rattle.xa_desk.specs.xa_events.declared.event.Taken.{Taken};
 ghost use Rattle.xa_desk.specs.xa_queue.declared.entry.Entry.{Entry as EntryOf};
-ghost use Rattle.xa_desk.specs.xa_caller.Caller.{AreRowsOf};
 ghost use Rattle.xa_desk.specs.xa_caller.Drafts.{Cargo as CargoOf};
 ghost use Rattle.xa_desk.specs.xa_server.Doings.{IsBusy};
 ghost use Rattle.xa_desk.specs.xa_server.declared.slot.ServerSlot.{ServerSlot as Slot};
@@ -12,7 +11,7 @@ ghost use Rattle.xa_desk.specs.Desks.{IsDomain, IsDesk};
 ghost use Rattle.xa_desk.specs.Found.{HasFound};
 ghost use Rattle.xa_desk.specs.Passing.{IsPassing};
 ghost use Rattle.xa_desk.specs.Serving.{IsServing, IsTaken};
-ghost use Rattle.xa_links.specs.Passing.{TriedAs, PassesAs, its_queue, halt_by};
+ghost use Rattle.xa_links.specs.Passing.{IsBy, TookNothing, WereTried, TriedAs, PassesAs, its_queue, halt_by};
 ghost use Rattle.xa_links.specs.Steps.{Steps};
 
 use crate::telling::{Told, told_by};
@@ -47,12 +46,14 @@ pub(crate) enum Tried {
     Halted(Halt),
 }
 
-// No queue took the request that is out: its forward failed.
+// No queue of the rows that were found took the request that is out: its forward failed.
 fn fail(domain: &Domain, desk: &mut Desk, slot: &mut ServerSlot, entry: Entry<Cargo>) -> Tried
     requires domain { IsDomain domain.now }
     requires desk { IsDesk domain.now desk.old }
     requires passing { (event : Passed) × IsPassing domain.now (its_queue domain.now slot.old) entry event slot.old desk.old }
-    ensures { (service : List ℕ) → TriedAs domain.now (its_queue domain.now slot.old) service entry.cargo.invocation.payload result slot.old slot.new desk.old desk.new }
+    requires tried { TookNothing domain.now desk.old desk.old.reader.found.rows }
+    ensures { (service : List ℕ) (next : ℕ) → HasFound domain.now service desk.old.reader.found desk.old
+        → TriedAs domain.now (its_queue domain.now slot.old) service entry.cargo.invocation.payload next result slot.old slot.new desk.old desk.new }
 {
     let request = entry.request;
     match desk.fail_to_pass(domain, slot, entry) {
@@ -61,7 +62,7 @@ fn fail(domain: &Domain, desk: &mut Desk, slot: &mut ServerSlot, entry: Entry<Ca
     }
 }
 
-// Aims the request that is out by the row at that attempt; if there is none its forward failed.
+// Aims the request that is out by the row at that attempt, behind those that were tried; if there is none its forward failed.
 fn aim_again(
     alloc: Global,
     domain: &Domain,
@@ -73,7 +74,9 @@ fn aim_again(
     requires domain { IsDomain domain.now }
     requires desk { IsDesk domain.now desk.old }
     requires passing { (event : Passed) × IsPassing domain.now (its_queue domain.now slot.old) entry event slot.old desk.old }
-    ensures { (service : List ℕ) → TriedAs domain.now (its_queue domain.now slot.old) service entry.cargo.invocation.payload result slot.old slot.new desk.old desk.new }
+    requires tried { WereTried domain.now desk.old attempt }
+    ensures { (service : List ℕ) → HasFound domain.now service desk.old.reader.found desk.old
+        → TriedAs domain.now (its_queue domain.now slot.old) service entry.cargo.invocation.payload attempt result slot.old slot.new desk.old desk.new }
 {
     match desk.pass_again(alloc, domain, slot, entry, attempt) {
         Aimed::At(entry, event) => Tried::Again(entry, event),
@@ -86,7 +89,7 @@ fn aim_again(
 }
 
 // Puts the request that is out on the queue that it is aimed at; if that doesn't take it, it is aimed by the row at that
-// attempt. At a halt it is in hand again.
+// attempt, the next. At a halt it is in hand again.
 fn try_to_pass<W: Wait>(
     rt: &W,
     alloc: Global,
@@ -100,8 +103,9 @@ fn try_to_pass<W: Wait>(
     requires domain { IsDomain domain.now }
     requires desk { IsDesk domain.now desk.old }
     requires passing { IsPassing domain.now (its_queue domain.now slot.old) entry event slot.old desk.old }
-    ensures { (service : List ℕ) → AreRowsOf domain.now.setup service desk.old.reader.found.rows
-        → TriedAs domain.now (its_queue domain.now slot.old) service entry.cargo.invocation.payload result slot.old slot.new desk.old desk.new }
+    requires tried { (n : ℕ) × (attempt ≤ n + 1) × IsBy desk.old n event × WereTried domain.now desk.old n }
+    ensures { (service : List ℕ) → HasFound domain.now service desk.old.reader.found desk.old
+        → TriedAs domain.now (its_queue domain.now slot.old) service entry.cargo.invocation.payload attempt result slot.old slot.new desk.old desk.new }
 {
     match desk.pass(rt, domain, slot, entry, event) {
         Ok(queue) => {
@@ -139,7 +143,8 @@ fn pass_on<W: Wait>(
     requires domain { IsDomain domain.now }
     requires desk { IsDesk domain.now desk.old }
     requires passing { IsPassing domain.now (its_queue domain.now slot.old) first first_event slot.old desk.old }
-    ensures { (service : List ℕ) → AreRowsOf domain.now.setup service desk.old.reader.found.rows
+    requires first { IsBy desk.old 0 first_event }
+    ensures { (service : List ℕ) → HasFound domain.now service desk.old.reader.found desk.old
         → PassesAs domain.now (its_queue domain.now slot.old) service first.cargo.invocation.payload result slot.old slot.new desk.old desk.new }
 {
     let mut entry = first;

@@ -1,6 +1,6 @@
 use Rattle.std.specs.Prelude.{◌≡◌}
 use Rattle.xa_desk.specs.Passing.{IsPassing}
-use Rattle.xa_links.specs.Passing.{IsBack, its_queue}
+use Rattle.xa_links.specs.Passing.{IsBy, WereTried, IsBack, its_queue}
 use Rattle.xa_links.proofs.passing.pass_on.Given as goal
 
 -- each queue so far refused it
@@ -10,4 +10,6 @@ invariant-loop g l = record {
   passing : IsPassing l.domain (its_queue l.domain l.fn.slot) l.entry l.event l.slot l.desk;
   back : IsBack l.domain l.fn.desk l.desk;
   payload : l.entry.cargo.invocation.payload ≡ l.fn.first.cargo.invocation.payload;
+  by : IsBy l.desk l.attempt l.event;
+  tried : WereTried l.domain l.desk l.attempt;
 }
