@@ -5,6 +5,7 @@ pub mod Before
 pub mod Fresh
 pub mod Growing
 pub mod Own
+pub mod Booted
 pub mod Calls
 pub mod Finishing
 pub mod Replies

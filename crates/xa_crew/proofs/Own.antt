@@ -1,5 +1,5 @@
 -- What a worker's own events say of one of them, on the merge.
-use Rattle.std.proofs.Common.{◌≡◌, ℕ, ◌-◌, ◌<◌, Bool, true, List, [], ◌∷◌, ◌++◌, map, reverse, Option, Some, None, inl, inr, refl, sym, ◌∙◌, ap, subst, arith, ltb-true}
+use Rattle.std.proofs.Common.{◌≡◌, ℕ, ◌-◌, Bool, true, List, [], ◌∷◌, ◌++◌, append_assoc, map, reverse, Option, Some, None, inl, inr, refl, sym, ◌∙◌, ap, subst, arith, ltb-true}
 use Rattle.std.specs.Prelude.{IsSomeAnd, if◌then◌else◌, nat_lt}
 use Rattle.std.specs.List.{filter}
 use Rattle.std.proofs.lemmas.Bool.{cases_Bool}
@@ -85,11 +85,16 @@ module _ (clients : ℕ) (merged : List Stamped) (worker : ℕ) (noted : List St
 
 -- ---- a server that is busy
 
+-- each event up to that of an entry had its case
+pub cases_at : (setup : Setup) (clients : ℕ) (merged before after : List Stamped) (x : Stamped) → merged ≡ before ++ x ∷ after → AllCases setup clients (past_in merged) → AllCases setup clients (x.event ∷ past_in before)
+cases_at setup clients merged before after x split cases =
+    let behind : past_in (x ∷ after) ≡ past_in after ++ x.event ∷ [] = past_in-append (x ∷ []) after in
+    let whole : past_in merged ≡ past_in after ++ x.event ∷ past_in before = ap past_in split ∙ (past_in-append before (x ∷ after) ∙ (ap (λ es. es ++ past_in before) behind ∙ append_assoc (past_in after) (x.event ∷ []) (past_in before))) in
+    AtEach-later _ (past_in after) (x.event ∷ past_in before) (subst (AllCases setup clients) whole cases)
+
 -- what holds of a run is known before each of its events
 pub known_before : (setup : Setup) (clients : ℕ) (merged before after : List Stamped) (x : Stamped) → merged ≡ before ++ x ∷ after → AllCases setup clients (past_in merged) → IsKnown (state setup clients (past_in before))
-known_before setup clients merged before after x split cases =
-    let whole : past_in merged ≡ past_in (x ∷ after) ++ past_in before = ap past_in split ∙ past_in-append before (x ∷ after) in
-    known_from setup clients (past_in before) (AtEach-later _ (past_in (x ∷ after)) (past_in before) (subst (AllCases setup clients) whole cases))
+known_before setup clients merged before after x split cases = known_from setup clients (past_in before) (cases_at setup clients merged before after x split cases).1
 
 -- how its request was sent last, by its own queue as by all events
 pub last_seen : (setup : Setup) (clients : ℕ) (past : List Event) → IsKnown (state setup clients past) → (server : ℕ) (generation : Generation) (request : RequestId) → doing server past ≡ Busy generation request
