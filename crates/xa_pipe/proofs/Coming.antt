@@ -17,7 +17,7 @@ use Rattle.xa_events.specs.declared.event.StopCause.{StopCause}
 use Rattle.xa_events.specs.Words.{AtEach}
 use Rattle.xa_frame.specs.declared.frame.Frame.{Frame}
 use Rattle.xa_pipe.specs.Frames.{is_of_life, frames_out}
-use Rattle.xa_pipe.specs.Life.{Turn, Finish, LifeId, LinkShows, IsLife, Occurrence, EndsAs, IsForwarded, ComesTo, EachCame, AllCame, StopsClosed, Took, due, came_in, cause_of, outcome_of, finishes_in}
+use Rattle.xa_pipe.specs.Life.{Turn, Finish, LifeId, LinkShows, IsLife, Occurrence, Reasons, MayFail, EndsAs, IsForwarded, ComesTo, EachCame, AllCame, StopsClosed, Took, due, came_in, cause_of, outcome_of, finishes_in}
 use Rattle.xa_pipe.specs.declared.turn.Turn.TheVariants.{AwaitsReady, AwaitsNext, AwaitsInvoke, Serving, Exited}
 use Rattle.xa_pipe.specs.Pipe.{Piped, CutOff}
 use Rattle.xa_pipe.proofs.Saying.{none_returned}
@@ -31,23 +31,6 @@ came_end server g e past is = rw is refl
 pub came_forward : (server g : ℕ) (f : Forwarded) (past : List Event) → is_of_life server g f.server.0 f.generation.0 ≡ true
     → came_in server g (Forward f ∷ past) ≡ came_in server g past ++ (record { event = Forward f; before = past }) ∷ []
 came_forward server g f past is = rw is refl
-
--- each came, and one more did
-pub came_push : (setup : Setup) (finishes : List Finish) (came : List Occurrence) (back : Finish) (last : Occurrence) → EachCame setup finishes came → ComesTo setup back last
-    → EachCame setup (finishes ++ back ∷ []) (came ++ last ∷ [])
-came_push setup [] [] back last each comes = (comes, tt)
-came_push setup [] (c ∷ came) back last each comes = absurd each
-came_push setup (r ∷ finishes) [] back last each comes = absurd each
-came_push setup (r ∷ finishes) (c ∷ came) back last each comes = (each.0, came_push setup finishes came back last each.1 comes)
-
--- there are as many as RETURNs and FORWARDs
-pub came_length : (setup : Setup) (finishes : List Finish) (came : List Occurrence) → EachCame setup finishes came → length finishes ≡ length came
-came_length setup [] [] each = refl
-came_length setup [] (c ∷ came) each = absurd each
-came_length setup (r ∷ finishes) [] each = absurd each
-came_length setup (r ∷ finishes) (c ∷ came) each = ap suc (came_length setup finishes came each.1)
-
--- ---- want of memory
 
 outcome_no : (value : Rval) (code : ℤ) (payload : Data) → outcome_of value code payload ≡ Starved → ⊥
 outcome_no Success code payload e = cc e
@@ -63,64 +46,83 @@ both_no : (event : Event) (outcome : Outcome) → (outcome ≡ Starved → ⊥) 
 both_no (End e) outcome never as_said starved = never (sym as_said ∙ starved)
 both_no event outcome never as_said starved = absurd as_said
 
--- and no FORWARD
-forwarded_no : (service : List ℕ) (payload : Data) (event : Event) → IsForwarded service payload event → EndsAs Starved event → ⊥
-forwarded_no service payload (End e) (version, failed) starved = let other : BadForward version ≡ Starved = sym failed ∙ starved in cc other
-forwarded_no service payload event goes_on starved = absurd starved
+module _ (setup : Setup) (Why : Reasons) where
+  -- each came, and one more did
+  pub came_push : (finishes : List Finish) (came : List Occurrence) (back : Finish) (last : Occurrence) → EachCame setup Why finishes came → ComesTo setup Why back last
+      → EachCame setup Why (finishes ++ back ∷ []) (came ++ last ∷ [])
+  came_push [] [] back last each comes = (comes, tt)
+  came_push [] (c ∷ came) back last each comes = absurd each
+  came_push (r ∷ finishes) [] back last each comes = absurd each
+  came_push (r ∷ finishes) (c ∷ came) back last each comes = (each.0, came_push finishes came back last each.1 comes)
 
-comes_no : (setup : Setup) (back : Finish) (o : Occurrence) → ComesTo setup back o → EndsAs Starved o.event → ⊥
-comes_no setup (Returns back) o comes starved = both_no o.event _ (says_no (is_sound setup back.payload) back.value back.code back.payload) comes starved
-comes_no setup (Forwards forward) o comes starved = forwarded_no forward.service forward.payload o.event comes starved
+  -- there are as many as RETURNs and FORWARDs
+  pub came_length : (finishes : List Finish) (came : List Occurrence) → EachCame setup Why finishes came → length finishes ≡ length came
+  came_length [] [] each = refl
+  came_length [] (c ∷ came) each = absurd each
+  came_length (r ∷ finishes) [] each = absurd each
+  came_length (r ∷ finishes) (c ∷ came) each = ap suc (came_length finishes came each.1)
 
-each_no : (setup : Setup) (finishes : List Finish) (earlier later : List Occurrence) (o : Occurrence) → EachCame setup finishes (earlier ++ o ∷ later) → EndsAs Starved o.event → ⊥
-each_no setup [] [] later o each starved = each
-each_no setup [] (c ∷ earlier) later o each starved = each
-each_no setup (r ∷ finishes) [] later o each starved = comes_no setup r o each.0 starved
-each_no setup (r ∷ finishes) (c ∷ earlier) later o each starved = each_no setup finishes earlier later o each.1 starved
+  -- ---- want of memory
 
--- what stands before the last of a list stands before another element, or is that one
-last_no : (setup : Setup) (finishes : List Finish) (front earlier later : List Occurrence) (last o next : Occurrence) → front ++ last ∷ [] ≡ earlier ++ o ∷ next ∷ later
-    → EachCame setup finishes front → EndsAs Starved o.event → ⊥
-last_no setup finishes [] [] later last o next e each starved = cc e
-last_no setup finishes [] (c ∷ []) later last o next e each starved = cc e
-last_no setup finishes [] (c ∷ d ∷ earlier) later last o next e each starved = cc e
-last_no setup [] (f ∷ front) earlier later last o next e each starved = each
-last_no setup (r ∷ finishes) (f ∷ front) [] later last o next e each starved = let same : o ≡ f = cc e in comes_no setup r f each.0 (subst (λ (c : Occurrence). EndsAs Starved c.event) same starved)
-last_no setup (r ∷ finishes) (f ∷ front) (c ∷ earlier) later last o next e each starved = last_no setup finishes front earlier later last o next (cc e) each.1 starved
+  -- and no FORWARD
+  forwarded_no : (service : List ℕ) (payload : Data) (event : Event) (before : List Event) → IsForwarded Why service payload event before → EndsAs Starved event → ⊥
+  forwarded_no service payload (End e) before ((version, failed), why) starved = let other : BadForward version ≡ Starved = sym failed ∙ starved in cc other
+  forwarded_no service payload event before goes_on starved = absurd starved
 
-starved_in : (setup : Setup) (cause : StopCause) (turn : Turn) (finishes : List Finish) (came earlier later : List Occurrence) (o : Occurrence) → AllCame setup cause turn finishes came
-    → came ≡ earlier ++ o ∷ later → EndsAs Starved o.event → (turn ≡ Serving) × (later ≡ [])
-starved_in setup cause Serving finishes came earlier [] o all is starved = (refl, refl)
-starved_in setup cause Serving finishes came earlier (next ∷ later) o (front, last, same, each, lost) is starved = absurd (last_no setup finishes front earlier later last o next (sym same ∙ is) each starved)
-starved_in setup cause AwaitsReady finishes came earlier later o each is starved = absurd (each_no setup finishes earlier later o (subst (λ (os : List Occurrence). EachCame setup finishes os) is each) starved)
-starved_in setup cause AwaitsNext finishes came earlier later o each is starved = absurd (each_no setup finishes earlier later o (subst (λ (os : List Occurrence). EachCame setup finishes os) is each) starved)
-starved_in setup cause AwaitsInvoke finishes came earlier later o each is starved = absurd (each_no setup finishes earlier later o (subst (λ (os : List Occurrence). EachCame setup finishes os) is each) starved)
-starved_in setup cause Exited finishes came earlier later o each is starved = absurd (each_no setup finishes earlier later o (subst (λ (os : List Occurrence). EachCame setup finishes os) is each) starved)
+  comes_no : (back : Finish) (o : Occurrence) → ComesTo setup Why back o → EndsAs Starved o.event → ⊥
+  comes_no (Returns back) o comes starved = both_no o.event _ (says_no (is_sound setup back.payload) back.value back.code back.payload) comes starved
+  comes_no (Forwards forward) o comes starved = forwarded_no forward.service forward.payload o.event o.before comes starved
+
+  each_no : (finishes : List Finish) (earlier later : List Occurrence) (o : Occurrence) → EachCame setup Why finishes (earlier ++ o ∷ later) → EndsAs Starved o.event → ⊥
+  each_no [] [] later o each starved = each
+  each_no [] (c ∷ earlier) later o each starved = each
+  each_no (r ∷ finishes) [] later o each starved = comes_no r o each.0 starved
+  each_no (r ∷ finishes) (c ∷ earlier) later o each starved = each_no finishes earlier later o each.1 starved
+
+  -- what stands before the last of a list stands before another element, or is that one
+  last_no : (finishes : List Finish) (front earlier later : List Occurrence) (last o next : Occurrence) → front ++ last ∷ [] ≡ earlier ++ o ∷ next ∷ later
+      → EachCame setup Why finishes front → EndsAs Starved o.event → ⊥
+  last_no finishes [] [] later last o next e each starved = cc e
+  last_no finishes [] (c ∷ []) later last o next e each starved = cc e
+  last_no finishes [] (c ∷ d ∷ earlier) later last o next e each starved = cc e
+  last_no [] (f ∷ front) earlier later last o next e each starved = each
+  last_no (r ∷ finishes) (f ∷ front) [] later last o next e each starved = let same : o ≡ f = cc e in comes_no r f each.0 (subst (λ (c : Occurrence). EndsAs Starved c.event) same starved)
+  last_no (r ∷ finishes) (f ∷ front) (c ∷ earlier) later last o next e each starved = last_no finishes front earlier later last o next (cc e) each.1 starved
+
+  starved_in : (cause : StopCause) (turn : Turn) (finishes : List Finish) (came earlier later : List Occurrence) (o : Occurrence) → AllCame setup Why cause turn finishes came
+      → came ≡ earlier ++ o ∷ later → EndsAs Starved o.event → (turn ≡ Serving) × (later ≡ [])
+  starved_in cause Serving finishes came earlier [] o all is starved = (refl, refl)
+  starved_in cause Serving finishes came earlier (next ∷ later) o (front, last, same, each, lost) is starved = absurd (last_no finishes front earlier later last o next (sym same ∙ is) each starved)
+  starved_in cause AwaitsReady finishes came earlier later o each is starved = absurd (each_no finishes earlier later o (subst (λ (os : List Occurrence). EachCame setup Why finishes os) is each) starved)
+  starved_in cause AwaitsNext finishes came earlier later o each is starved = absurd (each_no finishes earlier later o (subst (λ (os : List Occurrence). EachCame setup Why finishes os) is each) starved)
+  starved_in cause AwaitsInvoke finishes came earlier later o each is starved = absurd (each_no finishes earlier later o (subst (λ (os : List Occurrence). EachCame setup Why finishes os) is each) starved)
+  starved_in cause Exited finishes came earlier later o each is starved = absurd (each_no finishes earlier later o (subst (λ (os : List Occurrence). EachCame setup Why finishes os) is each) starved)
 
 -- a request that ends as Starved is the last of its life, and was in hand as that ended
-pub starved_last : (setup : Setup) (life : LifeId) (past : List Event) (link : LinkShows) (earlier later : List Occurrence) (o : Occurrence) (it : IsLife setup life past link)
+pub starved_last : (setup : Setup) (clients : ℕ) (life : LifeId) (past : List Event) (link : LinkShows) (earlier later : List Occurrence) (o : Occurrence) (it : IsLife setup clients life past link)
     → came_in life.server life.generation past ≡ earlier ++ o ∷ later → EndsAs Starved o.event → (it.turn ≡ Serving) × (later ≡ [])
-starved_last setup id past link earlier later o it is starved = starved_in setup it.cause it.turn (finishes_in it.frames) (came_in id.server id.generation past) earlier later o it.came is starved
+starved_last setup clients id past link earlier later o it is starved = starved_in setup (MayFail setup clients) it.cause it.turn (finishes_in it.frames) (came_in id.server id.generation past) earlier later o it.came is starved
 
 -- ---- as the life ends
 
--- no request is in hand as the program is to greet
-pub came_greeting : (setup : Setup) (cause : StopCause) (turn : Turn) (finishes : List Finish) (came : List Occurrence) → (turn ≡ AwaitsReady) ⊎ (turn ≡ AwaitsNext)
-    → EachCame setup finishes came → AllCame setup cause turn finishes came
-came_greeting setup cause turn finishes came (inl ready) each = subst (λ (t : Turn). AllCame setup cause t finishes came) (sym ready) each
-came_greeting setup cause turn finishes came (inr next) each = subst (λ (t : Turn). AllCame setup cause t finishes came) (sym next) each
+module _ (setup : Setup) (Why : Reasons) where
+  -- no request is in hand as the program is to greet
+  pub came_greeting : (cause : StopCause) (turn : Turn) (finishes : List Finish) (came : List Occurrence) → (turn ≡ AwaitsReady) ⊎ (turn ≡ AwaitsNext)
+      → EachCame setup Why finishes came → AllCame setup Why cause turn finishes came
+  came_greeting cause turn finishes came (inl ready) each = subst (λ (t : Turn). AllCame setup Why cause t finishes came) (sym ready) each
+  came_greeting cause turn finishes came (inr next) each = subst (λ (t : Turn). AllCame setup Why cause t finishes came) (sym next) each
 
--- and none was, where it hadn't greeted yet
-pub came_cut_off : (setup : Setup) (name : List ℕ) (pipe : Piped) (cause : StopCause) (cut : CutOff name pipe cause) → AllCame setup cause cut.turn (finishes_in cut.frames) []
-came_cut_off setup name pipe cause cut =
-    came_greeting setup cause cut.turn (finishes_in cut.frames) [] cut.greets (subst (λ (rs : List Finish). EachCame setup rs []) (sym (none_returned cut.says)) tt)
+  -- and none was, where it hadn't greeted yet
+  pub came_cut_off : (name : List ℕ) (pipe : Piped) (cause : StopCause) (cut : CutOff name pipe cause) → AllCame setup Why cause cut.turn (finishes_in cut.frames) []
+  came_cut_off name pipe cause cut =
+      came_greeting cause cut.turn (finishes_in cut.frames) [] cut.greets (subst (λ (rs : List Finish). EachCame setup Why rs []) (sym (none_returned cut.says)) tt)
 
 -- ---- behind events that are none of the life's
 
-pub life_kept : (setup : Setup) (life : LifeId) (past now : List Event) (link : LinkShows) → frames_out life.server life.generation now ≡ frames_out life.server life.generation past
+pub life_kept : (setup : Setup) (clients : ℕ) (life : LifeId) (past now : List Event) (link : LinkShows) → frames_out life.server life.generation now ≡ frames_out life.server life.generation past
     → came_in life.server life.generation now ≡ came_in life.server life.generation past → cause_of life.server life.generation now ≡ cause_of life.server life.generation past
-    → (AtEach (StopsClosed setup life.server life.generation) past → AtEach (StopsClosed setup life.server life.generation) now) → IsLife setup life past link → IsLife setup life now link
-life_kept setup id past now link out came cause stops life = record {
+    → (AtEach (StopsClosed setup life.server life.generation) past → AtEach (StopsClosed setup life.server life.generation) now) → IsLife setup clients life past link → IsLife setup clients life now link
+life_kept setup clients id past now link out came cause stops life = record {
   cause = life.cause;
   turn = life.turn;
   returned = life.returned;
@@ -128,7 +130,7 @@ life_kept setup id past now link out came cause stops life = record {
   written = life.written;
   stopped = cause ∙ life.stopped;
   says = life.says;
-  came = subst (λ (os : List Occurrence). AllCame setup life.cause life.turn (finishes_in life.frames) os) (sym came) life.came;
+  came = subst (λ (os : List Occurrence). AllCame setup (MayFail setup clients) life.cause life.turn (finishes_in life.frames) os) (sym came) life.came;
   may = life.may;
   closed = λ awaits. stops (life.closed awaits);
   counted = life.counted;

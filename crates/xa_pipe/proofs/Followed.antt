@@ -1,9 +1,10 @@
 -- How a worker carries the events of a life beside what it does: a step for each, and what they come to in a run.
 use Rattle.std.proofs.Common.{◌≡◌, ℕ, zero, suc, ◌+◌, Bool, true, false, List, [], ◌∷◌, ◌++◌, length, Some, refl, sym, ◌∙◌, ap, subst, append-nil, add-one, arith}
-use Rattle.std.specs.Prelude.{IfSome, map, cond, take, drop, if◌then◌else◌}
+use Rattle.std.specs.Prelude.{IfSome, cond, take, drop, if◌then◌else◌}
 use Rattle.std.specs.List.{filter}
-use Rattle.std.proofs.lemmas.List.{length-append, map-append}
+use Rattle.std.proofs.lemmas.List.{length-append}
 use Rattle.xa_types.specs.declared.setup.Setup.{Setup}
+use Rattle.xa_types.specs.declared.data.Data.{Data}
 use Rattle.xa_types.specs.declared.ids.ServerId.{ServerId}
 use Rattle.xa_types.specs.declared.ids.Generation.{Generation}
 use Rattle.xa_frame.specs.declared.frame.Frame.{Frame}
@@ -20,10 +21,10 @@ use Rattle.xa_pipe.specs.declared.hearing.Finish.TheVariants.{Returns, Forwards}
 use Rattle.xa_pipe.specs.declared.turn.Turn.TheVariants.{AwaitsReady, AwaitsNext, AwaitsInvoke, Serving, Exited}
 use Rattle.xa_pipe.specs.declared.turn.Written.TheVariants.{Whole, Cut, Missing}
 use Rattle.xa_pipe.specs.Frames.{is_of_life, is_take_in, written_at, ready_frame, next_frame, finish_frame, farewell, frames_out}
-use Rattle.xa_pipe.specs.Life.{Turn, Finish, Written, LinkShows, Occurrence, IsLife, Took, EachCame, AllCame, EndsAs, ComesTo, IsForwarded, stops_life, cause_of, cause_in, came_at, came_in, finishes_in, outcome_by, lost_by, due, may_end}
+use Rattle.xa_pipe.specs.Life.{Turn, Finish, Written, LinkShows, Occurrence, Reasons, MayFail, IsLife, Took, EachCame, AllCame, EndsAs, ComesTo, stops_life, cause_of, cause_in, came_at, came_in, finishes_in, lost_by, due, may_end}
 use Rattle.xa_pipe.specs.Standing.{Standing, Ending, IsOver, id_of, returned, due_in}
 use Rattle.xa_pipe.specs.Changes.{begun, Heard, Fell, Greeted, Invoked, Unsent, ShutDown, Exits}
-use Rattle.xa_pipe.specs.Following.{is_of, Follows, Settled, EndsLast, HasStopped, IsSent, StandsIn}
+use Rattle.xa_pipe.specs.Following.{is_of, Follows, Settled, EndsLast, HasStopped, IsSent, IsBorneOut, StandsIn}
 use Rattle.xa_pipe.proofs.Coming.{came_end, came_forward, came_push}
 use Rattle.xa_pipe.proofs.Saying.{finishes_append, finishes_next, finishes_push}
 
@@ -77,26 +78,41 @@ module _ (server g : ℕ) where
       → count (is_take_in server g) (Take t ∷ own) ≡ length (asked ++ f ∷ [])
   taken_more t own asked f its taken = rw its (ap (λ (n : ℕ). n + 1) taken ∙ sym (length-append asked (f ∷ [])))
 
-module _ (setup : Setup) where
+module _ (setup : Setup) (Why : Reasons) where
+  came_by : (old : Standing) (own : List Event) (back : Finish) (tag : ℕ) (last : Occurrence) (came : List Occurrence) → came ≡ came_in old.server.0 old.generation.0 own ++ last ∷ []
+      → ComesTo setup Why back last → EachCame setup Why (finishes_in old.said) (came_in old.server.0 old.generation.0 own) → EachCame setup Why (finishes_in (old.said ++ finish_frame tag back ∷ [])) came
+  came_by old own back tag last came is comes each =
+      subst (λ (os : List Occurrence). EachCame setup Why (finishes_in (old.said ++ finish_frame tag back ∷ [])) os) (sym is)
+      (subst (λ (rs : List Finish). EachCame setup Why rs (came_in old.server.0 old.generation.0 own ++ last ∷ [])) (sym (finishes_push old.said tag back))
+      (came_push setup Why (finishes_in old.said) (came_in old.server.0 old.generation.0 own) back last each comes))
+
+  none_lost : (cause : StopCause) (turn : Turn) (finishes : List Finish) (came : List Occurrence) → (turn ≡ Serving → ⊥) → EachCame setup Why finishes came → AllCame setup Why cause turn finishes came
+  none_lost cause AwaitsReady finishes came free each = each
+  none_lost cause AwaitsNext finishes came free each = each
+  none_lost cause AwaitsInvoke finishes came free each = each
+  none_lost cause Serving finishes came free each = absurd (free refl)
+  none_lost cause Exited finishes came free each = each
+
+module _ (setup : Setup) {Why : Reasons} where
   -- an event that is none of the life's changes nothing
-  pub follows_idle : (life : Standing) (e : Event) (own : List Event) → is_of life.server.0 life.generation.0 e ≡ false → Follows setup life own → Follows setup life (e ∷ own)
+  pub follows_idle : (life : Standing) (e : Event) (own : List Event) → is_of life.server.0 life.generation.0 e ≡ false → Follows setup Why life own → Follows setup Why life (e ∷ own)
   follows_idle life e own other old = record {
     alive = ends_idle life.server.0 life.generation.0 e own other ∙ old.alive;
     taken = taken_idle life.server.0 life.generation.0 e own other ∙ old.taken;
-    came = subst (λ (os : List Occurrence). EachCame setup (finishes_in life.said) os) (sym (came_idle life.server.0 life.generation.0 e own other)) old.came;
+    came = subst (λ (os : List Occurrence). EachCame setup Why (finishes_in life.said) os) (sym (came_idle life.server.0 life.generation.0 e own other)) old.came;
   }
 
-  pub settled_idle : (over : Ending) (e : Event) (own : List Event) → is_of over.life.server.0 over.life.generation.0 e ≡ false → Settled setup over own → Settled setup over (e ∷ own)
+  pub settled_idle : (over : Ending) (e : Event) (own : List Event) → is_of over.life.server.0 over.life.generation.0 e ≡ false → Settled setup Why over own → Settled setup Why over (e ∷ own)
   settled_idle over e own other old = record {
     alive = ends_idle over.life.server.0 over.life.generation.0 e own other ∙ old.alive;
     taken = taken_idle over.life.server.0 over.life.generation.0 e own other ∙ old.taken;
-    came = subst (λ (os : List Occurrence). AllCame setup over.cause over.life.turn (finishes_in over.life.said) os) (sym (came_idle over.life.server.0 over.life.generation.0 e own other)) old.came;
+    came = subst (λ (os : List Occurrence). AllCame setup Why over.cause over.life.turn (finishes_in over.life.said) os) (sym (came_idle over.life.server.0 over.life.generation.0 e own other)) old.came;
   }
 
-  pub stopped_idle : (over : Ending) (e : Event) (own : List Event) → is_of over.life.server.0 over.life.generation.0 e ≡ false → HasStopped setup over own → HasStopped setup over (e ∷ own)
+  pub stopped_idle : (over : Ending) (e : Event) (own : List Event) → is_of over.life.server.0 over.life.generation.0 e ≡ false → HasStopped setup Why over own → HasStopped setup Why over (e ∷ own)
   stopped_idle over e own other old = record {
     taken = taken_idle over.life.server.0 over.life.generation.0 e own other ∙ old.taken;
-    came = subst (λ (os : List Occurrence). AllCame setup over.cause over.life.turn (finishes_in over.life.said) os) (sym (came_idle over.life.server.0 over.life.generation.0 e own other)) old.came;
+    came = subst (λ (os : List Occurrence). AllCame setup Why over.cause over.life.turn (finishes_in over.life.said) os) (sym (came_idle over.life.server.0 over.life.generation.0 e own other)) old.came;
     stopped = cause_idle over.life.server.0 over.life.generation.0 e own other ∙ old.stopped;
     last = rw other old.last;
   }
@@ -105,166 +121,208 @@ module _ (setup : Setup) where
 
   -- a life of which nothing was noted begins
   pub follows_begun : (name : List ℕ) (server : ServerId) (g : Generation) (link : LinkShows) (own : List Event) → count (stops_life server.0 g.0) own ≡ 0 → count (is_take_in server.0 g.0) own ≡ 0
-      → came_in server.0 g.0 own ≡ [] → Follows setup (begun name server g link) own
+      → came_in server.0 g.0 own ≡ [] → Follows setup Why (begun name server g link) own
   follows_begun name server g link own unstopped none nothing = record {
     alive = unstopped;
     taken = none;
-    came = subst (λ (os : List Occurrence). EachCame setup [] os) (sym nothing) tt;
+    came = subst (λ (os : List Occurrence). EachCame setup Why [] os) (sym nothing) tt;
   }
 
   same_finishes : (old new : Standing) (own : List Event) (link : LinkShows) (said : List Frame) (turn : Turn) → new ≡ record old { link = link; said = said; turn = turn }
-      → finishes_in said ≡ finishes_in old.said → Follows setup old own → Follows setup new own
-  same_finishes old new own link said turn made none follows = subst (λ (s : Standing). Follows setup s own) (sym made) (record {
+      → finishes_in said ≡ finishes_in old.said → Follows setup Why old own → Follows setup Why new own
+  same_finishes old new own link said turn made none follows = subst (λ (s : Standing). Follows setup Why s own) (sym made) (record {
     alive = follows.alive;
     taken = follows.taken;
-    came = subst (λ (rs : List Finish). EachCame setup rs (came_in old.server.0 old.generation.0 own)) (sym none) follows.came;
+    came = subst (λ (rs : List Finish). EachCame setup Why rs (came_in old.server.0 old.generation.0 own)) (sym none) follows.came;
   })
 
   -- its program greeted
-  pub follows_greeted : (old new : Standing) (own : List Event) → Greeted new old → Follows setup old own → Follows setup new own
+  pub follows_greeted : (old new : Standing) (own : List Event) → Greeted new old → Follows setup Why old own → Follows setup Why new own
   follows_greeted old new own greeted follows =
       same_finishes old new own new.link _ AwaitsInvoke greeted.made (finishes_append old.said (ready_frame old.name ∷ next_frame ∷ []) ∙ append-nil (finishes_in old.said)) follows
 
   -- its program said NEXT
-  pub follows_next : (old new : Standing) (own : List Event) → Heard next_frame new old → Follows setup old own → Follows setup new own
+  pub follows_next : (old new : Standing) (own : List Event) → Heard next_frame new old → Follows setup Why old own → Follows setup Why new own
   follows_next old new own heard follows = same_finishes old new own new.link _ _ heard.made (finishes_next old.said) follows
 
   -- a request was taken and sent
   pub follows_take : (old new : Standing) (own : List Event) (t : Taken) (f : Frame) → is_of_life old.server.0 old.generation.0 t.server.0 t.generation.0 ≡ true → Invoked f new old
-      → Follows setup old own → Follows setup new (Take t ∷ own)
-  follows_take old new own t f its invoked follows = subst (λ (s : Standing). Follows setup s (Take t ∷ own)) (sym invoked.made) (record {
+      → Follows setup Why old own → Follows setup Why new (Take t ∷ own)
+  follows_take old new own t f its invoked follows = subst (λ (s : Standing). Follows setup Why s (Take t ∷ own)) (sym invoked.made) (record {
     alive = follows.alive;
     taken = taken_more old.server.0 old.generation.0 t own old.asked f its follows.taken;
-    came = subst (λ (os : List Occurrence). EachCame setup (finishes_in old.said) os) (sym (append-nil (came_in old.server.0 old.generation.0 own))) follows.came;
+    came = subst (λ (os : List Occurrence). EachCame setup Why (finishes_in old.said) os) (sym (append-nil (came_in old.server.0 old.generation.0 own))) follows.came;
   })
-
-  came_by : (old : Standing) (own : List Event) (back : Finish) (tag : ℕ) (last : Occurrence) (came : List Occurrence) → came ≡ came_in old.server.0 old.generation.0 own ++ last ∷ []
-      → ComesTo setup back last → EachCame setup (finishes_in old.said) (came_in old.server.0 old.generation.0 own) → EachCame setup (finishes_in (old.said ++ finish_frame tag back ∷ [])) came
-  came_by old own back tag last came is comes each =
-      subst (λ (os : List Occurrence). EachCame setup (finishes_in (old.said ++ finish_frame tag back ∷ [])) os) (sym is)
-      (subst (λ (rs : List Finish). EachCame setup rs (came_in old.server.0 old.generation.0 own ++ last ∷ [])) (sym (finishes_push old.said tag back))
-      (came_push setup (finishes_in old.said) (came_in old.server.0 old.generation.0 own) back last each comes))
 
   -- its RETURN or FORWARD was heard, and the request ended as that says
   pub follows_end : (old new : Standing) (own : List Event) (e : Ended) (back : Finish) (tag : ℕ) → is_of_life old.server.0 old.generation.0 e.server.0 e.generation.0 ≡ true
-      → Heard (finish_frame tag back) new old → ComesTo setup back (record { event = End e; before = own }) → Follows setup old own → Follows setup new (End e ∷ own)
-  follows_end old new own e back tag its heard comes follows = subst (λ (s : Standing). Follows setup s (End e ∷ own)) (sym heard.made) (record {
+      → Heard (finish_frame tag back) new old → ComesTo setup Why back (record { event = End e; before = own }) → Follows setup Why old own → Follows setup Why new (End e ∷ own)
+  follows_end old new own e back tag its heard comes follows = subst (λ (s : Standing). Follows setup Why s (End e ∷ own)) (sym heard.made) (record {
     alive = follows.alive;
     taken = follows.taken;
-    came = came_by old own back tag (record { event = End e; before = own }) (came_in old.server.0 old.generation.0 (End e ∷ own)) (came_end old.server.0 old.generation.0 e own its) comes follows.came;
+    came = came_by setup Why old own back tag (record { event = End e; before = own }) (came_in old.server.0 old.generation.0 (End e ∷ own)) (came_end old.server.0 old.generation.0 e own its) comes follows.came;
   })
 
   -- its FORWARD was heard, and the request was forwarded
   pub follows_forward : (old new : Standing) (own : List Event) (f : Forwarded) (back : Finish) (tag : ℕ) → is_of_life old.server.0 old.generation.0 f.server.0 f.generation.0 ≡ true
-      → Heard (finish_frame tag back) new old → ComesTo setup back (record { event = Forward f; before = own }) → Follows setup old own → Follows setup new (Forward f ∷ own)
-  follows_forward old new own f back tag its heard comes follows = subst (λ (s : Standing). Follows setup s (Forward f ∷ own)) (sym heard.made) (record {
+      → Heard (finish_frame tag back) new old → ComesTo setup Why back (record { event = Forward f; before = own }) → Follows setup Why old own → Follows setup Why new (Forward f ∷ own)
+  follows_forward old new own f back tag its heard comes follows = subst (λ (s : Standing). Follows setup Why s (Forward f ∷ own)) (sym heard.made) (record {
     alive = follows.alive;
     taken = follows.taken;
-    came = came_by old own back tag (record { event = Forward f; before = own }) (came_in old.server.0 old.generation.0 (Forward f ∷ own)) (came_forward old.server.0 old.generation.0 f own its) comes follows.came;
+    came = came_by setup Why old own back tag (record { event = Forward f; before = own }) (came_in old.server.0 old.generation.0 (Forward f ∷ own)) (came_forward old.server.0 old.generation.0 f own its) comes follows.came;
   })
 
   -- ---- as it ends
 
-  none_lost : (cause : StopCause) (turn : Turn) (finishes : List Finish) (came : List Occurrence) → (turn ≡ Serving → ⊥) → EachCame setup finishes came → AllCame setup cause turn finishes came
-  none_lost cause AwaitsReady finishes came free each = each
-  none_lost cause AwaitsNext finishes came free each = each
-  none_lost cause AwaitsInvoke finishes came free each = each
-  none_lost cause Serving finishes came free each = absurd (free refl)
-  none_lost cause Exited finishes came free each = each
-
   -- with no request in hand
-  settles : (old : Standing) (over : Ending) (own : List Event) (link : LinkShows) → over.life ≡ record old { link = link } → (old.turn ≡ Serving → ⊥) → Follows setup old own → Settled setup over own
+  settles : (old : Standing) (over : Ending) (own : List Event) (link : LinkShows) → over.life ≡ record old { link = link } → (old.turn ≡ Serving → ⊥) → Follows setup Why old own → Settled setup Why over own
   settles old over own link made free follows = by_life over.life over.cause made
     where
-      by_life : (life : Standing) (cause : StopCause) → life ≡ record old { link = link } → Settled setup (record over { life = life; cause = cause }) own
-      by_life life cause is = subst (λ (s : Standing). Settled setup (record over { life = s; cause = cause }) own) (sym is) (record {
+      by_life : (life : Standing) (cause : StopCause) → life ≡ record old { link = link } → Settled setup Why (record over { life = life; cause = cause }) own
+      by_life life cause is = subst (λ (s : Standing). Settled setup Why (record over { life = s; cause = cause }) own) (sym is) (record {
         alive = follows.alive;
         taken = follows.taken;
-        came = none_lost cause old.turn (finishes_in old.said) (came_in old.server.0 old.generation.0 own) free follows.came;
+        came = none_lost setup Why cause old.turn (finishes_in old.said) (came_in old.server.0 old.generation.0 own) free follows.came;
       })
 
-  pub settles_fallen : (old : Standing) (over : Ending) (own : List Event) → Fell over old → (old.turn ≡ Serving → ⊥) → Follows setup old own → Settled setup over own
+  pub settles_fallen : (old : Standing) (over : Ending) (own : List Event) → Fell over old → (old.turn ≡ Serving → ⊥) → Follows setup Why old own → Settled setup Why over own
   settles_fallen old over own fell free follows = settles old over own over.life.link fell.life free follows
 
-  pub settles_shut : (old : Standing) (over : Ending) (own : List Event) → ShutDown over old → old.turn ≡ AwaitsInvoke → Follows setup old own → Settled setup over own
+  pub settles_shut : (old : Standing) (over : Ending) (own : List Event) → ShutDown over old → old.turn ≡ AwaitsInvoke → Follows setup Why old own → Settled setup Why over own
   settles_shut old over own shut idle follows = settles old over own over.life.link shut.life (λ h. cc (h, idle)) follows
 
-  pub settles_exited : (old : Standing) (over : Ending) (own : List Event) → Exits over old → old.turn ≡ Exited → Follows setup old own → Settled setup over own
+  pub settles_exited : (old : Standing) (over : Ending) (own : List Event) → Exits over old → old.turn ≡ Exited → Follows setup Why old own → Settled setup Why over own
   settles_exited old over own exits done follows = settles old over own old.link exits.life (λ h. cc (h, done)) follows
 
   -- with the request in hand
   loses : (over : Ending) (own : List Event) (e : Ended) → over.life.turn ≡ Serving → is_of_life over.life.server.0 over.life.generation.0 e.server.0 e.generation.0 ≡ true → e.outcome ≡ lost_by over.cause
-      → Follows setup over.life own → Settled setup over (End e ∷ own)
+      → Follows setup Why over.life own → Settled setup Why over (End e ∷ own)
   loses over own e serving its ends follows = record {
     alive = follows.alive;
     taken = follows.taken;
-    came = subst (λ (t : Turn). AllCame setup over.cause t (finishes_in over.life.said) (came_in over.life.server.0 over.life.generation.0 (End e ∷ own))) (sym serving)
+    came = subst (λ (t : Turn). AllCame setup Why over.cause t (finishes_in over.life.said) (came_in over.life.server.0 over.life.generation.0 (End e ∷ own))) (sym serving)
         (came_in over.life.server.0 over.life.generation.0 own, record { event = End e; before = own }, came_end over.life.server.0 over.life.generation.0 e own its, follows.came, ends);
   }
 
   -- as its RETURN or FORWARD was to come
   pub settles_lost : (old : Standing) (over : Ending) (own : List Event) (e : Ended) → Fell over old → old.turn ≡ Serving → is_of_life over.life.server.0 over.life.generation.0 e.server.0 e.generation.0 ≡ true
-      → e.outcome ≡ lost_by over.cause → Follows setup old own → Settled setup over (End e ∷ own)
+      → e.outcome ≡ lost_by over.cause → Follows setup Why old own → Settled setup Why over (End e ∷ own)
   settles_lost old over own e fell serving its ends follows =
-      loses over own e (ap (λ (s : Standing). s.turn) fell.life ∙ serving) its ends (subst (λ (s : Standing). Follows setup s own) (sym fell.life) (record { alive = follows.alive; taken = follows.taken; came = follows.came }))
+      loses over own e (ap (λ (s : Standing). s.turn) fell.life ∙ serving) its ends (subst (λ (s : Standing). Follows setup Why s own) (sym fell.life) (record { alive = follows.alive; taken = follows.taken; came = follows.came }))
 
   -- as its INVOKE was to be written
   pub settles_unsent : (old : Standing) (over : Ending) (own : List Event) (t : Taken) (e : Ended) (f : Frame) → Unsent f over old
       → is_of_life old.server.0 old.generation.0 t.server.0 t.generation.0 ≡ true → is_of_life over.life.server.0 over.life.generation.0 e.server.0 e.generation.0 ≡ true
-      → e.outcome ≡ lost_by over.cause → Follows setup old own → Settled setup over (End e ∷ Take t ∷ own)
+      → e.outcome ≡ lost_by over.cause → Follows setup Why old own → Settled setup Why over (End e ∷ Take t ∷ own)
   settles_unsent old over own t e f unsent its ended ends follows =
       loses over (Take t ∷ own) e (ap (λ (s : Standing). s.turn) unsent.life) ended ends
-      (subst (λ (s : Standing). Follows setup s (Take t ∷ own)) (sym unsent.life) (record {
+      (subst (λ (s : Standing). Follows setup Why s (Take t ∷ own)) (sym unsent.life) (record {
         alive = follows.alive;
         taken = taken_more old.server.0 old.generation.0 t own old.asked f its follows.taken;
-        came = subst (λ (os : List Occurrence). EachCame setup (finishes_in old.said) os) (sym (append-nil (came_in old.server.0 old.generation.0 own))) follows.came;
+        came = subst (λ (os : List Occurrence). EachCame setup Why (finishes_in old.said) os) (sym (append-nil (came_in old.server.0 old.generation.0 own))) follows.came;
       }))
 
   -- and its end is noted
   pub stops : (over : Ending) (own : List Event) (x : Stopped) → is_of_life over.life.server.0 over.life.generation.0 x.server.0 x.generation.0 ≡ true → x.cause ≡ over.cause
-      → Settled setup over own → HasStopped setup over (Stop x ∷ own)
+      → Settled setup Why over own → HasStopped setup Why over (Stop x ∷ own)
   stops over own x its why settled = record {
     taken = settled.taken;
-    came = subst (λ (os : List Occurrence). AllCame setup over.cause over.life.turn (finishes_in over.life.said) os) (sym (append-nil (came_in over.life.server.0 over.life.generation.0 own))) settled.came;
+    came = subst (λ (os : List Occurrence). AllCame setup Why over.cause over.life.turn (finishes_in over.life.said) os) (sym (append-nil (came_in over.life.server.0 over.life.generation.0 own))) settled.came;
     stopped = rw its (ap (λ (c : StopCause). Some c) why);
     last = rw its (its, sym (count_own over.life.server.0 over.life.generation.0 (stops_life over.life.server.0 over.life.generation.0) (stops_none over.life.server.0 over.life.generation.0) own) ∙ settled.alive);
   }
 
+-- ---- behind other events
+
+module _ (setup : Setup) (Why Still : Reasons) where
+  -- a reason behind these events is one behind those
+  abbrev Leads : Event → List Event → List Event → Type 0
+  Leads (End e) before now = (service : List ℕ) (payload : Data) → Why service payload e before → Still service payload e now
+  Leads event before now = Unit {0}
+
+  comes_led : (back : Finish) (event : Event) (before now : List Event) → Leads event before now → ComesTo setup Why back (record { event = event; before = before }) → ComesTo setup Still back (record { event = event; before = now })
+  comes_led (Returns back) event before now leads comes = comes
+  comes_led (Forwards forward) (End e) before now leads comes = (comes.0, leads forward.service forward.payload comes.1)
+  comes_led (Forwards forward) event before now leads comes = comes
+
+  -- the same events, and what comes to the one comes to the other
+  abbrev Led : Occurrence → Occurrence → Type 0
+  Led came other = (came.event ≡ other.event) × ((back : Finish) → ComesTo setup Why back came → ComesTo setup Still back other)
+
+  abbrev EachLed : List Occurrence → List Occurrence → Type 0
+  EachLed [] [] = Unit {0}
+  EachLed (c ∷ came) (o ∷ others) = Led c o × EachLed came others
+  EachLed came others = ⊥
+
+  led_append : (came others more others' : List Occurrence) → EachLed came others → EachLed more others' → EachLed (came ++ more) (others ++ others')
+  led_append [] [] more others' led next = next
+  led_append [] (o ∷ others) more others' led next = absurd led
+  led_append (c ∷ came) [] more others' led next = absurd led
+  led_append (c ∷ came) (o ∷ others) more others' led next = (led.0, led_append came others more others' led.1 next)
+
+  each_led : (finishes : List Finish) (came others : List Occurrence) → EachLed came others → EachCame setup Why finishes came → EachCame setup Still finishes others
+  each_led [] [] [] led each = tt
+  each_led [] [] (o ∷ others) led each = absurd led
+  each_led [] (c ∷ came) others led each = absurd each
+  each_led (r ∷ finishes) [] others led each = absurd each
+  each_led (r ∷ finishes) (c ∷ came) [] led each = absurd led
+  each_led (r ∷ finishes) (c ∷ came) (o ∷ others) led each = (led.0.1 r each.0, each_led finishes came others led.1 each.1)
+
+  -- a list that ends with an event, as one that has the same
+  split_led : (earlier : List Occurrence) (last : Occurrence) (others : List Occurrence) → EachLed (earlier ++ last ∷ []) others
+      → (front : List Occurrence) × (o : Occurrence) × (others ≡ front ++ o ∷ []) × EachLed earlier front × (last.event ≡ o.event)
+  split_led [] last [] led = absurd led
+  split_led [] last (o ∷ []) led = ([], o, refl, tt, led.0.0)
+  split_led [] last (o ∷ p ∷ others) led = absurd led.1
+  split_led (c ∷ earlier) last [] led = absurd led
+  split_led (c ∷ earlier) last (o ∷ others) led =
+      let more = split_led earlier last others led.1 in
+      (o ∷ more.0, more.1, ap (λ (os : List Occurrence). o ∷ os) more.2, (led.0, more.3), more.4)
+
+  all_led : (cause : StopCause) (turn : Turn) (finishes : List Finish) (came others : List Occurrence) → EachLed came others → AllCame setup Why cause turn finishes came
+      → AllCame setup Still cause turn finishes others
+  all_led cause Serving finishes came others led (earlier, last, is, each, lost) =
+      let parts = split_led earlier last others (subst (λ (os : List Occurrence). EachLed os others) is led) in
+      (parts.0, parts.1, parts.2, each_led finishes earlier parts.0 parts.3 each, subst (λ (e : Event). EndsAs (lost_by cause) e) parts.4 lost)
+  all_led cause AwaitsReady finishes came others led each = each_led finishes came others led each
+  all_led cause AwaitsNext finishes came others led each = each_led finishes came others led each
+  all_led cause AwaitsInvoke finishes came others led each = each_led finishes came others led each
+  all_led cause Exited finishes came others led each = each_led finishes came others led each
+
+  -- ---- by other reasons
+
+  module _ (leads : (service : List ℕ) (payload : Data) (e : Ended) (before : List Event) → Why service payload e before → Still service payload e before) where
+    leads_at : (event : Event) (before : List Event) → Leads event before before
+    leads_at (End e) before = λ service payload why. leads service payload e before why
+    leads_at event before = tt
+
+    led_still : (came : List Occurrence) → EachLed came came
+    led_still [] = tt
+    led_still (c ∷ came) = ((refl, λ back comes. comes_led back c.event c.before c.before (leads_at c.event c.before) comes), led_still came)
+
+    -- so it was for reasons that follow from these, and so it is of a life that ended
+    pub follows_led : (life : Standing) (own : List Event) → Follows setup Why life own → Follows setup Still life own
+    follows_led life own old = record {
+      alive = old.alive;
+      taken = old.taken;
+      came = each_led (finishes_in life.said) (came_in life.server.0 life.generation.0 own) (came_in life.server.0 life.generation.0 own) (led_still (came_in life.server.0 life.generation.0 own)) old.came;
+    }
+
+    all_still : (over : Ending) (own : List Event) → AllCame setup Why over.cause over.life.turn (finishes_in over.life.said) (came_in over.life.server.0 over.life.generation.0 own)
+        → AllCame setup Still over.cause over.life.turn (finishes_in over.life.said) (came_in over.life.server.0 over.life.generation.0 own)
+    all_still over own all =
+        let came = came_in over.life.server.0 over.life.generation.0 own in
+        all_led over.cause over.life.turn (finishes_in over.life.said) came came (led_still came) all
+
+    pub settled_led : (over : Ending) (own : List Event) → Settled setup Why over own → Settled setup Still over own
+    settled_led over own old = record { alive = old.alive; taken = old.taken; came = all_still over own old.came }
+
+    pub stopped_led : (over : Ending) (own : List Event) → HasStopped setup Why over own → HasStopped setup Still over own
+    stopped_led over own old = record { taken = old.taken; came = all_still over own old.came; stopped = old.stopped; last = old.last }
+
 -- ---- in a run
 
-abbrev event_in : Occurrence → Event
-event_in came = came.event
-
--- what a take came to, as an event
-abbrev outcomes_at : Event → List Event
-outcomes_at (End e) = End e ∷ []
-outcomes_at (Forward f) = Forward f ∷ []
-outcomes_at e = []
-
-abbrev outcomes : List Event → List Event
-outcomes [] = []
-outcomes (e ∷ events) = outcomes events ++ outcomes_at e
-
 module _ (server g : ℕ) where
-  here_or_not : (b : Bool) (e : Event) (came : List Occurrence) (past events : List Event) → outcomes_at e ≡ e ∷ [] → map event_in came ≡ outcomes events
-      → map event_in (came ++ (if b then (record { event = e; before = past }) ∷ [] else [])) ≡ outcomes (cond b (e ∷ events) events)
-  here_or_not true e came past events its same = map-append event_in came _ ∙ (ap (λ (es : List Event). es ++ e ∷ []) same ∙ ap (λ (es : List Event). outcomes events ++ es) (sym its))
-  here_or_not false e came past events its same = ap (map event_in) (append-nil came) ∙ same
-
-  beside : (b : Bool) (e : Event) (came : List Occurrence) (events : List Event) → outcomes_at e ≡ [] → map event_in came ≡ outcomes events
-      → map event_in (came ++ []) ≡ outcomes (cond b (e ∷ events) events)
-  beside true e came events none same = ap (map event_in) (append-nil came) ∙ (same ∙ (sym (append-nil (outcomes events)) ∙ ap (λ (es : List Event). outcomes events ++ es) (sym none)))
-  beside false e came events none same = ap (map event_in) (append-nil came) ∙ same
-
-  -- what the takes came to is read off the life's events alone
-  came_own : (past : List Event) → map event_in (came_in server g past) ≡ outcomes (filter (is_of server g) past)
-  came_own [] = refl
-  came_own (End e ∷ past) = here_or_not (is_of_life server g e.server.0 e.generation.0) (End e) (came_in server g past) past (filter (is_of server g) past) refl (came_own past)
-  came_own (Forward f ∷ past) = here_or_not (is_of_life server g f.server.0 f.generation.0) (Forward f) (came_in server g past) past (filter (is_of server g) past) refl (came_own past)
-  came_own (Take t ∷ past) = beside (is_of_life server g t.server.0 t.generation.0) (Take t) (came_in server g past) (filter (is_of server g) past) refl (came_own past)
-  came_own (Stop x ∷ past) = beside (is_of_life server g x.server.0 x.generation.0) (Stop x) (came_in server g past) (filter (is_of server g) past) refl (came_own past)
-  came_own (e ∷ past) = ap (map event_in) (append-nil (came_in server g past)) ∙ came_own past
-
   latest_or_not : (b : Bool) (x : Stopped) (past events : List Event) → is_of_life server g x.server.0 x.generation.0 ≡ b → latest (stops_life server g) past ≡ latest (stops_life server g) events
       → latest (stops_life server g) (Stop x ∷ past) ≡ latest (stops_life server g) (cond b (Stop x ∷ events) events)
   latest_or_not true x past events is same = rw is refl
@@ -274,7 +332,7 @@ module _ (server g : ℕ) where
   stepped_over true e events none = rw none refl
   stepped_over false e events none = refl
 
-  -- and so is why it ended
+  -- why it ended is read off the life's events alone
   latest_own : (past : List Event) → latest (stops_life server g) past ≡ latest (stops_life server g) (filter (is_of server g) past)
   latest_own [] = refl
   latest_own (Stop x ∷ past) = latest_or_not (is_of_life server g x.server.0 x.generation.0) x past (filter (is_of server g) past) refl (latest_own past)
@@ -283,42 +341,54 @@ module _ (server g : ℕ) where
   latest_own (Forward f ∷ past) = latest_own past ∙ sym (stepped_over (is_of_life server g f.server.0 f.generation.0) (Forward f) (filter (is_of server g) past) refl)
   latest_own (e ∷ past) = latest_own past
 
--- what came of RETURNs and FORWARDs doesn't hang on what stood before the events
-comes_alike : (setup : Setup) (back : Finish) (came other : Occurrence) → came.event ≡ other.event → ComesTo setup back came → ComesTo setup back other
-comes_alike setup (Returns back) came other same comes = subst (λ (e : Event). EndsAs (outcome_by setup back.value back.code back.payload) e) same comes
-comes_alike setup (Forwards forward) came other same comes = subst (λ (e : Event). IsForwarded forward.service forward.payload e) same comes
+module _ (setup : Setup) (clients : ℕ) (Why : Reasons) (its : Event → Bool) (server g : ℕ) (among : (e : Event) → is_of server g e ≡ true → its e ≡ true) where
+  abbrev Borne : Event → List Event → Type 0
+  Borne = IsBorneOut setup clients Why its server g
 
-each_alike : (setup : Setup) (finishes : List Finish) (came others : List Occurrence) → map event_in came ≡ map event_in others → EachCame setup finishes came → EachCame setup finishes others
-each_alike setup [] [] [] same each = tt
-each_alike setup [] [] (o ∷ others) same each = absurd (cc same)
-each_alike setup [] (c ∷ came) others same each = absurd each
-each_alike setup (r ∷ finishes) [] others same each = absurd each
-each_alike setup (r ∷ finishes) (c ∷ came) [] same each = absurd (cc same)
-each_alike setup (r ∷ finishes) (c ∷ came) (o ∷ others) same each =
-    let first : c.event ≡ o.event = cc same in
-    (comes_alike setup r c o first each.0, each_alike setup finishes came others (cc same) each.1)
+  others_not : (e : Event) → its e ≡ false → is_of server g e ≡ false
+  others_not e other = by_one (is_of server g e) refl
+    where
+      by_one : (b : Bool) → is_of server g e ≡ b → b ≡ false
+      by_one true is = sym (among e is) ∙ other
+      by_one false is = refl
 
--- a list that ends with an event, as one that has the same
-split_alike : (earlier : List Occurrence) (last : Occurrence) (others : List Occurrence) → map event_in (earlier ++ last ∷ []) ≡ map event_in others
-    → (front : List Occurrence) × (o : Occurrence) × (others ≡ front ++ o ∷ []) × (map event_in earlier ≡ map event_in front) × (last.event ≡ o.event)
-split_alike [] last [] same = absurd (cc same)
-split_alike [] last (o ∷ []) same = ([], o, refl, refl, cc same)
-split_alike [] last (o ∷ p ∷ others) same = absurd (cc same)
-split_alike (c ∷ earlier) last [] same = absurd (cc same)
-split_alike (c ∷ earlier) last (o ∷ others) same =
-    let first : c.event ≡ o.event = cc same in
-    let more = split_alike earlier last others (cc same) in
-    (o ∷ more.0, more.1, ap (λ (os : List Occurrence). o ∷ os) more.2, cc (first, more.3), more.4)
+  -- the life's events are among the worker's own
+  life_among : (past : List Event) → filter (is_of server g) (filter its past) ≡ filter (is_of server g) past
+  life_among [] = refl
+  life_among (e ∷ past) = by_one (its e) refl (life_among past)
+    where
+      by_one : (b : Bool) → its e ≡ b → filter (is_of server g) (filter its past) ≡ filter (is_of server g) past
+          → filter (is_of server g) (cond b (e ∷ filter its past) (filter its past)) ≡ filter (is_of server g) (e ∷ past)
+      by_one true is same = ap (λ (es : List Event). cond (is_of server g e) (e ∷ es) es) same
+      by_one false is same = rw (others_not e is) same
 
-all_alike : (setup : Setup) (cause : StopCause) (turn : Turn) (finishes : List Finish) (came others : List Occurrence) → map event_in came ≡ map event_in others → AllCame setup cause turn finishes came
-    → AllCame setup cause turn finishes others
-all_alike setup cause Serving finishes came others same (earlier, last, is, each, lost) =
-    let parts = split_alike earlier last others (ap (map event_in) (sym is) ∙ same) in
-    (parts.0, parts.1, parts.2, each_alike setup finishes earlier parts.0 parts.3 each, subst (λ (e : Event). EndsAs (lost_by cause) e) parts.4 lost)
-all_alike setup cause AwaitsReady finishes came others same each = each_alike setup finishes came others same each
-all_alike setup cause AwaitsNext finishes came others same each = each_alike setup finishes came others same each
-all_alike setup cause AwaitsInvoke finishes came others same each = each_alike setup finishes came others same each
-all_alike setup cause Exited finishes came others same each = each_alike setup finishes came others same each
+  abbrev EachBorne : List Occurrence → List Occurrence → Type 0
+  EachBorne = EachLed setup Why (MayFail setup clients)
+
+  -- and so is what its takes came to, each behind the worker's own of what stood before
+  one_borne : (b : Bool) (e : Event) (past : List Event) → Leads setup Why (MayFail setup clients) e (filter its past) past
+      → EachBorne (if b then (record { event = e; before = filter its past }) ∷ [] else []) (if b then (record { event = e; before = past }) ∷ [] else [])
+  one_borne true e past leads = ((refl, λ back comes. comes_led setup Why (MayFail setup clients) back e (filter its past) past leads comes), tt)
+  one_borne false e past leads = tt
+
+  came_borne : (e : Event) (past : List Event) → Borne e past → EachBorne (came_at server g e (filter its past)) (came_at server g e past)
+  came_borne (End e) past borne = by_one (is_of_life server g e.server.0 e.generation.0) refl
+    where
+      by_one : (b : Bool) → is_of_life server g e.server.0 e.generation.0 ≡ b
+          → EachBorne (if b then (record { event = End e; before = filter its past }) ∷ [] else []) (if b then (record { event = End e; before = past }) ∷ [] else [])
+      by_one true is = one_borne true (End e) past (borne is)
+      by_one false is = tt
+  came_borne (Forward f) past borne = one_borne (is_of_life server g f.server.0 f.generation.0) (Forward f) past tt
+  came_borne e past borne = tt
+
+  each_borne : (past : List Event) → AtEach Borne past → EachBorne (came_in server g (filter its past)) (came_in server g past)
+  each_borne [] failed = tt
+  each_borne (e ∷ past) failed = by_one (its e) refl (each_borne past failed.1)
+    where
+      by_one : (b : Bool) → its e ≡ b → EachBorne (came_in server g (filter its past)) (came_in server g past)
+          → EachBorne (came_in server g (cond b (e ∷ filter its past) (filter its past))) (came_in server g (e ∷ past))
+      by_one true is led = led_append setup Why (MayFail setup clients) (came_in server g (filter its past)) (came_in server g past) (came_at server g e (filter its past)) (came_at server g e past) led (came_borne e past failed.0)
+      by_one false is led = subst (EachBorne (came_in server g (filter its past))) (sym (came_idle server g e past (others_not e is))) led
 
 -- ---- what was due
 
@@ -394,18 +464,23 @@ module _ (server g : ℕ) (asked : List Frame) where
 
 -- ---- the law
 
-pub is_life : (setup : Setup) (over : Ending) (own past : List Event) → IsOver over → HasStopped setup over own → StandsIn setup over own past → IsLife setup (id_of over.life) past over.life.link
-is_life setup over own past ended noted stands =
+pub is_life : (setup : Setup) (clients : ℕ) (Why : Reasons) (over : Ending) (own past : List Event) → IsOver over → HasStopped setup Why over own → StandsIn setup clients Why over own past
+    → IsLife setup clients (id_of over.life) past over.life.link
+is_life setup clients Why over own past ended noted stands =
     let server = over.life.server.0 in
     let g = over.life.generation.0 in
-    let alike : map event_in (came_in server g own) ≡ map event_in (came_in server g past) = came_own server g own ∙ (ap outcomes stands.same ∙ sym (came_own server g past)) in
+    let same : filter (is_of server g) own ≡ filter (is_of server g) past
+    = ap (filter (is_of server g)) stands.are ∙ life_among setup clients Why stands.its server g stands.among past in
+    let led : EachLed setup Why (MayFail setup clients) (came_in server g own) (came_in server g past)
+    = subst (λ (es : List Event). EachLed setup Why (MayFail setup clients) (came_in server g es) (came_in server g past)) (sym stands.are)
+    (each_borne setup clients Why stands.its server g stands.among past stands.failed) in
     let why : cause_of server g own ≡ cause_of server g past
-    = ap cause_in (latest_own server g own ∙ (ap (λ (es : List Event). latest (stops_life server g) es) stands.same ∙ sym (latest_own server g past))) in
+    = ap cause_in (latest_own server g own ∙ (ap (λ (es : List Event). latest (stops_life server g) es) same ∙ sym (latest_own server g past))) in
     let takes : count (is_take_in server g) past ≡ length over.life.asked
-    = count_own server g (is_take_in server g) (takes_none server g) past ∙ (ap (λ (es : List Event). count (is_take_in server g) es) (sym stands.same)
+    = count_own server g (is_take_in server g) (takes_none server g) past ∙ (ap (λ (es : List Event). count (is_take_in server g) es) (sym same)
     ∙ (sym (count_own server g (is_take_in server g) (takes_none server g) own) ∙ noted.taken)) in
     let sent : frames_out server g past ≡ over.life.asked ++ farewell over.cause
-    = out_stopped server g over.life.asked over.cause past (subst (λ (es : List Event). EndsLast server g es) stands.same noted.last) (sym why ∙ noted.stopped) stands.sent
+    = out_stopped server g over.life.asked over.cause past (subst (λ (es : List Event). EndsLast server g es) same noted.last) (sym why ∙ noted.stopped) stands.sent
     ∙ ap (λ (fs : List Frame). fs ++ farewell over.cause) (ap (λ (n : ℕ). take n over.life.asked) takes ∙ take_whole over.life.asked) in
     let due_is : due_in over.life.turn over.life.asked ≡ due over.written over.life.turn (frames_out server g past)
     = sym (ap (λ (fs : List Frame). due over.written over.life.turn fs) sent ∙ due_at over.cause over.life.turn over.written over.life.asked ended.may) in
@@ -417,7 +492,7 @@ is_life setup over own past ended noted stands =
       written = over.written;
       stopped = sym why ∙ noted.stopped;
       says = ended.says;
-      came = all_alike setup over.cause over.life.turn (finishes_in over.life.said) (came_in server g own) (came_in server g past) alike noted.came;
+      came = all_led setup Why (MayFail setup clients) over.cause over.life.turn (finishes_in over.life.said) (came_in server g own) (came_in server g past) led noted.came;
       may = ended.may;
       closed = stands.closed;
       counted = ended.counted;

@@ -13,7 +13,7 @@ use Rattle.xa_events.specs.declared.event.Event.{Event}
 use Rattle.xa_events.specs.declared.event.Outcome.TheVariants.{Starved as StarvedOutcome}
 use Rattle.xa_events.specs.declared.event.StopCause.{StopCause}
 use Rattle.xa_events.specs.declared.event.StopCause.TheVariants.{Shutdown, Exit, EndOfInput, ReadFault, WriteFault, BadBytes, OutOfTurn, Starved}
-use Rattle.xa_pipe.specs.Life.{Says, Turn, Finish, Written, LifeId, LinkShows, Occurrence, EndsAs, EachCame, AllCame, MaySay, IsLife, IsCounted, Shows, came_in, finishes_in, lost_by, may_end, tag_after}
+use Rattle.xa_pipe.specs.Life.{Says, Turn, Finish, Written, LifeId, LinkShows, Occurrence, Reasons, MayFail, EndsAs, EachCame, AllCame, MaySay, IsLife, IsCounted, Shows, came_in, finishes_in, lost_by, may_end, tag_after}
 use Rattle.xa_pipe.specs.declared.turn.Turn.TheVariants.{AwaitsReady, AwaitsNext, AwaitsInvoke, Serving, Exited}
 use Rattle.xa_pipe.specs.Whole.{GivesAll, CameAsSaid}
 use Rattle.xa_pipe.proofs.Ceasing.{stood}
@@ -63,23 +63,24 @@ module _ (name : List ℕ) (returned n : ℕ) (fs : List Frame) (turn : Turn) (h
 
 -- ---- what each RETURN and FORWARD came to
 
--- what came of some of them is as said, whatever more would be said
-said_front : (setup : Setup) (finishes more : List Finish) (came : List Occurrence) → EachCame setup finishes came → CameAsSaid setup (finishes ++ more) came
-said_front setup [] more [] each = tt
-said_front setup [] more (c ∷ came) each = absurd each
-said_front setup (r ∷ finishes) more [] each = absurd each
-said_front setup (r ∷ finishes) more (c ∷ []) each = inl each.0
-said_front setup (r ∷ finishes) more (c ∷ d ∷ came) each = (each.0, said_front setup finishes more (d ∷ came) each.1)
+module _ (setup : Setup) (Why : Reasons) where
+  -- what came of some of them is as said, whatever more would be said
+  said_front : (finishes more : List Finish) (came : List Occurrence) → EachCame setup Why finishes came → CameAsSaid setup Why (finishes ++ more) came
+  said_front [] more [] each = tt
+  said_front [] more (c ∷ came) each = absurd each
+  said_front (r ∷ finishes) more [] each = absurd each
+  said_front (r ∷ finishes) more (c ∷ []) each = inl each.0
+  said_front (r ∷ finishes) more (c ∷ d ∷ came) each = (each.0, said_front finishes more (d ∷ came) each.1)
 
--- and the one behind them may be lost where memory runs out
-said_lost : (setup : Setup) (finishes more : List Finish) (earlier : List Occurrence) (last : Occurrence) → EachCame setup finishes earlier → EndsAs StarvedOutcome last.event
-    → length (earlier ++ last ∷ []) ≤ length (finishes ++ more) → CameAsSaid setup (finishes ++ more) (earlier ++ last ∷ [])
-said_lost setup [] [] [] last each lost few = absurd (omega (arith, few))
-said_lost setup [] (r ∷ more) [] last each lost few = inr lost
-said_lost setup [] more (c ∷ earlier) last each lost few = absurd each
-said_lost setup (r ∷ finishes) more [] last each lost few = absurd each
-said_lost setup (r ∷ finishes) more (c ∷ []) last each lost few = (each.0, said_lost setup finishes more [] last each.1 lost (omega (arith, few)))
-said_lost setup (r ∷ finishes) more (c ∷ d ∷ earlier) last each lost few = (each.0, said_lost setup finishes more (d ∷ earlier) last each.1 lost (omega (arith, few)))
+  -- and the one behind them may be lost where memory runs out
+  said_lost : (finishes more : List Finish) (earlier : List Occurrence) (last : Occurrence) → EachCame setup Why finishes earlier → EndsAs StarvedOutcome last.event
+      → length (earlier ++ last ∷ []) ≤ length (finishes ++ more) → CameAsSaid setup Why (finishes ++ more) (earlier ++ last ∷ [])
+  said_lost [] [] [] last each lost few = absurd (omega (arith, few))
+  said_lost [] (r ∷ more) [] last each lost few = inr lost
+  said_lost [] more (c ∷ earlier) last each lost few = absurd each
+  said_lost (r ∷ finishes) more [] last each lost few = absurd each
+  said_lost (r ∷ finishes) more (c ∷ []) last each lost few = (each.0, said_lost finishes more [] last each.1 lost (omega (arith, few)))
+  said_lost (r ∷ finishes) more (c ∷ d ∷ earlier) last each lost few = (each.0, said_lost finishes more (d ∷ earlier) last each.1 lost (omega (arith, few)))
 
 -- ---- the law
 
@@ -87,7 +88,7 @@ none_more : {X : Type 0} (xs ys : List X) → length (xs ++ ys) ≤ length xs �
 none_more xs [] few = append-nil xs
 none_more xs (y ∷ ys) few = absurd (omega (arith, few, length-append xs (y ∷ ys)))
 
-module _ (setup : Setup) (name : List ℕ) (returned n : ℕ) (frames all : List Frame) (last_turn : Turn) (cause : StopCause) (written : Written) (says : Says name n all last_turn) (came : List Occurrence)
+module _ (setup : Setup) (Why : Reasons) (name : List ℕ) (returned n : ℕ) (frames all : List Frame) (last_turn : Turn) (cause : StopCause) (written : Written) (says : Says name n all last_turn) (came : List Occurrence)
     (left : Option (List ℕ)) (others rest more : List ℕ) (held : left ≡ Some others) (few : length came ≤ length (finishes_in all)) where
   abbrev Both : Type 0
   Both = Continues frames all (rest ++ others) more ⊎ Continues all frames more (rest ++ others)
@@ -96,20 +97,20 @@ module _ (setup : Setup) (name : List ℕ) (returned n : ℕ) (frames all : List
   longer fs ks gs same = ap (λ (hs : List Frame). finishes_in hs) same ∙ finishes_append fs ks
 
   -- what came of the requests, of which none was in hand
-  none_in_hand : EachCame setup (finishes_in frames) came → Both → CameAsSaid setup (finishes_in all) came
-  none_in_hand each (inl (ks, same, stands)) = subst (λ (rs : List Finish). CameAsSaid setup rs came) (sym (longer frames ks all same)) (said_front setup (finishes_in frames) (finishes_in ks) came each)
+  none_in_hand : EachCame setup Why (finishes_in frames) came → Both → CameAsSaid setup Why (finishes_in all) came
+  none_in_hand each (inl (ks, same, stands)) = subst (λ (rs : List Finish). CameAsSaid setup Why rs came) (sym (longer frames ks all same)) (said_front setup Why (finishes_in frames) (finishes_in ks) came each)
   none_in_hand each (inr (ks, same, stands)) =
       let so = longer all ks frames same in
-      let many = came_length setup (finishes_in frames) came each in
+      let many = came_length setup Why (finishes_in frames) came each in
       let alike : finishes_in frames ≡ finishes_in all = so ∙ none_more (finishes_in all) (finishes_in ks) (omega (arith, few, many, ap length so)) in
-      subst (λ (rs : List Finish). CameAsSaid setup rs came) alike
-      (subst (λ (rs : List Finish). CameAsSaid setup rs came) (append-nil (finishes_in frames)) (said_front setup (finishes_in frames) [] came each))
+      subst (λ (rs : List Finish). CameAsSaid setup Why rs came) alike
+      (subst (λ (rs : List Finish). CameAsSaid setup Why rs came) (append-nil (finishes_in frames)) (said_front setup Why (finishes_in frames) [] came each))
 
-  one_in_hand : (earlier : List Occurrence) (last : Occurrence) → came ≡ earlier ++ last ∷ [] → EachCame setup (finishes_in frames) earlier → EndsAs (lost_by cause) last.event
+  one_in_hand : (earlier : List Occurrence) (last : Occurrence) → came ≡ earlier ++ last ∷ [] → EachCame setup Why (finishes_in frames) earlier → EndsAs (lost_by cause) last.event
       → Says name returned frames Serving → may_end cause Serving written ≡ true → IsCounted cause 0 0
-      → Shows (record { name = name; tag = tag_after returned; frames = frames; turn = Serving; written = written }) cause rest left → Both → CameAsSaid setup (finishes_in all) came
+      → Shows (record { name = name; tag = tag_after returned; frames = frames; turn = Serving; written = written }) cause rest left → Both → CameAsSaid setup Why (finishes_in all) came
   one_in_hand earlier last is each lost here may counted shows (inl ([], same, stands)) =
-      let many = came_length setup (finishes_in frames) earlier each in
+      let many = came_length setup Why (finishes_in frames) earlier each in
       absurd (omega (arith, few, many, ap length is, length-append earlier (last ∷ []), ap length (ap (λ (fs : List Frame). finishes_in fs) (same ∙ append-nil frames))))
   one_in_hand earlier last is each lost here may counted shows (inl (k ∷ ks, same, stands)) =
       let so : Says name n (frames ++ k ∷ ks) last_turn = subst (λ (fs : List Frame). Says name n fs last_turn) same says in
@@ -118,32 +119,32 @@ module _ (setup : Setup) (name : List ℕ) (returned n : ℕ) (frames all : List
       (stands ∙ append_assoc (spelled k) (all_spelled ks) more) cause may counted shows in
       let wide = longer frames (k ∷ ks) all same in
       let enough = subst (λ (rs : List Finish). length (earlier ++ last ∷ []) ≤ length rs) wide (subst (λ (os : List Occurrence). length os ≤ length (finishes_in all)) is few) in
-      let ended = said_lost setup (finishes_in frames) (finishes_in (k ∷ ks)) earlier last each (subst (λ (c : StopCause). EndsAs (lost_by c) last.event) starved lost) enough in
-      subst (λ (os : List Occurrence). CameAsSaid setup (finishes_in all) os) (sym is)
-      (subst (λ (rs : List Finish). CameAsSaid setup rs (earlier ++ last ∷ [])) (sym wide) ended)
+      let ended = said_lost setup Why (finishes_in frames) (finishes_in (k ∷ ks)) earlier last each (subst (λ (c : StopCause). EndsAs (lost_by c) last.event) starved lost) enough in
+      subst (λ (os : List Occurrence). CameAsSaid setup Why (finishes_in all) os) (sym is)
+      (subst (λ (rs : List Finish). CameAsSaid setup Why rs (earlier ++ last ∷ [])) (sym wide) ended)
     where
       All-behind : (fs gs : List Frame) → All HasSpelling (fs ++ gs) → All HasSpelling gs
       All-behind [] gs h = h
       All-behind (f ∷ fs) gs h = All-behind fs gs (All-tail HasSpelling f (fs ++ gs) h)
   one_in_hand earlier last is each lost here may counted shows (inr (ks, same, stands)) =
-      let many = came_length setup (finishes_in frames) earlier each in
+      let many = came_length setup Why (finishes_in frames) earlier each in
       absurd (omega (arith, few, many, ap length is, length-append earlier (last ∷ []), ap length (longer all ks frames same), length-append (finishes_in all) (finishes_in ks)))
 
-  by_turn : (turn : Turn) → Says name returned frames turn → AllCame setup cause turn (finishes_in frames) came → may_end cause turn written ≡ true → IsCounted cause 0 0
-      → Shows (record { name = name; tag = tag_after returned; frames = frames; turn = turn; written = written }) cause rest left → Both → CameAsSaid setup (finishes_in all) came
+  by_turn : (turn : Turn) → Says name returned frames turn → AllCame setup Why cause turn (finishes_in frames) came → may_end cause turn written ≡ true → IsCounted cause 0 0
+      → Shows (record { name = name; tag = tag_after returned; frames = frames; turn = turn; written = written }) cause rest left → Both → CameAsSaid setup Why (finishes_in all) came
   by_turn AwaitsReady here each may counted shows both = none_in_hand each both
   by_turn AwaitsNext here each may counted shows both = none_in_hand each both
   by_turn AwaitsInvoke here each may counted shows both = none_in_hand each both
   by_turn Serving here (earlier, last, is, each, lost) may counted shows both = one_in_hand earlier last is each lost here may counted shows both
   by_turn Exited here each may counted shows both = none_in_hand each both
 
-pub ends_as_said : (setup : Setup) (life : LifeId) (past : List Event) (link : LinkShows) (frames : List Frame) → IsLife setup life past link → link.reads ≡ 0 → link.writes ≡ 0 → GivesAll life.name frames link
-    → length (came_in life.server life.generation past) ≤ length (finishes_in frames) → CameAsSaid setup (finishes_in frames) (came_in life.server life.generation past)
-ends_as_said setup id past link frames life no_reads no_writes gives few =
+pub ends_as_said : (setup : Setup) (clients : ℕ) (life : LifeId) (past : List Event) (link : LinkShows) (frames : List Frame) → IsLife setup clients life past link → link.reads ≡ 0 → link.writes ≡ 0 → GivesAll life.name frames link
+    → length (came_in life.server life.generation past) ≤ length (finishes_in frames) → CameAsSaid setup (MayFail setup clients) (finishes_in frames) (came_in life.server life.generation past)
+ends_as_said setup clients id past link frames life no_reads no_writes gives few =
     let at = stood id.name (tag_after life.returned) life.frames life.turn life.written in
     let told = subst (λ (t : Option (List ℕ)). IfSome t (λ octets. (rest : List ℕ) × (octets ≡ all_spelled life.frames ++ rest) × Shows at life.cause rest link.left)) gives.given life.gave_frames in
     let octets : all_spelled life.frames ++ (told.0 ++ gives.others) ≡ all_spelled frames ++ gives.more =
     sym (append_assoc (all_spelled life.frames) told.0 gives.others) ∙ (ap (λ (xs : List ℕ). xs ++ gives.others) (sym told.1) ∙ gives.whole) in
     let counted = subst (λ (writes : ℕ). IsCounted life.cause 0 writes) no_writes (subst (λ (reads : ℕ). IsCounted life.cause reads link.writes) no_reads life.counted) in
-    by_turn setup id.name life.returned gives.returned life.frames frames gives.turn life.cause life.written gives.says (came_in id.server id.generation past) link.left gives.others told.0 gives.more gives.held few
+    by_turn setup (MayFail setup clients) id.name life.returned gives.returned life.frames frames gives.turn life.cause life.written gives.says (came_in id.server id.generation past) link.left gives.others told.0 gives.more gives.held few
     life.turn life.says life.came life.may counted told.2 (fronts life.frames frames (told.0 ++ gives.others) gives.more (all_spelt life.says) (all_spelt gives.says) octets)

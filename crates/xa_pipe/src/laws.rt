@@ -3,10 +3,8 @@ ghost use Rattle.std.specs.Prelude.{◌≡◌, ◌≤◌, ℕ, List, length};
 ghost use Rattle.xa_types.specs.declared.setup.Setup.{Setup};
 ghost use Rattle.xa_frame.specs.declared.frame.Frame.{Frame};
 ghost use Rattle.xa_events.specs.declared.event.Event.{Event};
-ghost use Rattle.xa_pipe.specs.Life.{LifeId, LinkShows, Reasons, MayFail, IsLife, came_in, finishes_in};
+ghost use Rattle.xa_pipe.specs.Life.{LifeId, LinkShows, MayFail, IsLife, came_in, finishes_in};
 ghost use Rattle.xa_pipe.specs.Whole.{GivesAll, CameAsSaid};
-ghost use Rattle.xa_pipe.specs.Standing.{Ending, IsOver, id_of};
-ghost use Rattle.xa_pipe.specs.Following.{HasStopped, StandsIn};
 
 /// Where no read and no write of the link failed, and it gives a RETURN or a FORWARD to each request of the life, whole and
 /// in turn, each request came to what that says, but that memory may have run out for the last. Nothing shows that it had
@@ -16,11 +14,4 @@ pub fn ends_as_said()
         → IsLife setup clients life past link → link.reads ≡ 0 → link.writes ≡ 0 → GivesAll life.name frames link
         → length (came_in life.server life.generation past) ≤ length (finishes_in frames)
         → CameAsSaid setup (MayFail setup clients) (finishes_in frames) (came_in life.server life.generation past) }
-{}
-
-/// A life whose events a worker noted one by one beside what the life did, went and ended as those say, in each run in which
-/// the worker's events stand.
-pub fn is_life()
-    ensures { (setup : Setup) (clients : ℕ) (Why : Reasons) (over : Ending) (own past : List Event) → IsOver over → HasStopped setup Why over own → StandsIn setup clients Why over own past
-        → IsLife setup clients (id_of over.life) past over.life.link }
 {}

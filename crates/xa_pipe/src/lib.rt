@@ -15,7 +15,7 @@ mod pipe;
 mod turn;
 
 pub use hearing::{Finish, Forward, Return};
-pub use laws::{ends_as_said, is_life};
+pub use laws::ends_as_said;
 pub use life::{Answered, Life};
 pub use over::{EndedLife, Pipes};
 pub use pipe::Pipe;
