@@ -339,16 +339,14 @@ fn put<R: Abort>(
     worker: &mut Worker,
     found: &Found,
     row: &Row,
-    entry: Entry<Cargo>,
-    event: Event,
+    mut entry: Entry<Cargo>,
+    mut event: Event,
 ) -> Closing
     requires out { IsOut setup.now cells.now entry event worker.old.slot worker.old.caller }
     requires found { (service : List ℕ) × AreFor setup.now service found.now }
     ensures { IsOver cells.now result worker.new.slot worker.new.caller }
 {
     let (_, _, _, _, queues, _) = *row;
-    let mut entry = entry;
-    let mut event = event;
     for attempt in 0..64u32 {
         let Some((queue, state)) = queues.get(attempt as usize) else {
             panic!(rt; "no queue")
@@ -442,8 +440,7 @@ fn is_played<R: Abort>(
     ensures shut { IsShut seat.new }
 {
     let (hop, wish, _, _, _, end) = *row;
-    let (place, entry) = ask(rt, cells, seat);
-    let mut entry = entry;
+    let (place, mut entry) = ask(rt, cells, seat);
     entry.cargo.invocation.hop = hop;
     take(rt, setup, cells, worker, entry);
     set_priority(rt, setup, cells, worker, wish.0);
