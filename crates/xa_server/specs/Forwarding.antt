@@ -37,7 +37,7 @@ use Rattle.xa_server.specs.Slot.{Tables, Stands}
 
 -- ---- which way a forward goes
 
--- no service of that name is asked for, the data isn't sound, or the request was forwarded 32 times
+-- the service has a name, the data is sound, and the request was forwarded fewer than 32 times
 abbrev pub may_forward : Setup → List ℕ → Data → ℕ → Bool
 may_forward setup service payload hop = is_name service && is_sound setup payload && nat_lt hop 32
 
