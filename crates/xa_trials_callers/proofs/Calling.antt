@@ -1,5 +1,5 @@
 -- How the client of a trial goes on, call by call.
-use Rattle.std.proofs.Common.{◌≡◌, ◌≢◌, ℕ, ◌+◌, ◌≤◌, true, List, length, ⊎_elim, sym, refl, ◌∙◌, ap, subst, arith, length-append}
+use Rattle.std.proofs.Common.{◌≡◌, ◌≢◌, ℕ, ◌+◌, ◌≤◌, true, List, length, Option, Some, None, ⊎_elim, sym, refl, ◌∙◌, ap, subst, arith, length-append}
 use Rattle.std.specs.Prelude.{nat_le}
 use Rattle.std.specs.List.{flat_map, sum_by}
 use Rattle.std.proofs.lemmas.Bool.{and_parts, leb-true}
@@ -13,7 +13,8 @@ use Rattle.xa_types.specs.declared.setup.ServiceSetup.{ServiceSetup}
 use Rattle.xa_types.specs.Configured.{is_configured, are_valid_services, are_served}
 use Rattle.xa_types.specs.Found.{FoundRows}
 use Rattle.xa_types.specs.Kind.{kind_of, is_sound, is_accepted}
-use Rattle.xa_types.specs.Rows.{row_for, changes_of}
+use Rattle.xa_types.specs.Rows.{row_for, row_with, changes_of}
+use Rattle.xa_types.specs.Setup.{service_named}
 use Rattle.xa_events.specs.declared.event.Event.{Event}
 use Rattle.xa_events.specs.Board.{boot}
 use Rattle.xa_cell.specs.declared.cells.Cells.{Cells}
@@ -39,6 +40,14 @@ use Rattle.xa_trials_callers.specs.Callers.{Stands, HasDraft}
 
 same_draft : (phase : Phase) (draft other : Draft) → phase ≡ Prepared draft → phase ≡ Prepared other → other ≡ draft
 same_draft phase draft other is is' = cc (is, is')
+
+-- a row of a service by its own queue and routine
+row_with_own : (configured : Option ServiceSetup) (service : List ℕ) (queue : ℕ) (routine : List ℕ) (row : Row) → row ≡ row_with configured service queue routine → row ≡ row_with configured service row.queue.0 row.routine
+row_with_own None service queue routine row is = subst (λ (r : Row). r ≡ row_with None service r.queue.0 r.routine) (sym is) refl
+row_with_own (Some configured) service queue routine row is = subst (λ (r : Row). r ≡ row_with (Some configured) service r.queue.0 r.routine) (sym is) refl
+
+pub own_row : (setup : Setup) (service : List ℕ) (queue : ℕ) (routine : List ℕ) (row : Row) → row ≡ row_for setup service queue routine → row ≡ row_for setup service row.queue.0 row.routine
+own_row setup service queue routine row is = row_with_own (service_named setup service) service queue routine row is
 
 module _ (setup : Setup) (cells : Cells Filling) where
   -- a request that is made is to be put on one of the queues that were found

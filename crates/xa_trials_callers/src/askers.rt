@@ -23,10 +23,12 @@ pub enum Told {
     Failed,
     SvcErr,
     System,
+    NoMemory,
     Halted,
 }
 
-const REQUEST: RequestId = RequestId {
+/// The request that `ask` makes.
+pub const REQUEST: RequestId = RequestId {
     caller: CallerId(1),
     number: 1,
 };
@@ -38,6 +40,7 @@ fn reading(filling: &Filling) -> Told {
         Some(Answer::Failed(..)) => Told::Failed,
         Some(Answer::Error(Fault::SvcErr)) => Told::SvcErr,
         Some(Answer::Error(Fault::System)) => Told::System,
+        Some(Answer::Error(Fault::NoMemory)) => Told::NoMemory,
         Some(Answer::Error(_)) => Told::Nothing,
     }
 }

@@ -39,9 +39,9 @@ enum Way {
     NoChange,
 }
 
-// No data, X_OCTET of these octets, or X_C_TYPE that should be a pair.
+/// No data, X_OCTET of these octets, or X_C_TYPE that should be a pair.
 #[derive(Clone, Copy)]
-enum Brings {
+pub enum Brings {
     Nothing,
     Octets(&'static [u8]),
     Pair(&'static [u8]),
@@ -67,27 +67,27 @@ enum Told {
     Halts,
 }
 
-const A: Brings = Brings::Octets(b"a");
+pub const A: Brings = Brings::Octets(b"a");
 
-const PAIR: Brings = Brings::Pair(b"abc");
+pub const PAIR: Brings = Brings::Pair(b"abc");
 
-const SHORT: Brings = Brings::Pair(b"ab");
+pub const SHORT: Brings = Brings::Pair(b"ab");
 
-const UP: Queues = &[(2, State::Up)];
+pub const UP: Queues = &[(2, State::Up)];
 
 const SHUT: Queues = &[(2, State::Closed)];
 
-const BOTH_SHUT: Queues = &[(1, State::Closed), (2, State::Down)];
+pub const BOTH_SHUT: Queues = &[(1, State::Closed), (2, State::Down)];
 
-const DOWN_UP: Queues = &[(1, State::Down), (2, State::Up)];
+pub const DOWN_UP: Queues = &[(1, State::Down), (2, State::Up)];
 
 const FULL_UP: Queues = &[(1, State::Full), (2, State::Up)];
 
-const FULL_DOWN: Queues = &[(1, State::Full), (2, State::Down)];
+pub const FULL_DOWN: Queues = &[(1, State::Full), (2, State::Down)];
 
 const FULL: Queues = &[(1, State::Full), (2, State::Full)];
 
-const FULL_HALTS: Queues = &[(1, State::Full), (2, State::Halts)];
+pub const FULL_HALTS: Queues = &[(1, State::Full), (2, State::Halts)];
 
 const INVAL: Told = Told::Refused(Fault::Inval, Shown::Argument);
 
@@ -151,7 +151,8 @@ static HALTS: [Option<(Says, u64)>; 4] = [
     None,
 ];
 
-fn data_of(alloc: Global, brings: Brings) -> Option<Data> {
+/// That data.
+pub fn data_of(alloc: Global, brings: Brings) -> Option<Data> {
     match brings {
         Brings::Nothing => Some(Data::Absent),
         Brings::Octets(octets) => Some(Data::Octet(Octets::of(alloc, octets).ok()?)),
@@ -248,7 +249,8 @@ fn is_shown(evidence: &Evidence, shown: Shown) -> bool {
     }
 }
 
-fn is_data(data: &Data, brings: Brings) -> bool {
+/// Whether it is that data.
+pub fn is_data(data: &Data, brings: Brings) -> bool {
     match brings {
         Brings::Nothing => matches!(data, Data::Absent),
         Brings::Octets(octets) => matches!(data, Data::Octet(got) if got.slice() == octets),

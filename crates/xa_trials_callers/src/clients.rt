@@ -65,15 +65,21 @@ pub struct Unsent {
     pub why: Why,
 }
 
-// What a lookup of the service finds.
-fn found_of(alloc: Global, setup: &Setup, service: Name, queues: Queues) -> Option<Found>
+/// What a lookup of the service finds.
+pub fn found_of(
+    alloc: Global,
+    setup: &Setup,
+    service: Name,
+    routine: Name,
+    queues: Queues,
+) -> Option<Found>
     requires { is_configured setup.now ≡ true }
     ensures version { IfSome result (λ found. found.version ≡ 256) }
     ensures rows { IfSome result (λ found. AreRowsOf setup.now service found.rows) }
 {
     let mut rows: Vec<Row> = Vec::new(alloc);
     for (queue, _) in queues {
-        rows.push(row_for(setup, QueueId(*queue), service, service))
+        rows.push(row_for(setup, QueueId(*queue), service, routine))
             .ok()?;
     }
     Some(Found {
@@ -147,7 +153,7 @@ pub fn prepare<R: Abort>(
         }
         Err(Stop::Halt(_)) => panic!(rt; "halt"),
     };
-    let Some(found) = found_of(alloc, setup, service, queues) else {
+    let Some(found) = found_of(alloc, setup, service, service, queues) else {
         panic!(rt; "no memory")
     };
     match client.caller.prepare(alloc, setup, cells, op, ask, &found) {

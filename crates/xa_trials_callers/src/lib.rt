@@ -9,6 +9,8 @@ mod callers;
 #[cfg(test)]
 mod clients;
 #[cfg(test)]
+mod forwards;
+#[cfg(test)]
 mod memory;
 #[cfg(test)]
 mod restarts;

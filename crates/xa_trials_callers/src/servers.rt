@@ -180,8 +180,8 @@ fn is_death(cause: &StopCause) -> bool
     !matches!(cause, StopCause::Shutdown | StopCause::Exit)
 }
 
-// The next stamp of the caller, at another home.
-fn next_stamp<R: Abort>(rt: &R, caller: &Caller) -> Stamp
+/// The next stamp of the caller, at another home.
+pub fn next_stamp<R: Abort>(rt: &R, caller: &Caller) -> Stamp
     ensures later { caller.now.work.stamp.0 < result.0 }
     ensures bound { result.0 ≤ 2 ^ 63 }
 {
@@ -192,8 +192,8 @@ fn next_stamp<R: Abort>(rt: &R, caller: &Caller) -> Stamp
     Stamp(last.0 + 1)
 }
 
-// That event, of which nothing but what contracts see stays.
-fn seen(event: Event) -> Snapshot<Event>
+/// That event, of which nothing but what contracts see stays.
+pub fn seen(event: Event) -> Snapshot<Event>
     ensures { result.value ≡ event }
 {
     let seen = Snapshot::of(&event);
@@ -639,7 +639,8 @@ fn told_at(end: End) -> Told {
     }
 }
 
-fn next_seat<R: Abort>(rt: &R, seats: &mut Vec<Seat<Filling>>) -> Seat<Filling>
+/// The last of the seats.
+pub fn next_seat<R: Abort>(rt: &R, seats: &mut Vec<Seat<Filling>>) -> Seat<Filling>
     ensures items { seats.old.items ≡ seats.new.items ++ result ∷ [] }
     ensures room { vec_capacity seats.new ≡ vec_capacity seats.old }
 {
