@@ -58,6 +58,9 @@ use Rattle.xa_links.proofs.Behind.{leads_behind}
 use Rattle.xa_links.proofs.Stepping.{still_steps, noted_steps}
 use Rattle.xa_links.proofs.Keeping.{OfLife, lives_same, handed_led}
 use Rattle.xa_links.proofs.Lasting.{number_of, at_kept, started_on, failed_on, ends_shut, ends_lived, ends_work, halts}
+use Rattle.xa_desk.proofs.xa_pipe.Followed.{settled_led}
+use Rattle.xa_links.specs.Reasons.{ShowsReason}
+use Rattle.xa_links.proofs.Reasons.{reason_led}
 
 -- ---- causes and outcomes
 
@@ -114,7 +117,7 @@ module _ {L T : Type 0} {d : Domain} {named : T → List ℕ} {shows : T → Sta
   server_of_life = ap (λ s. s.0) (sym last.server)
 
   -- its end is noted behind these
-  stops_work : (more : List Event) (e : Event) (x : StopEvent) (rest : List Stamped) → Steps d (Stop x ∷ more) w.desk desk' → All (OfLife slot.made) more → x.server ≡ slot.server → x.generation ≡ over.life.generation → x.cause ≡ over.cause → Settled d.setup over (more ++ own)
+  stops_work : (more : List Event) (e : Event) (x : StopEvent) (rest : List Stamped) → Steps d (Stop x ∷ more) w.desk desk' → All (OfLife slot.made) more → x.server ≡ slot.server → x.generation ≡ over.life.generation → x.cause ≡ over.cause → Settled d.setup (ShowsReason d desk') over (more ++ own)
       → AtEach (IsHanded over.life.server.0 over.life.generation.0 over.life.asked (IsSentFor d w.queue.0 desk')) (more ++ own)
       → new.own ≡ old.own ++ rest → All (λ (y : Stamped). old.stamp.0 < y.stamp.0) rest → count (stops_life over.life.server.0 over.life.generation.0) own ≡ 0 → (over.life.turn ≡ AwaitsInvoke → SawAtQueue d w.queue.0 w.desk (IsShut d.setup w.queue.0))
       → slot'.server ≡ slot.server → slot'.made ≡ slot.made → slot'.gone ≡ slot.gone → IsAtWork d named shows (at_kept w kept slot' desk') []
@@ -124,20 +127,23 @@ module _ {L T : Type 0} {d : Domain} {named : T → List ℕ} {shows : T → Sta
       let ours : is_of_life over.life.server.0 over.life.generation.0 x.server.0 x.generation.0 ≡ true = is_its over.life.server.0 over.life.generation.0 x.server.0 x.generation.0 (ap (λ s. s.0) server ∙ server_of_life) (ap (λ g. g.0) generation) in
       ends_work w over at last ended kept lives starter slot' desk' (Stop x ∷ more) serves seat all
       (ends_lived w over at last ended kept lives starter slot' desk' (Stop x ∷ more) serves seat all
-      (subst (HasStopped d.setup over) (sym {A = List Event} steps.own) (stops d.setup over (more ++ own) x ours why settled))
+      (subst (HasStopped d.setup (ShowsReason d desk') over) (sym {A = List Event} steps.own) (stops d.setup over (more ++ own) x ours why settled))
       (λ turn. ends_shut w over at last ended kept lives starter slot' desk' (Stop x ∷ more) serves seat all rest grew later alive (saw turn))
       (subst (AtEach (IsHanded over.life.server.0 over.life.generation.0 over.life.asked (IsSentFor d w.queue.0 desk'))) (sym {A = List Event} steps.own) (tt, still)))
+
+  settled_still : (ending : Ending) (events : List Event) → Settled d.setup (ShowsReason d w.desk) ending events → Settled d.setup (ShowsReason d desk') ending events
+  settled_still ending events settled = settled_led d.setup (ShowsReason d w.desk) (ShowsReason d desk') (reason_led d w.desk desk' leads) ending events settled
 
   handed_still : AtEach (IsHanded over.life.server.0 over.life.generation.0 over.life.asked (IsSentFor d w.queue.0 desk')) own
   handed_still = handed_led over.life.server.0 over.life.generation.0 d w.queue.0 w.desk desk' over.life.asked own leads handed
 
   -- with nothing in hand
-  pub stops_idle : (cause : StopCause) (stamp : Stamp) → cause ≡ over.cause → life_in slot.doing ≡ over.life.generation → Settled d.setup over own → (over.life.turn ≡ AwaitsInvoke → SawAtQueue d w.queue.0 w.desk (IsShut d.setup w.queue.0)) → Stops cause stamp slot' slot new old
+  pub stops_idle : (cause : StopCause) (stamp : Stamp) → cause ≡ over.cause → life_in slot.doing ≡ over.life.generation → Settled d.setup (ShowsReason d w.desk) over own → (over.life.turn ≡ AwaitsInvoke → SawAtQueue d w.queue.0 w.desk (IsShut d.setup w.queue.0)) → Stops cause stamp slot' slot new old
       → IsAtWork d named shows (at_kept w kept slot' desk') []
   stops_idle cause stamp why does settled saw stopped =
       let x : StopEvent = record { server = slot.server; generation = life_in slot.doing; cause = cause } in
       let next = stopped.noted.next in
-      stops_work [] (Stop x) x (record { stamp = stamp; event = Stop x } ∷ []) (noted_steps stamp (Stop x) old.room leads (number_of at.serving) stopped.noted) (All-nil (OfLife slot.made)) refl does why settled handed_still
+      stops_work [] (Stop x) x (record { stamp = stamp; event = Stop x } ∷ []) (noted_steps stamp (Stop x) old.room leads (number_of at.serving) stopped.noted) (All-nil (OfLife slot.made)) refl does why (settled_still over own settled) handed_still
       (ap (λ (v : Working). v.own) stopped.noted.made) (All-cons (λ (y : Stamped). old.stamp.0 < y.stamp.0) (record { stamp = stamp; event = Stop x }) [] (omega (arith, next)) (All-nil (λ (y : Stamped). old.stamp.0 < y.stamp.0))) settled.alive saw
       (ap (λ (s : ServerSlot). s.server) stopped.left) (ap (λ (s : ServerSlot). s.made) stopped.left) (ap (λ (s : ServerSlot). s.gone) stopped.left)
 
@@ -148,7 +154,7 @@ module _ {L T : Type 0} {d : Domain} {named : T → List ℕ} {shows : T → Sta
     abbrev lost_end : RequestId → Ended
     lost_end request = record { request = request; server = slot.server; generation = life_in slot.doing; outcome = outcome_of cause }
 
-    dies_busy : (closing : Closing) (g : Generation) (request : RequestId) → slot.doing ≡ Busy g request → SettlesBy d over own (Busy g request) → DiesFrom (Busy g request) cause closing slot' slot new old → IsOff d named shows (at_kept w kept slot' desk')
+    dies_busy : (closing : Closing) (g : Generation) (request : RequestId) → slot.doing ≡ Busy g request → SettlesBy d w.desk over own (Busy g request) → DiesFrom (Busy g request) cause closing slot' slot new old → IsOff d named shows (at_kept w kept slot' desk')
     dies_busy closing g request does (its, settles) dies =
         let ends = dies.ends in
         let e : Ended = lost_end ends.entry.request in
@@ -174,7 +180,7 @@ module _ {L T : Type 0} {d : Domain} {named : T → List ℕ} {shows : T → Sta
                 id = ap (λ (v : Working). v.id) dies.stops.noted.made ∙ ap (λ (v : Working). v.id) ends.noted.made;
                 clients = ap (λ (v : Working). v.clients) dies.stops.noted.made ∙ ap (λ (v : Working). v.clients) ends.noted.made;
                 own = second ∙ ap (λ (l : List Event). Stop x ∷ l) first;
-              }) (All-cons (OfLife slot.made) (End e) [] (ap (λ h. h.0) lived ∙ last.number) (All-nil (OfLife slot.made))) server generation why settled (tt, handed_still)
+              }) (All-cons (OfLife slot.made) (End e) [] (ap (λ h. h.0) lived ∙ last.number) (All-nil (OfLife slot.made))) server generation why (settled_still over (End e ∷ own) settled) (tt, handed_still)
               (ap (λ (v : Working). v.own) dies.stops.noted.made ∙ ap (λ (v : Working). v.own ++ record { stamp = dies.stop; event = Stop x } ∷ []) ends.noted.made ∙ append_assoc old.own (record { stamp = dies.stamp; event = End e } ∷ []) (record { stamp = dies.stop; event = Stop x } ∷ []))
               (All-cons (λ (y : Stamped). old.stamp.0 < y.stamp.0) (record { stamp = dies.stamp; event = End e }) (record { stamp = dies.stop; event = Stop x } ∷ []) (omega (arith, next))
               (All-cons (λ (y : Stamped). old.stamp.0 < y.stamp.0) (record { stamp = dies.stop; event = Stop x }) [] (omega (arith, next, stamp, after)) (All-nil (λ (y : Stamped). old.stamp.0 < y.stamp.0)))) settled.alive saw
@@ -183,7 +189,7 @@ module _ {L T : Type 0} {d : Domain} {named : T → List ℕ} {shows : T → Sta
           up = ap (λ (s : ServerSlot). s.shut) dies.stops.left ∙ no_shutdown cause death;
         }
 
-    pub dies_off : (closing : Closing) (doing : Doing) → slot.doing ≡ doing → SettlesBy d over own doing → DiesFrom doing cause closing slot' slot new old → IsOff d named shows (at_kept w kept slot' desk')
+    pub dies_off : (closing : Closing) (doing : Doing) → slot.doing ≡ doing → SettlesBy d w.desk over own doing → DiesFrom doing cause closing slot' slot new old → IsOff d named shows (at_kept w kept slot' desk')
     dies_off closing (Busy g request) does settles dies = dies_busy closing g request does settles dies
     dies_off closing (Idle g) does (its, settled) dies = record {
       at = stops_idle cause dies.stop why (ap life_in does ∙ its) settled saw dies.stops;
@@ -219,11 +225,11 @@ module _ {L T : Type 0} {d : Domain} {named : T → List ℕ} {shows : T → Sta
 
 -- ---- what is asked of a death
 
-pub settles_its : (d : Domain) (over : Ending) (past : List Event) (doing : Doing) → SettlesBy d over past doing → life_in doing ≡ over.life.generation
-settles_its d over past (Busy g request) settles = settles.0
-settles_its d over past (Idle g) settles = settles.0
-settles_its d over past Off settles = absurd settles
-settles_its d over past (Dying g) settles = absurd settles
+pub settles_its : (d : Domain) (desk : Desk) (over : Ending) (past : List Event) (doing : Doing) → SettlesBy d desk over past doing → life_in doing ≡ over.life.generation
+settles_its d desk over past (Busy g request) settles = settles.0
+settles_its d desk over past (Idle g) settles = settles.0
+settles_its d desk over past Off settles = absurd settles
+settles_its d desk over past (Dying g) settles = absurd settles
 
 -- what was closed is what somebody is to be told
 pub told_of : (d : Domain) (desk : Desk) (closing : Closing) (told : Option Told) → IfSome told (λ t. t.closing ≡ closing) → IsToTell d desk closing → IfSome told (IsToldOf d desk)

@@ -74,6 +74,8 @@ use Rattle.xa_desk.proofs.Staying.{queue_stays}
 use Rattle.xa_desk.specs.xa_events.Server.{was_shut_down}
 use Rattle.xa_links.proofs.Lasting.{at_desk, at_kept, number_of, last_on, work_on, ends_done}
 use Rattle.xa_links.proofs.Deaths.{is_its, death_in, stops_idle, worn_still}
+use Rattle.xa_desk.specs.xa_pipe.Life.{Reasons}
+use Rattle.xa_links.specs.Reasons.{ShowsReason}
 
 -- ---- a life with another turn
 
@@ -178,33 +180,33 @@ IsFinishing (End e) = Unit {0}
 IsFinishing (Forward f) = Unit {0}
 IsFinishing _ = ⊥
 
-forward_event : (service : List ℕ) (payload : Data) (e : Event) → IsForwarded service payload e → IsFinishing e
-forward_event service payload (End e) by = tt
-forward_event service payload (Forward f) by = tt
-forward_event service payload _ by = absurd by
+forward_event : (Why : Reasons) (service : List ℕ) (payload : Data) (e : Event) (before : List Event) → IsForwarded Why service payload e before → IsFinishing e
+forward_event Why service payload (End e) before by = tt
+forward_event Why service payload (Forward f) before by = tt
+forward_event Why service payload _ before by = absurd by
 
 return_event : (outcome : Outcome) (e : Event) → EndsAs outcome e → IsFinishing e
 return_event outcome (End e) by = tt
 return_event outcome _ by = absurd by
 
 -- what a RETURN or a FORWARD comes to is such an event
-finished_event : (setup : Setup) (back : Finish) (e : Event) (before : List Event) → ComesTo setup back (record { event = e; before = before }) → IsFinishing e
-finished_event setup (Returns back) e before comes = return_event (outcome_by setup back.value back.code back.payload) e comes
-finished_event setup (Forwards forward) e before comes = forward_event forward.service forward.payload e comes
+finished_event : (setup : Setup) (Why : Reasons) (back : Finish) (e : Event) (before : List Event) → ComesTo setup Why back (record { event = e; before = before }) → IsFinishing e
+finished_event setup Why (Returns back) e before comes = return_event (outcome_by setup back.value back.code back.payload) e comes
+finished_event setup Why (Forwards forward) e before comes = forward_event Why forward.service forward.payload e before comes
 
-follows_done : (setup : Setup) (old new : Life) (own : List Event) (e : Event) (back : Finish) (tag : ℕ) → is_of old.server.0 old.generation.0 e ≡ true → Heard (finish_frame tag back) new old → ComesTo setup back (record { event = e; before = own }) → Follows setup old own → Follows setup new (e ∷ own)
-follows_done setup old new own e back tag its heard comes follows = by e (finished_event setup back e own comes) its comes
+follows_done : (setup : Setup) (Why : Reasons) (old new : Life) (own : List Event) (e : Event) (back : Finish) (tag : ℕ) → is_of old.server.0 old.generation.0 e ≡ true → Heard (finish_frame tag back) new old → ComesTo setup Why back (record { event = e; before = own }) → Follows setup Why old own → Follows setup Why new (e ∷ own)
+follows_done setup Why old new own e back tag its heard comes follows = by e (finished_event setup Why back e own comes) its comes
   where
-    by : (x : Event) → IsFinishing x → is_of old.server.0 old.generation.0 x ≡ true → ComesTo setup back (record { event = x; before = own }) → Follows setup new (x ∷ own)
+    by : (x : Event) → IsFinishing x → is_of old.server.0 old.generation.0 x ≡ true → ComesTo setup Why back (record { event = x; before = own }) → Follows setup Why new (x ∷ own)
     by (End x) is ours here = follows_end setup old new own x back tag ours heard here follows
     by (Forward f) is ours here = follows_forward setup old new own f back tag ours heard here follows
     by _ is ours here = absurd is
 
 -- a forward ends no life
-keeps_on : (service : List ℕ) (payload : Data) (e : Event) → IsForwarded service payload e → ends_by e false ≡ false
-keeps_on service payload (Forward f) by = refl
-keeps_on service payload (End e) by = ap (λ (o : Outcome). is_lost o || false) by.1
-keeps_on service payload _ by = absurd by
+keeps_on : (Why : Reasons) (service : List ℕ) (payload : Data) (e : Event) (before : List Event) → IsForwarded Why service payload e before → ends_by e false ≡ false
+keeps_on Why service payload (Forward f) before by = refl
+keeps_on Why service payload (End e) before by = ap (λ (o : Outcome). is_lost o || false) by.0.1
+keeps_on Why service payload _ before by = absurd by
 
 its_generation : (s h server g : ℕ) → is_of_life server g s h ≡ true → h ≡ g
 its_generation s h server g its = eqb-true h g (and_parts (s == server) (h == g) its).1
@@ -213,7 +215,7 @@ its_generation s h server g its = eqb-true h g (and_parts (s == server) (h == g)
 pub return_done : {L T : Type 0} {d : Domain} (w : ServerWorker L T) (value : Rval) (code : ℤ) (payload : Data) (conns : List RequestId) (closing : Closing) (slot' : ServerSlot) (desk' : Desk) → Leads d w.desk desk' → desk'.caller.seat ≡ w.desk.caller.seat → IsServing d w.queue.0 w.served.slot w.desk → IsServing d w.queue.0 slot' desk'
     → Finishes (return_by d.setup conns value code payload) closing slot' w.served.slot desk'.caller.work w.desk.caller.work → (e : Ended) × IsDoneBy d w.queue.0 (End e) w.served.slot slot' w.desk desk' × (e.outcome ≡ return_by d.setup conns value code payload)
 return_done {L} {T} {d} w value code payload conns closing slot' desk' leads seat was serving finishes =
-    ended_done (return_by d.setup conns value code payload) closing leads (number_of was) serving seat (plain_idle value code payload (is_sound d.setup payload && is_empty conns)) finishes
+    let ended = ended_done (return_by d.setup conns value code payload) closing leads (number_of was) serving seat (plain_idle value code payload (is_sound d.setup payload && is_empty conns)) finishes in (ended.0, ended.1, ended.2)
 
 module _ {L T : Type 0} {d : Domain} {named : T → List ℕ} {shows : T → StarterShows} (w : ServerWorker L T) where
   -- ---- its program says something
@@ -253,7 +255,7 @@ module _ {L T : Type 0} {d : Domain} {named : T → List ℕ} {shows : T → Sta
       follows = record {
         alive = is.going.follows.alive;
         taken = is.going.follows.taken;
-        came = subst (λ (rs : List Finish). EachCame d.setup rs (came_in old.server.0 old.generation.0 (own_of w))) (sym (finishes_append old.said (ready_frame old.name ∷ []) ∙ append-nil (finishes_in old.said))) is.going.follows.came;
+        came = subst (λ (rs : List Finish). EachCame d.setup (ShowsReason d w.desk) rs (came_in old.server.0 old.generation.0 (own_of w))) (sym (finishes_append old.said (ready_frame old.name ∷ []) ∙ append-nil (finishes_in old.said))) is.going.follows.came;
       };
       handed = is.going.handed;
     };
@@ -310,7 +312,7 @@ module _ {L T : Type 0} {d : Domain} {named : T → List ℕ} {shows : T → Sta
           at = at_still (life.asked ++ f ∷ []) becomes has.at;
           last = last_still (life.asked ++ f ∷ []) becomes has.last;
           going = record {
-            follows = subst (Follows d.setup new) (sym {A = List Event} has.own) (follows_take d.setup life new has.before has.t f has.its invoked has.going.follows);
+            follows = subst (Follows d.setup (ShowsReason d w.desk) new) (sym {A = List Event} has.own) (follows_take d.setup life new has.before has.t f has.its invoked has.going.follows);
             handed = subst (AtEach (IsHanded new.server.0 new.generation.0 new.asked (IsSentFor d w.queue.0 w.desk))) (sym {A = List Event} has.own) (handed_still (life.asked ++ f ∷ []) becomes (IsSentFor d w.queue.0 w.desk) (Take has.t ∷ has.before) sent_handed);
           };
           does = has.does ∙ ap (λ (l : Life). Busy l.generation has.t.request) (sym invoked.made);
@@ -328,9 +330,9 @@ module _ {L T : Type 0} {d : Domain} {named : T → List ℕ} {shows : T → Sta
           at = at_still (life.asked ++ f ∷ []) becomes has.at;
           last = last_still (life.asked ++ f ∷ []) becomes has.last;
           handed = subst (AtEach (IsHanded over.life.server.0 over.life.generation.0 over.life.asked (IsSentFor d w.queue.0 w.desk))) (sym {A = List Event} has.own) (handed_still (life.asked ++ f ∷ []) becomes (IsSentFor d w.queue.0 w.desk) (Take has.t ∷ has.before) sent_handed);
-          settles = subst (SettlesBy d over (own_of w)) (sym has.does) (
+          settles = subst (SettlesBy d w.desk over (own_of w)) (sym has.does) (
             ap (λ (l : Life). l.generation) (sym unsent.life),
-            λ e ours outcome. subst (λ (l : List Event). Settled d.setup over (End e ∷ l)) (sym {A = List Event} has.own) (settles_unsent d.setup life over has.before has.t e f unsent has.its ours outcome has.going.follows),
+            λ e ours outcome. subst (λ (l : List Event). Settled d.setup (ShowsReason d w.desk) over (End e ∷ l)) (sym {A = List Event} has.own) (settles_unsent d.setup life over has.before has.t e f unsent has.its ours outcome has.going.follows),
           );
           dies = death_in over.cause over.life.turn over.written (λ exited. cc (exited, serving)) (λ idle. cc (idle, serving));
           shut = λ idle. cc (idle, serving);
@@ -347,7 +349,7 @@ module _ {L T : Type 0} {d : Domain} {named : T → List ℕ} {shows : T → Sta
         at = at_still old.asked becomes is.at;
         last = last_still old.asked becomes is.last;
         handed = handed_still old.asked becomes (IsSentFor d w.queue.0 w.desk) (own_of w) is.going.handed;
-        settles = subst (SettlesBy d over (own_of w)) (sym is.does) (ap (λ (l : Life). l.generation) (sym fell.life), λ e ours outcome. settles_lost d.setup old over (own_of w) e fell is.turns ours outcome is.going.follows);
+        settles = subst (SettlesBy d w.desk over (own_of w)) (sym is.does) (ap (λ (l : Life). l.generation) (sym fell.life), λ e ours outcome. settles_lost d.setup old over (own_of w) e fell is.turns ours outcome is.going.follows);
         dies = death_in over.cause over.life.turn over.written (λ exited. cc (exited, serving)) (λ idle. cc (idle, serving));
         shut = λ idle. cc (idle, serving);
         room = is.room;
@@ -362,7 +364,7 @@ module _ {L T : Type 0} {d : Domain} {named : T → List ℕ} {shows : T → Sta
         at = at_still old.asked becomes is.at;
         last = last_still old.asked becomes is.last;
         handed = handed_still old.asked becomes (IsSentFor d w.queue.0 w.desk) (own_of w) is.going.handed;
-        settles = subst (SettlesBy d over (own_of w)) (sym is.does) (ap (λ (l : Life). l.generation) (sym fell.life), settles_fallen d.setup old over (own_of w) fell (λ h. elim reads [ inl r ↦ cc (r, turns, h) | inr n ↦ cc (n, turns, h) ]) is.going.follows);
+        settles = subst (SettlesBy d w.desk over (own_of w)) (sym is.does) (ap (λ (l : Life). l.generation) (sym fell.life), settles_fallen d.setup old over (own_of w) fell (λ h. elim reads [ inl r ↦ cc (r, turns, h) | inr n ↦ cc (n, turns, h) ]) is.going.follows);
         dies = death_in over.cause over.life.turn over.written (λ exited. elim reads [ inl r ↦ cc (r, same, exited) | inr n ↦ cc (n, same, exited) ]) (λ idle. elim reads [ inl r ↦ cc (r, same, idle) | inr n ↦ cc (n, same, idle) ]);
         shut = λ idle. elim reads [ inl r ↦ cc (r, same, idle) | inr n ↦ cc (n, same, idle) ];
         room = is.room;
@@ -381,7 +383,7 @@ module _ {L T : Type 0} {d : Domain} {named : T → List ℕ} {shows : T → Sta
         at = at_still old.asked becomes is.at;
         last = last_still old.asked becomes is.last;
         handed = handed_still old.asked becomes (IsSentFor d w.queue.0 w.desk) (own_of w) is.going.handed;
-        settles = subst (SettlesBy d over (own_of w)) (sym is.does) (ap (λ (l : Life). l.generation) (sym shut.life), settles_shut d.setup old over (own_of w) shut is.turns is.going.follows);
+        settles = subst (SettlesBy d w.desk over (own_of w)) (sym is.does) (ap (λ (l : Life). l.generation) (sym shut.life), settles_shut d.setup old over (own_of w) shut is.turns is.going.follows);
         dies = death_in over.cause over.life.turn over.written (λ exited. cc (exited, same)) (λ idle. unshut);
         shut = λ idle. saw;
         room = is.room;
@@ -391,7 +393,7 @@ module _ {L T : Type 0} {d : Domain} {named : T → List ℕ} {shows : T → Sta
 
   -- the service is done with the request, and the server is idle
   pub finished_in : (new old : Life) (request : RequestId) (back : Finish) (turn : Turn) (event : Event) (slot' : ServerSlot) (desk' : Desk) → Heard (finish_frame (tag_of old) back) new old → IsIn d named shows (Busy old.generation request) Serving 1 old w
-      → turn_after Serving (finish_frame (tag_of old) back).body ≡ turn → ComesTo d.setup back (record { event = event; before = own_of w }) → ends_by event false ≡ false → IsDoneBy d w.queue.0 event w.served.slot slot' w.desk desk'
+      → turn_after Serving (finish_frame (tag_of old) back).body ≡ turn → ComesTo d.setup (ShowsReason d desk') back (record { event = event; before = own_of w }) → ends_by event false ≡ false → IsDoneBy d w.queue.0 event w.served.slot slot' w.desk desk'
       → IsIn d named shows (Idle new.generation) turn 0 new (at_desk w slot' desk')
   finished_in new old request back turn event slot' desk' heard is turns comes ends done =
       let serves = done.serves in
@@ -400,16 +402,17 @@ module _ {L T : Type 0} {d : Domain} {named : T → List ℕ} {shows : T → Sta
       let ours : is_of old.server.0 old.generation.0 event ≡ true =
       ap (λ (s : ServerId). is_of s.0 old.generation.0 event) is.last.server ∙ ap (λ (g : Generation). is_of slot.server.0 g.0 event) (sym lived) ∙ done.its in
       let becomes : Becomes old.asked new old = record { link = new.link; said = _; turn = _; made = heard.made } in
-      let at = work_on w slot' desk' (event ∷ []) old.generation serves (All-cons (OfLife slot.made) event [] (of_number event (finished_event d.setup back event (own_of w) comes) ours is.last.number) (All-nil (OfLife slot.made)))
+      let at = work_on w slot' desk' (event ∷ []) old.generation serves (All-cons (OfLife slot.made) event [] (of_number event (finished_event d.setup (ShowsReason d desk') back event (own_of w) comes) ours is.last.number) (All-nil (OfLife slot.made)))
       (calm_push w.desk desk' (record { stamp = done.stamp; event = event }) serves.steps.leads done.noted done.seat ends) is.at in
       let last = last_on w.name slot slot' old serves.server serves.made is.last in
       record {
         at = at_still old.asked becomes at;
         last = last_still old.asked becomes last;
         going = record {
-          follows = subst (Follows d.setup new) (sym {A = List Event} serves.steps.own) (follows_done d.setup old new (own_of w) event back (tag_of old) ours heard comes is.going.follows);
+          follows = subst (Follows d.setup (ShowsReason d desk') new) (sym {A = List Event} serves.steps.own)
+              (follows_done d.setup (ShowsReason d desk') old new (own_of w) event back (tag_of old) ours heard comes (going_on serves.steps w.queue.0 (own_of w) old is.going).follows);
           handed = subst (AtEach (IsHanded new.server.0 new.generation.0 new.asked (IsSentFor d w.queue.0 desk'))) (sym {A = List Event} serves.steps.own)
-              (finished_handed event (finished_event d.setup back event (own_of w) comes), handed_still old.asked becomes (IsSentFor d w.queue.0 desk') (own_of w) (handed_led old.server.0 old.generation.0 d w.queue.0 w.desk desk' old.asked (own_of w) serves.steps.leads is.going.handed));
+              (finished_handed event (finished_event d.setup (ShowsReason d desk') back event (own_of w) comes), handed_still old.asked becomes (IsSentFor d w.queue.0 desk') (own_of w) (handed_led old.server.0 old.generation.0 d w.queue.0 w.desk desk' old.asked (own_of w) serves.steps.leads is.going.handed));
         };
         does = done.idle ∙ ap Idle lived ∙ ap (λ (l : Life). Idle l.generation) (sym heard.made);
         turns = ap (λ (l : Life). l.turn) heard.made ∙ ap (λ (t : Turn). turn_after t (finish_frame (tag_of old) back).body) is.turns ∙ turns;
@@ -445,7 +448,7 @@ module _ {L T : Type 0} {d : Domain} {named : T → List ℕ} {shows : T → Sta
   pub forwarded_in : (new old : Life) (request : RequestId) (forward : Onward) (told : Option Told) (slot' : ServerSlot) (desk' : Desk) → Heard (forward_frame (tag_of old) forward.service forward.payload) new old → IsIn d named shows (Busy old.generation request) Serving 1 old w
       → Passes d w.queue.0 forward.service forward.payload told w.served.slot slot' w.desk desk' → IsIn d named shows (Idle new.generation) AwaitsNext 0 new (at_desk w slot' desk')
   forwarded_in new old request forward told slot' desk' heard is passes =
-      finished_in new old request (Forwards forward) AwaitsNext passes.event slot' desk' heard is refl passes.by (keeps_on forward.service forward.payload passes.event passes.by) passes.done
+      finished_in new old request (Forwards forward) AwaitsNext passes.event slot' desk' heard is refl passes.by (keeps_on (ShowsReason d desk') forward.service forward.payload passes.event (own_of w) passes.by) passes.done
 
   pub in_turn : {doing : Doing} {turn turn' : Turn} {n : ℕ} {life : Life} → turn ≡ turn' → IsIn d named shows doing turn n life w → IsIn d named shows doing turn' n life w
   in_turn {doing} {turn} {turn'} {n} {life} same is = subst (λ (t : Turn). IsIn d named shows doing t n life w) same is

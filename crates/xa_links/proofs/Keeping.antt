@@ -35,6 +35,10 @@ use Rattle.xa_desk.specs.Serving.{IsSentFor}
 use Rattle.xa_links.specs.Lives.{generation_in, lives_in, fails_start, failed_starts, IsHanded, EndsShut, IsLived}
 use Rattle.xa_links.specs.Steps.{Steps}
 use Rattle.xa_links.specs.Standing.{HasLived, IsGoing}
+use Rattle.xa_desk.specs.xa_pipe.Life.{Reasons}
+use Rattle.xa_desk.proofs.xa_pipe.Followed.{follows_led, stopped_led}
+use Rattle.xa_links.specs.Reasons.{ShowsReason}
+use Rattle.xa_links.proofs.Reasons.{reason_led}
 
 -- ---- events of one life
 
@@ -199,11 +203,11 @@ module _ {d : Domain} {old new : Desk} {more : List Event} (steps : Steps d more
       (All-append P old.caller.work.own steps.leads.own.0 (shut whole (steps.leads.before whole on))
       (All-weaker (λ (x : Stamped). stops_life over.life.server.0 over.life.generation.0 x.event ≡ false) P (λ x off is. absurd (false≢true (sym off ∙ is))) steps.leads.own.0 unstopped))
 
-  stopped_more : (setup : Setup) (over : Ending) (others own : List Event) → All (λ (e : Event). is_of over.life.server.0 over.life.generation.0 e ≡ false) others → HasStopped setup over own → HasStopped setup over (others ++ own)
-  stopped_more setup over [] own none is = is
-  stopped_more setup over (e ∷ others) own none is =
+  stopped_more : (setup : Setup) (Why : Reasons) (over : Ending) (others own : List Event) → All (λ (e : Event). is_of over.life.server.0 over.life.generation.0 e ≡ false) others → HasStopped setup Why over own → HasStopped setup Why over (others ++ own)
+  stopped_more setup Why over [] own none is = is
+  stopped_more setup Why over (e ∷ others) own none is =
       let P : Event → Type 0 = λ x. is_of over.life.server.0 over.life.generation.0 x ≡ false in
-      stopped_idle setup over e (others ++ own) (All-head P e others none) (stopped_more setup over others own (All-tail P e others none) is)
+      stopped_idle setup over e (others ++ own) (All-head P e others none) (stopped_more setup Why over others own (All-tail P e others none) is)
 
   -- a life that ended stays so, whatever other lives do
   pub lived_one : (name : List ℕ) (queue server : ℕ) (over : Ending) → old.caller.work.clients + server ≡ old.caller.work.id.0 → All (λ (e : Event). is_of server over.life.generation.0 e ≡ false) more → IsLived d name queue server old over → IsLived d name queue server new over
@@ -213,7 +217,8 @@ module _ {d : Domain} {old new : Desk} {more : List Event} (steps : Steps d more
         over_is = is.over_is;
         its = is.its;
         named = is.named;
-        stopped = subst (HasStopped d.setup over) (sym {A = List Event} steps.own) (stopped_more d.setup over more (theirs old.caller.work) ours is.stopped);
+        stopped = subst (HasStopped d.setup (ShowsReason d new) over) (sym {A = List Event} steps.own)
+            (stopped_more d.setup (ShowsReason d new) over more (theirs old.caller.work) ours (stopped_led d.setup (ShowsReason d old) (ShowsReason d new) (reason_led d old new steps.leads) over (theirs old.caller.work) is.stopped));
         shut = λ turn. shut_on queue over (ap (λ s. old.caller.work.clients + s) is.its ∙ number) ours (is.shut turn);
         handed = subst (AtEach (IsHanded server over.life.generation.0 over.life.asked (IsSentFor d queue new))) (sym {A = List Event} steps.own)
             (handed_more server over.life.generation.0 over.life.asked (IsSentFor d queue new) more (theirs old.caller.work) none (handed_led server over.life.generation.0 d queue old new over.life.asked (theirs old.caller.work) steps.leads is.handed));
@@ -230,7 +235,7 @@ module _ {d : Domain} {old new : Desk} {more : List Event} (steps : Steps d more
       (lived_all name queue server n g lives number its (All-tail (λ (x : Ending). x.life.generation.0 + n ≤ g) over lives below) some (All-tail (IsLived d name queue server old) over lives each))
 
   pub going_on : (queue : ℕ) (own : List Event) (life : Life) → IsGoing d queue old own life → IsGoing d queue new own life
-  going_on queue own life is = record { follows = is.follows; handed = handed_led life.server.0 life.generation.0 d queue old new life.asked own steps.leads is.handed }
+  going_on queue own life is = record { follows = follows_led d.setup (ShowsReason d old) (ShowsReason d new) (reason_led d old new steps.leads) life own is.follows; handed = handed_led life.server.0 life.generation.0 d queue old new life.asked own steps.leads is.handed }
 
   -- ---- with the life that goes on
 

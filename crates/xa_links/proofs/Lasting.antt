@@ -52,6 +52,7 @@ use Rattle.xa_links.specs.Working.{cut_in}
 use Rattle.xa_links.specs.Steps.{Steps, Serves, Tells}
 use Rattle.xa_links.specs.Standing.{Goes, HasLived, IsLast, IsGoing, IsAtWork, IsOff, IsIn, HasEnded}
 use Rattle.xa_links.proofs.Keeping.{OfLife, ticks_same, failed_same, lives_on, lives_end, lives_off, lived_one, going_on, none_counted, stops_own}
+use Rattle.xa_links.specs.Reasons.{ShowsReason}
 
 -- how a server is done stays, where its worker noted nothing of its own
 pub done_on : {d : Domain} {queue : ℕ} (server : ℕ) {old new : Desk} → Steps d [] old new → IsDone d queue server old → IsDone d queue server new
@@ -154,7 +155,7 @@ module _ {L T : Type 0} {d : Domain} {named : T → List ℕ} {shows : T → Sta
         (All-append P old.own rest (All-weaker (λ (x : Stamped). p x.event ≡ false) P (λ x off is. absurd (false≢true (sym off ∙ is))) old.own (none_counted p old.own none))
         (All-weaker (λ (x : Stamped). old.stamp.0 < x.stamp.0) P (λ x less is. saw whole (serves.steps.leads.before whole on) x.stamp less) rest later))
 
-    pub ends_lived : HasStopped d.setup over (theirs desk'.caller.work) → (over.life.turn ≡ AwaitsInvoke → EndsShut d w.queue.0 desk' over) → AtEach (IsHanded over.life.server.0 over.life.generation.0 over.life.asked (IsSentFor d w.queue.0 desk')) (theirs desk'.caller.work)
+    pub ends_lived : HasStopped d.setup (ShowsReason d desk') over (theirs desk'.caller.work) → (over.life.turn ≡ AwaitsInvoke → EndsShut d w.queue.0 desk' over) → AtEach (IsHanded over.life.server.0 over.life.generation.0 over.life.asked (IsSentFor d w.queue.0 desk')) (theirs desk'.caller.work)
         → IsLived d w.name w.queue.0 w.served.slot.server.0 desk' over
     ends_lived stopped shut handed =
         let server : over.life.server.0 ≡ w.served.slot.server.0 = ap (λ s. s.0) last.server in

@@ -1,9 +1,9 @@
 pub mod Behind
 pub mod Stepping
+pub mod Reasons
 pub mod Keeping
 pub mod Lasting
 pub mod Deaths
-pub mod Reasons
 pub mod Onward
 pub mod Exchanges
 pub mod Starts

@@ -156,12 +156,12 @@ module _ (d : Domain) (old new : Desk) (is : IsDesk d old) (leads : Leads d old 
         found : FoundRows
         found = old.reader.found
 
-        many : nat_lt entry.cargo.invocation.hop 32 ≡ false → 32 ≤ entry.cargo.invocation.hop
-        many few = ltb-false entry.cargo.invocation.hop 32 few
+        at_least : nat_lt entry.cargo.invocation.hop 32 ≡ false → 32 ≤ entry.cargo.invocation.hop
+        at_least few = ltb-false entry.cargo.invocation.hop 32 few
 
         by_row : (row : Option Row) → find (λ (r : Row). is_accepted d.setup r.accepts (kind_of payload)) found.rows ≡ row → is_name service ≡ true → row_or found.version row ≡ Err named → Shown service payload e (BadForward named)
         by_row (Some row) here name is = absurd (cc is)
-        by_row None here name is whole on stamp less =
+        by_row None here name is = λ whole on stamp less.
             let it = has name in
             let P : List Row → Type 0 = λ rows. (is_accepted_by d.setup payload rows ≡ false) ⊎ All (λ (row : Row). SawSince d.setup d.clients (entries_of whole) stamp (caller_of d.clients e.server.0) row.queue.0 (IsShutOut d.setup row.queue.0) (theirs old.caller.work)) rows in
             let same : found.version ≡ named = cc is in
@@ -184,6 +184,6 @@ module _ (d : Domain) (old new : Desk) (is : IsDesk d old) (leads : Leads d old 
         by : (name sound few : Bool) → is_name service ≡ name → is_sound d.setup payload ≡ sound → nat_lt entry.cargo.invocation.hop 32 ≡ few
             → (if name && sound && few then row_or found.version (find (λ (r : Row). is_accepted d.setup r.accepts (kind_of payload)) found.rows) else Err 0) ≡ Err named → Shown service payload e (BadForward named)
         by true true true name sound few is = by_row (find (λ (r : Row). is_accepted d.setup r.accepts (kind_of payload)) found.rows) refl name is
-        by false _ _ name sound few is whole on stamp less = inl (cc is, inl (inl name))
-        by true false _ name sound few is whole on stamp less = inl (cc is, inl (inr (inl sound)))
-        by true true false name sound few is whole on stamp less = inl (cc is, inr (saw_spent (many few) whole on stamp less))
+        by false sounds low name sound few is = λ whole on stamp less. inl (cc is, inl (inl name))
+        by true false low name sound few is = λ whole on stamp less. inl (cc is, inl (inr (inl sound)))
+        by true true false name sound few is = λ whole on stamp less. inl (cc is, inr (saw_spent (at_least few) whole on stamp less))

@@ -41,6 +41,7 @@ use Rattle.xa_links.proofs.Behind.{still_behind, push_behind, start_calm, told_l
 use Rattle.xa_links.proofs.Stepping.{noted_steps, halted_own, halted_steps, halted_at}
 use Rattle.xa_links.proofs.Keeping.{handed_more, lived_one, stops_none, skip_count}
 use Rattle.xa_links.proofs.Lasting.{number_of, lives_moved, started_on, halts, goes_by}
+use Rattle.xa_links.specs.Reasons.{ShowsReason}
 
 -- ---- what the starter shows
 
@@ -138,7 +139,7 @@ module _ {L T : Type 0} {d : Domain} {named : T → List ℕ} {shows : T → Sta
         unborn = λ h above. unborn h (omega (arith, above));
       } in
       let made : served'.slot.made ≡ g = ap (λ (s : ServerSlot). s.made) starts.left in
-      let follows : Follows d.setup life (theirs desk'.caller.work) = subst (λ (l : Life). Follows d.setup l (theirs desk'.caller.work)) (sym begins.is)
+      let follows : Follows d.setup (ShowsReason d desk') life (theirs desk'.caller.work) = subst (λ (l : Life). Follows d.setup (ShowsReason d desk') l (theirs desk'.caller.work)) (sym begins.is)
       (follows_begun d.setup w.name w.served.slot.server (next_life w.served.slot) life.link (theirs desk'.caller.work)
       (counts_none (stops_life w.served.slot.server.0 g) (theirs desk'.caller.work) (All-weaker (λ (e : Event). is_of w.served.slot.server.0 g e ≡ false) (λ (e : Event). stops_life w.served.slot.server.0 g e ≡ false) (stops_none w.served.slot.server.0 g) (theirs desk'.caller.work) none))
       (counts_none (is_take_in w.served.slot.server.0 g) (theirs desk'.caller.work) (All-weaker (λ (e : Event). is_of w.served.slot.server.0 g e ≡ false) (λ (e : Event). is_take_in w.served.slot.server.0 g e ≡ false) (takes_none w.served.slot.server.0 g) (theirs desk'.caller.work) none))
