@@ -26,7 +26,7 @@ use xa_cell::{Cells, Seat};
 use xa_events::{Event, StopCause, Swept, Taken};
 use xa_held::Invocation;
 use xa_link::{MemoryLink, MemoryStarter, MemoryYard, Starter, Yard};
-use xa_pipe::{Answered, EndedLife, Life, Return};
+use xa_pipe::{Answered, EndedLife, Finish, Life, Return};
 use xa_queue::Entry;
 use xa_restart::Lives;
 use xa_server::{Closing, Given, Served, ServerSlot};
@@ -374,20 +374,29 @@ fn end_life<R: Abort>(
 }
 
 // The request in hand is sent, and its return heard.
-fn invoke(
+fn invoke<R: Abort>(
+    rt: &R,
     life: Life<MemoryLink>,
     invocation: &Invocation,
-) -> Result<Answered<MemoryLink>, EndedLife<MemoryLink>>
+) -> Result<(Life<MemoryLink>, Return), EndedLife<MemoryLink>>
     requires turn { life.turn ≡ turns.AwaitsInvoke }
     requires payload { invocation.now.payload ≡ kinds.Absent }
-    ensures turn { IfOk result (λ answered. answered.life.turn ≡ turn_behind answered.back.value) }
+    ensures turn { IfOk result (λ answered. answered.0.turn ≡ turn_behind answered.1.value) }
 {
-    life.send(
-        &invocation.service,
-        &invocation.routine,
-        &invocation.payload,
-    )?
-    .hear()
+    let Answered { life, back } = life
+        .send(
+            &invocation.service,
+            &invocation.routine,
+            &invocation.payload,
+        )?
+        .hear()?;
+    match back {
+        Finish::Returns(back) => Ok((life, back)),
+        Finish::Forwards(_) => {
+            drop(life.abandon());
+            panic!(rt; "it is forwarded")
+        }
+    }
 }
 
 // A request is taken and sent to a life that was greeted, and the life comes to its end.
@@ -407,13 +416,12 @@ fn serve<R: Abort>(
 {
     let (place, entry) = ask(rt, cells, seat);
     take(rt, slot, caller, entry);
-    match invoke(life, slot.invocation()) {
+    match invoke(rt, life, slot.invocation()) {
         Err(over) => {
             let closing = die(rt, slot, caller, over.cause());
             (over, tell(caller, cells, seat, place, closing))
         }
-        Ok(answered) => {
-            let Answered { life, back } = answered;
+        Ok((life, back)) => {
             let value = back.value;
             let closing = finish(rt, alloc, slot, caller, back);
             let told = tell(caller, cells, seat, place, closing);

@@ -1,4 +1,8 @@
-use Rattle.std.proofs.Common.{◌≡◌, ℕ, ◌+◌, ◌-◌, ◌^◌, ◌≤◌, min, refl, ◌∙◌, subst, arith}
+use Rattle.std.proofs.Common.{◌≡◌, ℕ, ◌+◌, ◌-◌, ◌^◌, ◌≤◌, min, refl, sym, ◌∙◌, subst, arith}
+use Rattle.std.proofs.lemmas.List.Elements.{All-nil}
+use Rattle.xa_desk.specs.xa_types.declared.row.Row.{Row}
+use Rattle.xa_desk.specs.xa_events.Calls.{IsShutOut}
+use Rattle.xa_desk.specs.Found.{SawItsOwnAt}
 use Rattle.xa_desk.specs.xa_server.declared.slot.ServerSlot.{ServerSlot}
 use Rattle.xa_desk.specs.Passing.{IsPassing}
 use Rattle.xa_links.specs.declared.passing.Tried.TheVariants as tries
@@ -10,7 +14,7 @@ no_more : (a n : ℕ) → n ≡ min (a + 1) (2 ^ 32 - 1) → n ≤ a + 1
 no_more a n is = omega (arith, is)
 
 pub loop-init : goal.loop-init
-loop-init g c = record { same = refl; passing = c.requires.passing; back = back_none c.args.desk.now c.requires.desk; payload = refl; by = c.requires.first; tried = tt }
+loop-init g c = record { same = refl; passing = c.requires.passing; back = back_none c.args.desk.now c.requires.desk; payload = refl; by = c.requires.first; tried = All-nil (λ (row : Row). SawItsOwnAt c.args.domain.now row.queue.0 c.args.desk.now (IsShutOut c.args.domain.now.setup row.queue.0)) }
 
 pub try_to_pass-requires-clause-passing : goal.try_to_pass-requires-clause-passing
 try_to_pass-requires-clause-passing g c =

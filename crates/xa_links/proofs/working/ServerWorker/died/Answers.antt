@@ -34,4 +34,4 @@ returns-in-Err-clause-halted g c =
     let desk' = c.die.new.self in
     let serving = c.die.ensures.serving w.queue.0 (subst (λ (s : ServerSlot). IsServing d w.queue.0 s w.desk) (sym c.keep.ensures.slot) may.at.serving) in
     let worn = subst (λ (s : ServerSlot). DiesWorn c.cause-cause.result c.in-Err.worn slot' s desk'.caller.work w.desk.caller.work) c.keep.ensures.slot c.in-Err.ensures.worn in
-    dies_worn w c.args.over may.at may.last c.cause-cause.ensures.over may.handed kept c.keep.ensures.lives c.keep.ensures.starter slot' desk' c.die.ensures.leads c.die.ensures.rest.1 serving c.cause-cause.result c.in-Err.worn c.stop_by.result c.stop_by.ensures (settles_its d c.args.over _ w.served.slot.doing may.settles) worn
+    dies_worn w c.args.over may.at may.last c.cause-cause.ensures.over may.handed kept c.keep.ensures.lives c.keep.ensures.starter slot' desk' c.die.ensures.leads c.die.ensures.rest.1 serving c.cause-cause.result c.in-Err.worn c.stop_by.result c.stop_by.ensures (settles_its d w.desk c.args.over _ w.served.slot.doing may.settles) worn
