@@ -333,8 +333,11 @@ module _ {d : Domain} {queue : ℕ} where
       record {
         event = End ended.0;
         done = ended.1;
-        by = ((named, ended.2), shows_reason d old new desk leads slot.server number service payload ended.0 (BadForward named) fails.finishes.stamp ended.3 ended.2 ended.5 ended.6
-        (way_shown d old new desk leads slot.server number service payload ended.0 ended.3 queue entry named was.its ended.4 (subst (λ h. IfSome h (IsTaken d queue t old)) hand taken).last has (ap (λ h. way_of d.setup service payload (hop_in h) old.reader.found) (sym hand) ∙ way)));
+        by = (
+          (named, ended.2),
+          shows_reason d old new desk leads slot.server number service payload ended.0 (BadForward named) fails.finishes.stamp ended.3 ended.2 ended.5 ended.6
+              (way_shown d old new desk leads slot.server number service payload ended.0 ended.3 queue entry named was.its ended.4 (subst (λ h. IfSome h (IsTaken d queue t old)) hand taken).last has (ap (λ h. way_of d.setup service payload (hop_in h) old.reader.found) (sym hand) ∙ way)),
+        );
         to_tell = told_of d new closing told is to;
       }
 
