@@ -1,7 +1,7 @@
 -- A life of a server, by its worker's own list, in the run.
 use Rattle.std.proofs.Common.{◌≡◌, ℕ, ◌+◌, ◌<◌, ◌%◌, ◌^◌, ◌==◌, true, cond, List, [], ◌∷◌, ◌++◌, map, reverse, append-nil, sym, ◌∙◌, ap, subst, arith, eqb-true}
 use Rattle.std.specs.Prelude.{take, drop}
-use Rattle.std.specs.List.{All, filter}
+use Rattle.std.specs.List.{All}
 use Rattle.std.proofs.lemmas.List.{length-map}
 use Rattle.std.proofs.lemmas.Bool.{and_parts}
 use Rattle.std.proofs.lemmas.List.Elements.{All-weaker, filter-append}
@@ -28,9 +28,9 @@ use Rattle.xa_joined.proofs.xa_crew.Lists.{AtEach-later}
 use Rattle.xa_joined.specs.xa_held.declared.cargo.Invocation.{Invocation}
 use Rattle.xa_joined.specs.xa_frame.declared.frame.Frame.{Frame}
 use Rattle.xa_joined.specs.xa_pipe.declared.turn.Turn.TheVariants.{AwaitsInvoke}
-use Rattle.xa_joined.specs.xa_pipe.Following.{is_of, IsSent, StandsIn}
+use Rattle.xa_joined.specs.xa_pipe.Following.{is_of, IsSent, IsBorneOut, StandsIn}
 use Rattle.xa_joined.specs.xa_pipe.Frames.{is_of_life, invocation}
-use Rattle.xa_joined.specs.xa_pipe.Life.{IsLife, StopsClosed, stops_life}
+use Rattle.xa_joined.specs.xa_pipe.Life.{Reasons, IsLife, StopsClosed, stops_life}
 use Rattle.xa_joined.specs.xa_pipe.Standing.{Ending}
 use Rattle.xa_joined.specs.xa_pipe.Pipe.{invoke_frame}
 use Rattle.xa_joined.proofs.xa_pipe.Followed.{is_life}
@@ -39,6 +39,7 @@ use Rattle.xa_joined.specs.xa_desk.declared.domain.Domain.{Domain}
 use Rattle.xa_joined.specs.xa_desk.declared.desk.Desk.{Desk}
 use Rattle.xa_joined.specs.xa_desk.Whole.{entries_of}
 use Rattle.xa_joined.specs.xa_desk.Serving.{WasSentFor, IsSentFor}
+use Rattle.xa_joined.specs.xa_links.Reasons.{ShowsReason}
 use Rattle.xa_joined.specs.xa_links.Lives.{lives_in, HasStarted, IsHanded, IsLived}
 use Rattle.xa_joined.specs.Joined.{Back, whole_of, kept_of, noted_of}
 use Rattle.xa_joined.specs.Ended.{ServerEnd, Ends}
@@ -47,10 +48,10 @@ use Rattle.xa_joined.proofs.Going.{one_goes_on}
 use Rattle.xa_joined.proofs.Homes.{saw_new}
 use Rattle.xa_joined.proofs.Left.{same_homes}
 use Rattle.xa_carried.proofs.Entries.{AtEach-splits}
-use Rattle.xa_carried.proofs.Merged.{asked_before, closed_before}
+use Rattle.xa_carried.proofs.Merged.{asked_before, closed_before, fails_before}
 use Rattle.xa_carried.proofs.Numbered.{each_from, each_map}
 use Rattle.xa_carried.proofs.Own.{is_worker, its_noted}
-use Rattle.xa_carried.proofs.Readings.{of_life, stop_of_life, life_own, taken_own}
+use Rattle.xa_carried.proofs.Readings.{of_life, stop_of_life, taken_own}
 use Rattle.xa_carried.proofs.Sent.{IsAsked, asked_frame}
 use Rattle.xa_carried.proofs.SoFar.{Shown, shown, of_starts, of_lives}
 
@@ -128,17 +129,24 @@ module _ (d : Domain) (b : Back) (domain : Working) (desks : List Desk) (servers
         (λ (x : Stamped). stops_life server g x.event ≡ true → SawFront (noted_in (kept_of b (QueueHome queue))) x.stamp (λ past. is_closed queue past ≡ true))
         (λ x front stops. let f = saw_new d b domain desks ends.left queue x.stamp (IsShut d.setup queue) (front stops) in record { front = f.front; stands = f.stands; before = f.before; shows = f.shows.closed }) (noted_of domain desks worker) saw)
 
-    stands : StandsIn d.setup over own past
+    abbrev Why : Reasons
+    Why = ShowsReason d shows.desk
+
+    stands : StandsIn d.setup d.clients Why over own past
     stands = record {
-      same = subst (λ (s : ℕ). filter (is_of s g) own ≡ filter (is_of s g) past) (sym lived.its) (ap (filter (is_of server g)) (sym shows.own) ∙ life_own d.clients server g past);
+      its = of_worker d.clients worker;
+      are = sym shows.own;
+      among = subst (λ (s : ℕ). (e : Event) → is_of s g e ≡ true → of_worker d.clients worker e ≡ true) (sym lived.its) (of_life d.clients server g);
+      failed = subst (λ (s : ℕ). AtEach (IsBorneOut d.setup d.clients Why (of_worker d.clients worker) s g) past) (sym lived.its)
+          (fails_before d b domain desks ends.left homes events ends.homes_are merged server shows.some shows.desk shows.there g);
       sent = subst (λ (s : ℕ). AtEach (IsSent s g over.life.asked) past) (sym lived.its) (AtEach-splits (IsSent server g over.life.asked) past sent_at);
       closed = subst (λ (s : ℕ). over.life.turn ≡ AwaitsInvoke → AtEach (StopsClosed d.setup s g) past) (sym lived.its) shut_before;
     }
 
-    life_of : IsLifeOf d.setup past server over
+    life_of : IsLifeOf d.setup d.clients past server over
     life_of =
-        let Is : List ℕ → ℕ → Type 0 = λ name s. IsLife d.setup (record { name = name; server = s; generation = g }) past over.life.link in
-        (lived.its, subst (λ (name : List ℕ). Is name server) (lived.named ∙ shows.named) (subst (Is over.life.name) lived.its (is_life d.setup over own past lived.over_is lived.stopped stands)))
+        let Is : List ℕ → ℕ → Type 0 = λ name s. IsLife d.setup d.clients (record { name = name; server = s; generation = g }) past over.life.link in
+        (lived.its, subst (λ (name : List ℕ). Is name server) (lived.named ∙ shows.named) (subst (Is over.life.name) lived.its (is_life d.setup d.clients Why over own past lived.over_is lived.stopped stands)))
 
   module _ (whole : Whole) where
     all_lives : (server : ℕ) (end : ServerEnd) → ShownHere server end → generations_of end.lives ≡ lives_in server past
@@ -151,20 +159,20 @@ module _ (d : Domain) (b : Back) (domain : Working) (desks : List Desk) (servers
       started = of_starts d b domain desks servers homes Whole ends events merged server end its (λ name n failed. HasStarted name n failed end.shown) (its.shows.started whole);
     }
 
-    lives_of : (server : ℕ) (end : ServerEnd) → ShownHere server end → All (IsLifeOf d.setup past server) end.lives
-    lives_of server end its = All-weaker (IsLived d end.name (queue_of d.setup server) server its.desk) (IsLifeOf d.setup past server) (life_of server end its) end.lives (its.shows.lived whole)
+    lives_of : (server : ℕ) (end : ServerEnd) → ShownHere server end → All (IsLifeOf d.setup d.clients past server) end.lives
+    lives_of server end its = All-weaker (IsLived d end.name (queue_of d.setup server) server its.desk) (IsLifeOf d.setup d.clients past server) (life_of server end its) end.lives (its.shows.lived whole)
 
     -- what holds of each server that shows its lives
     by_server : (P : ℕ → ServerEnd → Type 0) → ((server : ℕ) (end : ServerEnd) → ShownHere server end → P server end) → EachNumbered P 1 servers
     by_server P holds = each_from P servers (λ server end there. holds server end (shown d b domain desks servers homes Whole ends events merged server end there))
 
-    pub carried : IsCarried (λ (x : ServerEnd). x.name) (λ (x : ServerEnd). x.shown) d.setup past (map (λ (x : ServerEnd). x.lives) servers) servers
+    pub carried : IsCarried (λ (x : ServerEnd). x.name) (λ (x : ServerEnd). x.shown) d.setup d.clients past (map (λ (x : ServerEnd). x.lives) servers) servers
     carried = record {
       all = ends.count;
       lives_are = record {
         all = length-map servers (λ (x : ServerEnd). x.lives) ∙ ends.count;
         each = each_map (λ server its. generations_of its ≡ lives_in server past) (λ (x : ServerEnd). x.lives) 1 servers (by_server (λ server end. generations_of end.lives ≡ lives_in server past) all_lives);
       };
-      pipes = each_map (λ server its. All (IsLifeOf d.setup past server) its) (λ (x : ServerEnd). x.lives) 1 servers (by_server (λ server end. All (IsLifeOf d.setup past server) end.lives) lives_of);
+      pipes = each_map (λ server its. All (IsLifeOf d.setup d.clients past server) its) (λ (x : ServerEnd). x.lives) 1 servers (by_server (λ server end. All (IsLifeOf d.setup d.clients past server) end.lives) lives_of);
       each = by_server (λ server end. IsStarterOf d.setup server end.name end.shown past) starter_of;
     }

@@ -1,18 +1,21 @@
 -- The merge of what the workers of a domain noted: its requests, and what stands at a queue.
-use Rattle.std.proofs.Common.{◌≡◌, ℕ, ◌<◌, Bool, true, List, [], ◌∷◌, ◌++◌, append_assoc, reverse, Option, sym, ◌∙◌, ap, subst}
+use Rattle.std.proofs.Common.{◌≡◌, ℕ, ◌<◌, ◌==◌, Bool, true, List, [], ◌∷◌, ◌++◌, length, map, append_assoc, reverse, Option, Some, refl, sym, ◌∙◌, ap, subst, arith, eqb-true}
 use Rattle.std.specs.Prelude.{IsSomeAnd}
 use Rattle.std.specs.List.{All, filter}
-use Rattle.std.proofs.lemmas.Bool.{or_right}
+use Rattle.std.proofs.lemmas.Bool.{or_right, and_parts}
+use Rattle.std.proofs.lemmas.List.{length-map, length-reverse}
 use Rattle.std.proofs.lemmas.List.Elements.{All-tail, All-filter, filter-append}
-use Rattle.xa_joined.specs.xa_types.Setup.{queue_of}
+use Rattle.xa_joined.specs.xa_types.declared.stamp.Stamp.{Stamp}
+use Rattle.xa_joined.specs.xa_types.Setup.{numbered, queue_of}
 use Rattle.xa_joined.specs.xa_events.declared.event.Event.{Event}
-use Rattle.xa_joined.specs.xa_events.declared.event.Event.TheVariants.{Take}
+use Rattle.xa_joined.specs.xa_events.declared.event.Event.TheVariants.{Take, End}
 use Rattle.xa_joined.specs.xa_events.declared.event.Taken.{Taken}
 use Rattle.xa_joined.specs.xa_events.Homes.{of_worker}
 use Rattle.xa_joined.specs.xa_events.Homes.Home.{QueueHome}
-use Rattle.xa_joined.specs.xa_events.Local.{Local, home_events}
+use Rattle.xa_joined.specs.xa_events.Local.{Local, home_events, worker_events}
 use Rattle.xa_joined.specs.xa_events.Queue.{is_close_of, is_closed}
 use Rattle.xa_joined.specs.xa_events.Request.{sent_as}
+use Rattle.xa_joined.specs.xa_events.State.{caller_of}
 use Rattle.xa_joined.specs.xa_events.Words.{AtEach}
 use Rattle.xa_joined.proofs.xa_events.Merge.{closed_own}
 use Rattle.xa_joined.specs.xa_stamp.declared.home.Stamped.{Stamped}
@@ -21,29 +24,46 @@ use Rattle.xa_joined.specs.xa_stamp.Merge.{IsMerged}
 use Rattle.xa_joined.specs.xa_lock.Makers.{noted_in}
 use Rattle.xa_joined.specs.xa_crew.Crew.{AreHomes, IsCrew}
 use Rattle.xa_joined.specs.xa_crew.Ending.{workers_of}
+use Rattle.xa_joined.specs.xa_crew.Finishing.{ForwardEndsOwn}
 use Rattle.xa_joined.specs.xa_crew.Seen.{past_in, SawFront, IsNew}
 use Rattle.xa_joined.proofs.xa_crew.Before.{now}
+use Rattle.xa_joined.proofs.xa_crew.Finishing.{cases_of, news_of, ends_at, forward_ends}
 use Rattle.xa_joined.proofs.xa_crew.Joined.{crew_is_local, own_home}
-use Rattle.xa_joined.proofs.xa_crew.Lists.{filter-yes, past_in-append, AtEach-later}
+use Rattle.xa_joined.proofs.xa_crew.Lists.{filter-yes, past_in-append, past_in-filter, AtEach-later}
 use Rattle.xa_joined.proofs.xa_crew.Placed.{IsMergeOf, merge_of}
 use Rattle.xa_joined.proofs.xa_crew.Workers.{AtEach-from, All-at, its_own}
 use Rattle.xa_joined.specs.xa_held.declared.cargo.Invocation.{Invocation}
 use Rattle.xa_joined.specs.xa_held.Kept.{Brings}
+use Rattle.xa_joined.specs.xa_pipe.Following.{IsBorneOut}
 use Rattle.xa_joined.specs.xa_work.Work.{Standing as Working}
 use Rattle.xa_joined.specs.xa_desk.declared.domain.Domain.{Domain}
 use Rattle.xa_joined.specs.xa_desk.declared.desk.Desk.{Desk}
 use Rattle.xa_joined.specs.xa_desk.Made.{IsMade}
 use Rattle.xa_joined.specs.xa_desk.Serving.{WasSentFor}
 use Rattle.xa_joined.specs.xa_desk.Whole.{entries_of}
+use Rattle.xa_joined.specs.xa_links.Reasons.{ShowsReason}
 use Rattle.xa_joined.specs.Joined.{Back, AllLeft, whole_of, kept_of, noted_of}
 use Rattle.xa_joined.specs.Served.{HoldAll}
 use Rattle.xa_joined.proofs.Crew.{desks_are_crew}
+use Rattle.xa_joined.proofs.Going.{one_goes_on}
 use Rattle.xa_joined.proofs.Homes.{homes_met, new_and_met}
 use Rattle.xa_joined.proofs.Left.{same_homes}
 use Rattle.xa_joined.proofs.Merged.{merged_made}
 use Rattle.xa_joined.proofs.Recorded.{held, each_held, names, names_are}
 use Rattle.xa_carried.proofs.Entries.{known, last_entry}
+use Rattle.xa_carried.proofs.Own.{is_worker, its_noted}
+use Rattle.xa_carried.proofs.Readings.{of_life}
 use Rattle.xa_carried.proofs.Sent.{IsAsked, asked_as_brought}
+
+-- behind fronts of one length one list has one element
+same_place : {X : Type 0} (front other back more : List X) (x y : X) → length front ≡ length other → front ++ x ∷ back ≡ other ++ y ∷ more → x ≡ y
+same_place [] [] back more x y many is = cc is
+same_place [] (z ∷ other) back more x y many is = absurd (omega (arith, many))
+same_place (w ∷ front) [] back more x y many is = absurd (omega (arith, many))
+same_place (w ∷ front) (z ∷ other) back more x y many is = same_place front other back more x y (omega (arith, many)) (cc is)
+
+past_length : (xs : List Stamped) → length (past_in xs) ≡ length xs
+past_length xs = length-reverse (map (λ (x : Stamped). x.event) xs) ∙ length-map xs (λ (x : Stamped). x.event)
 
 all_behind : {X : Type 0} (P : X → Type 0) (front before : List X) → All P (front ++ before) → All P before
 all_behind P [] before all = all
@@ -119,3 +139,53 @@ module _ (d : Domain) (b : Back) (domain : Working) (desks : List Desk) (left : 
         let front = at_its (λ (y : Stamped). test y.event ≡ true → SawFront (held d b domain desks left (QueueHome queue)) y.stamp (λ past. is_closed queue past ≡ true)) before after x split (its x.event passes) saw passes in
         sym (closed_own d.setup d.clients (past_in before) queue)
         ∙ now d.setup d.clients (held d b domain desks left) the_merge.0 events the_merge.1 before after x split (QueueHome queue) (λ past. is_closed queue past ≡ true) (closed_more queue) front))
+
+  -- ---- why a forward failed
+
+  module _ (server : ℕ) (some : 0 < server) (desk : Desk) (there : numbered (caller_of d.clients server) desks ≡ Some desk) where
+    abbrev its : Event → Bool
+    its = of_worker d.clients (caller_of d.clients server)
+
+    abbrev its_entry : Stamped → Bool
+    its_entry x = its x.event
+
+    abbrev Borne : ℕ → Event → List Event → Type 0
+    Borne = IsBorneOut d.setup d.clients (ShowsReason d desk) its server
+
+    its_entries : filter its_entry the_merge.0 ≡ filter its_entry desk.caller.work.own
+    its_entries =
+        let worker : ℕ = caller_of d.clients server in
+        let behind : 0 < worker = omega (arith, some) in
+        its_own d.setup d.clients workers (kept_of b) (noted_of domain desks) crew events the_merge.0 the_merge.1 worker behind (is_worker d b domain desks left worker desk there)
+        ∙ ap (filter its_entry) (its_noted d b domain desks left worker desk behind there)
+
+    -- an entry of the server stands where it noted one behind the same events of its own
+    entry_at : (before after front rest : List Stamped) (x y : Stamped) → the_merge.0 ≡ before ++ x ∷ after → desk.caller.work.own ≡ front ++ y ∷ rest → its x.event ≡ true → its y.event ≡ true
+        → filter its (past_in before) ≡ filter its (past_in front) → x ≡ y
+    entry_at before after front rest x y split noted mine its_y same =
+        let parted : (xs ys : List Stamped) (z : Stamped) → its z.event ≡ true → filter its_entry (xs ++ z ∷ ys) ≡ filter its_entry xs ++ z ∷ filter its_entry ys =
+        λ xs ys z passes. filter-append its_entry xs (z ∷ ys) ∙ ap (λ zs. filter its_entry xs ++ zs) (filter-yes its_entry z ys passes) in
+        let many : length (filter its_entry before) ≡ length (filter its_entry front) =
+        sym (past_length (filter its_entry before)) ∙ (ap length (sym (past_in-filter its before) ∙ (same ∙ past_in-filter its front)) ∙ past_length (filter its_entry front)) in
+        same_place (filter its_entry before) (filter its_entry front) (filter its_entry after) (filter its_entry rest) x y many
+        (sym (parted before after x mine) ∙ (ap (filter its_entry) (sym split) ∙ (its_entries ∙ (ap (filter its_entry) noted ∙ parted front rest y its_y))))
+
+    borne_at : (g : ℕ) (before after : List Stamped) (x : Stamped) → the_merge.0 ≡ before ++ x ∷ after → (e : Event) → e ≡ x.event → Borne g e (past_in before)
+    borne_at g before after x split (End e) here = λ is service payload why.
+        let same : e.server.0 ≡ server = eqb-true e.server.0 server (and_parts (e.server.0 == server) (e.generation.0 == g) is).0 in
+        let mine : its (End e) ≡ true = of_life d.clients server g (End e) is in
+        let own : List Event = filter its (past_in before) in
+        let at : x ≡ record { stamp = why.stamp; event = End e } =
+        entry_at before after why.front why.rest x (record { stamp = why.stamp; event = End e }) split why.noted (subst (λ (event : Event). its event ≡ true) here mine) mine
+        (why.before ∙ ap (λ (n : ℕ). worker_events d.clients (caller_of d.clients n) (past_in why.front)) same) in
+        let shown : ForwardEndsOwn d.setup d.clients (held d b domain desks left) why.stamp service payload e e.outcome own =
+        ends_at d.setup d.clients (entries_of (whole_of d b)) (held d b domain desks left) (same_homes d b) why.stamp service payload e e.outcome own
+        (why.shows (whole_of d b) (one_goes_on d b domain desks left (caller_of d.clients server) desk there)) in
+        forward_ends d.setup d.clients (held d b domain desks left) the_merge.0 events the_merge.1 (cases_of d.setup d.clients (held d b domain desks left) the_merge.0 events the_merge.1 local)
+        (news_of d.setup d.clients (kept_of b) the_merge.0 events the_merge.1 (new_and_met d b domain desks left).0) server before after x split service payload e e.outcome here same
+        (subst (λ (stamp : Stamp). ForwardEndsOwn d.setup d.clients (held d b domain desks left) stamp service payload e e.outcome own) (sym (ap (λ (y : Stamped). y.stamp) at)) shown)
+    borne_at g before after x split e here = tt
+
+    -- what its worker showed of each forward that failed is a reason there
+    pub fails_before : (g : ℕ) → AtEach (Borne g) past
+    fails_before g = subst (λ (es : List Event). AtEach (Borne g) (reverse es)) the_merge.1.events (AtEach-from (Borne g) the_merge.0 (λ before after x split. borne_at g before after x split x.event refl))

@@ -1,9 +1,8 @@
 -- What is read of a server's starts and lives is read off its own worker's events alone.
 use Rattle.std.proofs.Common.{◌≡◌, ℕ, ◌==◌, if◌then◌else◌, Bool, true, false, List, [], ◌∷◌, Option, Some, None, inl, inr, refl, sym, ◌∙◌, ap, eq-eqb, eqb-true}
 use Rattle.std.specs.Prelude.{reverse}
-use Rattle.std.specs.List.{All, filter, filter_map, cons_option}
+use Rattle.std.specs.List.{filter, filter_map, cons_option}
 use Rattle.std.proofs.lemmas.Bool.{cases_Bool, and_parts}
-use Rattle.std.proofs.lemmas.List.Elements.{All-nil, All-cons}
 use Rattle.xa_joined.specs.xa_events.declared.event.Event.{Event}
 use Rattle.xa_joined.specs.xa_events.declared.event.Event.TheVariants.{Take, Forward, Start, StartFailed, End, Stop}
 use Rattle.xa_joined.specs.xa_events.Words.{count}
@@ -11,7 +10,7 @@ use Rattle.xa_joined.specs.xa_events.Homes.{of_worker}
 use Rattle.xa_joined.specs.xa_events.Local.{worker_events}
 use Rattle.xa_joined.specs.xa_events.Server.{starts, start_in}
 use Rattle.xa_joined.specs.xa_events.State.{caller_of}
-use Rattle.xa_joined.proofs.xa_crew.Lists.{filter-yes, filter-no, filter-inside, count_part}
+use Rattle.xa_joined.proofs.xa_crew.Lists.{filter-yes, filter-no, count_part}
 use Rattle.xa_joined.specs.xa_pipe.Frames.{is_of_life, is_take_in}
 use Rattle.xa_joined.specs.xa_pipe.Life.{stops_life}
 use Rattle.xa_joined.specs.xa_pipe.Following.{is_of}
@@ -81,13 +80,6 @@ module _ (clients server : ℕ) where
     pub stop_of_life : (e : Event) → stops_life server g e ≡ true → is_of server g e ≡ true
     stop_of_life (Stop x) is = is
     stop_of_life _ is = absurd (cc is)
-
-    all_of_life : (past : List Event) → All (λ (e : Event). is_of server g e ≡ true → is_its e ≡ true) past
-    all_of_life [] = All-nil (λ (e : Event). is_of server g e ≡ true → is_its e ≡ true)
-    all_of_life (e ∷ past) = All-cons (λ (e : Event). is_of server g e ≡ true → is_its e ≡ true) e past (of_life e) (all_of_life past)
-
-    pub life_own : (past : List Event) → filter (is_of server g) (its past) ≡ filter (is_of server g) past
-    life_own past = filter-inside (is_of server g) is_its past (all_of_life past)
 
     pub taken_own : (past : List Event) → count (is_take_in server g) (its past) ≡ count (is_take_in server g) past
     taken_own past = count_part (is_take_in server g) is_its (λ e is. of_life e (take_of_life e is)) past

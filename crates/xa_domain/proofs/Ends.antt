@@ -137,7 +137,8 @@ module _ {L T : Type 0} (named : T → List ℕ) (shows : T → StarterShows) (c
           carried = record {
             all = all_starters W ends;
             lives_are = subst (AreLives d.setup (reverse events)) lives_same went.lives_are;
-            pipes = subst (EachNumbered (λ server its. All (IsLifeOf d.setup (reverse events) server) its) 1) lives_same went.pipes;
+            pipes = subst (λ (n : ℕ). EachNumbered (λ server its. All (IsLifeOf d.setup n (reverse events) server) its) 1 lives) count
+                (subst (EachNumbered (λ server its. All (IsLifeOf d.setup d.clients (reverse events) server) its) 1) lives_same went.pipes);
             each = starters_say (λ server name shown. IsStarterOf d.setup server name shown (reverse events)) went.each;
           };
         },
