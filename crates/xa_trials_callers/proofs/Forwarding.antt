@@ -1,5 +1,5 @@
 -- A server that forwards its request goes from one standing to the next.
-use Rattle.std.proofs.Common.{◌≡◌, ℕ, ◌+◌, ◌-◌, ◌<◌, ◌≤◌, Bool, true, List, [], Option, Some, None, Result, Ok, Err, zero, suc, inr, refl, sym, ◌∙◌, ap, subst, arith}
+use Rattle.std.proofs.Common.{◌≡◌, ℕ, ◌+◌, ◌-◌, ◌⊎◌, ◌<◌, ◌≤◌, Bool, true, List, [], Option, Some, None, Result, Ok, Err, zero, suc, inl, inr, ⊎_elim, refl, sym, ◌∙◌, ap, subst, arith}
 use Rattle.std.specs.Prelude.{ℤ, nat_lt, IfSome, IsSomeAnd}
 use Rattle.std.proofs.lemmas.Bool.{and_from, lt-ltb}
 use Rattle.xa_types.specs.declared.data.Data.{Data}
@@ -10,7 +10,7 @@ use Rattle.xa_types.specs.declared.stamp.Stamp.{Stamp}
 use Rattle.xa_types.specs.Found.{FoundRows}
 use Rattle.xa_types.specs.Setup.{numbered}
 use Rattle.xa_events.specs.declared.event.Doing.{Doing}
-use Rattle.xa_events.specs.declared.event.Doing.TheVariants.{Busy}
+use Rattle.xa_events.specs.declared.event.Doing.TheVariants.{Busy, Off}
 use Rattle.xa_events.specs.declared.event.Event.{Event}
 use Rattle.xa_events.specs.declared.event.Event.TheVariants.{Priority}
 use Rattle.xa_events.specs.declared.event.Outcome.TheVariants.{BadForward}
@@ -27,7 +27,6 @@ use Rattle.xa_caller.specs.declared.cargo.Filling.{Filling}
 use Rattle.xa_caller.specs.declared.outcomes.Aimed.{Aimed}
 use Rattle.xa_caller.specs.declared.outcomes.Aimed.TheVariants.{At, Past}
 use Rattle.xa_caller.specs.Caller.{Standing as Calling, MayCall, AreRowsOf}
-use Rattle.xa_caller.specs.declared.phase.Phase.TheVariants as phases
 use Rattle.xa_caller.specs.Changes.{SetsPriority}
 use Rattle.xa_caller.specs.Drafts.{Cargo}
 use Rattle.xa_restart.specs.Rule.{Standing as Restarts, IsRuleOf, IsLast, may_start_by}
@@ -37,12 +36,12 @@ use Rattle.xa_server.specs.declared.forwarding.Forwarding.TheVariants.{On, Faile
 use Rattle.xa_server.specs.declared.slot.ServerSlot.{ServerSlot}
 use Rattle.xa_server.specs.Changes.{new_slot, MayStart, DiesFrom}
 use Rattle.xa_server.specs.declared.slot.Last.TheVariants as lasts
-use Rattle.xa_server.specs.Doings.{IsBusy, life_in}
+use Rattle.xa_server.specs.Doings.{IsBusy, IsIdle, life_in}
 use Rattle.xa_server.specs.Forwarding.{Fails, ForwardsAs, LeftBy, IsOnWay, AimsOn, StaysOnWay}
 use Rattle.xa_server.specs.Slot.{Stands}
 use Rattle.xa_server.proofs.Beginning.{new_stands}
 use Rattle.xa_server.proofs.Reading.{IsServers, stand-more}
-use Rattle.xa_trials_callers.specs.Forwards.{IsBetween, Holds, IsOut, IsOver, LeavesOut, AreFor}
+use Rattle.xa_trials_callers.specs.Forwards.{IsBetween, Holds, IsOut, IsSettled, IsOver, LeavesOut, AreFor}
 use Rattle.xa_trials_callers.specs.Servers.{IsClosed, ticket_in}
 use Rattle.xa_trials_callers.proofs.Serving.{busy_dies, finish_closed, death_closed}
 
@@ -140,15 +139,20 @@ module _ (setup : Setup) (cells : Cells Filling) where
   ticket_held None held = tt
   ticket_held (Some entry) held = held
 
-  pub closed_over : (hand : Option (Entry Cargo)) (closing : Closing) (slot : ServerSlot) (c : Calling) → IfSome hand (λ entry. IsTicketOf cells entry.cargo.ticket) → IsClosed hand closing c → slot.hand ≡ None → c.phase ≡ phases.Idle → IsSeatOf cells c.seat
-      → IsOver cells closing slot c
-  closed_over hand closing slot c held closed free idle seat =
-      record { free = free; idle = idle; seat = seat; ticket = subst (λ o. IfSome o (IsTicketOf cells)) (sym closed.ticket) (ticket_held hand held); later = closed.later }
+  closed_over : (hand : Option (Entry Cargo)) (closing : Closing) (slot : ServerSlot) (c : Calling) → IfSome hand (λ entry. IsTicketOf cells entry.cargo.ticket) → IsClosed hand closing c → IsSettled cells slot c → IsOver cells closing slot c
+  closed_over hand closing slot c held closed settled =
+      record { settled = settled; ticket = subst (λ o. IfSome o (IsTicketOf cells)) (sym closed.ticket) (ticket_held hand held); later = closed.later }
 
-  pub fails_over : (version : ℕ) (closing : Closing) (slot' slot : ServerSlot) (new old : Calling) → IsBetween setup cells old → IfSome slot.hand (λ entry. IsTicketOf cells entry.cargo.ticket) → Fails version closing slot' slot new old → IsOver cells closing slot' new
-  fails_over version closing slot' slot new old b held f =
-      closed_over slot.hand closing slot' new held (finish_closed (BadForward version) closing slot' slot new old.work f.finishes) (ap (λ (u : ServerSlot). u.hand) f.finishes.left)
-      (ap (λ (k : Calling). k.phase) f.rest ∙ b.idle) (subst (IsSeatOf cells) (sym (ap (λ (k : Calling). k.seat) f.rest)) b.seat)
+  pub fails_over : (version : ℕ) (closing : Closing) (slot' slot : ServerSlot) (new old : Calling) → IsBetween setup cells old → IfSome slot.hand (λ entry. IsTicketOf cells entry.cargo.ticket) → Fails version closing slot' slot new old → Stands slot' new.work
+      → IsOver cells closing slot' new
+  fails_over version closing slot' slot new old b held f stands =
+      closed_over slot.hand closing slot' new held (finish_closed (BadForward version) closing slot' slot new old.work f.finishes) (record {
+        stands = stands;
+        doing = inl (subst IsIdle (sym (ap (λ (u : ServerSlot). u.doing) f.finishes.left ∙ ap (λ (u : ServerSlot). u.doing) f.finishes.ends.left)) tt);
+        free = ap (λ (u : ServerSlot). u.hand) f.finishes.left;
+        idle = ap (λ (k : Calling). k.phase) f.rest ∙ b.idle;
+        seat = subst (IsSeatOf cells) (sym (ap (λ (k : Calling). k.seat) f.rest)) b.seat;
+      })
 
   ticket_of : (hand : Option (Entry Cargo)) (held : Entry Cargo) → hand ≡ Some held → IfSome hand (λ entry. IsTicketOf cells entry.cargo.ticket) → IsTicketOf cells held.cargo.ticket
   ticket_of hand held is all = subst (λ o. IfSome o (λ entry. IsTicketOf cells entry.cargo.ticket)) is all
@@ -159,7 +163,7 @@ module _ (setup : Setup) (cells : Cells Filling) where
     way = left;
     ticket = subst (λ (e : Entry Cargo). IsTicketOf cells e.cargo.ticket) (sym p.goes.entered) (ticket_of slot.hand p.held p.in_hand h.ticket);
   }
-  leaves_out version payload (Err named) (Failed closing) slot' slot new old h f left = fails_over named closing slot' slot new old h.between h.ticket f
+  leaves_out version payload (Err named) (Failed closing) slot' slot new old h f left = fails_over named closing slot' slot new old h.between h.ticket f left
   leaves_out version payload (Ok row) (Failed closing) slot' slot new old h f left = absurd f
   leaves_out version payload (Err named) (On entry event) slot' slot new old h f left = absurd f
 
@@ -184,11 +188,20 @@ module _ (setup : Setup) (cells : Cells Filling) where
   -- ---- a death
 
   -- the request was taken in hand again, and the life ended
-  pub death_over : (cause : StopCause) (entry : Entry Cargo) (event : Event) (closing : Closing) (slot'' slot' slot : ServerSlot) (new old : Calling) → IsOut setup cells entry event slot old → slot' ≡ record slot { hand = Some entry } → new ≡ record old { work = new.work }
+  pub death_over : (cause : StopCause) (entry : Entry Cargo) (event : Event) (closing : Closing) (slot'' slot' slot : ServerSlot) (new old : Calling) → IsOut setup cells entry event slot old → slot' ≡ record slot { hand = Some entry } → new ≡ record old { work = new.work } → Stands slot'' new.work
       → DiesFrom slot'.doing cause closing slot'' slot' new.work old.work → IsOver cells closing slot'' new
-  death_over cause entry event closing slot'' slot' slot new old out back rest dies =
+  death_over cause entry event closing slot'' slot' slot new old out back rest stands dies =
       let busy : IsBusy slot'.doing = subst IsBusy (sym (ap (λ (u : ServerSlot). u.doing) back ∙ out.way.busy)) tt in
       let held = subst (λ o. IfSome o (λ (e : Entry Cargo). IsTicketOf cells e.cargo.ticket)) (sym (ap (λ (u : ServerSlot). u.hand) back)) out.ticket in
       let d = busy_dies slot'.doing cause closing slot'' slot' new.work old.work busy dies in
-      closed_over slot'.hand closing slot'' new held (death_closed cause closing slot'' slot' new old.work d) (ap (λ (u : ServerSlot). u.hand) d.stops.left)
-      (ap (λ (k : Calling). k.phase) rest ∙ out.between.idle) (subst (IsSeatOf cells) (sym (ap (λ (k : Calling). k.seat) rest)) out.between.seat)
+      closed_over slot'.hand closing slot'' new held (death_closed cause closing slot'' slot' new old.work d) (record {
+        stands = stands;
+        doing = inr (ap (λ (u : ServerSlot). u.doing) d.stops.left);
+        free = ap (λ (u : ServerSlot). u.hand) d.stops.left;
+        idle = ap (λ (k : Calling). k.phase) rest ∙ out.between.idle;
+        seat = subst (IsSeatOf cells) (sym (ap (λ (k : Calling). k.seat) rest)) out.between.seat;
+      })
+
+-- a life that is under way behind a request waits for the next
+pub waits_then : (doing : Doing) → IsIdle doing ⊎ (doing ≡ Off) → ((life_in doing).0 ≡ 0 → ⊥) → IsIdle doing
+waits_then doing settled alive = ⊎_elim (λ (idle : IsIdle doing). idle) (λ (off : doing ≡ Off). absurd (alive (ap (λ (d : Doing). (life_in d).0) off))) settled

@@ -1,8 +1,9 @@
 -- A server that forwards its request: with a life that waits for one, with one in hand, with one that is out, and behind it.
-use Rattle.std.specs.Prelude.{◌≡◌, ℕ, ◌≤◌, true, List, None, IfSome}
+use Rattle.std.specs.Prelude.{◌≡◌, ◌⊎◌, ℕ, ◌≤◌, true, List, None, IfSome}
 use Rattle.xa_types.specs.declared.setup.Setup.{Setup}
 use Rattle.xa_types.specs.Found.{FoundRows}
 use Rattle.xa_types.specs.Name.{is_name}
+use Rattle.xa_events.specs.declared.event.Doing.TheVariants.{Off}
 use Rattle.xa_events.specs.declared.event.Event.{Event}
 use Rattle.xa_stamp.specs.Home.{last_stamp}
 use Rattle.xa_crew.specs.Crew.{no_stamp}
@@ -47,11 +48,17 @@ pub record IsOut (setup : Setup) (cells : Cells Filling) (entry : Entry Cargo) (
   pub way : IsOnWay entry event slot c
   pub ticket : IsTicketOf cells entry.cargo.ticket
 
--- nothing is in hand, and the caller of the request is to be told that, no later than the server's last event
-pub record IsOver (cells : Cells Filling) (closing : Closing) (slot : ServerSlot) (c : Calling) : Type 0 where
+-- nothing is in hand: a life waits, or none is under way
+pub record IsSettled (cells : Cells Filling) (slot : ServerSlot) (c : Calling) : Type 0 where
+  pub stands : Stands slot c.work
+  pub doing : IsIdle slot.doing ⊎ (slot.doing ≡ Off)
   pub free : slot.hand ≡ None
   pub idle : c.phase ≡ Idle
   pub seat : IsSeatOf cells c.seat
+
+-- so it is, and the caller of the request is to be told that, no later than the server's last event
+pub record IsOver (cells : Cells Filling) (closing : Closing) (slot : ServerSlot) (c : Calling) : Type 0 where
+  pub settled : IsSettled cells slot c
   pub ticket : IfSome closing.ticket (IsTicketOf cells)
   pub later : closing.stamp.0 ≤ last_stamp no_stamp c.work.own
 

@@ -6,7 +6,7 @@ ghost use Rattle.xa_cell.specs.Known.{known, IsNew, IsSeatOf, IsTicketOf};
 ghost use Rattle.xa_cell.specs.Places.{IsShut};
 ghost use Rattle.xa_caller.specs.Serving.{IsForwardBy};
 ghost use Rattle.xa_caller.specs.declared.phase.Phase.TheVariants as phases;
-ghost use Rattle.xa_trials_callers.specs.Forwards.{Waits, Holds, IsOut, AreFor, LeavesOut, IsOver};
+ghost use Rattle.xa_trials_callers.specs.Forwards.{Waits, Holds, IsOut, AreFor, LeavesOut, IsOver, IsSettled};
 
 use crate::askers::{REQUEST, Told, ask, tell};
 use crate::callers::{
@@ -24,7 +24,7 @@ use xa_cell::{Cells, Seat};
 use xa_events::{Event, Forwarded, Outcome, StopCause, Taken};
 use xa_queue::Entry;
 use xa_restart::Lives;
-use xa_server::{Closing, Forwarding, ServerSlot};
+use xa_server::{Closing, Forwarding, Given, ServerSlot};
 use xa_stamp::Home;
 use xa_types::{CallerId, Found, Generation, Name, Octets, ServerId, Setup, Stamp};
 use xa_work::Work;
@@ -395,6 +395,24 @@ fn leave<R: Abort>(
     }
 }
 
+// Whether the server has nothing to do: its life, if it is in one, ends by itself, and nobody is told of that.
+fn is_idle<R: Abort>(rt: &R, cells: &Cells<Filling>, worker: &mut Worker) -> bool
+    requires { IsSettled cells.now worker.old.slot worker.old.caller }
+    ensures free { worker.new.slot.hand ≡ None }
+    ensures idle { worker.new.caller.phase ≡ phases.Idle }
+    ensures table { IsSeatOf cells.now worker.new.caller.seat }
+{
+    let Generation(life) = worker.slot.life();
+    if life == 0 {
+        return true;
+    }
+    let Worker { slot, caller } = worker;
+    let Ok(closing) = slot.died(caller, StopCause::EndOfInput) else {
+        panic!(rt; "worn")
+    };
+    closing.give(caller, cells) == Given::Nothing
+}
+
 // What the caller of the request is told, in which life the server is then, and what is set for the priority of the next
 // request: nothing, once the request went on.
 fn is_told(end: End, told: Told, life: Generation, asked: Option<(bool, i32)>, wish: Wish) -> bool {
@@ -447,7 +465,9 @@ fn is_played<R: Abort>(
     let closing = leave(rt, alloc, setup, cells, worker, row);
     let told = tell(&mut worker.caller, cells, seat, place, closing);
     let asked = worker.caller.next_priority();
-    is_told(end, told, worker.slot.life(), asked, wish) && worker.slot.request().is_none()
+    let right = is_told(end, told, worker.slot.life(), asked, wish);
+    let idle = is_idle(rt, cells, worker);
+    right && idle
 }
 
 fn is_so<R: Abort>(rt: &R, alloc: Global, setup: &Setup, row: &Row) -> bool
