@@ -15,8 +15,12 @@ pub use booting::{Booted, NotBooted, boot};
 pub use closer::Closer;
 
 // What crates above name of those below.
-pub use xa_clients as clients;
 pub use xa_clients::{
     caller, cell, desk, events, held, link, lock, pipe, queue, server, stamp, types, work,
 };
 pub use xa_links as links;
+
+// What xa_clients itself has.
+pub mod clients {
+    pub use xa_clients::{ClientWorker, Ended, client_work, perform};
+}

@@ -9,8 +9,14 @@ pub use calling::perform;
 pub use working::{ClientWorker, Ended, client_work};
 
 // What crates above name of those below.
-pub use xa_desk as desk;
 pub use xa_desk::{
     board, buffer, caller, cell, events, held, link, lock, pipe, queue, restart, route, server,
     stamp, types, work,
 };
+
+// What xa_desk itself has.
+pub mod desk {
+    pub use xa_desk::{
+        Desk, Domain, Done, HaltWord, NotPassed, Stopped, SweptOut, Took, Unsent, Waits,
+    };
+}

@@ -12,5 +12,9 @@ pub use handing::{Handed, hand_back};
 pub use room::Room;
 
 // What crates above name of those below.
-pub use xa_workers as workers;
 pub use xa_workers::{boot, events, link, links, pipe, script, stamp, types, work};
+
+// What xa_workers itself has.
+pub mod workers {
+    pub use xa_workers::run_all;
+}

@@ -5,7 +5,11 @@
 pub mod laws;
 
 // What crates above name of those below.
-pub use xa_server as server;
 pub use xa_server::{
     buffer, caller, cell, events, held, link, lock, pipe, queue, restart, route, stamp, types, work,
 };
+
+// What xa_server itself has.
+pub mod server {
+    pub use xa_server::{Closing, Forwarding, Given, Last, Served, ServerSlot};
+}

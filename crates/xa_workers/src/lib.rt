@@ -10,9 +10,13 @@ mod forks;
 pub use crew::run_all;
 
 // What crates above name of those below.
-pub use xa_boot as boot;
 pub use xa_boot::{
     caller, cell, clients, desk, events, held, link, links, lock, pipe, queue, server, stamp,
     types, work,
 };
 pub use xa_joined::script;
+
+// What xa_boot itself has.
+pub mod boot {
+    pub use xa_boot::{Booted, Closer, NotBooted, boot};
+}
