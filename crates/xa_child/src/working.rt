@@ -41,7 +41,7 @@ impl From<NoMemory> for WorkRefused {
 }
 
 /// The work of the server's program of that name. It says READY and NEXT, and then answers each frame that it reads,
-/// until SHUTDOWN comes, the routine DIE runs, or its input ends where a frame does. `BadFrame` has the place of what
+/// until SHUTDOWN comes, the routine DIE or EXIT runs, or its input ends where a frame does. `BadFrame` has the place of what
 /// is no frame or none that it admits, and of a frame within which the input ends. Of 2^64 - 1 reads that leave it
 /// waiting it makes no further one, and answers `NoMemory`.
 pub fn work<I: Source, O: Sink>(

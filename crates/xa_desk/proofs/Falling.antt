@@ -155,7 +155,7 @@ module _ {d : Domain} {queue k : ℕ} {desk new : Desk} {p p' : QueuePass} {last
 
   -- a request was swept
   module _ (out : Outgoing Cargo) (did : SweptAs V seen maker (Ok (Some out))) (caller : new.caller ≡ noted_off out.noted.stamp out.noted.event.value desk.caller) where
-    pub swept_goes : (closing : Closing) → closing ≡ record { ticket = Some out.entry.cargo.ticket; answer = Some (reply_of SweptAway); stamp = out.noted.stamp } → Leads d desk new × OfDomain desk new × IsToTell d new closing × IsSome closing.ticket × (new.caller ≡ noted_off out.noted.stamp (Sweep (record { request = out.entry.request; queue = did.old.queue.id })) desk.caller)
+    pub swept_goes : (closing : Closing) → closing ≡ record { ticket = Some out.entry.cargo.ticket; answer = Some (reply_of SweptAway); stamp = out.noted.stamp } → Leads d desk new × OfDomain desk new × IsToTell d new closing × IsSome closing.ticket × (new.caller ≡ noted_off out.noted.stamp (Sweep (record { request = out.entry.request; queue = record { 0 = queue } })) desk.caller)
     swept_goes closing is =
         let its : Event = Sweep (record { request = out.entry.request; queue = did.old.queue.id }) in
         let next = did.how.0.noted.notes.next ∙ ap (λ s. next_stamp s did.old.queue) saw in
@@ -167,5 +167,5 @@ module _ {d : Domain} {queue k : ℕ} {desk new : Desk} {p p' : QueuePass} {last
           of_domain desk new out.noted.stamp its tt said,
           to_tell d desk new out.entry did.old.queue.id out.noted.stamp (subst (λ cells. IsRight cells out.entry) found.cells did.how.1) said closing is,
           subst (λ (c : Closing). IsSome c.ticket) (sym is) refl,
-          said,
+          said ∙ ap (λ (n : ℕ). noted_off out.noted.stamp (Sweep (record { request = out.entry.request; queue = record { 0 = n } })) desk.caller) found.id,
         )

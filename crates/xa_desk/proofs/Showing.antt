@@ -99,7 +99,7 @@ module _ {d : Domain} {queue k : ℕ} {desk : Desk} {pass : QueuePass} (is : IsD
     pub down_seen : visits.new.queue.down ≡ true → is_down queue (past_in (events_at (page_of pass).seen)) ≡ true
     down_seen down = sym (read_there Bool is_down) ∙ sym visits.sound.fallen ∙ down
 
-    pub closed_seen : visits.new.queue.closed ≡ true → is_closed queue (past_in (events_at (page_of pass).seen)) ≡ true
+    pub closed_seen : {b : Bool} → visits.new.queue.closed ≡ b → is_closed queue (past_in (events_at (page_of pass).seen)) ≡ b
     closed_seen closed = sym (read_there Bool is_closed) ∙ sym visits.sound.shut ∙ closed
 
     -- what waits there is read off what the pass saw, if no request was sent there while it waited there

@@ -36,7 +36,7 @@ use Rattle.xa_desk.specs.Desks.{IsDesk, page_at}
 use Rattle.xa_desk.proofs.Visiting.{QueuePass, HasPass, Step, its_pass, page_is, now_has, looked_leads}
 use Rattle.xa_desk.proofs.Showing.{saw_there, closed_seen, waits}
 use Rattle.xa_desk.specs.Found.{SawAtQueue}
-use Rattle.xa_desk.specs.Serving.{IsServing, Sees as SeesStamp}
+use Rattle.xa_desk.specs.Serving.{IsServing, HasNothing, Sees as SeesStamp}
 
 -- a server of a queue has a number
 has_number : (setup : Setup) (server queue : ℕ) → queue_of setup server ≡ queue → 0 < queue → 0 < server
@@ -119,6 +119,13 @@ module _ {d : Domain} {queue k : ℕ} {desk new : Desk} {p p' : QueuePass} {last
           closed = closed_seen is has visits closed;
           empty = sym (waits is has visits news) ∙ ap (map (λ (entry : Entry Cargo). entry.request)) none;
         })
+
+    -- one that was found open, with none that waits, was seen so
+    pub looks_empty : visits.new.queue.waiting ≡ [] → visits.new.queue.closed ≡ false → SawAtQueue d queue new (HasNothing d.setup queue)
+    looks_empty none up =
+        let is = (looked_leads step visits caller).desk in
+        let has = now_has step in
+        saw_there is has (HasNothing d.setup queue) (λ news. (sym (waits is has visits news) ∙ ap (map (λ (entry : Entry Cargo). entry.request)) none, closed_seen is has visits up))
 
   -- it noted an event there, which gives up no server but, it may be, this one
   pub notes_serve : (maker : CallerId) (out : Noted) {How : Kept Filling → Kept Filling → Type 0} → Visits (page_of p) (page_of p') (told maker out) How → new.caller ≡ noted_off out.stamp out.event.value desk.caller → (e : Event) → out.event.value ≡ e

@@ -7,14 +7,15 @@ use Rattle.xa_told.specs.xa_types.declared.ids.RequestId.{RequestId}
 use Rattle.xa_told.specs.xa_types.declared.setup.Setup.{Setup}
 use Rattle.xa_told.specs.xa_types.Setup.{queue_of}
 use Rattle.xa_told.specs.xa_events.declared.event.Event.{Event}
-use Rattle.xa_told.specs.xa_types.declared.ids.QueueId.{QueueId}
 use Rattle.xa_told.specs.xa_events.declared.event.Event.TheVariants.{Take, Gone, Sweep}
 use Rattle.xa_told.specs.xa_events.declared.event.Doing.TheVariants.{Busy}
 use Rattle.xa_told.specs.xa_events.declared.event.Taken.{Taken}
+use Rattle.xa_told.specs.xa_events.Answers.{reply_of}
 use Rattle.xa_told.specs.xa_events.Cases.{IsShut}
 use Rattle.xa_told.specs.xa_events.Request.{is_entry_of}
+use Rattle.xa_told.specs.xa_events.Request.Settlement.{SweptAway}
 use Rattle.xa_told.specs.xa_events.Words.{latest}
-use Rattle.xa_told.specs.xa_events.Queue.{is_down, waiting}
+use Rattle.xa_told.specs.xa_events.Queue.{is_closed, is_down, waiting}
 use Rattle.xa_told.specs.xa_events.Server.{is_gone, AllGone}
 use Rattle.xa_told.specs.xa_events.Homes.Home.{BoardHome, QueueHome}
 use Rattle.xa_told.specs.xa_stamp.Home.{last_stamp}
@@ -99,12 +100,16 @@ pub record IsAtEnd (worn : Worn) (old new : Desk) : Type 0 where
   pub at : new.caller.work.stamp.0 ≡ 2 ^ 63
   pub caller : Sees old.caller new.caller
 
+-- nothing waits at the queue, which isn't closed
+abbrev pub HasNothing : Setup → ℕ → List Event → Type 0
+HasNothing setup queue past = (waiting setup queue past ≡ []) × (is_closed queue past ≡ false)
+
 -- what a take comes to
 abbrev pub TakesAs : Domain → ℕ → Result Took Worn → ServerSlot → ServerSlot → Desk → Desk → Type 0
 TakesAs d queue (Ok takes.Request) slot slot' old new = (entry : Entry Cargo) × (stamp : Stamp) × (k : ℕ) × (slot' ≡ record slot { doing = Busy (life_in slot.doing) entry.request; hand = Some entry; last = NoLast })
     × (old.caller.work.stamp.0 < stamp.0) × (new.caller ≡ with_event stamp (Take (record { request = entry.request; server = slot.server; generation = life_in slot.doing; k = k })) old.caller)
     × IsTaken d queue (record { request = entry.request; server = slot.server; generation = life_in slot.doing; k = k }) new entry
-TakesAs d queue (Ok takes.Nothing) slot slot' old new = (slot' ≡ slot) × Sees old.caller new.caller
+TakesAs d queue (Ok takes.Nothing) slot slot' old new = (slot' ≡ slot) × Sees old.caller new.caller × SawAtQueue d queue new (HasNothing d.setup queue)
 TakesAs d queue (Ok takes.Closed) slot slot' old new = (slot' ≡ slot) × Sees old.caller new.caller × SawAtQueue d queue new (IsShut d.setup queue)
 TakesAs d queue (Err worn) slot slot' old new = (slot' ≡ slot) × IsAtEnd worn old new
 
@@ -164,14 +169,14 @@ pub record IsToTell (d : Domain) (desk : Desk) (closing : Closing) : Type 0 wher
 abbrev pub IsSwept : Domain → ℕ → List Event → Type 0
 IsSwept d queue past = (is_down queue past ≡ true) × (waiting d.setup queue past ≡ [])
 
--- that request was swept, which the worker noted
-pub record Sweeps (out : SweptOut) (old new : Desk) : Type 0 where
+-- that request was swept from that queue, which the worker noted, and its caller is to be told so
+pub record Sweeps (queue : ℕ) (out : SweptOut) (old new : Desk) : Type 0 where
   pub stamp : Stamp
-  pub queue : QueueId
-  pub noted : new.caller ≡ with_event stamp (Sweep (record { request = out.request; queue = queue })) old.caller
+  pub noted : new.caller ≡ with_event stamp (Sweep (record { request = out.request; queue = record { 0 = queue } })) old.caller
+  pub answer : out.closing.answer ≡ Some (reply_of SweptAway)
 
 -- a request that waited was swept, and its caller is to be told; or the desk saw that none waits
 abbrev pub SweepsAs : Domain → ℕ → Result (Option SweptOut) Worn → Desk → Desk → Type 0
 SweepsAs d queue (Ok None) old new = Sees old.caller new.caller × SawAtQueue d queue new (IsSwept d queue)
-SweepsAs d queue (Ok (Some out)) old new = OfDomain old new × IsToTell d new out.closing × IsSome out.closing.ticket × Sweeps out old new
+SweepsAs d queue (Ok (Some out)) old new = OfDomain old new × IsToTell d new out.closing × IsSome out.closing.ticket × Sweeps queue out old new
 SweepsAs d queue (Err worn) old new = IsAtEnd worn old new

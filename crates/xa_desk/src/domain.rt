@@ -55,13 +55,13 @@ impl Domain {
         self.waits.room.notify_all();
     }
 
-    /// A server's first start is up or given up.
+    /// A server has greeted, or is given up.
     pub fn count_up(&self) {
         self.waits.up.fetch_add(1, SeqCst);
         self.waits.ready.notify_all();
     }
 
-    /// Waits until each server's first start is up or given up, or the run halts.
+    /// Waits until each server has greeted or is given up, or the run halts.
     pub fn await_up<W: Wait>(&self, rt: &W) {
         let servers = self.setup.servers.slice().len() as u64;
         for _ in rt.forever() {

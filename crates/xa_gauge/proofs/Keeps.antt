@@ -12,7 +12,7 @@ use Rattle.xa_gauge.specs.declared.moves.Move.{Move}
 use Rattle.xa_gauge.specs.declared.moves.Move.TheVariants.{Up, Down, Full, Empty}
 use Rattle.xa_gauge.specs.declared.moves.Knows.{Knows}
 use Rattle.xa_gauge.specs.Gauge.{nothing, knows, after, May, Entry, level, own, ups_of, downs_of, Legal, noted, total, Fits, Gauged, Ordered, looks_up, looks_down, goes_up, goes_down, counts}
-use Rattle.xa_gauge.proofs.Orders.{own_mine, own_other, level_after, legal_after, moved, stays_low, set_got, at_below, at_end, total_set, total_end, only}
+use Rattle.xa_gauge.proofs.Orders.{own_mine, own_other, level_after, legal_after, moved, stays_low, set_got, at_below, at_end, total_set, total_end, part_of, only}
 
 module _ (key : Limits) (s : State ℕ Knows) (r : Gauged key s) (id : ℕ) (v : Knows) (at : get_elem? s.views id ≡ some v) (part : 0 < v.parts) where
   abbrev now : ℕ
@@ -51,6 +51,7 @@ module _ (key : Limits) (s : State ℕ Knows) (r : Gauged key s) (id : ℕ) (v :
         others = λ j le. let wide : length (set s.views id w) ≡ length s.views = length-set s.views id w in
             let below = at_below s.views id v at in
             own_other j id m r.hist (λ e. omega (arith, wide, below, le, e)) ∙ r.others j (omega (arith, wide, le));
+        alone = λ one. length-set s.views id w ∙ r.alone one;
         shares = omega arith;
         balance = omega arith;
       }
@@ -63,6 +64,10 @@ module _ (key : Limits) (s : State ℕ Knows) (r : Gauged key s) (id : ℕ) (v :
         pass = id;
         legal = subst (λ (k : Limits). Legal k.full k.start hist) (sym mine.0) (legal_after key.full key.start r.hist (id, m) r.legal may);
         calls = own_mine id m r.hist ∙ ap (λ l. l ++ m ∷ []) mine.1;
+        alone = λ one j ne.
+            let views = r.alone (sym (ap (λ (k : Limits). k.passes) mine.0) ∙ one) in
+            let below = at_below s.views id v at in
+            own_other j id m r.hist ne ∙ r.others j (omega (arith, views, below, ne));
       }
 
 module _ (key : Limits) (slots id : ℕ) (me : Me ℕ Knows) (part : 0 < me.0.parts) (of : me.0.of ≡ key) where
@@ -137,6 +142,7 @@ splits_keep key id v two s r at =
           ((λ _. (mine.0, r.others (length half) (omega (arith, wide)))), λ (z : 1 ≡ 0). absurd (omega (arith, z))))
           (at_end half right u j e);
       others = λ j le. let more = length-append half (right ∷ []) in r.others j (omega (arith, le, wide, more));
+      alone = λ one. let most = part_of s.views id v at in absurd (omega (arith, one, most, sh, two));
       shares = omega (arith, two);
       balance = omega arith;
     }
@@ -165,6 +171,7 @@ joins_keep key id v other w part s r at apart there =
           (λ (h : (j ≢ id) × (get_elem? s.views j ≡ some u)). r.each j u h.1) (at_set s.views id j both u k.1))
           (at_set half other j spent u e);
       others = λ j le. let wide = length-set half other spent in let wide' = length-set s.views id both in r.others j (omega (arith, le, wide, wide'));
+      alone = λ one. length-set half other spent ∙ (length-set s.views id both ∙ r.alone one);
       shares = omega arith;
       balance = omega arith;
     }

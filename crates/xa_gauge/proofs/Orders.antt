@@ -65,7 +65,8 @@ pub total_end : (f : Knows → ℕ) (l : List Knows) (a : Knows) → total f (l 
 total_end f [] a = omega arith
 total_end f (x ∷ xs) a = let r = total_end f xs a in omega arith
 
-part_of : (l : List Knows) (i : ℕ) (v : Knows) → get_elem? l i ≡ some v → v.parts ≤ total (λ u. u.parts) l
+-- a view has no more parts than there are
+pub part_of : (l : List Knows) (i : ℕ) (v : Knows) → get_elem? l i ≡ some v → v.parts ≤ total (λ u. u.parts) l
 part_of [] i v e = absurd (some-ne-none v (sym e))
 part_of (x ∷ xs) zero v e = let is : x.parts ≡ v.parts = ap (λ (u : Knows). u.parts) (some-injective x v e) in omega arith
 part_of (x ∷ xs) (suc i) v e = let r = part_of xs i v e in omega arith

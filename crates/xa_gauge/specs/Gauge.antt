@@ -99,6 +99,7 @@ pub record Gauged (key : Limits) (s : State ℕ Knows) : Type 0 where
   pub legal : Legal key.full key.start hist
   pub each : (j : ℕ) (v : Knows) → get_elem? s.views j ≡ some v → Fits key hist j v
   pub others : (j : ℕ) → length s.views ≤ j → own j hist ≡ []
+  pub alone : key.passes ≡ 1 → length s.views ≡ 1
   pub shares : total (λ v. v.parts) s.views ≡ key.passes
   pub balance : level key.start hist + total (λ v. v.downs) s.views ≡ key.start + total (λ v. v.ups) s.views
 
@@ -106,12 +107,13 @@ pub record Gauged (key : Limits) (s : State ℕ Knows) : Type 0 where
 abbrev Sat : Type 0
 Sat = Me ℕ Knows
 
--- there is one legal order of all calls so far, in which those of a pass are the calls that it knows, and no others
+-- there is a legal order of calls in which those of a pass are the calls that it knows, and no others; where the gauge has one pass they are all
 pub record Ordered (v : Knows) : Type 0 where
   pub all : List Entry
   pub pass : ℕ
   pub legal : Legal v.of.full v.of.start all
   pub calls : own pass all ≡ v.moves
+  pub alone : v.of.passes ≡ 1 → (j : ℕ) → j ≢ pass → own j all ≡ []
 
 -- the number found was the limit, and that was noted; or nothing changed
 abbrev pub looks_up : Step ℕ → Sat → ℕ → Sat → Type 0

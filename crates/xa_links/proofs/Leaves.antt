@@ -53,8 +53,8 @@ server_some {d} {queue} {slot} {desk} serving =
 
 -- ---- whoever was told was told behind an end
 
-pub swept_last : {out : SweptOut} {old new : Desk} → Sweeps out old new → TellsLast old → TellsLast new
-swept_last {out} {old} {new} sweeps = push_behind old new ⊤ (record { stamp = sweeps.stamp; event = Sweep (record { request = out.request; queue = sweeps.queue }) }) (ap (λ (c : Caller). c.work.own) sweeps.noted) (ap (λ (c : Caller). c.seat) sweeps.noted) tt
+pub swept_last : {queue : ℕ} {out : SweptOut} {old new : Desk} → Sweeps queue out old new → TellsLast old → TellsLast new
+swept_last {queue} {out} {old} {new} sweeps = push_behind old new ⊤ (record { stamp = sweeps.stamp; event = Sweep (record { request = out.request; queue = record { 0 = queue } }) }) (ap (λ (c : Caller). c.work.own) sweeps.noted) (ap (λ (c : Caller). c.seat) sweeps.noted) tt
 
 pub seen_last : (old new : Desk) → Sees old.caller new.caller → TellsLast old → TellsLast new
 seen_last old new sees = still_behind old new ⊤ (ap (λ (c : Caller). c.work.own) sees.1) (ap (λ (c : Caller). c.seat) sees.1)

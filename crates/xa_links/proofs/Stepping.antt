@@ -191,7 +191,7 @@ module _ {d : Domain} where
 
     -- what a take comes to
     took_from : {slot slot' : ServerSlot} {old new : Desk} (took : Took) → Leads d old new → IsServing d queue slot old → IsServing d queue slot' new → TakesAs d queue (Ok took) slot slot' old new → TakesFrom d queue (Ok took) slot slot' old new
-    took_from takes.Nothing leads was serving (same, sees) = waits_same same leads sees serving
+    took_from takes.Nothing leads was serving (same, sees, nothing) = (waits_same same leads sees serving, nothing)
     took_from takes.Closed leads was serving (same, sees, shut) = (waits_same same leads sees serving, shut)
     took_from {slot} {slot'} {old} takes.Request leads was serving (entry, stamp, k, is, later, caller, taken) =
         let t : Taken = record { request = entry.request; server = slot.server; generation = life_in slot.doing; k = k } in

@@ -35,7 +35,7 @@ use Rattle.xa_desk.specs.declared.stopped.Stopped.{Stopped}
 use Rattle.xa_desk.specs.declared.stopped.Stopped.TheVariants.{Here}
 use Rattle.xa_desk.specs.Desks.{Leads}
 use Rattle.xa_desk.specs.Found.{SawAtQueue}
-use Rattle.xa_desk.specs.Serving.{IsServing, IsTaken, IsToTell, LeftOthers, IsSwept}
+use Rattle.xa_desk.specs.Serving.{IsServing, IsTaken, IsToTell, HasNothing, LeftOthers, IsSwept}
 use Rattle.xa_links.specs.declared.telling.Told.{Told}
 use Rattle.xa_desk.specs.Halting.{IsStopAt}
 use Rattle.xa_links.specs.Behind.{TellsLast, ToldAll}
@@ -101,7 +101,7 @@ pub record Waits (d : Domain) (queue : ℕ) (slot slot' : ServerSlot) (old new :
 
 abbrev pub TakesFrom : Domain → ℕ → Result Took Stopped → ServerSlot → ServerSlot → Desk → Desk → Type 0
 TakesFrom d queue (Ok takes.Request) slot slot' old new = Takes d queue slot slot' old new
-TakesFrom d queue (Ok takes.Nothing) slot slot' old new = Waits d queue slot slot' old new
+TakesFrom d queue (Ok takes.Nothing) slot slot' old new = Waits d queue slot slot' old new × SawAtQueue d queue new (HasNothing d.setup queue)
 TakesFrom d queue (Ok takes.Closed) slot slot' old new = Waits d queue slot slot' old new × SawAtQueue d queue new (IsShut d.setup queue)
 TakesFrom d queue (Err stopped) slot slot' old new = Waits d queue slot slot' old new × IsStopAt new stopped
 
@@ -114,7 +114,7 @@ NextFrom d queue (Err stopped) slot slot' old new = Waits d queue slot slot' old
 -- so it is with one look, behind which it may have to wait
 abbrev pub LooksFrom : Domain → ℕ → Result (Option Bool) Stopped → ServerSlot → ServerSlot → Desk → Desk → Type 0
 LooksFrom d queue (Ok (Some took)) slot slot' old new = NextFrom d queue (Ok took) slot slot' old new
-LooksFrom d queue (Ok None) slot slot' old new = Waits d queue slot slot' old new
+LooksFrom d queue (Ok None) slot slot' old new = Waits d queue slot slot' old new × SawAtQueue d queue new (HasNothing d.setup queue)
 LooksFrom d queue (Err stopped) slot slot' old new = NextFrom d queue (Err stopped) slot slot' old new
 
 -- ---- returning

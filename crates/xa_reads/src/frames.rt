@@ -1,8 +1,11 @@
 // Frames, which are read to be measured.
+ghost use Rattle.xa_frame.specs.Spelling.{HasSpelling};
+
 use crate::refused::Refused;
 use std::alloc::Global;
 use std::io::{Read, Write};
-use xa_frame::{Reader, encode};
+use xa_frame::{Frame, NextRefused, Reader, encode};
+use xa_types::{NoMemory, Octets};
 
 const PIECE: usize = 65_536;
 
@@ -17,10 +20,22 @@ pub enum Work {
     Octets,
 }
 
+// Takes the next frame, if it is whole now, and lets go of it.
+fn skip(reader: &mut Reader) -> Result<bool, NextRefused> {
+    Ok(reader.next()?.is_some())
+}
+
+// The octets of the frame, which is let go of.
+fn octets_of(alloc: Global, frame: Frame) -> Result<Octets, NoMemory>
+    requires { HasSpelling frame }
+{
+    encode(alloc, &frame)
+}
+
 // Counts the frames that are whole now.
 fn count(reader: &mut Reader) -> Result<u64, Refused> {
     for frames in 0..u64::MAX {
-        if reader.next()?.is_none() {
+        if !skip(reader)? {
             return Ok(frames);
         }
     }
@@ -33,7 +48,7 @@ fn copy(alloc: Global, reader: &mut Reader, out: &mut Vec<u8>) -> Result<u64, Re
         let Some(frame) = reader.next()? else {
             return Ok(frames);
         };
-        let octets = encode(alloc, &frame)?;
+        let octets = octets_of(alloc, frame)?;
         out.extend_from_slice(octets.slice())?;
     }
     Ok(u64::MAX)

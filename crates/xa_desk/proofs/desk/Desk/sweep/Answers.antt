@@ -4,6 +4,7 @@ use Rattle.xa_told.specs.xa_held.Kept.{Kept}
 use Rattle.xa_told.specs.xa_held.Steps.{SweptAs}
 use Rattle.xa_told.specs.xa_held.Visits.{Visits}
 use Rattle.xa_told.specs.xa_caller.declared.cargo.Filling.{Filling}
+use Rattle.xa_told.specs.xa_server.declared.closing.Closing.{Closing}
 use Rattle.xa_desk.specs.declared.desk.Desk.{Desk}
 use Rattle.xa_desk.proofs.Falling.{fallen_setting, falls_still, falls_swept, swept_goes}
 use Rattle.xa_desk.proofs.Visiting.{has_at, stepped, looked_leads, looked_last}
@@ -40,4 +41,4 @@ returns-in-Ok-Some g c =
     let step = stepped new c.sweep_at-pass.result.pass c.sweep_at-pass.result.last c.requires.desk c.from-place.ensures c.requires.fallen.1 c.requires.fallen.2 c.take_from-pass.ensures.was _ c.take_from-pass.ensures.rest c.put_back.ensures refl c.index.result.now c.index.ensures c.sweep_at-pass.ensures.lock c.sweep_at-pass.ensures.reached in
     let did = subst (SweptAs (Visits (page_of c.take_from-pass.result) (page_of c.sweep_at-pass.result.pass)) c.stamp.result c.id.result) (c.in-Ok-Some.is ∙ ap Ok c.in-Ok-Some.field-0-is) c.sweep_at-pass.ensures.swept in
     let swept = swept_goes step c.stamp.result c.id.result c.stamp.ensures.value c.in-Ok-Some.out did c.noted_for_domain.ensures.noted c.swept-closing.result c.swept-closing.ensures in
-    record { leads = swept.0; swept = (swept.1, swept.2, swept.3, record { stamp = c.in-Ok-Some.out.noted.stamp; queue = did.old.queue.id; noted = swept.4 }); fallen = falls_still step did c.requires.fallen.0; board = (refl, refl) }
+    record { leads = swept.0; swept = (swept.1, swept.2, swept.3, record { stamp = c.in-Ok-Some.out.noted.stamp; noted = swept.4; answer = ap (λ (x : Closing). x.answer) c.swept-closing.ensures }); fallen = falls_still step did c.requires.fallen.0; board = (refl, refl) }

@@ -7,7 +7,7 @@ use Rattle.xa_told.specs.xa_work.Work.{Standing as Working}
 use Rattle.xa_told.specs.xa_caller.declared.cargo.Filling.{Filling}
 use Rattle.xa_desk.specs.declared.desk.Desk.{Desk}
 use Rattle.xa_desk.proofs.Requests.{took_goes}
-use Rattle.xa_desk.proofs.Taking.{its_setting, its_left, looks_serve, looks_shut}
+use Rattle.xa_desk.proofs.Taking.{its_setting, its_left, looks_serve, looks_shut, looks_empty}
 use Rattle.xa_desk.proofs.Visiting.{has_at, stepped, looked_leads, looked_last}
 use Rattle.xa_desk.proofs.desk.Desk.take.Goals as goal
 
@@ -26,7 +26,8 @@ returns-in-Ok-Empty g c =
     let new : Desk = record c.args.self.now { caller = c.saw.new.self; queues = c.put_back.new.passes } in
     let step = stepped new c.take_at-pass.result.pass c.take_at-pass.result.last c.requires.desk c.from-place.ensures c.requires.serving.some c.requires.serving.least c.take_from-pass.ensures.was _ c.take_from-pass.ensures.rest c.put_back.ensures refl c.index.result.now c.index.ensures c.take_at-pass.ensures.lock c.take_at-pass.ensures.reached in
     let took = subst (TookAs (Visits (page_of c.take_from-pass.result) (page_of c.take_at-pass.result.pass)) c.stamp.result c.id.result c.server.result c.life.result) (c.in-Ok-Empty.is ∙ ap Ok c.in-Ok-Empty.field-0-is) c.take_at-pass.ensures.taken in
-    record { leads = looked_leads step took c.saw.ensures; serving = looks_serve step c.requires.serving took c.saw.ensures; taken = (refl, (c.take_at-pass.result.last, c.saw.ensures)); board = (refl, refl) }
+    let nothing = looks_empty step c.requires.serving took c.saw.ensures (ap (λ (kept : Kept Filling). kept.queue.waiting) took.how.0 ∙ took.how.1.0) (ap (λ (kept : Kept Filling). kept.queue.closed) took.how.0 ∙ took.how.1.1) in
+    record { leads = looked_leads step took c.saw.ensures; serving = looks_serve step c.requires.serving took c.saw.ensures; taken = (refl, (c.take_at-pass.result.last, c.saw.ensures), nothing); board = (refl, refl) }
 
 pub returns-in-Ok-Closed : goal.returns-in-Ok-Closed
 returns-in-Ok-Closed g c =
