@@ -18,9 +18,12 @@ pub use closer::Closer;
 pub use xa_clients::{
     caller, cell, desk, events, held, link, lock, pipe, queue, server, stamp, types, work,
 };
-pub use xa_links as links;
 
 // What xa_clients itself has.
 pub mod clients {
     pub use xa_clients::{ClientWorker, Ended, client_work, perform};
+}
+
+pub mod links {
+    pub use xa_links::{CutLife, ServerWorker};
 }

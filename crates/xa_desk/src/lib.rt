@@ -24,8 +24,11 @@ pub use serving::{SweptOut, Took};
 pub use stopped::Stopped;
 
 // What crates above name of those below.
-pub use xa_board as board;
 pub use xa_told::{
     buffer, caller, cell, events, held, link, lock, pipe, queue, restart, route, server, stamp,
     types, work,
 };
+
+pub mod board {
+    pub use xa_board::{Board, Reader};
+}

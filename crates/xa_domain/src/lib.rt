@@ -10,4 +10,4 @@ pub use xa_ending::pipe::EndedLife;
 pub use xa_ending::work::Halt;
 
 // What crates above name of those below.
-pub use xa_ending::{events, link, pipe, script, stamp, types};
+pub use xa_ending::{pipe, script, stamp};

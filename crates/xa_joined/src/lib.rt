@@ -6,4 +6,6 @@ pub mod ending;
 pub mod laws;
 
 // What crates above name of those below.
-pub use xa_script as script;
+pub mod script {
+    pub use xa_script::{Client, Script, ScriptRefused, read_upto};
+}

@@ -20,6 +20,3 @@ pub use words::{Command, all_words, own_word, read_words, words_behind};
 pub use xa_child::{Child, ChildRefused, LocalLink, LocalStarter, LocalYard, child_step};
 pub use xa_domain::pipe::Pipes;
 pub use xa_domain::{CutLife, EndedLife};
-
-// What crates above name of those below.
-pub use xa_domain::{events, link, types};

@@ -1,8 +1,8 @@
 use crate::status::Status;
-use xa_domain::events::Event;
-use xa_domain::link::Yard;
 use xa_domain::stamp::Record;
 use xa_domain::{CutLife, EndedLife};
+use xa_events::Event;
+use xa_link::Yard;
 
 /// What a run hands back: how it ended, the homes, in which each event stands with its stamp, the history, which is the
 /// events of all homes in order, and by server its lives that ended, the one that went on at a halt, and its starter.

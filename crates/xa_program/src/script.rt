@@ -7,9 +7,9 @@ ghost use Rattle.xa_program.specs.Progress.{ScriptRefusedAs};
 
 use crate::status::{Input, Status};
 use std::alloc::Global;
-use xa_domain::link::{ShelfRefused, Source, read_all};
 use xa_domain::script::{Script, ScriptRefused, read_upto};
-use xa_domain::types::Setup;
+use xa_link::{ShelfRefused, Source, read_all};
+use xa_types::Setup;
 
 /// How many octets a script may have.
 const LONGEST_SCRIPT: usize = 1_048_576;

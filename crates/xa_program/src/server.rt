@@ -4,8 +4,8 @@ ghost use Rattle.xa_program.specs.Server.{ServerEnds};
 use crate::status::Status;
 use std::alloc::Global;
 use xa_child::{WorkRefused, work};
-use xa_domain::link::{Sink, Source};
-use xa_domain::types::Name;
+use xa_link::{Sink, Source};
+use xa_types::Name;
 
 /// The work of the server's program of that name, as `work` of `xa_child` does it, and the status that stands for how
 /// it ended.

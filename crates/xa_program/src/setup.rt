@@ -11,10 +11,8 @@ ghost use Rattle.xa_program.specs.Progress.{SetupRefusedAs};
 use crate::status::{Input, Status};
 use std::alloc::Global;
 use xa_config::{ConfigRefused, read};
-use xa_domain::link::{Shelf, ShelfRefused};
-use xa_domain::types::{
-    Accepts, Name, NoMemory, QueueSetup, Sequence, ServerSetup, ServiceSetup, Setup,
-};
+use xa_link::{Shelf, ShelfRefused};
+use xa_types::{Accepts, Name, NoMemory, QueueSetup, Sequence, ServerSetup, ServiceSetup, Setup};
 
 /// How many octets a configuration may have.
 const LONGEST_CONFIGURATION: u32 = 262_144;

@@ -5,7 +5,7 @@ ghost use Rattle.xa_program.specs.declared.status.Status.TheVariants as statuses
 ghost use Rattle.xa_program.specs.Status.{number_of};
 
 use std::process::ExitCode;
-use xa_domain::types::{NoMemory, Octets, Stamp};
+use xa_types::{NoMemory, Octets, Stamp};
 
 /// Which input was too long.
 #[derive(Clone, Copy, Debug, PartialEq, Eq)]

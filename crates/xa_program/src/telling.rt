@@ -10,12 +10,12 @@ ghost use Rattle.xa_program.specs.Progress.{Printed, TellingEnds};
 use crate::status::Status;
 use std::alloc::Global;
 use xa_domain::Halt;
-use xa_domain::events::Event;
-use xa_domain::link::{Sink, put};
 use xa_domain::script::Client;
 use xa_domain::stamp::{Record, merge};
-use xa_domain::types::{Name, NoMemory, Octets};
+use xa_events::Event;
+use xa_link::{Sink, put};
 use xa_text::transcript;
+use xa_types::{Name, NoMemory, Octets};
 
 fn names_of(alloc: Global, clients: &[Client]) -> Result<Vec<Name>, NoMemory>
     ensures { IfOk result (λ names. names.items ≡ names_of clients.now) }

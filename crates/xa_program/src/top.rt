@@ -26,10 +26,10 @@ use crate::words::{Command, read_words};
 use std::alloc::Global;
 use std::sync::Wait;
 use std::thread::Threads;
-use xa_domain::link::{Gate, Shelf, Sink, Source, Yard};
 use xa_domain::stamp::Record;
-use xa_domain::types::{NoMemory, Sequence, Setup};
 use xa_domain::{Served, serve};
+use xa_link::{Gate, Shelf, Sink, Source, Yard};
+use xa_types::{NoMemory, Sequence, Setup};
 
 /// Runs the command that these words are, which stand behind the program's own name.
 ///

@@ -6,8 +6,8 @@ ghost use Rattle.xa_program.specs.Words.{own_word, words_behind, begins_with_das
 
 use crate::status::Status;
 use std::alloc::Global;
-use xa_domain::link::Arguments;
-use xa_domain::types::{Name, NoMemory, Octets};
+use xa_link::Arguments;
+use xa_types::{Name, NoMemory, Octets};
 
 /// The words that the program was started with, in their order, of which the first is its own.
 pub fn all_words<A: Arguments>(alloc: Global, given: &A) -> Result<Vec<Octets>, NoMemory>

@@ -7,11 +7,13 @@ pub use lives::report_lives;
 
 // What crates above name of those below.
 use std::io;
+pub use xa_events as events;
+pub use xa_link as link;
+use xa_link::Escaped;
 pub use xa_program as program;
-use xa_program::link::Escaped;
-use xa_program::types::Octets;
-pub use xa_program::{events, link, types};
 use xa_program::{Input, Status};
+pub use xa_types as types;
+use xa_types::Octets;
 
 // The line of a status that is the same whenever it comes.
 fn line_of(status: &Status) -> Option<&'static str> {

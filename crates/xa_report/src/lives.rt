@@ -3,9 +3,9 @@ ghost use Rattle.std.specs.Prelude.{◌≡◌, ◌↔◌, ◌⊎◌, false};
 ghost use Rattle.xa_program.specs.xa_events.declared.event.StopCause.TheVariants.{Shutdown, Exit};
 
 use std::{fmt, io};
-use xa_program::events::{Event, StopCause, Stopped};
-use xa_program::link::Escaped;
-use xa_program::types::{Name, ServerId};
+use xa_events::{Event, StopCause, Stopped};
+use xa_link::Escaped;
+use xa_types::{Name, ServerId};
 
 // A cause as it stands in a line, with its own values.
 #[derive(Clone, Copy)]

@@ -14,17 +14,66 @@ pub use forwarding::Forwarding;
 pub use served::Served;
 pub use slot::{Last, ServerSlot};
 
-// What crates above name of those below.
-pub use xa_caller::{buffer, cell, events, held, lock, queue, route, stamp, types, work};
-pub use xa_link as link;
-pub use xa_pipe as pipe;
-pub use xa_restart as restart;
+// What crates above name of those below, in a module for each. A crate that is named whole would be written out once more in
+// each layer, and each check would load all of it.
+pub mod buffer {
+    pub use xa_caller::buffer::Shapes;
+}
 
-// What xa_caller itself has: a crate that is named whole passes on what it names of others, and so each layer would pass on
-// twice as much.
 pub mod caller {
-    pub use xa_caller::{
-        Aimed, Caller, Cargo, Draft, Filling, Left, Note, Open, Phase, Prepared, Step, Stop, Why,
-        chosen_is_first, first_row, request_is_as_asked, row_at,
+    pub use xa_caller::{Aimed, Caller, Cargo, Filling, Left, Note, Prepared, Step, Stop, Why};
+}
+
+pub mod cell {
+    pub use xa_caller::cell::{Cells, Filled, Seat};
+}
+
+pub mod events {
+    pub use xa_caller::events::{Event, StopCause};
+}
+
+pub mod held {
+    pub use xa_caller::held::{
+        AtBoard, AtQueue, BoardNote, Clearing, KeptBoard, KeptQueue, QueueNote, clear_at, close_at,
+        down_at, gone_at, look_up_at, put_at, sweep_at, take_at,
     };
+}
+
+pub mod link {
+    pub use xa_link::{Closed, Gate, Link, Point, Starter, Yard, stay};
+}
+
+pub mod lock {
+    pub use xa_caller::lock::{Guarded, LockPass};
+}
+
+pub mod pipe {
+    pub use xa_pipe::{Answered, EndedLife, Finish, Forward, Life, Pipes, Return};
+}
+
+pub mod queue {
+    pub use xa_caller::queue::{Entry, GivenUp, Outgoing, PutRefused, Queue, Refusal, Taken};
+}
+
+pub mod restart {
+    pub use xa_restart::Lives;
+}
+
+pub mod route {
+    pub use xa_caller::route::{is_same, row_for};
+}
+
+pub mod stamp {
+    pub use xa_caller::stamp::{Home, Noted, Record, merge};
+}
+
+pub mod types {
+    pub use xa_caller::types::{
+        Ask, CallerId, Data, Generation, Kind, Name, NoMemory, Octets, Op, QueueId, RequestId,
+        Rval, Sequence, ServerId, ServiceSetup, Setup, Stamp, Worn,
+    };
+}
+
+pub mod work {
+    pub use xa_caller::work::{Halt, Own, Work};
 }
