@@ -2,21 +2,23 @@
 use crate::gated::history_of;
 use crate::rows::none_fails;
 use crate::running::Runtime;
-use std::sync::atomic::{AtomicBool, Ordering};
+use std::sync::atomic::{AtomicBool, AtomicU32, Ordering};
 use xa_report::events::Event;
 use xa_report::link::{Gate, OpenGate, Point};
-use xa_report::types::{RequestId, ServerId};
+use xa_report::types::{QueueId, RequestId, ServerId};
 
-// One queue, where three requests may wait, with one server and two services, of which one has a priority of its own.
+// One queue, where three requests may wait, with one server and three services, of which one has a priority of its own,
+// and one takes no data.
 const CONFIG: &[u8] = b"[[queue]]\nname = \"Q1\"\ncapacity = 3\n\
     [[server]]\nname = \"S1\"\nqueue = \"Q1\"\n\
     [[service]]\nname = \"ECHO\"\nqueues = [\"Q1\"]\n\
-    [[service]]\nname = \"LEN\"\nqueues = [\"Q1\"]\npriority = 70\n";
+    [[service]]\nname = \"LEN\"\nqueues = [\"Q1\"]\npriority = 70\n\
+    [[service]]\nname = \"BARE\"\nroutine = \"ECHO\"\nqueues = [\"Q1\"]\naccepts = []\n";
 
 // A script, what is written, and the priorities of the requests that were accepted.
 type Row = (&'static [u8], &'static [u8], &'static [u8]);
 
-static ROWS: [Row; 14] = [
+static ROWS: [Row; 15] = [
     (b"client a\nprio add 5\n", b"a 1 DONE\n", &[]),
     (b"client a\ncall ECHO none\n", b"a 1 OK 0 none\n", &[50]),
     (
@@ -71,6 +73,11 @@ static ROWS: [Row; 14] = [
     (
         b"client a\nprio abs 10\ncall NOPE none\ncall ECHO none\n",
         b"a 1 DONE\na 2 TPENOENT\na 3 OK 0 none\n",
+        &[10],
+    ),
+    (
+        b"client a\nprio abs 10\ncall BARE text \"x\"\ncall ECHO none\n",
+        b"a 1 DONE\na 2 TPEITYPE\na 3 OK 0 none\n",
         &[10],
     ),
     // It is of one client alone, and is lost where that makes no request.
@@ -189,4 +196,128 @@ fn goes_by_priority<R: Runtime>(rt: &R) -> bool {
 #[test]
 fn requests_that_wait_are_taken_by_priority(rt: HostRuntime) {
     assert!(rt; goes_by_priority(&rt));
+}
+
+// Two queues, of which the second takes what the first has no room for.
+const ELEVEN_WAIT: &[u8] = b"[[queue]]\nname = \"Q1\"\ncapacity = 11\n[[queue]]\nname = \"Q2\"\n\
+    [[server]]\nname = \"S1\"\nqueue = \"Q1\"\n\
+    [[server]]\nname = \"S2\"\nqueue = \"Q2\"\n\
+    [[service]]\nname = \"ECHO\"\nqueues = [\"Q1\", \"Q2\"]\n";
+
+const TWELVE: &[u8] = b"client a\nprio abs 10\ncall ECHO none\ncall ECHO none\n\
+    client b\nprio abs 10\ncall ECHO none\ncall ECHO none\n\
+    client c\nprio abs 10\ncall ECHO none\ncall ECHO none\n\
+    client d\nprio abs 10\ncall ECHO none\ncall ECHO none\n\
+    client e\nprio abs 10\ncall ECHO none\ncall ECHO none\n\
+    client f\nprio abs 10\ncall ECHO none\ncall ECHO none\n\
+    client g\nprio abs 10\ncall ECHO none\ncall ECHO none\n\
+    client h\nprio abs 10\ncall ECHO none\ncall ECHO none\n\
+    client i\nprio abs 10\ncall ECHO none\ncall ECHO none\n\
+    client j\nprio abs 10\ncall ECHO none\ncall ECHO none\n\
+    client k\nprio abs 10\ncall ECHO none\ncall ECHO none\n\
+    client l\nprio abs 10\ncall ECHO none\ncall ECHO none\n";
+
+const ALL_SERVED: &[u8] = b"a 1 DONE\na 2 OK 0 none\na 3 OK 0 none\n\
+    b 1 DONE\nb 2 OK 0 none\nb 3 OK 0 none\n\
+    c 1 DONE\nc 2 OK 0 none\nc 3 OK 0 none\n\
+    d 1 DONE\nd 2 OK 0 none\nd 3 OK 0 none\n\
+    e 1 DONE\ne 2 OK 0 none\ne 3 OK 0 none\n\
+    f 1 DONE\nf 2 OK 0 none\nf 3 OK 0 none\n\
+    g 1 DONE\ng 2 OK 0 none\ng 3 OK 0 none\n\
+    h 1 DONE\nh 2 OK 0 none\nh 3 OK 0 none\n\
+    i 1 DONE\ni 2 OK 0 none\ni 3 OK 0 none\n\
+    j 1 DONE\nj 2 OK 0 none\nj 3 OK 0 none\n\
+    k 1 DONE\nk 2 OK 0 none\nk 3 OK 0 none\n\
+    l 1 DONE\nl 2 OK 0 none\nl 3 OK 0 none\n";
+
+// Holds the first server until eleven requests wait at it, and again once it has answered ten of them, until ten of the
+// next calls wait behind the one that is left. The one that finds no room is answered by the second server each time,
+// which shows that the others wait.
+#[derive(Drop)]
+struct UntilElevenWait {
+    answers: AtomicU32,
+}
+
+impl Gate for UntilElevenWait {
+    fn holds(&self, point: Point) -> bool {
+        let answers = self.answers.load(Ordering::SeqCst);
+        match point {
+            Point::BeforeTake(server) => server == ServerId(1) && (answers == 0 || answers == 11),
+            Point::BeforeOp(_, 3) => answers < 11,
+            _ => false,
+        }
+    }
+
+    fn passed(&self, point: Point) {
+        if let Point::AfterFill(_) = point {
+            let _ = self.answers.fetch_add(1, Ordering::SeqCst);
+        }
+    }
+}
+
+// What the first server takes behind the first ten, one after another: the priority of each request, and its place by age
+// among those of that priority. The twentieth take is by age alone: so the one of 10 comes before one of 50 that waits.
+static TAKEN: [(u8, usize); 12] = [
+    (50, 0),
+    (50, 1),
+    (50, 2),
+    (50, 3),
+    (50, 4),
+    (50, 5),
+    (50, 6),
+    (50, 7),
+    (50, 8),
+    (10, 10),
+    (50, 9),
+    (50, 10),
+];
+
+// The request at that place among those of that priority that the first queue accepted, the oldest first.
+fn accepted_at(history: &[Event], priority: u8, place: usize) -> Option<RequestId> {
+    let mut left = place;
+    for event in history {
+        if let Event::Accept(accepted) = event
+            && accepted.queue == QueueId(1)
+            && accepted.priority == priority
+        {
+            if left == 0 {
+                return Some(accepted.request);
+            }
+            left -= 1;
+        }
+    }
+    None
+}
+
+fn are_taken_in_turn(history: &[Event]) -> bool {
+    let mut left = TAKEN.iter();
+    for event in history {
+        if let Event::Take(take) = event
+            && take.server == ServerId(1)
+            && take.k > 10
+        {
+            match left.next() {
+                Some((priority, place))
+                    if accepted_at(history, *priority, *place) == Some(take.request) => {}
+                _ => return false,
+            }
+        }
+    }
+    left.next().is_none()
+}
+
+fn goes_by_age_each_tenth_time<R: Runtime>(rt: &R) -> bool {
+    let gate = UntilElevenWait {
+        answers: AtomicU32::new(0),
+    };
+    match history_of(rt, &gate, ELEVEN_WAIT, TWELVE, &[ALL_SERVED]) {
+        Some(history) => are_taken_in_turn(history.as_slice()),
+        None => false,
+    }
+}
+
+// One of priority 10 came first, and ten of the service's own 50 behind it.
+#[test]
+fn every_tenth_request_is_taken_by_age(rt: HostRuntime) {
+    assert!(rt; goes_by_age_each_tenth_time(&rt));
 }

@@ -3,8 +3,10 @@
 use crate::lives::{Life, NEXT, READY, SOUND, SUCCESS, lives_of};
 use crate::rows::none_fails;
 use crate::running::{End, Runtime, run_of};
+use std::sync::atomic::{AtomicU32, Ordering};
 use xa_report::events::{Event, StopCause};
-use xa_report::link::{MemoryYard, OpenGate};
+use xa_report::link::{Gate, MemoryYard, OpenGate, Point};
+use xa_report::types::{CallerId, ServerId};
 
 // The clock stands at 0, so each start counts by each GRACE.
 pub const TWO_STARTS: &[u8] = b"[[queue]]\nname = \"Q\"\n\
@@ -221,10 +223,13 @@ fn are_noted(history: &[Event], wanted: &[Noted]) -> bool {
     left.next().is_none()
 }
 
-fn is_served<R: Runtime>(
+fn is_served<R: Runtime, G: Gate>(
     rt: &R,
     yard: &mut MemoryYard,
-    (config, script, _, wrote, noted): Row,
+    gate: &G,
+    (config, script): (&[u8], &[u8]),
+    wrote: &[&[u8]],
+    noted: &[Noted],
 ) -> bool {
     let files: [(&[u8], &[u8]); 1] = [(b"c", config)];
     match run_of(
@@ -233,8 +238,8 @@ fn is_served<R: Runtime>(
         (&files, &[]),
         (script, &[], &[]),
         yard,
-        &OpenGate,
-        (End::Done, &[wrote]),
+        gate,
+        (End::Done, wrote),
     ) {
         Some((history, _)) => are_noted(&history, noted),
         None => false,
@@ -242,9 +247,9 @@ fn is_served<R: Runtime>(
 }
 
 /// Whether the run of a row goes so.
-pub fn serves<R: Runtime>(rt: &R, row: Row) -> bool {
-    match lives_of(rt.alloc(), row.2) {
-        Some(mut yard) => is_served(rt, &mut yard, row),
+pub fn serves<R: Runtime>(rt: &R, (config, script, lives, wrote, noted): Row) -> bool {
+    match lives_of(rt.alloc(), lives) {
+        Some(mut yard) => is_served(rt, &mut yard, &OpenGate, (config, script), &[wrote], noted),
         None => false,
     }
 }
@@ -261,4 +266,65 @@ fn first_not_served<R: Runtime>(rt: &R) -> Option<usize> {
 #[test]
 fn servers_are_started_again(rt: HostRuntime) {
     none_fails(&rt, first_not_served(&rt));
+}
+
+// ---- requests that wait
+
+// Where four requests may wait, and are taken in the order of the services.
+const FOUR_WAIT: &[u8] = b"[[queue]]\nname = \"Q\"\ncapacity = 4\n\
+    [[server]]\nname = \"S\"\nqueue = \"Q\"\nrestart = true\nmaxgen = 2\n\
+    [[service]]\nname = \"A\"\nqueues = [\"Q\"]\npriority = 90\n\
+    [[service]]\nname = \"B\"\nqueues = [\"Q\"]\npriority = 80\n\
+    [[service]]\nname = \"C\"\nqueues = [\"Q\"]\npriority = 70\n\
+    [[service]]\nname = \"D\"\nqueues = [\"Q\"]\npriority = 60\n\
+    [[service]]\nname = \"E\"\nqueues = [\"Q\"]\npriority = 50\n";
+
+const SIX: &[u8] = b"client a\ncall A none noblock\nclient b\ncall B none noblock\n\
+    client c\ncall C none noblock\nclient d\ncall D none noblock\n\
+    client e\ncall E none noblock\nclient f\ncall A none\n";
+
+// The one whose request comes last of the five finds four there. Of these the first and the third are in hand as a life
+// ends, and the fourth waits as the last one does.
+const ONE_SWEPT: &[&[u8]] = &[
+    b"a 1 TPEBLOCK\nb 1 TPESVCERR\nc 1 OK 0 none\nd 1 TPESVCERR\ne 1 TPESYSTEM\nf 1 TPENOENT\n",
+    b"a 1 TPESVCERR\nb 1 TPEBLOCK\nc 1 OK 0 none\nd 1 TPESVCERR\ne 1 TPESYSTEM\nf 1 TPENOENT\n",
+    b"a 1 TPESVCERR\nb 1 OK 0 none\nc 1 TPEBLOCK\nd 1 TPESVCERR\ne 1 TPESYSTEM\nf 1 TPENOENT\n",
+    b"a 1 TPESVCERR\nb 1 OK 0 none\nc 1 TPESVCERR\nd 1 TPEBLOCK\ne 1 TPESYSTEM\nf 1 TPENOENT\n",
+    b"a 1 TPESVCERR\nb 1 OK 0 none\nc 1 TPESVCERR\nd 1 TPESYSTEM\ne 1 TPEBLOCK\nf 1 TPENOENT\n",
+];
+
+// Holds the server until a call is over, and the last client until five are.
+#[derive(Drop)]
+struct UntilFive {
+    over: AtomicU32,
+}
+
+impl Gate for UntilFive {
+    fn holds(&self, point: Point) -> bool {
+        let over = self.over.load(Ordering::SeqCst);
+        (point == Point::BeforeTake(ServerId(1)) && over < 1)
+            || (point == Point::BeforeOp(CallerId(6), 1) && over < 5)
+    }
+
+    fn passed(&self, point: Point) {
+        if let Point::AfterOp(..) = point {
+            let _ = self.over.fetch_add(1, Ordering::SeqCst);
+        }
+    }
+}
+
+fn is_swept<R: Runtime>(rt: &R) -> bool {
+    let gate = UntilFive {
+        over: AtomicU32::new(0),
+    };
+    let noted = [Noted::Start(1), ENDED, Noted::Start(2), ENDED, Noted::Gone];
+    match lives_of(rt.alloc(), &[DIES, ANSWERS]) {
+        Some(mut yard) => is_served(rt, &mut yard, &gate, (FOUR_WAIT, SIX), ONE_SWEPT, &noted),
+        None => false,
+    }
+}
+
+#[test]
+fn what_waits_is_swept_with_the_last_life(rt: HostRuntime) {
+    assert!(rt; is_swept(&rt));
 }

@@ -14,12 +14,14 @@ use xa_report::types::{CallerId, Name, Octets, ServerId};
 
 // The shell's words for a server. One is started with the words `server` and its name, so `sh` reads its script from the
 // file `server`, and has the name, of one octet, as `$1`. It greets with READY and NEXT, takes an INVOKE of `ECHO`
-// without data, and returns with that number, or with TPEXIT.
+// without data, and returns with that number, or with TPEXIT. `alone` ends it where the process that noted itself last
+// is still there, and else notes its own.
 const WORDS: &str = "next() { printf 'XA\\001\\002\\000\\000\\000\\000\\000\\000\\000\\000'; }\n\
     greet() { printf \"XA\\001\\001\\000\\000\\000\\002\\000\\000\\000\\000\\001$1\"; next; }\n\
     take() { head -c 24 >/dev/null; }\n\
     give() { printf \"XA\\001\\004\\000\\000\\000\\006\\000\\000\\000\\00$1\\000\\000\\000\\000\\000\\000\"; }\n\
-    leave() { printf 'XA\\001\\004\\000\\000\\000\\006\\000\\000\\000\\001\\002\\000\\000\\000\\001\\000'; }\n";
+    leave() { printf 'XA\\001\\004\\000\\000\\000\\006\\000\\000\\000\\001\\002\\000\\000\\000\\001\\000'; }\n\
+    alone() { if test -e pid && test -e /proc/$(cat pid); then exit; fi; echo $$ >pid; }\n";
 
 fn server_text(alloc: Global, does: &str) -> Option<String> {
     format!(in alloc; "{WORDS}{does}\n").ok()
@@ -329,7 +331,7 @@ type Often = (
     usize,
 );
 
-static OFTEN_ROWS: [Often; 4] = [
+static OFTEN_ROWS: [Often; 6] = [
     (OFTEN, "exit", NEVER, 255, 0),
     (NOWHERE, "", NEVER, 0, 20),
     (
@@ -342,6 +344,21 @@ static OFTEN_ROWS: [Often; 4] = [
     (
         OFTEN,
         "greet $1; take; leave",
+        &[b"a 1 TPESVCFAIL 1 none\na 2 TPESVCFAIL 1 none\n"],
+        3,
+        0,
+    ),
+    // A process that goes on for a while is gone before the next one starts: else that one ends, and there are more lives.
+    (
+        OFTEN,
+        "alone; greet $1; take; echo no frame but text; exec sleep 1",
+        &[b"a 1 TPESVCERR\na 2 TPESVCERR\n"],
+        3,
+        0,
+    ),
+    (
+        OFTEN,
+        "alone; greet $1; take; leave; sleep 0.2",
         &[b"a 1 TPESVCFAIL 1 none\na 2 TPESVCFAIL 1 none\n"],
         3,
         0,
@@ -375,7 +392,7 @@ fn a_server_is_started_as_often_as_it_may(rt: HostRuntime) {
     let before = count_descriptors(&rt);
     none_fails(&rt, first_not_started_so(&rt, &rt));
     assert!(rt; before.is_some() && count_descriptors(&rt) == before);
-    assert!(rt; remove(&rt, &["config", "server"]));
+    assert!(rt; remove(&rt, &["config", "server", "pid"]));
 }
 
 // ---- several servers

@@ -6,17 +6,27 @@ use xa_report::events::{Event, Evidence, Refused};
 use xa_report::link::{MemoryLink, MemoryYard, OpenGate};
 use xa_report::program::{EndedLife, Pipes};
 
-// One queue with one server, and three services.
+// One queue with one server, and six services.
 const CONFIG: &[u8] = b"[[queue]]\nname = \"Q1\"\n\
     [[server]]\nname = \"S1\"\nqueue = \"Q1\"\n\
     [[service]]\nname = \"ECHO\"\nqueues = [\"Q1\"]\n\
     [[service]]\nname = \"LEN\"\nqueues = [\"Q1\"]\n\
-    [[service]]\nname = \"FAIL\"\nqueues = [\"Q1\"]\n";
+    [[service]]\nname = \"FAIL\"\nqueues = [\"Q1\"]\n\
+    [[service]]\nname = \"A\"\nroutine = \"PASS\"\nqueues = [\"Q1\"]\n\
+    [[service]]\nname = \"B\"\nroutine = \"PASS\"\nqueues = [\"Q1\"]\n\
+    [[service]]\nname = \"C\"\nroutine = \"ECHO\"\nqueues = [\"Q1\"]\n";
 
 const READY: &[u8] = b"XA\x01\x01\0\0\0\x03\0\0\0\0\x02S1";
 
 // RETURN of success to the first invocation, with code 0 and hello.
 const RETURN: &[u8] = b"XA\x01\x04\0\0\0\x0f\0\0\0\x01\0\0\0\0\0\x01\0\0\0\x05hello";
+
+// FORWARD of the first to B and of the second to C, and RETURN to the third, with what is left of the text.
+const TO_B: &[u8] = b"XA\x01\x05\0\0\0\x0b\0\0\0\x01\x01B\x01\0\0\0\x04C hi";
+
+const TO_C: &[u8] = b"XA\x01\x05\0\0\0\x09\0\0\0\x02\x01C\x01\0\0\0\x02hi";
+
+const BACK: &[u8] = b"XA\x01\x04\0\0\0\x0c\0\0\0\x03\0\0\0\0\0\x01\0\0\0\x02hi";
 
 const SHUTDOWN: &[u8] = b"XA\x01\x13\0\0\0\0\0\0\0\0";
 
@@ -30,7 +40,7 @@ type Row = (
     Option<u64>,
 );
 
-static ROWS: [Row; 3] = [
+static ROWS: [Row; 4] = [
     (b"", &[READY, NEXT], b"", SHUTDOWN, None),
     (
         b"client a\ncall ECHO text \"hello\"\n",
@@ -40,13 +50,24 @@ static ROWS: [Row; 3] = [
         XA\x01\x13\0\0\0\0\0\0\0\0",
         None,
     ),
+    // It gets what it forwards to its own queue.
+    (
+        b"client a\ncall A text \"B C hi\"\n",
+        &[READY, NEXT, TO_B, NEXT, TO_C, NEXT, BACK, NEXT],
+        b"a 1 OK 0 octet 6869\n",
+        b"XA\x01\x11\0\0\0\x13\0\0\0\x01\x01A\x04PASS\0\x01\0\0\0\x06B C hi\
+        XA\x01\x11\0\0\0\x11\0\0\0\x02\x01B\x04PASS\0\x01\0\0\0\x04C hi\
+        XA\x01\x11\0\0\0\x0f\0\0\0\x03\x01C\x04ECHO\0\x01\0\0\0\x02hi\
+        XA\x01\x13\0\0\0\0\0\0\0\0",
+        None,
+    ),
     // The board has a row of each service by then.
     (
         b"client a\ncall NOPE none\n",
         &[READY, NEXT],
         b"a 1 TPENOENT\n",
         SHUTDOWN,
-        Some(3),
+        Some(6),
     ),
 ];
 

@@ -68,7 +68,7 @@ const MORE: Wish = (Some((false, 5)), 65);
 // lists for the service, or for another where it is no name, and how the request leaves the server.
 type Row = (u8, Wish, &'static [u8], Brings, Queues, End);
 
-static ROWS: [Row; 17] = [
+static ROWS: [Row; 18] = [
     (0, OWN, b"ECHO", A, UP, End::On),
     (1, LOW, b"ECHO", Brings::Nothing, DOWN_UP, End::On),
     (0, MORE, b"PAIR", PAIR, UP, End::On),
@@ -83,6 +83,14 @@ static ROWS: [Row; 17] = [
     (0, OWN, b"ECHO", A, &[], End::Failed(VERSION)),
     (0, MORE, b"PAIR", A, UP, End::Failed(VERSION)),
     (0, LOW, b"ECHO", A, BOTH_SHUT, End::Failed(VERSION)),
+    (
+        0,
+        OWN,
+        b"ECHO",
+        A,
+        &[(1, State::Full)],
+        End::Failed(VERSION),
+    ),
     (31, OWN, b"ECHO", PAIR, FULL_DOWN, End::Failed(VERSION)),
     (0, OWN, b"ECHO", A, FULL_HALTS, End::Starved),
     (5, MORE, b"PAIR", PAIR, &[(2, State::Halts)], End::Starved),
