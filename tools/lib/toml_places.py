@@ -233,7 +233,10 @@ class Reader:
         return Value("datetime", match[0], self.place(start))
 
     def integer(self, match, start):
-        number = int(match[0].replace("_", ""), 0) if match[0].lstrip("+-")[:1] != "0" or len(match[0]) > 2 else int(match[0])
+        try:
+            number = int(match[0].replace("_", ""), 0)
+        except ValueError:  # It has more than 4,300 digits in decimal.
+            number = 2**63
         if not -(2**63) <= number < 2**63:
             self.refuse("a whole number has 64 bits", start)
         return Value("integer", number, self.place(start))
