@@ -5,6 +5,7 @@ most 80 parts.
 """
 
 import datetime
+import math
 import re
 
 DEEPEST = 80
@@ -242,6 +243,8 @@ class Reader:
         return Value("integer", number, self.place(start))
 
     def float(self, match, start):
+        if math.isinf(float(match[0])) and not match[0].endswith("inf"):
+            self.refuse("a number with a point or an exponent has 64 bits", start)
         return Value("float", match[0], self.place(start))
 
     def array(self, start, depth):
