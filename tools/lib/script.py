@@ -48,6 +48,12 @@ def shapes_of(document):
     return {name: dict(text.split(" ", 1) for text in texts_of(entry.get("fields").data)) for name, entry in zip(names_of(entries), entries)}
 
 
+def number_of(word):
+    """The number that the word says. Of a long one its front is enough, which is beyond all limits too: int() takes no more
+    than 4,300 digits."""
+    return int(word[:30])
+
+
 class Line:
     """A line that is read from its front. What the setup doesn't take is told only where no word is at fault."""
 
@@ -80,9 +86,9 @@ class Line:
 
     def number(self, what, least, most):
         word, start = self.word(what)
-        if not NUMBER.fullmatch(word) or not least <= int(word) <= most:
+        if not NUMBER.fullmatch(word) or not least <= number_of(word) <= most:
             raise self.misread(f"{what} is a number from {least:,} to {most:,} without leading zero", "", start)
-        return int(word)
+        return number_of(word)
 
     def service(self, what="the service"):
         word, start = self.word(what)
@@ -138,7 +144,7 @@ class Line:
             if not NUMBER.fullmatch(value):
                 raise self.misread("a value is a number without leading zero, or a text in double quotes")
             self.at += len(value)
-            value = int(value)
+            value = number_of(value)
         if fields is None:
             return
         if name not in fields:

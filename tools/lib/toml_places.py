@@ -5,6 +5,7 @@ most 80 parts.
 """
 
 import datetime
+import math
 import re
 
 DEEPEST = 80
@@ -233,12 +234,17 @@ class Reader:
         return Value("datetime", match[0], self.place(start))
 
     def integer(self, match, start):
-        number = int(match[0].replace("_", ""), 0) if match[0].lstrip("+-")[:1] != "0" or len(match[0]) > 2 else int(match[0])
+        try:
+            number = int(match[0].replace("_", ""), 0)
+        except ValueError:  # It has more than 4,300 digits in decimal.
+            number = 2**63
         if not -(2**63) <= number < 2**63:
             self.refuse("a whole number has 64 bits", start)
         return Value("integer", number, self.place(start))
 
     def float(self, match, start):
+        if math.isinf(float(match[0])) and not match[0].endswith("inf"):
+            self.refuse("a number with a point or an exponent has 64 bits", start)
         return Value("float", match[0], self.place(start))
 
     def array(self, start, depth):
