@@ -289,18 +289,28 @@ fn accepted_at(history: &[Event], priority: u8, place: usize) -> Option<RequestI
     None
 }
 
+// The request that the first server takes by that event, behind the first ten.
+fn taken_by(event: &Event) -> Option<RequestId> {
+    match event {
+        Event::Take(take) if take.server == ServerId(1) && take.k > 10 => Some(take.request),
+        _ => None,
+    }
+}
+
+fn is_due(history: &[Event], next: Option<&(u8, usize)>, request: RequestId) -> bool {
+    match next {
+        Some((priority, place)) => accepted_at(history, *priority, *place) == Some(request),
+        None => false,
+    }
+}
+
 fn are_taken_in_turn(history: &[Event]) -> bool {
     let mut left = TAKEN.iter();
     for event in history {
-        if let Event::Take(take) = event
-            && take.server == ServerId(1)
-            && take.k > 10
+        if let Some(request) = taken_by(event)
+            && !is_due(history, left.next(), request)
         {
-            match left.next() {
-                Some((priority, place))
-                    if accepted_at(history, *priority, *place) == Some(take.request) => {}
-                _ => return false,
-            }
+            return false;
         }
     }
     left.next().is_none()
