@@ -18,14 +18,50 @@ pub use laws::{chosen_is_first, request_is_as_asked};
 pub use outcomes::{Aimed, Note, Prepared, Step, Stop, Why};
 pub use phase::{Draft, Open, Phase};
 
-// What crates above name of those below.
-pub use xa_buffer as buffer;
-pub use xa_cell as cell;
-pub use xa_events as events;
-pub use xa_held as held;
-pub use xa_lock as lock;
-pub use xa_queue as queue;
-pub use xa_route as route;
-pub use xa_stamp as stamp;
-pub use xa_types as types;
-pub use xa_work as work;
+// What crates above name of those below, in a module for each. A crate that is named whole would be written out once more in
+// each layer, and each check would load all of it.
+pub mod buffer {
+    pub use xa_buffer::Shapes;
+}
+
+pub mod cell {
+    pub use xa_cell::{Cells, Filled, Seat, Ticket};
+}
+
+pub mod events {
+    pub use xa_events::{Doing, Ended, Event, Forwarded, Outcome, Started, StopCause, Stopped};
+}
+
+pub mod held {
+    pub use xa_held::{
+        AtBoard, AtQueue, BoardNote, Clearing, Invocation, KeptBoard, KeptQueue, QueueNote,
+        clear_at, close_at, down_at, gone_at, look_up_at, put_at, sweep_at, take_at,
+    };
+}
+
+pub mod lock {
+    pub use xa_lock::{Guarded, LockPass};
+}
+
+pub mod queue {
+    pub use xa_queue::{Entry, GivenUp, Outgoing, PutRefused, Queue, Refusal, Taken};
+}
+
+pub mod route {
+    pub use xa_route::{is_same, priority, row_for};
+}
+
+pub mod stamp {
+    pub use xa_stamp::{Home, Noted, Record, merge};
+}
+
+pub mod types {
+    pub use xa_types::{
+        Answer, Ask, CallerId, Data, Fault, Found, Generation, Kind, Name, NoMemory, Octets, Op,
+        QueueId, RequestId, Row, Rval, Sequence, ServerId, ServiceSetup, Setup, Stamp, Worn,
+    };
+}
+
+pub mod work {
+    pub use xa_work::{Halt, Own, Work};
+}

@@ -69,8 +69,8 @@ pub mod stamp {
 
 pub mod types {
     pub use xa_caller::types::{
-        Ask, CallerId, Data, Generation, Kind, Name, NoMemory, Octets, Op, QueueId, RequestId,
-        Rval, Sequence, ServerId, ServiceSetup, Setup, Stamp, Worn,
+        Answer, Ask, CallerId, Data, Fault, Generation, Kind, Name, NoMemory, Octets, Op, QueueId,
+        RequestId, Rval, Sequence, ServerId, ServiceSetup, Setup, Stamp, Worn,
     };
 }
 
