@@ -28,6 +28,7 @@ use Rattle.xa_clients.specs.xa_held.Joins.{changes_at}
 use Rattle.xa_clients.proofs.xa_held.Fronts.{changes_front}
 use Rattle.xa_clients.specs.xa_work.Work.{IsWorkOf}
 use Rattle.xa_clients.specs.xa_server.Told.{HasStamp}
+use Rattle.xa_clients.specs.xa_desk.Deserted.{ClearsBehind}
 use Rattle.xa_clients.specs.xa_desk.Desks.{IsGrounded}
 use Rattle.xa_clients.specs.xa_desk.Whole.{Whole, entries_of, IsKnown}
 use Rattle.xa_boot.specs.Booting.{IsBoots}
@@ -59,6 +60,10 @@ saw_fronts setup clients entries stamp _ older b = absurd b
 was_told : (setup : Setup) (clients : ℕ) (entries : Home → List Stamped) (stamp : Stamp) (own : List Event) (e : Event) → IsBoots e → WasTold setup clients entries stamp own e
 was_told setup clients entries stamp own (Advertise a) b = tt
 was_told setup clients entries stamp own _ b = absurd b
+
+clears_behind : (setup : Setup) (entries : Home → List Stamped) (own : List Stamped) (stamp : Stamp) (e : Event) → IsBoots e → ClearsBehind setup entries own stamp e
+clears_behind setup entries own stamp (Advertise a) b = tt
+clears_behind setup entries own stamp _ b = absurd b
 
 -- ---- the board's home
 
@@ -181,6 +186,9 @@ module _ (setup : Setup) where
 
     pub all_behind : (last : Stamp) → All (λ (x : Stamped). IsBehind last x.stamp x.event) own
     all_behind last = All-weaker (λ (x : Stamped). IsBoots x.event) (λ (x : Stamped). IsBehind last x.stamp x.event) (λ x b. is_behind last x.stamp x.event b) own all_boots
+
+    pub all_clears : (entries : Home → List Stamped) → All (λ (x : Stamped). ClearsBehind setup entries own x.stamp x.event) own
+    all_clears entries = All-weaker (λ (x : Stamped). IsBoots x.event) (λ (x : Stamped). ClearsBehind setup entries own x.stamp x.event) (λ x b. clears_behind setup entries own x.stamp x.event b) own all_boots
 
     pub all_saw : (clients : ℕ) (entries : Home → List Stamped) → AtEach (λ (x : Stamped) older. SawFronts setup clients entries x.stamp x.event (map (λ (y : Stamped). y.event) older)) (reverse own)
     all_saw clients entries = each-weaker (IsNextNote setup) (λ (x : Stamped) older. SawFronts setup clients entries x.stamp x.event (map (λ (y : Stamped). y.event) older)) (λ x older note. saw_fronts setup clients entries x.stamp x.event (map (λ (y : Stamped). y.event) older) note.boots) (reverse own) is.boots

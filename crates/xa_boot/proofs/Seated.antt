@@ -42,7 +42,7 @@ use Rattle.xa_boot.specs.Opening.{IsBoot, opening}
 use Rattle.xa_boot.specs.Supplies.{IsBoardFor, QueuePass}
 use Rattle.xa_boot.specs.Staffing.{IsQueueFor, IsPost, IsNewDesk}
 use Rattle.xa_boot.proofs.Dealt.{there-weaker}
-use Rattle.xa_boot.proofs.Noted.{opening-changes, opening_grounded, all_reached, all_on_board, none_on_queue, is_work, all_boots, all_behind, all_saw, all_told, all_met, all_next, last_known}
+use Rattle.xa_boot.proofs.Noted.{opening-changes, opening_grounded, all_reached, all_on_board, none_on_queue, is_work, all_boots, all_behind, all_saw, all_told, all_met, all_next, all_clears, last_known}
 
 -- ---- passes
 
@@ -115,7 +115,7 @@ module _ (d : Domain) (own : List Stamped) (k : ℕ) (post : Post) (least : ℕ)
   none_filled n = subst (All (EndedFor [])) (sym (ap (λ p. p.filled) (its.seat.fresh.parts n))) (All-nil (EndedFor []))
 
   shows_none : (whole : Whole) → Shows d whole new.caller.work
-  shows_none whole = record { behind = All-nil _; saw = tt; told = tt; met = All-nil _; next = All-nil _ }
+  shows_none whole = record { behind = All-nil _; saw = tt; told = tt; met = All-nil _; next = All-nil _; clears = All-nil _ }
 
   queue_none : (n : ℕ) → n < length d.queues.items → (page_in (slice_index_or post.queues.items n None)).own ≡ []
   queue_none n within = own_none (slice_index_or post.queues.items n None) (its.queues n within) where
@@ -186,6 +186,7 @@ new_closer d own post is its reached =
         told = all_told d.setup own is d.clients (entries_of whole) 0;
         met = subst (All (MetAmong d.setup (entries_of whole BoardHome))) (sym (all_on_board d.setup own is d.clients)) (all_met d.setup own is whole (on whole begins));
         next = all_next d.setup own is whole (on whole begins);
+        clears = all_clears d.setup own is (entries_of whole);
       };
       halt = refl;
     }

@@ -52,24 +52,31 @@ use Rattle.xa_desk.specs.declared.desk.Desk.{Desk}
 use Rattle.xa_desk.specs.Whole.{Whole, entries_of, IsKnown}
 use Rattle.xa_told.specs.xa_server.Told.{HasStamp}
 use Rattle.xa_desk.specs.Made.{IsMade}
+use Rattle.xa_desk.specs.Deserted.{ClearsBehind}
 use Rattle.xa_desk.specs.Desks.{IsGrounded, GoesOn, Leads, page_at, queue_page}
 use Rattle.xa_desk.specs.Serving.{IsDeserted, IsCleared, OfDomain, IsHaltNear, halt_by, seen_by}
 use Rattle.xa_told.proofs.xa_held.Changed.{withdrawal_met}
 use Rattle.xa_desk.proofs.Boarding.{BoardStep, board_front, board_before, stamp_known, reach_known, board_moves, board_seen_leads}
 use Rattle.xa_desk.proofs.Leading.{Grew, grew_one, IsShown, one_leads, starts_trans}
-use Rattle.xa_desk.proofs.Falling.{of_domain, of_none}
+use Rattle.xa_desk.proofs.Falling.{gave_on, of_domain, of_none}
 use Rattle.xa_desk.proofs.Visiting.{stamp_is, larger_known}
 
 -- the passes of queues are what they were, and no stamp is smaller
-pub deserted_still : (d : Domain) (queue : ℕ) (old new : Desk) → new.queues.items ≡ old.queues.items → old.caller.work.stamp.0 ≤ new.caller.work.stamp.0 → IsDeserted d queue old → IsDeserted d queue new
-deserted_still d queue old new passes later left = subst (λ (l : List (Option (LockPass (QueueNote Filling)))). SawLeft d.setup queue new.caller.work.stamp (page_at l queue)) (sym passes) (record {
-  its = left.its;
-  sees = left.sees;
-  is = left.is;
-  servers = left.servers;
-  gone = left.gone;
-  reached = All-weaker (λ (x : Stamped). x.stamp.0 ≤ old.caller.work.stamp.0) (λ (x : Stamped). x.stamp.0 ≤ new.caller.work.stamp.0) (λ x le. omega (arith, le, later)) (events_at (queue_page old queue).seen) left.reached;
-})
+pub deserted_still : (d : Domain) (queue : ℕ) (old new : Desk) → new.queues.items ≡ old.queues.items → Leads d old new → IsDeserted d queue old → IsDeserted d queue new
+deserted_still d queue old new passes leads deserted =
+    let left = deserted.left in
+    let later = leads.stamp in
+    record {
+      left = subst (λ (l : List (Option (LockPass (QueueNote Filling)))). SawLeft d.setup queue new.caller.work.stamp (page_at l queue)) (sym passes) (record {
+        its = left.its;
+        sees = left.sees;
+        is = left.is;
+        servers = left.servers;
+        gone = left.gone;
+        reached = All-weaker (λ (x : Stamped). x.stamp.0 ≤ old.caller.work.stamp.0) (λ (x : Stamped). x.stamp.0 ≤ new.caller.work.stamp.0) (λ x le. omega (arith, le, later)) (events_at (queue_page old queue).seen) left.reached;
+      });
+      last = gave_on leads deserted.last;
+    }
 
 -- a row that stands isn't withdrawn only where memory ran out or stamps are at their end, which is that number then
 abbrev EndsAt : ℕ → Halt → Type 0
@@ -143,7 +150,7 @@ module _ {d : Domain} {desk new : Desk} {p p' : LockPass BoardNote} (step : Boar
           behind = subst (IsBehind d.booted out.stamp) (sym withdrawn_is) (omega (arith, rises, booted));
           saw = subst (λ (e : Event). SawFronts d.setup d.clients (entries_of whole) out.stamp e (past_in w.own)) (sym withdrawn_is)
               (λ ours. subst (λ (l : List Stamped). SawFront l out.stamp (AllGone d.setup queue.0)) (events_kept (whole.queues queue.0))
-              (gone_front d.setup queue.0 w.stamp out.stamp (queue_page desk queue.0) (notes_of (whole.queues queue.0)) left (back.queues queue.0) rises));
+              (gone_front d.setup queue.0 w.stamp out.stamp (queue_page desk queue.0) (notes_of (whole.queues queue.0)) left.left (back.queues queue.0) rises));
           told = subst (WasTold d.setup d.clients (entries_of whole) out.stamp (worker_events d.clients w.id.0 (past_in w.own))) (sym withdrawn_is) tt;
           before = record { 0 = max w.stamp.0 withdrew.old.last.0 };
           next = omega (arith, higher, same_stamp, behind);
@@ -157,12 +164,13 @@ module _ {d : Domain} {desk new : Desk} {p p' : LockPass BoardNote} (step : Boar
         (board_moves step withdrew grew (All-cons (λ (x : Stamped). home_of d.setup d.clients x.event ≡ BoardHome) its [] (ap (home_of d.setup d.clients) withdrawn_is) (All-nil (λ (x : Stamped). home_of d.setup d.clients x.event ≡ BoardHome))) (ap (λ (c : Caller). c.seat) caller)
         (All-cons (IsGrounded new.caller.work.own) _ [] tt (All-nil (IsGrounded new.caller.work.own))) (ap (λ (c : Caller). c.least) caller)
         (reached_last (page_of p').seen withdrew.new withdrew.saw withdrew.sound new.caller.work.stamp (withdrew.how.2.last ∙ sym stamp))) stamp
-        (λ whole on there_. withdrawal_met d.setup (page_of p) (page_of p') maker whole.board (board_front step whole on) seen queue out withdrew) shown
+        (λ whole on there_. withdrawal_met d.setup (page_of p) (page_of p') maker whole.board (board_front step whole on) seen queue out withdrew)
+        (λ whole on. subst (ClearsBehind d.setup (entries_of whole) w.own out.stamp) (sym withdrawn_is) (left.last whole on out.stamp rises)) shown
 
     pub withdrew_clears : new.queues.items ≡ desk.queues.items → Leads d desk new × IsDeserted d queue.0 new × OfDomain desk new × HasStamp new.caller.work.own new.caller.work.stamp
     withdrew_clears same = (
       withdrew_leads,
-      deserted_still d queue.0 desk new same withdrew_leads.stamp left,
+      deserted_still d queue.0 desk new same withdrew_leads left,
       of_domain desk new out.stamp (withdrawal (record { 0 = 0 }) 0 row.service queue (version_of withdrew.old.board + 1)) (record { domain = refl; none = refl }) (caller ∙ ap (λ (e : Event). noted_off out.stamp e desk.caller) withdrawn_is),
       (its, subst (λ (l : List Stamped). Contains l its) (sym {A = List Stamped} grew.own) (Contains-push w.own its), sym (ap (λ (c : Caller). c.work.stamp) caller)),
     )
@@ -187,11 +195,11 @@ module _ {d : Domain} {desk new : Desk} {p p' : LockPass BoardNote} (step : Boar
     looked_cleared whole on later less =
         let before = looked_leads.before whole on in
         let higher = ap (λ (c : Caller). c.work.stamp.0) caller in
-        deserted d.setup (page_of p) (page_of p') (queue_page desk queue.0) seen later maker queue look whole.board (whole.queues queue.0) looked (board_before step).booted (subst (λ s. SawLeft d.setup queue.0 s (queue_page desk queue.0)) (sym saw) left) (omega (arith, less, higher, same_stamp))
+        deserted d.setup (page_of p) (page_of p') (queue_page desk queue.0) seen later maker queue look whole.board (whole.queues queue.0) looked (board_before step).booted (subst (λ s. SawLeft d.setup queue.0 s (queue_page desk queue.0)) (sym saw) left.left) (omega (arith, less, higher, same_stamp))
         on.sound (board_front step whole on) (before.queues queue.0)
 
     pub looked_goes : new.queues.items ≡ desk.queues.items → Leads d desk new × IsDeserted d queue.0 new × OfDomain desk new × IsCleared d queue.0 new
-    looked_goes same = (looked_leads, deserted_still d queue.0 desk new same looked_leads.stamp left, of_none desk new look.stamp caller, looked_cleared)
+    looked_goes same = (looked_leads, deserted_still d queue.0 desk new same looked_leads left, of_none desk new look.stamp caller, looked_cleared)
 
   -- nothing was noted, and the board's last stamp was seen, or where stamps came to their end that
   module _ (why : BoardRefused) (last : Stamp) (low : seen.0 ≤ 2 ^ 63) (refused : ClearedAs (BoardVisits (page_of p) (page_of p')) seen maker queue (Err why)) (caller : new.caller ≡ record desk.caller { work = seeing (seen_by (halt_by why) last) w }) where
@@ -206,7 +214,7 @@ module _ {d : Domain} {desk new : Desk} {p p' : LockPass BoardNote} (step : Boar
     pub refused_goes : ReachesBoard (page_of p') last → new.queues.items ≡ desk.queues.items → Leads d desk new × IsDeserted d queue.0 new × OfDomain desk new
     refused_goes reaches same =
         let leads = refused_leads reaches in
-        (leads, deserted_still d queue.0 desk new same leads.stamp left, of_none desk new (seen_by (halt_by why) last) caller)
+        (leads, deserted_still d queue.0 desk new same leads left, of_none desk new (seen_by (halt_by why) last) caller)
 
     -- and the worker is at that end
     pub refused_halts : IsHaltNear new (halt_by why)

@@ -44,23 +44,31 @@ use Rattle.xa_told.proofs.xa_server.Telling.{sweep_backed}
 use Rattle.xa_desk.specs.declared.domain.Domain.{Domain}
 use Rattle.xa_desk.specs.declared.desk.Desk.{Desk}
 use Rattle.xa_desk.specs.Whole.{entries_of}
+use Rattle.xa_desk.specs.Deserted.{GaveUpLast}
 use Rattle.xa_desk.specs.Desks.{IsDesk, Leads}
 use Rattle.xa_desk.specs.Found.{SawAtQueue}
-use Rattle.xa_desk.specs.Serving.{IsDeserted, IsCleared, IsFallen, IsSwept, OfDomain, IsToTell}
+use Rattle.xa_desk.specs.Serving.{GaveUp, IsDeserted, IsCleared, IsFallen, IsSwept, OfDomain, IsToTell}
+use Rattle.xa_desk.proofs.Leading.{gave_more}
 use Rattle.xa_desk.proofs.Ending.{same_opening, not_empty}
 use Rattle.xa_desk.proofs.Showing.{saw_there, down_seen, waits}
 use Rattle.xa_desk.proofs.Visiting.{QueuePass, HasPass, Step, its_pass, page_is, now_has, setting_found, later, event_leads}
 
+-- the worker gave up the queue's last server still
+pub gave_on : {d : Domain} {queue : ℕ} {old new : Desk} → Leads d old new → GaveUp d queue old → GaveUp d queue new
+gave_on {d} {queue} {old} {new} leads gave whole on stamp less =
+    let later = leads.stamp in
+    subst (λ (l : List Stamped). GaveUpLast d.setup queue (entries_of whole (QueueHome queue)) l stamp) (sym {A = List Stamped} leads.own.1) (gave_more old.caller.work.own leads.own.0 (gave whole (leads.before whole on) stamp (omega (arith, later, less))))
+
 module _ {d : Domain} {queue k : ℕ} {desk : Desk} {p : QueuePass} (is : IsDesk d desk) (has : HasPass d queue k desk p) where
   -- all its servers were given up
   pub deserted_setting : IsDeserted d queue desk → (s : Setting Filling) × Sees s (page_of p) × (all_gone (gone_in (page_of p).seen) s.servers ≡ true)
-  deserted_setting left = let left_here = subst (λ page. SawLeft d.setup queue desk.caller.work.stamp page) (page_is has) left in (left_here.its, left_here.sees, left_here.gone)
+  deserted_setting left = let left_here = subst (λ page. SawLeft d.setup queue desk.caller.work.stamp page) (page_is has) left.left in (left_here.its, left_here.sees, left_here.gone)
 
   -- it is down
-  pub fallen_setting : IsFallen queue desk → (s : Setting Filling) × Sees s (page_of p) × (is_down_in s.id.0 (page_of p).seen ≡ true)
+  pub fallen_setting : IsFallen d queue desk → (s : Setting Filling) × Sees s (page_of p) × (is_down_in s.id.0 (page_of p).seen ≡ true)
   fallen_setting fallen =
       let pass = its_pass has is in
-      (pass.its, pass.sees, ap (λ n. is_down_in n (page_of p).seen) (pass.is.id ∙ sym has.at) ∙ sym (ap (λ page. is_down_in queue page.seen) (page_is has)) ∙ fallen)
+      (pass.its, pass.sees, ap (λ n. is_down_in n (page_of p).seen) (pass.is.id ∙ sym has.at) ∙ sym (ap (λ page. is_down_in queue page.seen) (page_is has)) ∙ fallen.down)
 
 -- a step for the domain at that queue
 module _ {d : Domain} {queue k : ℕ} {desk new : Desk} {p p' : QueuePass} {last : Stamp} (step : Step d queue k desk new p p' last) where
@@ -68,22 +76,22 @@ module _ {d : Domain} {queue k : ℕ} {desk new : Desk} {p p' : QueuePass} {last
     id_left : visits.new.queue.id.0 ≡ queue
     id_left = ap (λ (s : Setting Filling). s.id.0) visits.same ∙ (setting_found step visits).id
 
-    is_fallen_by : is_down_in queue (page_of p').seen ≡ true → IsFallen queue new
-    is_fallen_by down = ap (λ page. is_down_in queue page.seen) (page_is (now_has step)) ∙ down
+    is_fallen_by : is_down_in queue (page_of p').seen ≡ true → GaveUp d queue new → IsFallen d queue new
+    is_fallen_by down gave = record { down = ap (λ page. is_down_in queue page.seen) (page_is (now_has step)) ∙ down; last = gave }
 
-    seen_down : IsFallen queue desk → is_down_in queue (page_of p').seen ≡ true
-    seen_down fallen = is_down-whole (page_of p').seen (page_of p).seen queue (sees_more visits) (sym (ap (λ page. is_down_in queue page.seen) (page_is step.has)) ∙ fallen)
+    seen_down : IsFallen d queue desk → is_down_in queue (page_of p').seen ≡ true
+    seen_down fallen = is_down-whole (page_of p').seen (page_of p).seen queue (sees_more visits) (sym (ap (λ page. is_down_in queue page.seen) (page_is step.has)) ∙ fallen.down)
 
     -- a queue that was down is down still
-    pub falls_still : IsFallen queue desk → IsFallen queue new
-    falls_still fallen = is_fallen_by (seen_down fallen)
+    pub falls_still : Leads d desk new → IsFallen d queue desk → IsFallen d queue new
+    falls_still leads fallen = is_fallen_by (seen_down fallen) (gave_on leads fallen.last)
 
     -- it was left down
-    pub falls : visits.new.queue.down ≡ true → IsFallen queue new
-    falls down = is_fallen_by (ap (λ n. is_down_in n (page_of p').seen) (sym id_left) ∙ down_left visits ∙ down)
+    pub falls : Leads d desk new → GaveUp d queue desk → visits.new.queue.down ≡ true → IsFallen d queue new
+    falls leads gave down = is_fallen_by (ap (λ n. is_down_in n (page_of p').seen) (sym id_left) ∙ down_left visits ∙ down) (gave_on leads gave)
 
     -- it is down, and nothing waits there
-    pub falls_swept : IsDesk d new → IsFallen queue desk → visits.new.queue.waiting ≡ [] → SawAtQueue d queue new (IsSwept d queue)
+    pub falls_swept : IsDesk d new → IsFallen d queue desk → visits.new.queue.waiting ≡ [] → SawAtQueue d queue new (IsSwept d queue)
     falls_swept is fallen none =
         let has = now_has step in
         let down : visits.new.queue.down ≡ true = sym (down_left visits) ∙ ap (λ n. is_down_in n (page_of p').seen) id_left ∙ seen_down fallen in
@@ -140,30 +148,34 @@ module _ {d : Domain} {queue k : ℕ} {desk new : Desk} {p p' : QueuePass} {last
 
   -- the queue went down
   module _ (noted : Noted) (did : WentDownAs V seen maker (Ok (Some noted))) (caller : new.caller ≡ noted_off noted.stamp noted.event.value desk.caller) where
-    pub fell_goes : IsCleared d queue desk → Leads d desk new × OfDomain desk new × IsFallen queue new
-    fell_goes clear =
+    pub fell_goes : IsCleared d queue desk → GaveUp d queue desk → Leads d desk new × OfDomain desk new × IsFallen d queue new
+    fell_goes clear gave =
         let its : Event = Down did.old.queue.id in
         let next = did.how.1.notes.next ∙ ap (λ s. next_stamp s did.old.queue) saw in
         let rises = later step maker noted.stamp noted.event.value did next in
         let booted = step.is.booted in
-        let id = (setting_found step did).id in (
-          event_leads step maker noted.stamp noted.event.value did next caller its did.how.1.event_is (ap QueueHome id) tt (omega (arith, rises, booted)) (λ whole on. tt)
-              (λ whole on. subst (λ n. SawDeserted d.setup n (entries_of whole BoardHome) (entries_of whole (QueueHome n)) noted.stamp) (sym id) (clear whole on noted.stamp rises)),
+        let id = (setting_found step did).id in
+        let leads : Leads d desk new =
+            event_leads step maker noted.stamp noted.event.value did next caller its did.how.1.event_is (ap QueueHome id) tt (omega (arith, rises, booted)) (λ whole on. tt)
+              (λ whole on. subst (λ n. SawDeserted d.setup n (entries_of whole BoardHome) (entries_of whole (QueueHome n)) noted.stamp) (sym id) (clear whole on noted.stamp rises))
+              (λ whole on. subst (λ n. GaveUpLast d.setup n (entries_of whole (QueueHome n)) desk.caller.work.own noted.stamp) (sym id) (gave whole on noted.stamp rises)) in (
+          leads,
           of_domain desk new noted.stamp its tt (caller ∙ ap (λ (e : Event). noted_off noted.stamp e desk.caller) did.how.1.event_is),
-          falls step did (ap (λ q. q.down) did.how.1.notes.made),
+          falls step did leads gave (ap (λ q. q.down) did.how.1.notes.made),
         )
 
   -- a request was swept
   module _ (out : Outgoing Cargo) (did : SweptAs V seen maker (Ok (Some out))) (caller : new.caller ≡ noted_off out.noted.stamp out.noted.event.value desk.caller) where
-    pub swept_goes : (closing : Closing) → closing ≡ record { ticket = Some out.entry.cargo.ticket; answer = Some (reply_of SweptAway); stamp = out.noted.stamp } → Leads d desk new × OfDomain desk new × IsToTell d new closing × IsSome closing.ticket × (new.caller ≡ noted_off out.noted.stamp (Sweep (record { request = out.entry.request; queue = record { 0 = queue } })) desk.caller)
-    swept_goes closing is =
+    pub swept_goes : GaveUp d queue desk → (closing : Closing) → closing ≡ record { ticket = Some out.entry.cargo.ticket; answer = Some (reply_of SweptAway); stamp = out.noted.stamp } → Leads d desk new × OfDomain desk new × IsToTell d new closing × IsSome closing.ticket × (new.caller ≡ noted_off out.noted.stamp (Sweep (record { request = out.entry.request; queue = record { 0 = queue } })) desk.caller)
+    swept_goes gave closing is =
         let its : Event = Sweep (record { request = out.entry.request; queue = did.old.queue.id }) in
         let next = did.how.0.noted.notes.next ∙ ap (λ s. next_stamp s did.old.queue) saw in
         let rises = later step maker out.noted.stamp out.noted.event.value did next in
         let booted = step.is.booted in
         let found = setting_found step did in
         let said = caller ∙ ap (λ (e : Event). noted_off out.noted.stamp e desk.caller) did.how.0.noted.event_is in (
-          event_leads step maker out.noted.stamp out.noted.event.value did next caller its did.how.0.noted.event_is (ap QueueHome found.id) tt (omega (arith, rises, booted)) (λ whole on. tt) (λ whole on. tt),
+          event_leads step maker out.noted.stamp out.noted.event.value did next caller its did.how.0.noted.event_is (ap QueueHome found.id) tt (omega (arith, rises, booted)) (λ whole on. tt) (λ whole on. tt)
+              (λ whole on. subst (λ n. GaveUpLast d.setup n (entries_of whole (QueueHome n)) desk.caller.work.own out.noted.stamp) (sym found.id) (gave whole on out.noted.stamp rises)),
           of_domain desk new out.noted.stamp its tt said,
           to_tell d desk new out.entry did.old.queue.id out.noted.stamp (subst (λ cells. IsRight cells out.entry) found.cells did.how.1) said closing is,
           subst (λ (c : Closing). IsSome c.ticket) (sym is) refl,

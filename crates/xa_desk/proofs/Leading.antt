@@ -5,7 +5,9 @@ use Rattle.std.proofs.lemmas.List.{append_assoc}
 use Rattle.std.specs.List.{All, Contains, filter}
 use Rattle.std.proofs.lemmas.List.Elements.{All-nil, All-cons, All-push, All-append, All-weaker, filter-append, Contains-push, Contains-append_left}
 use Rattle.xa_told.specs.xa_types.declared.stamp.Stamp.{Stamp}
+use Rattle.xa_told.specs.xa_types.declared.setup.Setup.{Setup}
 use Rattle.xa_told.specs.xa_events.declared.event.Event.{Event}
+use Rattle.xa_told.specs.xa_events.declared.event.Event.TheVariants.{Withdraw, Sweep, Down}
 use Rattle.xa_told.specs.xa_types.declared.ids.CallerId.{CallerId}
 use Rattle.xa_told.specs.xa_events.Words.{AtEach}
 use Rattle.xa_told.specs.xa_events.Homes.{Home, home_of, same_home}
@@ -36,6 +38,7 @@ use Rattle.xa_desk.specs.declared.domain.Domain.{Domain}
 use Rattle.xa_desk.specs.declared.desk.Desk.{Desk}
 use Rattle.xa_desk.specs.Whole.{Whole, entries_of, IsKnown}
 use Rattle.xa_desk.specs.Made.{IsMade}
+use Rattle.xa_desk.specs.Deserted.{GaveUpLast, ClearsBehind}
 use Rattle.xa_desk.specs.Desks.{IsAmong, IsGrounded, IsBoardPass, IsQueuePass, IsThere, GoesOn, Shows, IsDesk, Leads, board_page, queue_page}
 use Rattle.xa_told.specs.Told.{WasTaken, AnswersTaken}
 use Rattle.xa_desk.proofs.Seating.{TakesAll, TakesOn, taken_before, took_on, filled_on}
@@ -100,6 +103,34 @@ grounded_one w w' more grew (Looked look) is = elim is [ inl left ↦ inl left |
 pub grounded_stay : (w w' : Working) (more : List Stamped) → Grew w w' more → (notes : List BoardNote) → All (IsGrounded w.own) notes → All (IsGrounded w'.own) notes
 grounded_stay w w' more grew notes all = All-weaker (IsGrounded w.own) (IsGrounded w'.own) (grounded_one w w' more grew) notes all
 
+-- ---- what clears a queue came behind the last server there
+
+pub gave_more : {setup : Setup} {queue : ℕ} {entries : List Stamped} {stamp : Stamp} (own more : List Stamped) → GaveUpLast setup queue entries own stamp → GaveUpLast setup queue entries (own ++ more) stamp
+gave_more own more gave = record {
+  server = gave.server;
+  its = gave.its;
+  reach = gave.reach;
+  stands = Contains-append_left own more _ gave.stands;
+  before = gave.before;
+  front = gave.front;
+  begins = gave.begins;
+  until = gave.until;
+  all = gave.all;
+}
+
+clears_more : (setup : Setup) (entries : Home → List Stamped) (own more : List Stamped) (stamp : Stamp) (e : Event) → ClearsBehind setup entries own stamp e → ClearsBehind setup entries (own ++ more) stamp e
+clears_more setup entries own more stamp (Withdraw w) clears = gave_more own more clears
+clears_more setup entries own more stamp (Sweep x) clears = gave_more own more clears
+clears_more setup entries own more stamp (Down queue) clears = gave_more own more clears
+clears_more setup entries own more stamp _ clears = tt
+
+-- an event at a caller's own home clears nothing
+clears_none : (setup : Setup) (clients caller : ℕ) (entries : Home → List Stamped) (own : List Stamped) (stamp : Stamp) (e : Event) → home_of setup clients e ≡ CallerHome caller → ClearsBehind setup entries own stamp e
+clears_none setup clients caller entries own stamp (Withdraw w) home = absurd (cc home)
+clears_none setup clients caller entries own stamp (Sweep x) home = absurd (cc home)
+clears_none setup clients caller entries own stamp (Down queue) home = absurd (cc home)
+clears_none setup clients caller entries own stamp _ home = tt
+
 -- what a worker shows of its next event
 pub record IsShown (d : Domain) (whole : Whole) (w : Working) (x : Stamped) : Type 0 where
   pub behind : IsBehind d.booted x.stamp x.event
@@ -161,14 +192,20 @@ module _ (d : Domain) where
       by P x false met = All-nil P
 
   -- what stands at the board met what is asked there
-  pub shows_one_more : (whole : Whole) (w w' : Working) (x : Stamped) → Grew w w' (x ∷ []) → (stands_at d.setup d.clients BoardHome x ≡ true → MetAmong d.setup (entries_of whole BoardHome) x) → Shows d whole w → IsShown d whole w x → Shows d whole w'
-  shows_one_more whole w w' x grew met shows shown = record {
+  abbrev Clears : Whole → List Stamped → Stamped → Type 0
+  Clears whole own y = ClearsBehind d.setup (entries_of whole) own y.stamp y.event
+
+  pub shows_one_more : (whole : Whole) (w w' : Working) (x : Stamped) → Grew w w' (x ∷ []) → (stands_at d.setup d.clients BoardHome x ≡ true → MetAmong d.setup (entries_of whole BoardHome) x) → ClearsBehind d.setup (entries_of whole) w.own x.stamp x.event → Shows d whole w → IsShown d whole w x → Shows d whole w'
+  shows_one_more whole w w' x grew met clears shows shown = record {
     behind = subst (All (λ (y : Stamped). IsBehind d.booted y.stamp y.event)) (sym {A = List Stamped} grew.own) (All-push (λ (y : Stamped). IsBehind d.booted y.stamp y.event) w.own x shows.behind shown.behind);
     saw = subst (Saw whole) (sym {A = List Stamped} grew.own) (each-more (λ (y : Stamped) (past : List Event). SawFronts d.setup d.clients (entries_of whole) y.stamp y.event past) w.own x shows.saw shown.saw);
     told = subst (λ (own : List Stamped). TellsEach d.setup d.clients (entries_of whole) w'.id.0 own) (sym {A = List Stamped} grew.own) (subst (λ (id : CallerId). TellsEach d.setup d.clients (entries_of whole) id.0 (w.own ++ x ∷ [])) (sym grew.id)
         (each-more (λ (y : Stamped) (past : List Event). WasTold d.setup d.clients (entries_of whole) y.stamp (worker_events d.clients w.id.0 past) y.event) w.own x shows.told shown.told));
     met = subst (MetAt whole) (sym {A = List Stamped} grew.own) (met_one_more whole w.own x (stands_at d.setup d.clients BoardHome x) refl met shows.met);
     next = subst (All (IsNextOf whole)) (sym {A = List Stamped} grew.own) (All-push (IsNextOf whole) w.own x shows.next (shown.before, shown.next, shown.known_before));
+    clears = let on : (y : Stamped) → Clears whole w.own y → Clears whole (w.own ++ x ∷ []) y = λ y. clears_more d.setup (entries_of whole) w.own (x ∷ []) y.stamp y.event in
+        subst (λ (own : List Stamped). All (Clears whole own) own) (sym {A = List Stamped} grew.own)
+        (All-push (Clears whole (w.own ++ x ∷ [])) w.own x (All-weaker (Clears whole w.own) (Clears whole (w.own ++ x ∷ [])) on w.own shows.clears) (on x clears));
   }
 
   pub shows_still : (whole : Whole) (w w' : Working) → Grew w w' [] → Shows d whole w → Shows d whole w'
@@ -180,6 +217,7 @@ module _ (d : Domain) where
         told = subst (λ (l : List Stamped). TellsEach d.setup d.clients (entries_of whole) w'.id.0 l) (sym {A = List Stamped} own) (subst (λ (id : CallerId). TellsEach d.setup d.clients (entries_of whole) id.0 w.own) (sym grew.id) shows.told);
         met = subst (MetAt whole) (sym {A = List Stamped} own) shows.met;
         next = subst (All (IsNextOf whole)) (sym {A = List Stamped} own) shows.next;
+        clears = subst (λ (l : List Stamped). All (Clears whole l) l) (sym {A = List Stamped} own) shows.clears;
       }
 
   pub off_home : (home other : Home) (more : List Stamped) → All (λ (x : Stamped). home_of d.setup d.clients x.event ≡ home) more → same_home home other ≡ false → All (λ (x : Stamped). stands_at d.setup d.clients other x ≡ false) more
@@ -267,11 +305,11 @@ module _ {d : Domain} {old new : Desk} where
 
   -- an event was
   pub one_leads : (x : Stamped) → IsDesk d old → Moves d old new (x ∷ []) → new.caller.work.stamp ≡ x.stamp → ((whole : Whole) → GoesOn d whole new → stands_at d.setup d.clients BoardHome x ≡ true → MetAmong d.setup (entries_of whole BoardHome) x)
-      → ((whole : Whole) → GoesOn d whole new → GoesOn d whole old → IsShown d whole old.caller.work x) → Leads d old new
-  one_leads x is moves now met shown =
+      → ((whole : Whole) → GoesOn d whole old → ClearsBehind d.setup (entries_of whole) old.caller.work.own x.stamp x.event) → ((whole : Whole) → GoesOn d whole new → GoesOn d whole old → IsShown d whole old.caller.work x) → Leads d old new
+  one_leads x is moves now met clears shown =
       moves_lead is moves
       (λ whole on back. inr (inl (home_of d.setup d.clients x.event, (x, on.stand x (subst (λ (l : List Stamped). Contains l x) (sym {A = List Stamped} moves.grew.own) (Contains-push old.caller.work.own x)), sym now))))
-      (λ whole on back. shows_one_more d whole old.caller.work new.caller.work x moves.grew (met whole on) (is.shows whole back) (shown whole on back))
+      (λ whole on back. shows_one_more d whole old.caller.work new.caller.work x moves.grew (met whole on) (clears whole back) (is.shows whole back) (shown whole on back))
 
 -- ---- a desk whose caller alone goes on
 
@@ -311,7 +349,7 @@ module _ (d : Domain) (desk : Desk) (new : Caller) where
       one_leads x is
       (own_moves is grew (All-cons (λ (y : Stamped). home_of d.setup d.clients y.event ≡ CallerHome desk.caller.work.id.0) x [] home (All-nil (λ (y : Stamped). home_of d.setup d.clients y.event ≡ CallerHome desk.caller.work.id.0))) seat takes.taken
       (filled_more desk.caller.work new.work (x ∷ []) (known desk.caller.seat) (known new.seat) grew takes is.filled) (All-cons (λ (y : Stamped). WasTaken (known new.seat) y.stamp y.event) x [] took (All-nil (λ (y : Stamped). WasTaken (known new.seat) y.stamp y.event))) least)
-      now (λ whole on there_. absurd (cc (ap (λ h. same_home h BoardHome) home, there_))) shown
+      now (λ whole on there_. absurd (cc (ap (λ h. same_home h BoardHome) home, there_))) (λ whole back. clears_none d.setup d.clients desk.caller.work.id.0 (entries_of whole) desk.caller.work.own x.stamp x.event home) shown
 
   pub quiet_leads : IsQuiet d desk new → IsDesk d desk → ((whole : Whole) → GoesOn d whole (record desk { caller = new }) → GoesOn d whole desk → IsKnown whole new.work.stamp) → Leads d desk (record desk { caller = new })
   quiet_leads quiet is is_known =

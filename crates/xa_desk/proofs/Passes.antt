@@ -67,6 +67,7 @@ use Rattle.xa_told.specs.xa_server.Forwarding.{way_of, row_or, hop_in, forwarded
 use Rattle.xa_told.specs.xa_server.Noting.{HaltsWith}
 use Rattle.xa_told.specs.xa_server.Slot.{Tables, Stands}
 use Rattle.xa_desk.specs.Made.{IsMade}
+use Rattle.xa_desk.specs.Deserted.{ClearsBehind}
 use Rattle.xa_desk.specs.declared.domain.Domain.{Domain}
 use Rattle.xa_desk.specs.declared.desk.Desk.{Desk}
 use Rattle.xa_desk.specs.Whole.{entries_of}
@@ -320,6 +321,7 @@ module _ {d : Domain} {queue : ℕ} {entry : Entry Cargo} {event : Event} {slot 
                 (subst (λ n. SawSince d.setup d.clients (entries_of whole) stamp old.caller.work.id.0 n May (past_in old.caller.work.own)) (sym passing.serving.its) (passing.sent whole on stamp above));
           }))
           (λ whole on. subst (WasTold d.setup d.clients (entries_of whole) stamp (its_events d old)) (sym passing.event_is) tt)
+          (λ whole on. subst (ClearsBehind d.setup (entries_of whole) old.caller.work.own stamp) (sym passing.event_is) tt)
         where
           May : List Event → Type 0
           May past = IsSomeAnd (latest (is_entry_of entry.request) past) (Forwardable entry.cargo.invocation.hop)

@@ -91,7 +91,7 @@ module _ {d : Domain} {queue k : ℕ} {desk new : Desk} {p p' : QueuePass} {last
   took_leads =
       let booted = step.is.booted in
       let more = rises in
-      event_leads step maker out.noted.stamp out.noted.event.value took next caller (Take Its) event (ap QueueHome serving.its) tt (omega (arith, more, booted)) (λ whole on. tt) (λ whole on. tt)
+      event_leads step maker out.noted.stamp out.noted.event.value took next caller (Take Its) event (ap QueueHome serving.its) tt (omega (arith, more, booted)) (λ whole on. tt) (λ whole on. tt) (λ whole on. tt)
 
   -- the take stands behind that
   stands_at_end : events_at (page_of p').seen ≡ Front ++ record { stamp = out.noted.stamp; event = Take Its } ∷ []

@@ -49,6 +49,7 @@ use Rattle.xa_told.specs.xa_caller.Drafts.{Cargo, entry_by}
 use Rattle.xa_told.specs.xa_caller.Phases.{just_in}
 use Rattle.xa_told.proofs.xa_caller.Next.{row-service}
 use Rattle.xa_desk.specs.Made.{IsMade}
+use Rattle.xa_desk.specs.Deserted.{ClearsBehind}
 use Rattle.xa_desk.specs.declared.domain.Domain.{Domain}
 use Rattle.xa_desk.specs.declared.desk.Desk.{Desk}
 use Rattle.xa_desk.specs.Whole.{entries_of}
@@ -128,6 +129,7 @@ module _ {d : Domain} {found : FoundRows} (ask : Ask) {old : Desk} {entry : Entr
           (subst (λ (name : List ℕ). SawFront (entries_of whole BoardHome) stamp (RowStands d.setup found.version name aimed.row.queue.0 (RowAdmits d.setup false aimed.row.routine ask.payload))) (sym (row-service d.setup ask.service aimed.row its))
           (All-contains (λ (row : Row). is_accepted d.setup row.accepts (kind_of ask.payload) ≡ true → SawOnBoard d old (RowStands d.setup found.version ask.service row.queue.0 (RowAdmits d.setup false row.routine ask.payload))) found.rows aimed.row (has.stand ask.payload) aimed.among aimed.accepts whole on stamp more)))
           (λ whole on. subst (WasTold d.setup d.clients (entries_of whole) stamp (its_events d old)) (sym aimed.event_is) tt)
+          (λ whole on. subst (ClearsBehind d.setup (entries_of whole) old.caller.work.own stamp) (sym aimed.event_is) tt)
 
       pub sent_fits : IsRead d old → is_invalid_call d.setup ask ≡ false → FitsOn d (old.caller.op + 1) ask old new
       sent_fits reads valid =

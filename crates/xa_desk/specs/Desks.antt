@@ -39,6 +39,7 @@ use Rattle.xa_told.specs.xa_server.Told.{HasStamp, FilledByEnds}
 use Rattle.xa_told.specs.Told.{AnswersTaken, HasEnd, StandAt}
 use Rattle.xa_desk.specs.declared.domain.Domain.{Domain}
 use Rattle.xa_desk.specs.declared.desk.Desk.{Desk}
+use Rattle.xa_desk.specs.Deserted.{ClearsBehind}
 use Rattle.xa_desk.specs.Made.{IsMade}
 use Rattle.xa_desk.specs.Whole.{Whole, entries_of, IsKnown}
 
@@ -116,13 +117,14 @@ pub record GoesOn (d : Domain) (whole : Whole) (desk : Desk) : Type 0 where
   pub ended : (k : ℕ) → All (HasEnd (entries_of whole)) (at k (known desk.caller.seat)).taken
 
 -- each event that the worker noted came behind the boot, the fronts that it rests on were seen, it was told what it rests on, a change of the board met
--- what is asked of the changes before it, and its stamp is one more than one that is known
+-- what is asked of the changes before it, its stamp is one more than one that is known, and what clears a queue came behind the last server there
 pub record Shows (d : Domain) (whole : Whole) (w : Working) : Type 0 where
   pub behind : All (λ (x : Stamped). IsBehind d.booted x.stamp x.event) w.own
   pub saw : AtEach (λ (x : Stamped) older. SawFronts d.setup d.clients (entries_of whole) x.stamp x.event (map (λ (y : Stamped). y.event) older)) (reverse w.own)
   pub told : TellsEach d.setup d.clients (entries_of whole) w.id.0 w.own
   pub met : All (MetAmong d.setup (entries_of whole BoardHome)) (filter (stands_at d.setup d.clients BoardHome) w.own)
   pub next : All (λ (x : Stamped). (before : Stamp) × (x.stamp.0 ≡ before.0 + 1) × IsKnown whole before) w.own
+  pub clears : All (λ (x : Stamped). ClearsBehind d.setup (entries_of whole) w.own x.stamp x.event) w.own
 
 -- ---- the desk
 

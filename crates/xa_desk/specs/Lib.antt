@@ -1,5 +1,6 @@
 pub mod Whole
 pub mod Made
+pub mod Deserted
 pub mod Desks
 pub mod Halting
 pub mod Found

@@ -49,6 +49,7 @@ use Rattle.xa_desk.specs.declared.serving.Took.{Took}
 use Rattle.xa_desk.specs.declared.serving.Took.TheVariants as takes
 use Rattle.xa_desk.specs.declared.serving.SweptOut.{SweptOut}
 use Rattle.xa_desk.specs.Whole.{Whole, entries_of}
+use Rattle.xa_desk.specs.Deserted.{GaveUpLast}
 use Rattle.xa_desk.specs.Desks.{GoesOn, queue_page}
 use Rattle.xa_desk.specs.Found.{SawAtQueue, SawItsOwnAt}
 
@@ -113,18 +114,24 @@ TakesAs d queue (Ok takes.Nothing) slot slot' old new = (slot' ≡ slot) × Sees
 TakesAs d queue (Ok takes.Closed) slot slot' old new = (slot' ≡ slot) × Sees old.caller new.caller × SawAtQueue d queue new (IsShut d.setup queue)
 TakesAs d queue (Err worn) slot slot' old new = (slot' ≡ slot) × IsAtEnd worn old new
 
--- the desk's pass saw each server of the queue given up
-abbrev pub IsDeserted : Domain → ℕ → Desk → Type 0
-IsDeserted d queue desk = SawLeft d.setup queue desk.caller.work.stamp (queue_page desk queue)
+-- its worker gave the queue's last server up
+abbrev pub GaveUp : Domain → ℕ → Desk → Type 0
+GaveUp d queue desk = (whole : Whole) → GoesOn d whole desk → (stamp : Stamp) → desk.caller.work.stamp.0 < stamp.0 → GaveUpLast d.setup queue (entries_of whole (QueueHome queue)) desk.caller.work.own stamp
+
+-- the desk's pass saw each server of the queue given up, the last one by its own worker
+pub record IsDeserted (d : Domain) (queue : ℕ) (desk : Desk) : Type 0 where
+  pub left : SawLeft d.setup queue desk.caller.work.stamp (queue_page desk queue)
+  pub last : GaveUp d queue desk
 
 -- behind that it found no row of the queue on the board, and whatever stands there in the end came later
 abbrev pub IsCleared : Domain → ℕ → Desk → Type 0
 IsCleared d queue desk = (whole : Whole) → GoesOn d whole desk → (stamp : Stamp) → desk.caller.work.stamp.0 < stamp.0
     → SawDeserted d.setup queue (entries_of whole BoardHome) (entries_of whole (QueueHome queue)) stamp
 
--- the desk's pass saw the queue go down
-abbrev pub IsFallen : ℕ → Desk → Type 0
-IsFallen queue desk = is_down_in queue (queue_page desk queue).seen ≡ true
+-- the desk's pass saw the queue go down, whose last server its own worker gave up
+pub record IsFallen (d : Domain) (queue : ℕ) (desk : Desk) : Type 0 where
+  pub down : is_down_in queue (queue_page desk queue).seen ≡ true
+  pub last : GaveUp d queue desk
 
 -- the server is given up, and another server of the queue is left
 abbrev pub LeftOthers : Domain → ℕ → ℕ → List Event → Type 0

@@ -256,7 +256,7 @@ impl Desk {
         requires clear { IsCleared domain.now queue.0 self.old }
         ensures leads { Leads domain.now self.old self.new }
         ensures noted { OfDomain self.old self.new }
-        ensures down { OnOk result (IsFallen queue.0 self.new) }
+        ensures down { OnOk result (IsFallen domain.now queue.0 self.new) }
         ensures worn { IfErr result (λ worn. IsAtEnd worn self.old self.new) }
         ensures board { (self.new.board ≡ self.old.board) × (self.new.reader ≡ self.old.reader) }
     {
@@ -297,10 +297,10 @@ impl Desk {
     ) -> Result<Option<SweptOut>, Worn>
         requires domain { IsDomain domain.now }
         requires desk { IsDesk domain.now self.old }
-        requires fallen { IsFallen queue.0 self.old × (0 < queue.0) × (queue.0 < length domain.now.queues.items + 1) }
+        requires fallen { IsFallen domain.now queue.0 self.old × (0 < queue.0) × (queue.0 < length domain.now.queues.items + 1) }
         ensures leads { Leads domain.now self.old self.new }
         ensures swept { SweepsAs domain.now queue.0 result self.old self.new }
-        ensures fallen { IsFallen queue.0 self.new }
+        ensures fallen { IsFallen domain.now queue.0 self.new }
         ensures board { (self.new.board ≡ self.old.board) × (self.new.reader ≡ self.old.reader) }
     {
         let place = usize::from(queue.0) - 1;

@@ -3,22 +3,28 @@ use Rattle.std.proofs.Common.{◌≡◌, ℕ, zero, suc, ◌+◌, ◌<◌, ◌�
 use Rattle.std.specs.Prelude.{IfSome, IsSomeAnd, ⊤}
 use Rattle.std.specs.List.{All, Contains, filter, flat_map}
 use Rattle.std.proofs.lemmas.Bool.{cases_Bool}
+use Rattle.std.proofs.lemmas.List.{map-append}
 use Rattle.std.proofs.lemmas.Option.{get_or_from_slice_get, slice_get_within}
 use Rattle.std.proofs.lemmas.List.Elements.{All-nil, All-cons, All-head, All-tail, All-weaker, All-map, All-contains, All-contains_itself, Contains-append_left, Contains-append_right, Contains-append_cases}
 use Rattle.xa_clients.specs.xa_types.declared.setup.Setup.{Setup}
 use Rattle.xa_clients.specs.xa_types.declared.stamp.Stamp.{Stamp}
 use Rattle.xa_clients.specs.xa_types.declared.ids.RequestId.{RequestId}
+use Rattle.xa_clients.specs.xa_types.declared.ids.ServerId.{ServerId}
 use Rattle.xa_clients.specs.xa_types.declared.reply.Answer.{Answer as Reply}
 use Rattle.xa_clients.specs.xa_types.Setup.{numbered, queue_of}
 use Rattle.xa_clients.specs.xa_events.declared.event.Event.{Event}
-use Rattle.xa_clients.specs.xa_events.declared.event.Event.TheVariants.{Sweep, Start, StartFailed, End, Stop, Answer}
+use Rattle.xa_clients.specs.xa_events.declared.event.Event.TheVariants.{Withdraw, Sweep, Gone, Down, Start, StartFailed, End, Stop, Answer}
 use Rattle.xa_clients.specs.xa_events.declared.event.Ended.{Ended}
 use Rattle.xa_clients.specs.xa_events.declared.event.Replied.{Replied}
+use Rattle.xa_clients.specs.xa_events.Cases.{HomePart}
+use Rattle.xa_clients.specs.xa_events.Server.{AllGone, is_gone}
+use Rattle.xa_clients.specs.xa_events.Homes.Home.{QueueHome}
 use Rattle.xa_clients.specs.xa_events.Homes.{Home, home_of, worker_of, of_worker, same_home, all_homes}
 use Rattle.xa_clients.specs.xa_events.State.{caller_of}
 use Rattle.xa_clients.specs.xa_events.Request.{Settlement, settlement_in}
 use Rattle.xa_clients.specs.xa_events.Answers.{reply_of, IsAnswerTo}
-use Rattle.xa_clients.specs.xa_events.Words.{count}
+use Rattle.xa_clients.specs.xa_events.Words.{AtEach, count}
+use Rattle.xa_clients.proofs.xa_events.There.{known_server}
 use Rattle.xa_clients.proofs.xa_events.WordsLemmas.{count_no}
 use Rattle.xa_clients.specs.xa_stamp.declared.home.Stamped.{Stamped}
 use Rattle.xa_clients.specs.xa_stamp.Home.{Notes, Rises, last_stamp}
@@ -27,7 +33,8 @@ use Rattle.xa_clients.specs.xa_lock.Makers.{maker_of, noted_in}
 use Rattle.xa_clients.specs.xa_crew.Crew.{IsOfDomain, MayNote, no_stamp}
 use Rattle.xa_clients.specs.xa_crew.Ending.{workers_of}
 use Rattle.xa_clients.specs.xa_crew.Seen.{past_in}
-use Rattle.xa_clients.proofs.xa_crew.Lists.{past_in-append, same_home-is}
+use Rattle.xa_clients.specs.xa_lock.Pages.{StartsWith}
+use Rattle.xa_clients.proofs.xa_crew.Lists.{past_in-append, same_home-is, AtEach-cut}
 use Rattle.xa_clients.specs.xa_cell.declared.tokens.Seat.{Seat}
 use Rattle.xa_clients.specs.xa_cell.declared.view.Fill.{Fill}
 use Rattle.xa_clients.specs.xa_cell.declared.view.Part.{Part}
@@ -41,13 +48,14 @@ use Rattle.xa_clients.specs.xa_server.Told.{Settles, IsEnded, EndedFor}
 use Rattle.xa_clients.specs.xa_told.Told.{TookFor, WasTaken}
 use Rattle.xa_clients.proofs.xa_told.Joining.{each_seat, all_seats, shown}
 use Rattle.xa_clients.proofs.xa_told.Standing.{crew_stands}
+use Rattle.xa_clients.specs.xa_desk.Deserted.{ClearsBehind, GaveUpLast as GaveUpThere}
 use Rattle.xa_clients.specs.xa_desk.declared.domain.Domain.{Domain}
 use Rattle.xa_clients.specs.xa_desk.declared.desk.Desk.{Desk}
 use Rattle.xa_links.specs.Behind.{is_lost, ends_by, is_ending, SweepsOr, OnlySweeps, IsBehindEnd, FilledBehind, TellsLast}
 use Rattle.xa_links.specs.Lives.{ServerShows}
 use Rattle.xa_joined.specs.Joined.{Back, kept_of, noted_of, HasLeft, AllLeft}
 use Rattle.xa_joined.specs.Ended.{ServerEnd, Ends}
-use Rattle.xa_joined.specs.Told.{all_noted, is_start, is_sweep, to_start, IsOverBefore, LostBefore, TellsAfter, AreTold}
+use Rattle.xa_joined.specs.Told.{all_noted, is_start, is_sweep, to_start, IsOverBefore, LostBefore, TellsAfter, GaveUpLast, ClearsLast, AreTold}
 use Rattle.xa_joined.specs.Served.{HoldAll, IsRecorded}
 use Rattle.xa_joined.proofs.Listed.{all_numbered, one_there}
 use Rattle.xa_joined.proofs.Going.{among}
@@ -55,7 +63,9 @@ use Rattle.xa_joined.proofs.Clients.{noted_is}
 use Rattle.xa_joined.proofs.History.{each_at, is_some}
 use Rattle.xa_joined.proofs.Left.{each_worker, has_left, each_left}
 use Rattle.xa_joined.proofs.Standing.{at_makers}
-use Rattle.xa_joined.proofs.Crew.{desks_are_crew}
+use Rattle.xa_joined.proofs.Deserting.{gone_longer}
+use Rattle.xa_joined.proofs.Crew.{each_shown, desks_are_crew}
+use Rattle.xa_joined.proofs.Homes.{homes_met}
 use Rattle.xa_joined.proofs.Recorded.{held, names, names_are, recorded}
 
 -- ---- the end of a life, in what a worker noted
@@ -144,6 +154,28 @@ over_by own stamp later entry rises is le less always before after same =
     All-part : (P : Stamped → Type 0) (xs ys : List Stamped) → All P (xs ++ ys) → All P ys
     All-part P [] ys all = all
     All-part P (x ∷ xs) ys all = All-part P xs ys (All-tail P x (xs ++ ys) all)
+
+-- ---- a queue whose servers were all given up
+
+-- no other is given up there
+none_later : (setup : Setup) (queue : ℕ) (front rest : List Stamped) → AllGone setup queue (past_in front) → AtEach (HomePart setup) (past_in (front ++ rest)) → (x : Stamped) (other : ServerId) → Contains rest x → x.event ≡ Gone other → queue_of setup other.0 ≡ queue → ⊥
+none_later setup queue front [] gone met x other here is of = let empty = here.1 in absurd (omega (arith, empty))
+none_later setup queue front (y ∷ rest) gone met x other here is of = elim (Contains-append_cases (y ∷ []) rest x here) [
+  | inl first ↦
+      let same : x ≡ y = only y x first in
+      let part : HomePart setup y.event (past_in front) =
+      AtEach-cut (HomePart setup) (map (λ (z : Stamped). z.event) (front ++ y ∷ rest)) (map (λ (z : Stamped). z.event) front) (map (λ (z : Stamped). z.event) rest) y.event met (map-append (λ (z : Stamped). z.event) front (y ∷ rest)) in
+      let its = subst (λ (e : Event). HomePart setup e (past_in front)) (ap (λ (z : Stamped). z.event) (sym same) ∙ is) part in
+      let there = known_server setup other.0 its.known in
+      cc (its.not_gone, gone other.0 there.0 there.1 of)
+  | inr later ↦ none_later setup queue (front ++ y ∷ []) rest (λ server some within its. gone_on server (gone server some within its)) (subst (λ (l : List Stamped). AtEach (HomePart setup) (past_in l)) (sym (append_assoc front (y ∷ []) rest)) met) x other later is of
+]
+  where
+    only : (z w : Stamped) → Contains (z ∷ []) w → w ≡ z
+    only z w one = All-contains (λ (v : Stamped). v ≡ z) (z ∷ []) w (All-cons (λ (v : Stamped). v ≡ z) z [] refl (All-nil (λ (v : Stamped). v ≡ z))) one
+
+    gone_on : (server : ℕ) → is_gone server (past_in front) ≡ true → is_gone server (past_in (front ++ y ∷ [])) ≡ true
+    gone_on server before = ap (is_gone server) (past_in-append front (y ∷ [])) ∙ gone_longer server (y.event ∷ []) (past_in front) before
 
 -- ---- where entries stand
 
@@ -332,6 +364,33 @@ module _ {W : Type 0} (d : Domain) (b : Back) (domain : Working) (desks : List D
         | inr of ↦ let off = not_theirs d.clients (worker_of d.clients x.event) x.event some of in let same = eq-eqb (worker_of d.clients x.event) (worker_of d.clients x.event) refl in absurd (cc (off, same))
       ]
 
+  -- ---- what clears a queue
+
+  gave_last : (worker : ℕ) → worker < workers → (queue : ℕ) (stamp : Stamp) → GaveUpThere d.setup queue (at_homes (QueueHome queue)) (noted worker) stamp → GaveUpLast d.setup d.clients homes worker (noted worker) queue stamp
+  gave_last worker low queue stamp gave = record {
+    server = gave.server;
+    its = gave.its;
+    by = elim (All-contains (λ (x : Stamped). MayNote d.clients worker x.event) (noted worker) (record { stamp = gave.reach; event = Gone gave.server }) (each_left d b domain desks all worker low).work.may gave.stands) [ inl its ↦ its.1 | inr of ↦ absurd of ];
+    reach = gave.reach;
+    stands = gave.stands;
+    before = gave.before;
+    last = λ x other here is of.
+        let maker = maker_in x here in
+        let home : home_of d.setup d.clients x.event ≡ QueueHome queue = ap (home_of d.setup d.clients) is ∙ ap QueueHome of in
+        let there : Contains (at_homes (QueueHome queue)) x = subst (λ (h : Home). Contains (at_homes h) x) home (crew_stands d.setup d.clients workers (kept_of b) noted (desks_are_crew d b domain desks all) maker.0 maker.1.0 x maker.1.1) in
+        let parts = gave.begins.1 in
+        elim (Contains-append_cases gave.front gave.begins.0 x (subst (λ (l : List Stamped). Contains l x) parts there)) [
+          | inl early ↦ All-contains (λ (y : Stamped). y.stamp.0 ≤ gave.reach.0) gave.front x gave.until early
+          | inr late ↦ absurd (none_later d.setup queue gave.front gave.begins.0 gave.all (subst (λ (l : List Stamped). AtEach (HomePart d.setup) (past_in l)) parts ((homes_met d b domain desks all).queues queue)) x other late is of)
+        ];
+  }
+
+  clears_last : (worker : ℕ) → worker < workers → (stamp : Stamp) (e : Event) → ClearsBehind d.setup at_homes (noted worker) stamp e → ClearsLast d.setup d.clients homes worker (noted worker) stamp e
+  clears_last worker low stamp (Withdraw w) clears = gave_last worker low w.queue.0 stamp clears
+  clears_last worker low stamp (Sweep x) clears = gave_last worker low x.queue.0 stamp clears
+  clears_last worker low stamp (Down queue) clears = gave_last worker low queue.0 stamp clears
+  clears_last worker low stamp _ clears = tt
+
   are_told : AreTold d.setup d.clients homes
   are_told = record {
     noted = noted;
@@ -339,6 +398,7 @@ module _ {W : Type 0} (d : Domain) (b : Back) (domain : Working) (desks : List D
     stand = λ worker low. All-weaker (Contains (noted worker)) (Contains (all_noted homes)) (λ x here. stands_all worker low x here) (noted worker) (All-contains_itself (noted worker));
     all = λ x here. let maker = maker_in x here in (maker.0, maker.1.0, maker.1.1);
     own = its_worker;
+    clears = λ worker low. All-weaker (λ (x : Stamped). ClearsBehind d.setup at_homes (noted worker) x.stamp x.event) (λ (x : Stamped). ClearsLast d.setup d.clients homes worker (noted worker) x.stamp x.event) (λ x. clears_last worker low x.stamp x.event) (noted worker) (each_shown d b domain desks all worker low).clears;
     told = told_after;
   }
 

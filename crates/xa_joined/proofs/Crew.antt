@@ -27,6 +27,7 @@ use Rattle.xa_clients.specs.xa_caller.declared.cargo.Filling.{Filling}
 use Rattle.xa_clients.specs.xa_desk.declared.domain.Domain.{Domain}
 use Rattle.xa_clients.specs.xa_desk.declared.desk.Desk.{Desk}
 use Rattle.xa_clients.specs.xa_desk.Whole.{entries_of}
+use Rattle.xa_clients.specs.xa_desk.Deserted.{ClearsBehind}
 use Rattle.xa_clients.specs.xa_desk.Desks.{Shows}
 use Rattle.xa_joined.specs.Joined.{Back, whole_of, kept_of, noted_of, AllLeft}
 use Rattle.xa_joined.proofs.Listed.{numbered_map, nothing_past}
@@ -63,6 +64,7 @@ pub record IsShown (d : Domain) (entries : Home → List Stamped) (worker : ℕ)
   pub saw : AtEach (λ (x : Stamped) older. SawFronts d.setup d.clients entries x.stamp x.event (map (λ (y : Stamped). y.event) older)) (reverse own)
   pub told : TellsEach d.setup d.clients entries worker own
   pub met : All (MetAmong d.setup (entries BoardHome)) (filter (stands_at d.setup d.clients BoardHome) own)
+  pub clears : All (λ (x : Stamped). ClearsBehind d.setup entries own x.stamp x.event) own
 
 by_shows : (d : Domain) (b : Back) (w : Working) (worker : ℕ) → w.id.0 ≡ worker → Shows d (whole_of d b) w → IsShown d (entries_of (whole_of d b)) worker w.own
 by_shows d b w worker id shows = record {
@@ -70,6 +72,7 @@ by_shows d b w worker id shows = record {
   saw = shows.saw;
   told = subst (λ (n : ℕ). TellsEach d.setup d.clients (entries_of (whole_of d b)) n w.own) id shows.told;
   met = shows.met;
+  clears = shows.clears;
 }
 
 module _ (d : Domain) (b : Back) (domain : Working) (desks : List Desk) (all : AllLeft d b domain desks) where

@@ -53,7 +53,7 @@ swept_in_the_end setup queue entries stamp met saw = in_the_end setup (IsSwept s
 
 -- ---- not every server left others
 
-gone_longer : (server : ℕ) (newer past : List Event) → is_gone server past ≡ true → is_gone server (newer ++ past) ≡ true
+pub gone_longer : (server : ℕ) (newer past : List Event) → is_gone server past ≡ true → is_gone server (newer ++ past) ≡ true
 unfolding is_gone
 gone_longer server [] past gone = gone
 gone_longer server (e ∷ newer) past gone = or_right (is_gone_of server e) (is_gone server (newer ++ past)) (gone_longer server newer past gone)

@@ -2,10 +2,12 @@
 -- oldest first.
 use Rattle.std.specs.Prelude.{◌≡◌, ℕ, ◌+◌, ◌<◌, Bool, true, false, List, [], ◌∷◌, ◌++◌, length, IsSomeAnd, ⊤, if◌then◌else◌}
 use Rattle.std.specs.List.{All, Contains, flat_map}
+use Rattle.xa_clients.specs.xa_types.declared.ids.ServerId.{ServerId}
 use Rattle.xa_clients.specs.xa_types.declared.setup.Setup.{Setup}
+use Rattle.xa_clients.specs.xa_types.Setup.{queue_of}
 use Rattle.xa_clients.specs.xa_types.declared.stamp.Stamp.{Stamp}
 use Rattle.xa_clients.specs.xa_events.declared.event.Event.{Event}
-use Rattle.xa_clients.specs.xa_events.declared.event.Event.TheVariants.{Sweep, Start, StartFailed, End, Answer}
+use Rattle.xa_clients.specs.xa_events.declared.event.Event.TheVariants.{Withdraw, Sweep, Gone, Down, Start, StartFailed, End, Answer}
 use Rattle.xa_clients.specs.xa_events.declared.event.Replied.{Replied}
 use Rattle.xa_clients.specs.xa_events.Answers.{IsAnswerTo}
 use Rattle.xa_clients.specs.xa_events.Homes.{worker_of}
@@ -51,12 +53,31 @@ pub record TellsAfter (clients : ℕ) (homes : List Notes) (noted : ℕ → List
   pub tells : IsSomeAnd (settlement_in a.request entry.event) (IsAnswerTo a.answer)
   pub over : LostBefore clients noted entry stamp entry.event
 
+-- the worker, which noted these, gave the queue's last server up before that stamp: any other of that queue had been given up by then
+pub record GaveUpLast (setup : Setup) (clients : ℕ) (homes : List Notes) (worker : ℕ) (own : List Stamped) (queue : ℕ) (stamp : Stamp) : Type 0 where
+  pub server : ServerId
+  pub its : queue_of setup server.0 ≡ queue
+  pub by : caller_of clients server.0 ≡ worker
+  pub reach : Stamp
+  pub stands : Contains own (record { stamp = reach; event = Gone server })
+  pub before : reach.0 < stamp.0
+  pub last : (x : Stamped) (other : ServerId) → Contains (all_noted homes) x → x.event ≡ Gone other → queue_of setup other.0 ≡ queue → x.stamp.0 ≤ reach.0
+
+-- the worker withdraws a row of a queue, takes it down or sweeps a request there only behind that
+abbrev pub ClearsLast : Setup → ℕ → List Notes → ℕ → List Stamped → Stamp → Event → Type 0
+ClearsLast setup clients homes worker own stamp (Withdraw w) = GaveUpLast setup clients homes worker own w.queue.0 stamp
+ClearsLast setup clients homes worker own stamp (Sweep x) = GaveUpLast setup clients homes worker own x.queue.0 stamp
+ClearsLast setup clients homes worker own stamp (Down queue) = GaveUpLast setup clients homes worker own queue.0 stamp
+ClearsLast setup clients homes worker own stamp e = ⊤
+
 -- what each worker noted stands at the homes, and its stamps rise; each entry of the homes is among what some worker noted, and each event of a client or
--- of a server among what that one's worker noted; and each answer tells what befell its request
+-- of a server among what that one's worker noted; a queue is cleared by the worker of its last server, behind that one's Gone; and each answer tells what
+-- befell its request
 pub record AreTold (setup : Setup) (clients : ℕ) (homes : List Notes) : Type 0 where
   pub noted : ℕ → List Stamped
   pub rises : (worker : ℕ) → worker < clients + length setup.servers + 1 → Rises (record { 0 = 0 }) (noted worker)
   pub stand : (worker : ℕ) → worker < clients + length setup.servers + 1 → All (Contains (all_noted homes)) (noted worker)
   pub all : (x : Stamped) → Contains (all_noted homes) x → (worker : ℕ) × (worker < clients + length setup.servers + 1) × Contains (noted worker) x
   pub own : (x : Stamped) → Contains (all_noted homes) x → 0 < worker_of clients x.event → Contains (noted (worker_of clients x.event)) x
+  pub clears : (worker : ℕ) → worker < clients + length setup.servers + 1 → All (λ (x : Stamped). ClearsLast setup clients homes worker (noted worker) x.stamp x.event) (noted worker)
   pub told : (x : Stamped) (a : Replied) → Contains (all_noted homes) x → x.event ≡ Answer a → TellsAfter clients homes noted x.stamp a

@@ -14,6 +14,7 @@ use Rattle.xa_desk.specs.xa_events.Local.{worker_events}
 use Rattle.xa_desk.specs.xa_stamp.declared.home.Stamped.{Stamped}
 use Rattle.xa_desk.specs.xa_crew.Seen.{past_in}
 use Rattle.xa_desk.specs.xa_crew.Crew.{IsOfDomain}
+use Rattle.xa_desk.proofs.Falling.{gave_on}
 use Rattle.xa_desk.proofs.xa_crew.Lists.{filter-none, past_in-append, past_in-filter}
 use Rattle.xa_desk.specs.xa_work.Work.{Standing as Working, theirs}
 use Rattle.xa_desk.proofs.xa_work.Noting.{theirs-more, not_theirs}
@@ -177,8 +178,10 @@ module _ {d : Domain} where
   pub id_kept : {a b : Desk} → OfDomainAt d a b → 0 < a.caller.work.id.0 → 0 < b.caller.work.id.0
   id_kept goes some = let same = ap (λ i. i.0) goes.steps.id in omega (arith, same, some)
 
-  pub fallen_told : (queue : ℕ) {told : Option Told} {a b : Desk} → Tells d told a b → IsFallen queue a → IsFallen queue b
-  fallen_told queue {told} {a} {b} tells is = let same : queue_page b queue ≡ queue_page a queue = ap (λ (desk : Desk). queue_page desk queue) tells.rest in subst (λ page. is_down_in queue page.seen ≡ true) (sym same) is
+  pub fallen_told : (queue : ℕ) {told : Option Told} {a b : Desk} → Tells d told a b → IsFallen d queue a → IsFallen d queue b
+  fallen_told queue {told} {a} {b} tells is =
+      let same : queue_page b queue ≡ queue_page a queue = ap (λ (desk : Desk). queue_page desk queue) tells.rest in
+      record { down = subst (λ page. is_down_in queue page.seen ≡ true) (sym same) is.down; last = gave_on tells.leads is.last }
 
   -- ---- taking
 

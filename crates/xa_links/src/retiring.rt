@@ -31,7 +31,7 @@ fn sweep<W: Wait, G: Gate>(
     requires domain { IsDomain domain.now }
     requires desk { IsDesk domain.now desk.old }
     requires server { 0 < desk.old.caller.work.id.0 }
-    requires fallen { IsFallen queue.0 desk.old × (0 < queue.0) × (queue.0 < length domain.now.queues.items + 1) }
+    requires fallen { IsFallen domain.now queue.0 desk.old × (0 < queue.0) × (queue.0 < length domain.now.queues.items + 1) }
     ensures goes { OfDomainAt domain.now desk.old desk.new }
     ensures swept { OnOk result (SawAtQueue domain.now queue.0 desk.new (IsSwept domain.now queue.0)) }
     ensures stopped { IfErr result (IsStopAt desk.new) }

@@ -1,10 +1,12 @@
--- What is left of a life that ended, and how it is kept.
+-- What is left of a life that ended, or was cut, and how it is kept.
 use Rattle.std.specs.Prelude.{Bool, true, false}
+use Rattle.xa_link.specs.declared.link.Closed.{Closed as Closing}
+use Rattle.xa_pipe.specs.declared.over.CutLife.TheInside.{Inside as Cut}
 use Rattle.xa_pipe.specs.declared.over.EndedLife.TheInside.{Inside}
 use Rattle.xa_pipe.specs.declared.over.Pipes.{Pipes}
 use Rattle.xa_pipe.specs.declared.over.Pipes.TheVariants.{Open, Closed, Killed}
 use Rattle.xa_pipe.specs.Life.{LinkShows}
-use Rattle.xa_pipe.specs.Standing.{Ending}
+use Rattle.xa_pipe.specs.Standing.{Standing, Ending}
 
 module _ {L : Type 0} where
   -- what the pipes show; where they are closed, what they showed then
@@ -31,3 +33,11 @@ module _ {L : Type 0} where
     killed = are_killed e.pipes;
     left_open = are_open e.pipes;
   }
+
+  -- what closed pipes showed last
+  abbrev pub closed_show : (L → LinkShows) → Closing L → LinkShows
+  closed_show shows closed = shows closed.was.value
+
+  -- the life that was cut, as it stood then
+  abbrev pub cut_at : (L → LinkShows) → Cut L → Standing
+  cut_at shows c = record { name = c.name; server = c.server; generation = c.generation; link = closed_show shows c.killed; asked = c.asked; said = c.said; turn = c.turn }

@@ -6,17 +6,17 @@ ghost use Rattle.xa_pipe.specs.Life.{MaySay, awaiting, is_reading, turn_behind};
 ghost use Rattle.xa_pipe.specs.Pipe.{HasRead, Ceases, CountsReads, shown};
 ghost use Rattle.xa_pipe.specs.Changes.{turn_after};
 ghost use Rattle.xa_pipe.specs.Ended.{pipes_show, are_killed, are_open};
-ghost use Rattle.xa_pipe.specs.Standing.{IsOver, is_killed, is_open};
-ghost use Rattle.xa_pipe.specs.Kept.{ending_of, tag_after_turn};
+ghost use Rattle.xa_pipe.specs.Standing.{IsSound, IsOver, is_killed, is_open};
+ghost use Rattle.xa_pipe.specs.Kept.{standing_of, ending_of, tag_after_turn};
 
 use crate::hearing::{is_finish, is_next, is_ready, out_of_turn};
 use crate::noted::{Asked, Said};
-use crate::over::{EndedLife, Pipes};
+use crate::over::{CutLife, EndedLife, Pipes};
 use crate::pipe::Pipe;
 use crate::turn::{Turn, Written};
 use xa_events::StopCause;
 use xa_frame::{Body, Frame};
-use xa_link::{Closed, Link};
+use xa_link::Link;
 use xa_types::{Generation, Name, Rval, ServerId};
 
 /// What a life has.
@@ -108,26 +108,30 @@ impl<L: Link> Course<L> {
         self.turn = turn_after(self.turn, &frame.body);
     }
 
-    /// Its program is ended by force, in whichever turn.
-    pub fn abandon(self) -> Closed<L>
-        ensures took { L.took result.was.value ≡ self.pipe.took }
-        ensures gave { L.gave result.was.value ≡ self.pipe.gave }
-        ensures left { L.left result.was.value ≡ self.pipe.left }
-        ensures reads { L.read_faults result.was.value ≡ self.pipe.reads }
-        ensures writes { L.write_faults result.was.value ≡ self.pipe.writes }
-        ensures whose { L.whose result.was.value ≡ self.pipe.whose }
+    /// The monitor goes on with it no more: its program is ended by force, in whichever turn.
+    pub fn cut(self) -> CutLife<L>
+        requires { IsSound (standing_of self) }
+        ensures { result ≡ standing_of self }
     {
         let Course {
-            name: _,
-            server: _,
-            generation: _,
+            name,
+            server,
+            generation,
             pipe,
-            asked: _,
-            said: _,
-            turn: _,
+            asked,
+            said,
+            turn,
             tag: _,
         } = self;
-        pipe.kill()
+        CutLife {
+            name,
+            server,
+            generation,
+            killed: pipe.kill(),
+            asked,
+            said,
+            turn,
+        }
     }
 
     /// The life ends by that cause: its program is ended by force, but behind SHUTDOWN and TPEXIT, where it ends by itself.

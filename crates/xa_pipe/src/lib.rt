@@ -17,6 +17,6 @@ mod turn;
 pub use hearing::{Finish, Forward, Return};
 pub use laws::ends_as_said;
 pub use life::{Answered, Life};
-pub use over::{EndedLife, Pipes};
+pub use over::{CutLife, EndedLife, Pipes};
 pub use pipe::Pipe;
 pub use turn::{Turn, Written};

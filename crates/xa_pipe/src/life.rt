@@ -12,14 +12,14 @@ ghost use Rattle.xa_pipe.specs.Changes.{begun, Heard, Fell, Greeted, FellGreetin
 use crate::course::Course;
 use crate::hearing::{Finish, finished};
 use crate::noted::{Asked, Said};
-use crate::over::EndedLife;
+use crate::over::{CutLife, EndedLife};
 use crate::pipe::Pipe;
 use crate::turn::{Turn, Written};
 use std::alloc::Global;
 use std::marker::Model;
 use xa_events::StopCause;
 use xa_frame::Frame;
-use xa_link::{Closed, Link};
+use xa_link::Link;
 use xa_types::{Data, Generation, Name, ServerId};
 
 /// A life of a server that goes on. A call by which it may end takes it, and gives back the life or what is left of it; so
@@ -183,16 +183,11 @@ impl<L: Link> Life<L> {
     }
 
     /// The monitor goes on with it no more: its program is ended by force, in whichever turn.
-    pub fn abandon(self) -> Closed<L>
-        ensures took { L.took result.was.value ≡ self.link.took }
-        ensures gave { L.gave result.was.value ≡ self.link.gave }
-        ensures left { L.left result.was.value ≡ self.link.left }
-        ensures reads { L.read_faults result.was.value ≡ self.link.reads }
-        ensures writes { L.write_faults result.was.value ≡ self.link.writes }
-        ensures whose { L.whose result.was.value ≡ self.link.whose }
+    pub fn abandon(self) -> CutLife<L>
+        ensures { result ≡ self }
     {
         let Life { course } = self;
-        course.abandon()
+        course.cut()
     }
 
     /// The life ends behind a RETURN with TPEXIT: both pipes are closed, and its program, which ends by itself, is waited

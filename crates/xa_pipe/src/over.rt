@@ -1,8 +1,8 @@
-// A life that ended.
+// A life that ended, or was cut.
 ghost use Rattle.std.specs.Prelude.{◌≡◌};
 ghost use Rattle.xa_events.specs.declared.event.StopCause.TheVariants.{Shutdown, Exit};
-ghost use Rattle.xa_pipe.specs.Standing.{IsOver};
-ghost use Rattle.xa_pipe.specs.Ended.{pipes_show, are_killed, are_open};
+ghost use Rattle.xa_pipe.specs.Standing.{IsSound, IsOver};
+ghost use Rattle.xa_pipe.specs.Ended.{pipes_show, closed_show, are_killed, are_open};
 
 use crate::noted::{Asked, Said};
 use crate::turn::{Turn, Written};
@@ -87,5 +87,54 @@ impl<L: Link> EndedLife<L> {
             written: _,
         } = self;
         pipes
+    }
+}
+
+/// A life that the monitor didn't go on with, at a halt, as it stood then: its program was ended by force.
+#[derive(Drop)]
+pub struct CutLife<L: Link> {
+    pub(crate) name: Name,
+    pub(crate) server: ServerId,
+    pub(crate) generation: Generation,
+    pub(crate) killed: Closed<L>,
+    pub(crate) asked: Asked,
+    pub(crate) said: Said,
+    pub(crate) turn: Turn,
+}
+
+impl<L: Link> Model for CutLife<L> {
+    ghost use Rattle.xa_pipe.specs.Standing.{Standing, IsSound};
+    ghost use Rattle.xa_pipe.specs.Ended.{cut_at};
+
+    ghost Value = { Standing };
+
+    ghost view = { λ c. cut_at (λ l. record { took = L.took l; gave = L.gave l; left = L.left l; reads = L.read_faults l; writes = L.write_faults l; whose = L.whose l }) c };
+
+    ghost invariant = { λ c. IsSound (cut_at (λ l. record { took = L.took l; gave = L.gave l; left = L.left l; reads = L.read_faults l; writes = L.write_faults l; whose = L.whose l }) c) };
+}
+
+impl<L: Link> CutLife<L> {
+    /// Which life of its server it was, counted from 1.
+    pub fn generation(&self) -> Generation
+        ensures { result ≡ self.now.generation }
+    {
+        self.generation
+    }
+
+    /// What is left of its pipes.
+    pub fn into_pipes(self) -> Closed<L>
+        ensures shows { closed_show (λ l. record { took = L.took l; gave = L.gave l; left = L.left l; reads = L.read_faults l; writes = L.write_faults l; whose = L.whose l }) result ≡ self.link }
+        ensures sound { IsSound self }
+    {
+        let CutLife {
+            name: _,
+            server: _,
+            generation: _,
+            killed,
+            asked: _,
+            said: _,
+            turn: _,
+        } = self;
+        killed
     }
 }

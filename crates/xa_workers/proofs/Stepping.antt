@@ -49,6 +49,7 @@ use Rattle.xa_boot.specs.xa_work.Work.{Standing as Working, IsWorkOf, theirs}
 use Rattle.xa_boot.proofs.xa_work.Noting.{theirs-more}
 use Rattle.xa_boot.specs.xa_desk.declared.domain.Domain.{Domain}
 use Rattle.xa_boot.specs.xa_desk.Desks.{IsBoardPass, IsQueuePass, IsSettingOf, IsThere, Shows, page_in, page_at}
+use Rattle.xa_boot.specs.xa_desk.Deserted.{ClearsBehind}
 use Rattle.xa_boot.specs.xa_desk.Made.{IsMade}
 use Rattle.xa_boot.specs.xa_desk.Whole.{Whole, entries_of, IsKnown}
 use Rattle.xa_boot.proofs.xa_desk.Leading.{AllMade, Grew, none_made, one_made, among_at, among_more, board_pass_stays, made_more, off_home, on_home, queue_pass_stays, shows_one_more, shows_still, starts_same, starts_trans, there}
@@ -329,7 +330,7 @@ module _ {d : Domain} {place : ℕ} {old new : Closer} {p p' : QueuePass} {last 
     shows_it whole clients count left on is_known shows =
         let entries : List Stamped = noted_in did.old.queue.entries in
         let booted = step.is.booted in
-        shows_one_more d whole w w' Its (grew did own all_made all_home) (λ there_. absurd (cc (ap (λ h. same_home h BoardHome) at_home, there_))) shows (record {
+        shows_one_more d whole w w' Its (grew did own all_made all_home) (λ there_. absurd (cc (ap (λ h. same_home h BoardHome) at_home, there_))) (subst (ClearsBehind d.setup (entries_of whole) old.own Its.stamp) (sym event_is) tt) shows (record {
           behind = subst (IsBehind d.booted Its.stamp) (sym event_is) (omega (arith, booted, rises));
           saw = subst (λ (e : Event). SawFronts d.setup d.clients (entries_of whole) Its.stamp e (past_in old.own)) (sym event_is) tt;
           told = subst (WasTold d.setup d.clients (entries_of whole) Its.stamp (worker_events d.clients 0 (past_in old.own))) (sym event_is)

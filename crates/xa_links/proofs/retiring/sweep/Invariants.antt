@@ -7,6 +7,6 @@ use Rattle.xa_links.proofs.retiring.sweep.Given as goal
 abbrev pub invariant-loop : goal.invariant-loop
 invariant-loop g l = record {
   goes : OfDomainAt l.domain l.fn.desk l.desk;
-  fallen : IsFallen l.queue.0 l.desk;
+  fallen : IsFallen l.domain l.queue.0 l.desk;
   told : TellsLast l.fn.desk → TellsLast l.desk;
 }

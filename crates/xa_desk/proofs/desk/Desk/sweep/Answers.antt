@@ -21,17 +21,18 @@ returns-in-Ok-None g c =
     let step = stepped new c.sweep_at-pass.result.pass c.sweep_at-pass.result.last c.requires.desk c.from-place.ensures c.requires.fallen.1 c.requires.fallen.2 c.take_from-pass.ensures.was _ c.take_from-pass.ensures.rest c.put_back.ensures refl c.index.result.now c.index.ensures c.sweep_at-pass.ensures.lock c.sweep_at-pass.ensures.reached in
     let did = subst (SweptAs (Visits (page_of c.take_from-pass.result) (page_of c.sweep_at-pass.result.pass)) c.stamp.result c.id.result) (c.in-Ok-None.is ∙ ap Ok c.in-Ok-None.field-0-is) c.sweep_at-pass.ensures.swept in
     let leads = looked_leads step did c.saw.ensures in
-    record { leads = leads; swept = ((c.sweep_at-pass.result.last, c.saw.ensures), falls_swept step did leads.desk c.requires.fallen.0 (ap (λ (kept : Kept Filling). kept.queue.waiting) did.how.0 ∙ did.how.1)); fallen = falls_still step did c.requires.fallen.0; board = (refl, refl) }
+    record { leads = leads; swept = ((c.sweep_at-pass.result.last, c.saw.ensures), falls_swept step did leads.desk c.requires.fallen.0 (ap (λ (kept : Kept Filling). kept.queue.waiting) did.how.0 ∙ did.how.1)); fallen = falls_still step did leads c.requires.fallen.0; board = (refl, refl) }
 
 pub returns-in-Err : goal.returns-in-Err
 returns-in-Err g c =
     let new : Desk = record c.args.self.now { caller = c.saw-in-Err.new.self; queues = c.put_back.new.passes } in
     let step = stepped new c.sweep_at-pass.result.pass c.sweep_at-pass.result.last c.requires.desk c.from-place.ensures c.requires.fallen.1 c.requires.fallen.2 c.take_from-pass.ensures.was _ c.take_from-pass.ensures.rest c.put_back.ensures refl c.index.result.now c.index.ensures c.sweep_at-pass.ensures.lock c.sweep_at-pass.ensures.reached in
     let did = subst (SweptAs (Visits (page_of c.take_from-pass.result) (page_of c.sweep_at-pass.result.pass)) c.stamp.result c.id.result) c.in-Err.is c.sweep_at-pass.ensures.swept in
+    let leads = looked_leads step did c.saw-in-Err.ensures in
     record {
-      leads = looked_leads step did c.saw-in-Err.ensures;
+      leads = leads;
       swept = looked_last step did c.saw-in-Err.ensures c.stamp.result c.in-Err.worn c.stamp.ensures.value did.how.1.0;
-      fallen = falls_still step did c.requires.fallen.0;
+      fallen = falls_still step did leads c.requires.fallen.0;
       board = (refl, refl);
     }
 
@@ -40,5 +41,5 @@ returns-in-Ok-Some g c =
     let new : Desk = record c.args.self.now { caller = c.noted_for_domain.new.self; queues = c.put_back.new.passes } in
     let step = stepped new c.sweep_at-pass.result.pass c.sweep_at-pass.result.last c.requires.desk c.from-place.ensures c.requires.fallen.1 c.requires.fallen.2 c.take_from-pass.ensures.was _ c.take_from-pass.ensures.rest c.put_back.ensures refl c.index.result.now c.index.ensures c.sweep_at-pass.ensures.lock c.sweep_at-pass.ensures.reached in
     let did = subst (SweptAs (Visits (page_of c.take_from-pass.result) (page_of c.sweep_at-pass.result.pass)) c.stamp.result c.id.result) (c.in-Ok-Some.is ∙ ap Ok c.in-Ok-Some.field-0-is) c.sweep_at-pass.ensures.swept in
-    let swept = swept_goes step c.stamp.result c.id.result c.stamp.ensures.value c.in-Ok-Some.out did c.noted_for_domain.ensures.noted c.swept-closing.result c.swept-closing.ensures in
-    record { leads = swept.0; swept = (swept.1, swept.2, swept.3, record { stamp = c.in-Ok-Some.out.noted.stamp; noted = swept.4; answer = ap (λ (x : Closing). x.answer) c.swept-closing.ensures }); fallen = falls_still step did c.requires.fallen.0; board = (refl, refl) }
+    let swept = swept_goes step c.stamp.result c.id.result c.stamp.ensures.value c.in-Ok-Some.out did c.noted_for_domain.ensures.noted c.requires.fallen.0.last c.swept-closing.result c.swept-closing.ensures in
+    record { leads = swept.0; swept = (swept.1, swept.2, swept.3, record { stamp = c.in-Ok-Some.out.noted.stamp; noted = swept.4; answer = ap (λ (x : Closing). x.answer) c.swept-closing.ensures }); fallen = falls_still step did swept.0 c.requires.fallen.0; board = (refl, refl) }

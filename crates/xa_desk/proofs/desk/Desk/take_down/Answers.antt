@@ -19,7 +19,8 @@ returns-in-Ok-None g c =
     let new : Desk = record c.args.self.now { caller = c.saw.new.self; queues = c.put_back.new.passes } in
     let step = stepped new c.down_at-pass.result.pass c.down_at-pass.result.last c.requires.desk c.from-place.ensures c.requires.deserted.1 c.requires.deserted.2 c.take_from-pass.ensures.was _ c.take_from-pass.ensures.rest c.put_back.ensures refl c.index.result.now c.index.ensures c.down_at-pass.ensures.lock c.down_at-pass.ensures.reached in
     let did = subst (WentDownAs (Visits (page_of c.take_from-pass.result) (page_of c.down_at-pass.result.pass)) c.stamp.result c.id.result) (c.in-Ok-None.is ∙ ap Ok c.in-Ok-None.field-0-is) c.down_at-pass.ensures.down in
-    record { leads = looked_leads step did c.saw.ensures; noted = of_none c.args.self.now new c.down_at-pass.result.last c.saw.ensures; down = falls step did (ap (λ (kept : Kept Filling). kept.queue.down) did.how.0 ∙ did.how.1); worn = tt; board = (refl, refl) }
+    let leads = looked_leads step did c.saw.ensures in
+    record { leads = leads; noted = of_none c.args.self.now new c.down_at-pass.result.last c.saw.ensures; down = falls step did leads c.requires.deserted.0.last (ap (λ (kept : Kept Filling). kept.queue.down) did.how.0 ∙ did.how.1); worn = tt; board = (refl, refl) }
 
 pub returns-in-Err : goal.returns-in-Err
 returns-in-Err g c =
@@ -39,5 +40,5 @@ returns-in-Ok-Some g c =
     let new : Desk = record c.args.self.now { caller = c.noted_for_domain.new.self; queues = c.put_back.new.passes } in
     let step = stepped new c.down_at-pass.result.pass c.down_at-pass.result.last c.requires.desk c.from-place.ensures c.requires.deserted.1 c.requires.deserted.2 c.take_from-pass.ensures.was _ c.take_from-pass.ensures.rest c.put_back.ensures refl c.index.result.now c.index.ensures c.down_at-pass.ensures.lock c.down_at-pass.ensures.reached in
     let did = subst (WentDownAs (Visits (page_of c.take_from-pass.result) (page_of c.down_at-pass.result.pass)) c.stamp.result c.id.result) (c.in-Ok-Some.is ∙ ap Ok c.in-Ok-Some.field-0-is) c.down_at-pass.ensures.down in
-    let fell = fell_goes step c.stamp.result c.id.result c.stamp.ensures.value c.in-Ok-Some.noted did c.noted_for_domain.ensures.noted c.requires.clear in
+    let fell = fell_goes step c.stamp.result c.id.result c.stamp.ensures.value c.in-Ok-Some.noted did c.noted_for_domain.ensures.noted c.requires.clear c.requires.deserted.0.last in
     record { leads = fell.0; noted = fell.1; down = fell.2; worn = tt; board = (refl, refl) }
