@@ -5,7 +5,6 @@ use Rattle.std.specs.List.{All}
 use Rattle.std.proofs.lemmas.List.{length-map}
 use Rattle.std.proofs.lemmas.Bool.{and_parts}
 use Rattle.std.proofs.lemmas.List.Elements.{All-weaker, filter-append}
-use Rattle.xa_joined.specs.xa_types.declared.ids.Generation.{Generation}
 use Rattle.xa_joined.specs.xa_types.Setup.{queue_of}
 use Rattle.xa_joined.specs.xa_events.Cases.{IsShut}
 use Rattle.xa_joined.specs.xa_events.declared.event.Event.{Event}
@@ -31,7 +30,7 @@ use Rattle.xa_joined.specs.xa_pipe.declared.turn.Turn.TheVariants.{AwaitsInvoke}
 use Rattle.xa_joined.specs.xa_pipe.Following.{is_of, IsSent, IsBorneOut, StandsIn}
 use Rattle.xa_joined.specs.xa_pipe.Frames.{is_of_life, invocation}
 use Rattle.xa_joined.specs.xa_pipe.Life.{Reasons, IsLife, StopsClosed, stops_life}
-use Rattle.xa_joined.specs.xa_pipe.Standing.{Ending}
+use Rattle.xa_joined.specs.xa_pipe.Standing.{Standing as Life, Ending}
 use Rattle.xa_joined.specs.xa_pipe.Pipe.{invoke_frame}
 use Rattle.xa_joined.proofs.xa_pipe.Followed.{is_life}
 use Rattle.xa_joined.specs.xa_work.Work.{Standing as Working, theirs}
@@ -40,10 +39,10 @@ use Rattle.xa_joined.specs.xa_desk.declared.desk.Desk.{Desk}
 use Rattle.xa_joined.specs.xa_desk.Whole.{entries_of}
 use Rattle.xa_joined.specs.xa_desk.Serving.{WasSentFor, IsSentFor}
 use Rattle.xa_joined.specs.xa_links.Reasons.{ShowsReason}
-use Rattle.xa_joined.specs.xa_links.Lives.{lives_in, HasStarted, IsHanded, IsLived}
+use Rattle.xa_joined.specs.xa_links.Lives.{lives_in, HasStarted, TookEach, IsHanded, IsLived}
 use Rattle.xa_joined.specs.Joined.{Back, whole_of, kept_of, noted_of}
 use Rattle.xa_joined.specs.Ended.{ServerEnd, Ends}
-use Rattle.xa_joined.specs.Served.{generations_of, IsLifeOf, IsStarterOf, IsCarried}
+use Rattle.xa_joined.specs.Served.{generations_of, lives_of as its_lives, IsLifeOf, IsStarterOf, IsCarried}
 use Rattle.xa_joined.proofs.Going.{one_goes_on}
 use Rattle.xa_joined.proofs.Homes.{saw_new}
 use Rattle.xa_joined.proofs.Left.{same_homes}
@@ -53,7 +52,7 @@ use Rattle.xa_carried.proofs.Numbered.{each_from, each_map}
 use Rattle.xa_carried.proofs.Own.{is_worker, its_noted}
 use Rattle.xa_carried.proofs.Readings.{of_life, stop_of_life, taken_own}
 use Rattle.xa_carried.proofs.Sent.{IsAsked, asked_frame}
-use Rattle.xa_carried.proofs.SoFar.{Shown, shown, of_starts, of_lives}
+use Rattle.xa_carried.proofs.SoFar.{Shown, shown, of_starts, of_lives, of_taken}
 
 -- ---- what was written for a take
 
@@ -151,7 +150,11 @@ module _ (d : Domain) (b : Back) (domain : Working) (desks : List Desk) (servers
   module _ (whole : Whole) where
     all_lives : (server : ℕ) (end : ServerEnd) → ShownHere server end → generations_of end.lives ≡ lives_in server past
     all_lives server end its =
-        sym (append-nil (generations_of end.lives)) ∙ (ap (λ (l : List Generation). generations_of end.lives ++ l) (sym (its.shows.none_cut whole)) ∙ of_lives d b domain desks servers homes Whole ends events merged server end its)
+        sym (append-nil (generations_of end.lives)) ∙ (ap (λ (l : List Life). generations_of end.lives ++ map (λ (life : Life). life.generation) l) (sym (its.shows.none_cut whole)) ∙ of_lives d b domain desks servers homes Whole ends events merged server end its)
+
+    all_taken : (server : ℕ) (end : ServerEnd) → ShownHere server end → All (TookEach server past) (its_lives end.lives)
+    all_taken server end its =
+        subst (All (TookEach server past)) (append-nil (its_lives end.lives)) (subst (λ (l : List Life). All (TookEach server past) (its_lives end.lives ++ l)) (its.shows.none_cut whole) (of_taken d b domain desks servers homes Whole ends events merged server end its))
 
     starter_of : (server : ℕ) (end : ServerEnd) → ShownHere server end → IsStarterOf d.setup server end.name end.shown past
     starter_of server end its = record {
@@ -172,6 +175,7 @@ module _ (d : Domain) (b : Back) (domain : Working) (desks : List Desk) (servers
       lives_are = record {
         all = length-map servers (λ (x : ServerEnd). x.lives) ∙ ends.count;
         each = each_map (λ server its. generations_of its ≡ lives_in server past) (λ (x : ServerEnd). x.lives) 1 servers (by_server (λ server end. generations_of end.lives ≡ lives_in server past) all_lives);
+        taken = each_map (λ server its. All (TookEach server past) (its_lives its)) (λ (x : ServerEnd). x.lives) 1 servers (by_server (λ server end. All (TookEach server past) (its_lives end.lives)) all_taken);
       };
       pipes = each_map (λ server its. All (IsLifeOf d.setup d.clients past server) its) (λ (x : ServerEnd). x.lives) 1 servers (by_server (λ server end. All (IsLifeOf d.setup d.clients past server) end.lives) lives_of);
       each = by_server (λ server end. IsStarterOf d.setup server end.name end.shown past) starter_of;

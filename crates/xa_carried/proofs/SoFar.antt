@@ -1,30 +1,32 @@
 -- The lives and the starts of each server, by the merge.
 use Rattle.std.proofs.Common.{◌≡◌, ℕ, ◌+◌, ◌<◌, List, ◌++◌, length, map, reverse, Option, Some, None, sym, ◌∙◌, ap, subst, arith}
 use Rattle.std.specs.Prelude.{option_map, IsSomeAnd}
+use Rattle.std.specs.List.{All}
 use Rattle.std.proofs.lemmas.List.{length-map}
-use Rattle.xa_joined.specs.xa_types.declared.ids.Generation.{Generation}
+use Rattle.std.proofs.lemmas.List.Elements.{All-weaker}
 use Rattle.xa_joined.specs.xa_types.declared.setup.ServerSetup.{ServerSetup}
 use Rattle.xa_joined.specs.xa_types.Setup.{numbered, queue_of}
 use Rattle.xa_joined.specs.xa_events.declared.event.Event.{Event}
 use Rattle.xa_joined.specs.xa_events.Local.{worker_events}
 use Rattle.xa_joined.specs.xa_events.Server.{starts}
 use Rattle.xa_joined.specs.xa_events.State.{caller_of}
-use Rattle.xa_joined.specs.xa_events.Words.{EachNumbered}
+use Rattle.xa_joined.specs.xa_events.Words.{EachNumbered, count}
 use Rattle.xa_joined.specs.xa_stamp.Home.{Notes}
 use Rattle.xa_joined.specs.xa_stamp.Merge.{IsMerged}
 use Rattle.xa_joined.specs.xa_crew.Ending.{list_in}
 use Rattle.xa_joined.specs.xa_work.Work.{Standing as Working, theirs}
-use Rattle.xa_joined.specs.xa_pipe.Standing.{Ending}
+use Rattle.xa_joined.specs.xa_pipe.Frames.{is_take_in}
+use Rattle.xa_joined.specs.xa_pipe.Standing.{Standing as Life, Ending}
 use Rattle.xa_joined.specs.xa_desk.declared.domain.Domain.{Domain}
 use Rattle.xa_joined.specs.xa_desk.declared.desk.Desk.{Desk}
-use Rattle.xa_joined.specs.xa_links.Lives.{lives_in, failed_starts, HasStartedSoFar, ServerShows}
+use Rattle.xa_joined.specs.xa_links.Lives.{lives_in, failed_starts, HasStartedSoFar, TookEach, IsCut, ServerShows}
 use Rattle.xa_joined.specs.Joined.{Back}
 use Rattle.xa_joined.specs.Ended.{ServerEnd, Ends}
-use Rattle.xa_joined.specs.Served.{server_name_in, name_of, generations_of, AreLivesSoFar, IsStarterSoFar}
+use Rattle.xa_joined.specs.Served.{server_name_in, name_of, generations_of, lives_of, AreLivesOf, AreLivesSoFar, IsStarterSoFar}
 use Rattle.xa_joined.proofs.Listed.{numbered_map}
 use Rattle.xa_carried.proofs.Numbered.{some_there, numbered_within, numbered_there, each_at, each_from}
 use Rattle.xa_carried.proofs.Own.{server_events}
-use Rattle.xa_carried.proofs.Readings.{lives_own, starts_own, failed_own}
+use Rattle.xa_carried.proofs.Readings.{lives_own, starts_own, failed_own, taken_own}
 
 name_in : (o : Option ServerSetup) (name : List ℕ) → option_map (λ (server : ServerSetup). server.name) o ≡ Some name → name ≡ server_name_in o
 name_in None name is = absurd (cc is)
@@ -72,8 +74,20 @@ module _ (d : Domain) (b : Back) (domain : Working) (desks : List Desk) (servers
         (subst (λ (l : List ℕ). P (name_of d.setup server) (length l) (failed_starts server (theirs its.desk.caller.work))) (ap (starts server) (sym its.own) ∙ starts_own d.clients server past)
         (subst (λ (name : List ℕ). P name (length (starts server (theirs its.desk.caller.work))) (failed_starts server (theirs its.desk.caller.work))) its.named holds))
 
-    pub of_lives : generations_of end.lives ++ end.cut ≡ lives_in server past
+    pub of_lives : generations_of end.lives ++ map (λ (life : Life). life.generation) end.cut ≡ lives_in server past
     of_lives = its.shows.lives_are ∙ (ap (lives_in server) (sym its.own) ∙ lives_own d.clients server past)
+
+    -- so it is with takes
+    of_takes : (lives : List Life) → All (TookEach server (theirs its.desk.caller.work)) lives → All (TookEach server past) lives
+    of_takes lives took = All-weaker (TookEach server (theirs its.desk.caller.work)) (TookEach server past) (λ life is.
+        let g : ℕ = life.generation.0 in
+        sym (taken_own d.clients server g past) ∙ (ap (count (is_take_in server g)) its.own ∙ is)) lives took
+
+    pub of_taken : All (TookEach server past) (lives_of end.lives ++ end.cut)
+    of_taken = of_takes (lives_of end.lives ++ end.cut) its.shows.taken
+
+    its_lives : AreLivesOf d.setup past server end.lives end.cut
+    its_lives = record { are = of_lives; taken = of_taken; cut_off = subst (λ (name : List ℕ). All (IsCut name server) end.cut) its.named its.shows.cut_off }
 
     starter_so_far : IsStarterSoFar d.setup server end.name end.shown past
     starter_so_far = record { its = its.named; started = of_starts (λ name n failed. HasStartedSoFar name n failed end.shown) its.shows.so_far }
@@ -86,12 +100,11 @@ module _ (d : Domain) (b : Back) (domain : Working) (desks : List Desk) (servers
 
   pub lives_so_far : AreLivesSoFar d.setup past (map (λ (x : ServerEnd). x.lives) servers) (map (λ (x : ServerEnd). x.cut) servers)
   lives_so_far = record {
-    lives_of = let same = length-map servers (λ (x : ServerEnd). x.lives) in let count = ends.count in omega (arith, same, count);
-    cut_of = let same = length-map servers (λ (x : ServerEnd). x.cut) in let count = ends.count in omega (arith, same, count);
+    lives_count = let same = length-map servers (λ (x : ServerEnd). x.lives) in let count = ends.count in omega (arith, same, count);
+    cut_count = let same = length-map servers (λ (x : ServerEnd). x.cut) in let count = ends.count in omega (arith, same, count);
     each = λ server some low.
         let count = ends.count in
         let one = numbered_there server servers some (omega (arith, low, count)) in
-        ap (λ (l : List Ending). generations_of l ++ list_in (numbered server (map (λ (x : ServerEnd). x.cut) servers))) (list_of (λ (x : ServerEnd). x.lives) server one.0 one.1)
-        ∙ (ap (λ (l : List Generation). generations_of one.0.lives ++ l) (list_of (λ (x : ServerEnd). x.cut) server one.0 one.1)
-        ∙ of_lives server one.0 (shown server one.0 one.1));
+        subst (λ (l : List Ending). AreLivesOf d.setup past server l (list_in (numbered server (map (λ (x : ServerEnd). x.cut) servers)))) (sym (list_of (λ (x : ServerEnd). x.lives) server one.0 one.1))
+        (subst (λ (l : List Life). AreLivesOf d.setup past server one.0.lives l) (sym (list_of (λ (x : ServerEnd). x.cut) server one.0 one.1)) (its_lives server one.0 (shown server one.0 one.1)));
   }

@@ -156,9 +156,9 @@ module _ {d : Domain} {queue k : ℕ} {desk new : Desk} {p p' : QueuePass} {last
         let booted = step.is.booted in
         let id = (setting_found step did).id in
         let leads : Leads d desk new =
-            event_leads step maker noted.stamp noted.event.value did next caller its did.how.1.event_is (ap QueueHome id) tt (omega (arith, rises, booted)) (λ whole on. tt)
-              (λ whole on. subst (λ n. SawDeserted d.setup n (entries_of whole BoardHome) (entries_of whole (QueueHome n)) noted.stamp) (sym id) (clear whole on noted.stamp rises))
-              (λ whole on. subst (λ n. GaveUpLast d.setup n (entries_of whole (QueueHome n)) desk.caller.work.own noted.stamp) (sym id) (gave whole on noted.stamp rises)) in (
+        event_leads step maker noted.stamp noted.event.value did next caller its did.how.1.event_is (ap QueueHome id) tt (omega (arith, rises, booted)) (λ whole on. tt)
+        (λ whole on. subst (λ n. SawDeserted d.setup n (entries_of whole BoardHome) (entries_of whole (QueueHome n)) noted.stamp) (sym id) (clear whole on noted.stamp rises))
+        (λ whole on. subst (λ n. GaveUpLast d.setup n (entries_of whole (QueueHome n)) desk.caller.work.own noted.stamp) (sym id) (gave whole on noted.stamp rises)) in (
           leads,
           of_domain desk new noted.stamp its tt (caller ∙ ap (λ (e : Event). noted_off noted.stamp e desk.caller) did.how.1.event_is),
           falls step did leads gave (ap (λ q. q.down) did.how.1.notes.made),

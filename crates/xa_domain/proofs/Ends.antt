@@ -6,7 +6,6 @@ use Rattle.std.specs.declared.vec.Vec.{Vec}
 use Rattle.std.specs.declared.alloc.Global.{Global}
 use Rattle.std.proofs.lemmas.List.{length-map}
 use Rattle.std.proofs.lemmas.List.Elements.{All-nil, All-cons}
-use Rattle.xa_ending.specs.xa_types.declared.ids.Generation.{Generation}
 use Rattle.xa_ending.specs.xa_types.Setup.{numbered, queue_of}
 use Rattle.xa_ending.specs.xa_events.declared.event.Event.{Event}
 use Rattle.xa_ending.specs.xa_events.Run.{Run}
@@ -16,7 +15,7 @@ use Rattle.xa_ending.specs.xa_stamp.Home.{Notes}
 use Rattle.xa_ending.specs.xa_stamp.Merge.{IsMerged, stamps_of}
 use Rattle.xa_ending.specs.xa_work.declared.work.Halt.{Halt}
 use Rattle.xa_ending.specs.xa_work.declared.work.Halt.TheVariants as halts
-use Rattle.xa_ending.specs.xa_pipe.Standing.{Ending}
+use Rattle.xa_ending.specs.xa_pipe.Standing.{Standing as Life, Ending}
 use Rattle.xa_ending.specs.xa_script.declared.script.Client.{Client}
 use Rattle.xa_ending.specs.xa_server.Served.{StarterShows}
 use Rattle.xa_ending.specs.xa_links.Lives.{ServerShows}
@@ -51,7 +50,7 @@ module _ (d : Domain) (desks : List Desk) (W : Type 0) (whole : W) where
   servers_whole n [] each = tt
   servers_whole n (x ∷ servers) each = (
     some_weaker (λ desk. ServerShows d x.name (queue_of d.setup n) n desk x.lives x.cut x.shown W) (λ desk. ServerShows d x.name (queue_of d.setup n) n desk x.lives x.cut x.shown ⊤)
-        (λ desk shows. record { lives_are = shows.lives_are; so_far = shows.so_far; told = shows.told; none_cut = λ _. shows.none_cut whole; lived = λ _. shows.lived whole; started = λ _. shows.started whole; done = λ _. shows.done whole })
+        (λ desk shows. record { lives_are = shows.lives_are; taken = shows.taken; cut_off = shows.cut_off; so_far = shows.so_far; told = shows.told; none_cut = λ _. shows.none_cut whole; lived = λ _. shows.lived whole; started = λ _. shows.started whole; done = λ _. shows.done whole })
         (numbered (d.clients + n) desks) each.0,
     servers_whole (n + 1) servers each.1,
   )
@@ -61,8 +60,8 @@ module _ (d : Domain) (desks : List Desk) (W : Type 0) (whole : W) where
   cut_of n x (Some desk) is = is.none_cut whole
 
   none_cut : (n : ℕ) (servers : List ServerEnd) → EachNumbered (λ k (x : ServerEnd). IsSomeAnd (numbered (d.clients + k) desks) (λ desk. ServerShows d x.name (queue_of d.setup k) k desk x.lives x.cut x.shown W)) n servers → IsNoneCut (map (λ (x : ServerEnd). x.cut) servers)
-  none_cut n [] each = All-nil (λ (c : List Generation). c ≡ [])
-  none_cut n (x ∷ servers) each = All-cons (λ (c : List Generation). c ≡ []) x.cut (map (λ (x : ServerEnd). x.cut) servers) (cut_of n x (numbered (d.clients + n) desks) each.0) (none_cut (n + 1) servers each.1)
+  none_cut n [] each = All-nil (λ (c : List Life). c ≡ [])
+  none_cut n (x ∷ servers) each = All-cons (λ (c : List Life). c ≡ []) x.cut (map (λ (x : ServerEnd). x.cut) servers) (cut_of n x (numbered (d.clients + n) desks) each.0) (none_cut (n + 1) servers each.1)
 
 -- ---- by server
 
@@ -95,7 +94,7 @@ module _ {L T : Type 0} (named : T → List ℕ) (shows : T → StarterShows) (c
   abbrev lives : List (List Ending)
   lives = map (λ (v : Vec Ending Global). v.items) h.lives.items
 
-  abbrev cut : List (List Generation)
+  abbrev cut : List (List Life)
   cut = map cut_in h.cut.items
 
   lives_same : map (λ (x : ServerEnd). x.lives) servers ≡ lives

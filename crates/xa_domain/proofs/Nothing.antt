@@ -5,7 +5,6 @@ use Rattle.std.specs.List.{All}
 use Rattle.std.proofs.lemmas.List.{length-map}
 use Rattle.std.proofs.lemmas.List.Elements.{All-nil, All-head, All-tail}
 use Rattle.std.proofs.lemmas.List.Sorted.{IsPermutation-refl}
-use Rattle.xa_ending.specs.xa_types.declared.ids.Generation.{Generation}
 use Rattle.xa_ending.specs.xa_types.declared.setup.Setup.{Setup}
 use Rattle.xa_ending.specs.xa_types.declared.setup.ServerSetup.{ServerSetup}
 use Rattle.xa_ending.specs.xa_types.Setup.{numbered}
@@ -19,11 +18,11 @@ use Rattle.xa_ending.specs.xa_crew.Ending.{list_in}
 use Rattle.xa_ending.specs.xa_work.declared.work.Halt.{Halt}
 use Rattle.xa_ending.specs.xa_work.declared.work.Halt.TheVariants.{NoMemory}
 use Rattle.xa_ending.specs.xa_script.declared.script.Client.{Client}
-use Rattle.xa_ending.specs.xa_pipe.Standing.{Ending}
+use Rattle.xa_ending.specs.xa_pipe.Standing.{Standing as Life, Ending}
 use Rattle.xa_ending.specs.xa_server.Served.{StarterShows}
 use Rattle.xa_ending.specs.xa_desk.Made.{IsMade}
-use Rattle.xa_ending.specs.xa_links.Lives.{lives_in, HasStarted}
-use Rattle.xa_ending.specs.xa_joined.Served.{server_name_in, name_of, generations_of, HasStarters, IsStarterSoFar, IsServedSoFar}
+use Rattle.xa_ending.specs.xa_links.Lives.{HasStarted, TookEach, IsCut}
+use Rattle.xa_ending.specs.xa_joined.Served.{server_name_in, name_of, AreLivesOf, HasStarters, IsStarterSoFar, IsServedSoFar}
 use Rattle.xa_ending.proofs.xa_joined.Listed.{numbered_map}
 use Rattle.xa_carried.proofs.Numbered.{each_at, each_from}
 use Rattle.xa_domain.specs.Serving.{ServeEnds}
@@ -32,9 +31,9 @@ no_starts : (server : ℕ) → starts server [] ≡ []
 unfolding starts
 no_starts server = refl
 
-no_lives : (server : ℕ) → 0 < server → generations_of (list_in (numbered server [])) ++ list_in (numbered server []) ≡ lives_in server []
-no_lives zero some = absurd (omega (arith, some))
-no_lives (suc k) some = refl
+no_lives : (setup : Setup) (server : ℕ) → 0 < server → AreLivesOf setup [] server (list_in (numbered server [])) (list_in (numbered server []))
+no_lives setup zero some = absurd (omega (arith, some))
+no_lives setup (suc k) some = record { are = refl; taken = All-nil (TookEach (suc k) []); cut_off = All-nil (IsCut (name_of setup (suc k)) (suc k)) }
 
 none_merged : IsMerged [] []
 none_merged = record { places = []; all = IsPermutation-refl []; ordered = λ k d low high. absurd (omega (arith, high)); theirs = refl }
@@ -76,10 +75,10 @@ module _ {S : Type 0} (named : S → List ℕ) (shows : S → StarterShows) (set
       dense = none_dense;
       worn = tt;
       comes = λ events merged. subst (λ (es : List Event). IsServedSoFar named shows NoMemory setup (length clients) es [] [] starters) (sym (one_merge [] events [] merged none_merged))
-          (record { run = refl; made = All-nil IsMade; all = all; lives_are = record { lives_of = omega arith; cut_of = omega arith; each = λ server some low. no_lives server some }; each = each });
+          (record { run = refl; made = All-nil IsMade; all = all; lives_are = record { lives_count = omega arith; cut_count = omega arith; each = λ server some low. no_lives setup server some }; each = each });
     }
 
-    pub none_ends : (halt : Option Halt) (homes : List Notes) (lives : List (List Ending)) (cut : List (List Generation)) → halt ≡ Some NoMemory → homes ≡ [] → lives ≡ [] → cut ≡ [] → ServeEnds named shows setup clients halt homes lives cut starters
+    pub none_ends : (halt : Option Halt) (homes : List Notes) (lives : List (List Ending)) (cut : List (List Life)) → halt ≡ Some NoMemory → homes ≡ [] → lives ≡ [] → cut ≡ [] → ServeEnds named shows setup clients halt homes lives cut starters
     none_ends halt homes lives cut why no_homes none none_cut =
         subst (λ h. ServeEnds named shows setup clients h homes lives cut starters) (sym why)
         (subst (λ hs. ServeEnds named shows setup clients (Some NoMemory) hs lives cut starters) (sym no_homes)

@@ -1,7 +1,6 @@
 -- What serving a script comes to (this project's own).
 use Rattle.std.specs.Prelude.{◌≡◌, ◌⊎◌, ℕ, ◌≤◌, List, [], length, Option, Some, None, IfSome}
 use Rattle.std.specs.List.{All}
-use Rattle.xa_ending.specs.xa_types.declared.ids.Generation.{Generation}
 use Rattle.xa_ending.specs.xa_types.declared.setup.Setup.{Setup}
 use Rattle.xa_ending.specs.xa_events.declared.event.Event.{Event}
 use Rattle.xa_ending.specs.xa_stamp.Home.{Notes}
@@ -9,7 +8,7 @@ use Rattle.xa_ending.specs.xa_stamp.Merge.{IsDense, IsMerged}
 use Rattle.xa_ending.specs.xa_work.declared.work.Halt.{Halt}
 use Rattle.xa_ending.specs.xa_work.declared.work.Halt.TheVariants.{NoMemory}
 use Rattle.xa_ending.specs.xa_script.declared.script.Client.{Client}
-use Rattle.xa_ending.specs.xa_pipe.Standing.{Ending}
+use Rattle.xa_ending.specs.xa_pipe.Standing.{Standing as Life, Ending}
 use Rattle.xa_ending.specs.xa_server.Served.{StarterShows}
 use Rattle.xa_ending.specs.xa_workers.Working.{IsBuiltClient}
 use Rattle.xa_ending.specs.xa_joined.Served.{IsRecorded, IsServedWhole, IsServedSoFar, IsWorn}
@@ -25,17 +24,17 @@ HasHomes (Some NoMemory) setup clients homes = IsRecorded setup clients homes �
 HasHomes halt setup clients homes = IsRecorded setup clients homes
 
 -- no life was cut
-abbrev pub IsNoneCut : List (List Generation) → Type 0
-IsNoneCut cut = All (λ (of_server : List Generation). of_server ≡ []) cut
+abbrev pub IsNoneCut : List (List Life) → Type 0
+IsNoneCut cut = All (λ (of_server : List Life). of_server ≡ []) cut
 
 module _ {S : Type 0} (named : S → List ℕ) (shows : S → StarterShows) (setup : Setup) (clients : List Client) where
   -- what the merged events are, by whether the run halted; cut are the lives that went on at a halt
-  abbrev pub ComesTo : Option Halt → List Event → List (List Ending) → List (List Generation) → List S → Type 0
+  abbrev pub ComesTo : Option Halt → List Event → List (List Ending) → List (List Life) → List S → Type 0
   ComesTo None events lives cut starters = IsServedWhole named shows setup clients events lives starters × IsNoneCut cut × (length cut ≡ length setup.servers)
   ComesTo (Some halt) events lives cut starters = IsServedSoFar named shows halt setup (length clients) events lives cut starters
 
   -- how serving ends: each event stands at its own home, with dense stamps that rise, and the merge of the homes comes to that
-  pub record ServeEnds (halt : Option Halt) (homes : List Notes) (lives : List (List Ending)) (cut : List (List Generation)) (starters : List S) : Type 0 where
+  pub record ServeEnds (halt : Option Halt) (homes : List Notes) (lives : List (List Ending)) (cut : List (List Life)) (starters : List S) : Type 0 where
     pub homed : HasHomes halt setup (length clients) homes
     pub dense : IsDense (record { 0 = 0 }) homes
     pub worn : IfSome halt (λ why. IsWorn why homes)

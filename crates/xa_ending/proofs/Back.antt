@@ -87,7 +87,7 @@ servers_if : (d : Domain) (desks : List Desk) (V W : Type 0) → (W → V) → (
 servers_if d desks V W from n [] each = tt
 servers_if d desks V W from n (x ∷ servers) each = (
   some_if (λ desk. ServerShows d x.name (queue_of d.setup n) n desk x.lives x.cut x.shown V) (λ desk. ServerShows d x.name (queue_of d.setup n) n desk x.lives x.cut x.shown W)
-      (λ desk shows. record { lives_are = shows.lives_are; so_far = shows.so_far; told = shows.told; none_cut = λ w. shows.none_cut (from w); lived = λ w. shows.lived (from w); started = λ w. shows.started (from w); done = λ w. shows.done (from w) })
+      (λ desk shows. record { lives_are = shows.lives_are; taken = shows.taken; cut_off = shows.cut_off; so_far = shows.so_far; told = shows.told; none_cut = λ w. shows.none_cut (from w); lived = λ w. shows.lived (from w); started = λ w. shows.started (from w); done = λ w. shows.done (from w) })
       (numbered (d.clients + n) desks) each.0,
   servers_if d desks V W from (n + 1) servers each.1,
 )
@@ -219,6 +219,7 @@ module _ {L T : Type 0} (named : T → List ℕ) (shows : T → StarterShows) (s
               made = each_op (λ k ops. IsSomeAnd (numbered k desks) (HasMadeAll d ops)) 1 scripts (gathered.made going);
               closed = λ queue kept there. all_closed d booted.closer b joined.closed.is gives.itself_known (joined.closed.closed (gathered.itself going)) queue kept there queues_count (gives.each queue kept there);
             };
+        halted = halt ∙ ap halt_of gathered.why;
         worn = subst (λ o. IfSome o (IsHaltAmong itself desks)) (sym halt) (halted_so itself desks g.stopped gathered.worn);
         known = shown.0;
         lives_are = ap (λ v. map (λ (l : Vec Ending Global). l.items) v.items) lives ∙ gathered.lives_are;

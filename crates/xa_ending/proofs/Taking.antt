@@ -9,7 +9,6 @@ use Rattle.std.proofs.lemmas.List.{length-map, map-append, get_or_append_left}
 use Rattle.std.proofs.lemmas.List.Elements.{All-nil, All-push, All-pop, All-head, All-tail, Contains-push, Contains-append_left}
 use Rattle.std.specs.declared.vec.Vec.{Vec}
 use Rattle.std.specs.declared.alloc.Global.{Global}
-use Rattle.xa_workers.specs.xa_types.declared.ids.Generation.{Generation}
 use Rattle.xa_workers.specs.xa_types.Setup.{numbered, queue_of}
 use Rattle.xa_workers.specs.xa_events.Homes.Home.{CallerHome}
 use Rattle.xa_workers.specs.xa_events.Caller.{is_client}
@@ -27,7 +26,7 @@ use Rattle.xa_workers.specs.xa_work.declared.work.Halt.TheVariants as halts
 use Rattle.xa_workers.specs.xa_work.Work.{Standing as Working, IsSound}
 use Rattle.xa_workers.specs.xa_caller.declared.cargo.Filling.{Filling}
 use Rattle.xa_workers.specs.xa_caller.Changes.{LeavesAs}
-use Rattle.xa_workers.specs.xa_pipe.Standing.{Ending}
+use Rattle.xa_workers.specs.xa_pipe.Standing.{Standing as Life, Ending}
 use Rattle.xa_workers.specs.xa_script.declared.script.Client.{Client}
 use Rattle.xa_workers.specs.xa_server.Served.{StarterShows}
 use Rattle.xa_workers.specs.xa_desk.declared.domain.Domain.{Domain}
@@ -41,7 +40,6 @@ use Rattle.xa_workers.specs.xa_clients.declared.working.ClientWorker.TheVariants
 use Rattle.xa_workers.specs.xa_clients.declared.working.Ended.{Ended}
 use Rattle.xa_workers.specs.xa_clients.Ending.{MayEnd, EndsAs, here_by}
 use Rattle.xa_workers.specs.xa_links.Lives.{ServerShows}
-use Rattle.xa_workers.specs.xa_links.declared.working.CutLife.{CutLife}
 use Rattle.xa_workers.specs.xa_links.declared.working.ServerWorker.{ServerWorker}
 use Rattle.xa_workers.specs.xa_links.Working.{cut_in}
 use Rattle.xa_workers.specs.xa_boot.declared.closer.Closer.{Closer}
@@ -55,7 +53,8 @@ use Rattle.xa_ending.specs.Leaving.{Leaving, AreTokens, leaving_of, itself_of}
 use Rattle.xa_ending.specs.Room.{IsNothing}
 use Rattle.xa_ending.specs.Gathered.{IsLeftDesk, IsStopAmong, home_of_desk, HasGathered}
 use Rattle.xa_ending.specs.declared.tokens.Tokens.{Tokens}
-use Rattle.xa_ending.specs.Gathering.{HasSpace, HasTokenSpace, HasWorkerSpace, HasServerSpace, KeepsServers, AddsTokens, HasTaken, IsBeforeClients, HasClients, HasClientsSo, IsBeforeServers, HasServers, HasServersSo, first_of}
+use Rattle.xa_ending.specs.Gathering.{HasSpace, HasTokenSpace, HasWorkerSpace, HasServerSpace, KeepsServers, AddsTokens, HasTaken, IsBeforeClients, HasClients, HasClientsSo, IsBeforeServers, HasServers, HasServersSo}
+use Rattle.xa_ending.specs.Stops.{first_of, first_among, why_left, stops_of}
 use Rattle.xa_ending.proofs.Adding.{no_tokens, token_space, empty_space, less_space, there_some, all_some}
 
 -- ---- why it stopped
@@ -73,6 +72,19 @@ first_none (Some Elsewhere) (Some s) is = absurd (cc is)
 first_none (Some Elsewhere) None is = absurd (cc is)
 first_none None (Some s) is = absurd (cc is)
 first_none None None is = (refl, refl)
+
+first_push : (before : Option Stopped) (stops : List (Option Stopped)) (next : Option Stopped) → first_among before (stops ++ next ∷ []) ≡ first_of (first_among before stops) next
+first_push before [] next = refl
+first_push before (one ∷ stops) next = first_push (first_of before one) stops next
+
+first_append : (before : Option Stopped) (stops more : List (Option Stopped)) → first_among before (stops ++ more) ≡ first_among (first_among before stops) more
+first_append before [] more = refl
+first_append before (one ∷ stops) more = first_append (first_of before one) stops more
+
+-- with one more that stopped for that reason
+first_more : {X : Type 0} (why : X → Option Stopped) (xs : List X) (x : X) (before now new next : Option Stopped) → new ≡ first_of now next → now ≡ first_among before (map why xs) → why x ≡ next → new ≡ first_among before (map why (xs ++ x ∷ []))
+first_more why xs x before now new next is has same =
+    is ∙ ap (λ (o : Option Stopped). first_of o next) has ∙ sym (ap (first_among before) (map-append why xs (x ∷ []) ∙ ap (λ (o : Option Stopped). map why xs ++ o ∷ []) same) ∙ first_push before (map why xs) next)
 
 stops_more : (itself : Working) (desks more : List Desk) (s : Stopped) → IsStopAmong itself desks s → IsStopAmong itself (desks ++ more) s
 stops_more itself desks more (Here halts.NoMemory) is = tt
@@ -167,7 +179,7 @@ module _ {L T : Type 0} (d : Domain) (itself : Leaving) (scripts : List Client) 
     front = [];
     scripts_are = refl;
     clients_are = refl;
-    has = record { desks = []; taken = before.taken; count = refl; keep = λ whole hold. All-nil (KeepsItsOwn d whole); made = λ none. tt; before = λ none. none };
+    has = record { desks = []; taken = before.taken; count = refl; keep = λ whole hold. All-nil (KeepsItsOwn d whole); made = λ none. tt; why = refl; before = λ none. none };
     left = before.done;
   }
 
@@ -234,6 +246,7 @@ module _ {L T : Type 0} (d : Domain) (itself : Leaving) (scripts : List Client) 
               All-push (KeepsItsOwn d whole) so_far.front client (has.keep whole parts.0)
               (subst (KeepsItsOwn d whole) (sym gone.1) (subst (λ (w : Working). All (Contains (whole.callers w.id.0)) (filter (stands_at d.setup d.clients (CallerHome w.id.0)) w.own)) (sym as_left.work) parts.1));
           made = λ none. zip_push (λ (c : Client) (x : Desk). HasMadeAll d c.ops x) so_far.its has.desks next.0 desk (has.made (none_before none).0) (gone.0.all (none_before none).1);
+          why = first_more why_left so_far.front client old.stopped now.stopped new.stopped ended.stopped stopped has.why (ap why_left gone.1);
           before = λ none. has.before (none_before none).0;
         };
         left = let one : n + 1 ≡ length (so_far.front ++ client ∷ []) + 1 = omega (arith, more_front) in subst (λ k. EachDone d k next.1 left) one next.4;
@@ -259,6 +272,7 @@ module _ {L T : Type 0} (d : Domain) (named : T → List ℕ) (shows : T → Sta
     servers_are = refl;
     has = record {
       taken = subst (λ l. HasTaken d itself l old) (sym (append-nil desks)) starts.taken;
+      why = refl;
       before = λ none. none;
       going = λ none. All-nil (λ (w : ServerWorker L T). w.stopped ≡ None);
       lives_are = ap (map (λ (v : Vec Ending Global). v.items)) starts.no_lives;
@@ -307,6 +321,7 @@ module _ {L T : Type 0} (d : Domain) (named : T → List ℕ) (shows : T → Sta
         has = record {
           taken = subst (λ l. HasTaken d itself l new) together (taken_more d itself before now new w.desk notes w.stopped has.taken left_desk added pushed (home_same d w.desk work notes.entries over.is same home) stopped over.halts);
           before = λ none. has.before (none_before none).0;
+          why = first_more (λ (x : ServerWorker L T). x.stopped) so_far.front w old.stopped now.stopped new.stopped w.stopped stopped has.why refl;
           going = λ none. All-push (λ (x : ServerWorker L T). x.stopped ≡ None) so_far.front w (has.going (none_before none).0) (none_before none).1;
           lives_are = ap (map items) lives ∙ map-append items now.lives.items (w.served.lives ∷ []) ∙ ap (λ l. l ++ w.served.lives.items ∷ []) has.lives_are ∙ sym (map-append (λ (x : ServerWorker L T). x.served.lives.items) so_far.front (w ∷ []));
           cut_are = ap (map cut_in) cut ∙ map-append cut_in now.cut.items (w.cut ∷ []) ∙ ap (λ l. l ++ cut_in w.cut ∷ []) has.cut_are ∙ sym (map-append (λ (x : ServerWorker L T). cut_in x.cut) so_far.front (w ∷ []));
@@ -335,9 +350,11 @@ made_each d front (desk ∷ desks) more (c ∷ scripts) n is all =
       subst (λ l. EachNumbered (λ k (x : Client). IsSomeAnd (numbered k l) (HasMadeAll d x.ops)) (n + 1) scripts) (append_assoc front (desk ∷ []) (desks ++ more)) (made_each d (front ++ desk ∷ []) desks more scripts (n + 1) next all.1),
     )
 
-shows_weaker : (d : Domain) (name : List ℕ) (queue server : ℕ) (desk : Desk) (lives : List Ending) (cut : List Generation) (shown : StarterShows) (Whole Less : Type 0) → (Less → Whole) → ServerShows d name queue server desk lives cut shown Whole → ServerShows d name queue server desk lives cut shown Less
+shows_weaker : (d : Domain) (name : List ℕ) (queue server : ℕ) (desk : Desk) (lives : List Ending) (cut : List Life) (shown : StarterShows) (Whole Less : Type 0) → (Less → Whole) → ServerShows d name queue server desk lives cut shown Whole → ServerShows d name queue server desk lives cut shown Less
 shows_weaker d name queue server desk lives cut shown Whole Less from is = record {
   lives_are = is.lives_are;
+  taken = is.taken;
+  cut_off = is.cut_off;
   so_far = is.so_far;
   told = is.told;
   none_cut = λ whole. is.none_cut (from whole);
@@ -378,14 +395,15 @@ module _ {L T : Type 0} (d : Domain) (named : T → List ℕ) (shows : T → Sta
     taken = has.taken;
     count = has.count ∙ all;
     no_lives = ap (λ (v : Vec (Vec Ending Global) Global). v.items) kept.same_lives ∙ nothing.lives_room.0;
-    no_cut = ap (λ (v : Vec (Option (CutLife L)) Global). v.items) kept.same_cut ∙ nothing.cut_room.0;
+    no_cut = ap (λ (v : Vec (Option Life) Global). v.items) kept.same_cut ∙ nothing.cut_room.0;
     no_starters = ap (λ (v : Vec T Global). v.items) kept.same_starters ∙ nothing.starters_room.0;
   }
 
-  pub gathered : (scripts : List Client) (clients : List ClientWorker) (servers : List (ServerWorker L T)) (closer : Closer) (g0 g1 g2 : Gathered L T) (why : Option Stopped) → length clients ≡ d.clients → EachNumbered (IsOver d named shows) 1 servers → HasClosed d clients closer
+  pub gathered : (scripts : List Client) (clients : List ClientWorker) (servers : List (ServerWorker L T)) (closer : Closer) (g0 g1 g2 : Gathered L T) (why : Option Stopped) → g0.stopped ≡ None → length clients ≡ d.clients → EachNumbered (IsOver d named shows) 1 servers → HasClosed d clients closer
       → (has : HasClients d (itself_of d closer) scripts clients g0 g1) → HasServers d named shows (itself_of d closer) has.desks servers g1 g2 → why ≡ first_of g2.stopped (here_by closer.halt) → HasGathered d named shows scripts clients servers closer (record g2 { stopped = why })
-  gathered scripts clients servers closer g0 g1 g2 why all over closed has more is =
+  gathered scripts clients servers closer g0 g1 g2 why going all over closed has more is =
       let DeskOf : ServerWorker L T → Desk = λ (x : ServerWorker L T). x.desk in
+      let StopOf : ServerWorker L T → Option Stopped = λ (x : ServerWorker L T). x.stopped in
       let desks : List Desk = has.desks ++ map DeskOf servers in
       let count = has.count in
       let many = length-append has.desks (map DeskOf servers) in
@@ -403,6 +421,8 @@ module _ {L T : Type 0} (d : Domain) (named : T → List ℕ) (shows : T → Sta
         keep = λ whole hold. has.keep whole (λ k x less. subst (λ y. All (Contains (whole.callers y.caller.work.id.0)) (home_of_desk d y)) (get_or_append_left has.desks (map DeskOf servers) x k less) (hold k x (omega (arith, less, many))));
         made = λ none. made_each d [] has.desks (map DeskOf servers) scripts 1 refl (has.made (more.before (none_before none).0));
         each = shows_each (stopped ≡ None) has.desks servers 1 first over (λ none. more.going (none_before none).0);
+        why = ap (λ (o : Option Stopped). first_of o (here_by closer.halt)) (more.why ∙ ap (λ (o : Option Stopped). first_among o (map StopOf servers)) (has.why ∙ ap (λ (o : Option Stopped). first_among o (map why_left clients)) going))
+            ∙ sym (first_append None (map why_left clients) (map StopOf servers ++ here_by closer.halt ∷ []) ∙ first_push (first_among None (map why_left clients)) (map StopOf servers) (here_by closer.halt));
         itself = λ none. no_halt closer.halt (none_before none).1;
         worn = if_first P g2.stopped (here_by closer.halt) more.taken.worn (halt_stops d clients closer desks closer.halt closed.halts);
         lives_are = more.lives_are;

@@ -31,6 +31,7 @@ use Rattle.xa_workers.specs.xa_joined.Ended.{HasMadeAll, EachServer}
 use Rattle.xa_workers.specs.Closing.{KeepsItsOwn}
 use Rattle.xa_ending.specs.declared.gathering.Gathered.{Gathered}
 use Rattle.xa_ending.specs.Joined.{end_of}
+use Rattle.xa_ending.specs.Stops.{first_among, stops_of}
 use Rattle.xa_ending.specs.Leaving.{AreTokens, itself_of, leaving_of}
 
 -- the desk of the worker with that number, behind its work
@@ -68,6 +69,7 @@ module _ {L T : Type 0} (d : Domain) (named : T → List ℕ) (shows : T → Sta
     pub keep : (whole : Whole) → HoldTheirs d desks whole → All (KeepsItsOwn d whole) clients
     pub made : g.stopped ≡ None → EachNumbered (λ k (c : Client). IsSomeAnd (numbered k desks) (HasMadeAll d c.ops)) 1 scripts
     pub each : EachServer d desks (map (end_of named shows) servers) (g.stopped ≡ None)
+    pub why : g.stopped ≡ first_among None (stops_of clients servers closer)
     pub itself : g.stopped ≡ None → closer.halt ≡ None
     pub worn : IfSome g.stopped (IsStopAmong (work_of d closer) desks)
     pub lives_are : map (λ (v : Vec Ending Global). v.items) g.lives.items ≡ map (λ (w : ServerWorker L T). w.served.lives.items) servers

@@ -16,8 +16,6 @@ use Rattle.xa_workers.specs.xa_script.declared.script.Client.{Client}
 use Rattle.xa_workers.specs.xa_server.Served.{StarterShows}
 use Rattle.xa_workers.specs.xa_desk.declared.domain.Domain.{Domain}
 use Rattle.xa_workers.specs.xa_desk.declared.desk.Desk.{Desk}
-use Rattle.xa_workers.specs.xa_desk.declared.stopped.Stopped.{Stopped}
-use Rattle.xa_workers.specs.xa_desk.declared.stopped.Stopped.TheVariants.{Here}
 use Rattle.xa_workers.specs.xa_desk.Desks.{IsThere}
 use Rattle.xa_workers.specs.xa_desk.Whole.{Whole}
 use Rattle.xa_workers.specs.xa_clients.declared.working.ClientWorker.{ClientWorker}
@@ -29,6 +27,7 @@ use Rattle.xa_workers.specs.Closing.{KeepsItsOwn}
 use Rattle.xa_ending.specs.declared.tokens.Tokens.{Tokens}
 use Rattle.xa_ending.specs.declared.gathering.Gathered.{Gathered}
 use Rattle.xa_ending.specs.Leaving.{Leaving, AreTokens, leaving_of}
+use Rattle.xa_ending.specs.Stops.{first_among, why_left}
 use Rattle.xa_ending.specs.Gathered.{IsLeftDesk, IsStopAmong, HoldTheirs, home_of_desk}
 
 -- ---- room
@@ -69,14 +68,6 @@ pub record AddsTokens (seat : Seat Filling) (board : Option (LockPass BoardNote)
   pub are : (work : Working) (n : ℕ) (all : List Leaving) → AreTokens n all old → AreTokens n (all ++ record { work = work; seat = seat; board = board; queues = queues } ∷ []) new
   pub space : (more : ℕ) → HasTokenSpace (more + 1) old → HasTokenSpace more new
 
--- ---- why it stopped
-
--- the first halt that a worker came to itself comes before that one saw another halt
-abbrev pub first_of : Option Stopped → Option Stopped → Option Stopped
-first_of (Some (Here halt)) next = Some (Here halt)
-first_of before (Some stopped) = Some stopped
-first_of before None = before
-
 -- ---- the workers
 
 -- so far these are the tokens of that one and of the workers at these desks, what the workers noted at their own homes, and why one of them stopped
@@ -98,6 +89,7 @@ pub record HasClients {L T : Type 0} (d : Domain) (itself : Leaving) (scripts : 
   pub count : length desks ≡ length clients
   pub keep : (whole : Whole) → HoldTheirs d desks whole → All (KeepsItsOwn d whole) clients
   pub made : new.stopped ≡ None → AllZip (λ (c : Client) (desk : Desk). HasMadeAll d c.ops desk) scripts desks
+  pub why : new.stopped ≡ first_among old.stopped (map why_left clients)
   pub before : new.stopped ≡ None → old.stopped ≡ None
 
 -- so far of some of the clients, and these are left
@@ -130,6 +122,7 @@ module _ {L T : Type 0} (d : Domain) (named : T → List ℕ) (shows : T → Sta
   pub record HasServers (itself : Leaving) (desks : List Desk) (servers : List (ServerWorker L T)) (old new : Gathered L T) : Type 0 where
     pub taken : HasTaken d itself (desks ++ map (λ (w : ServerWorker L T). w.desk) servers) new
     pub before : new.stopped ≡ None → old.stopped ≡ None
+    pub why : new.stopped ≡ first_among old.stopped (map (λ (w : ServerWorker L T). w.stopped) servers)
     pub going : new.stopped ≡ None → All (λ (w : ServerWorker L T). w.stopped ≡ None) servers
     pub lives_are : map (λ (v : Vec Ending Global). v.items) new.lives.items ≡ map (λ (w : ServerWorker L T). w.served.lives.items) servers
     pub cut_are : map cut_in new.cut.items ≡ map (λ (w : ServerWorker L T). cut_in w.cut) servers

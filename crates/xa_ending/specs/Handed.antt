@@ -19,6 +19,7 @@ use Rattle.xa_workers.specs.xa_joined.Joined.{Back, whole_of}
 use Rattle.xa_workers.specs.xa_joined.Ended.{Ends, EndsWhole}
 use Rattle.xa_ending.specs.declared.handing.Handed.{Handed}
 use Rattle.xa_ending.specs.Gathered.{IsHaltAmong}
+use Rattle.xa_ending.specs.Stops.{first_among, stops_of}
 use Rattle.xa_ending.specs.Joined.{end_of}
 
 -- why the run halted, by why its workers stopped
@@ -27,13 +28,15 @@ halt_of None = None
 halt_of (Some (Here halt)) = Some halt
 halt_of (Some Elsewhere) = Some NoMemory
 
--- all workers left, and these are all homes, lives and starters; where there was no halt the run came to its end
+-- all workers left, and these are all homes, lives and starters; where there was no halt the run came to its end, and else the first halt that a worker came
+-- to itself is told
 pub record HandsBack {L T : Type 0} (named : T → List ℕ) (shows : T → StarterShows) (scripts : List Client) (booted : Booted L T) (h : Handed L T) : Type 0 where
   pub b : Back
   pub domain : Working
   pub desks : List Desk
   pub ends : Ends booted.domain b domain desks (map (end_of named shows) booted.servers.items) h.homes.homes (h.halt ≡ None)
   pub whole : h.halt ≡ None → EndsWhole booted.domain b desks (map (λ (c : Client). c.ops) scripts)
+  pub halted : h.halt ≡ halt_of (first_among None (stops_of booted.clients.items booted.servers.items booted.closer))
   pub worn : IfSome h.halt (IsHaltAmong domain desks)
   pub known : IsKnown (whole_of booted.domain b) domain.stamp
   pub lives_are : map (λ (v : Vec Ending Global). v.items) h.lives.items ≡ map (λ (w : ServerWorker L T). w.served.lives.items) booted.servers.items

@@ -1,4 +1,5 @@
 pub mod Leaving
+pub mod Stops
 pub mod Room
 pub mod Joined
 pub mod Gathered

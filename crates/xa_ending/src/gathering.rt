@@ -11,7 +11,8 @@ ghost use Rattle.xa_workers.specs.Closing.{HasClosed};
 ghost use Rattle.xa_ending.specs.Leaving.{Leaving};
 ghost use Rattle.xa_ending.specs.Room.{IsNothing};
 ghost use Rattle.xa_ending.specs.Gathered.{HasGathered};
-ghost use Rattle.xa_ending.specs.Gathering.{HasWorkerSpace, HasServerSpace, KeepsServers, IsBeforeClients, HasClients, IsBeforeServers, HasServers, first_of};
+ghost use Rattle.xa_ending.specs.Stops.{first_of};
+ghost use Rattle.xa_ending.specs.Gathering.{HasWorkerSpace, HasServerSpace, KeepsServers, IsBeforeClients, HasClients, IsBeforeServers, HasServers};
 
 use crate::tokens::Tokens;
 use xa_workers::boot::Closer;

@@ -1,6 +1,5 @@
 -- How the workers of a domain ended, by what their desks show (this project's own).
 use Rattle.std.specs.Prelude.{◌≡◌, ℕ, ◌+◌, true, List, [], length, map, Some, IsSomeAnd}
-use Rattle.xa_clients.specs.xa_types.declared.ids.Generation.{Generation}
 use Rattle.xa_clients.specs.xa_types.declared.call.Op.{Op}
 use Rattle.xa_clients.specs.xa_types.declared.setup.ServerSetup.{ServerSetup}
 use Rattle.xa_clients.specs.xa_types.Setup.{numbered, queue_of}
@@ -11,7 +10,7 @@ use Rattle.xa_clients.specs.xa_held.Board.{made_in}
 use Rattle.xa_clients.specs.xa_held.Kept.{Kept}
 use Rattle.xa_clients.specs.xa_work.Work.{Standing as Working}
 use Rattle.xa_clients.specs.xa_caller.declared.cargo.Filling.{Filling}
-use Rattle.xa_clients.specs.xa_pipe.Standing.{Ending}
+use Rattle.xa_clients.specs.xa_pipe.Standing.{Standing as Life, Ending}
 use Rattle.xa_clients.specs.xa_server.Served.{StarterShows}
 use Rattle.xa_clients.specs.xa_desk.declared.domain.Domain.{Domain}
 use Rattle.xa_clients.specs.xa_desk.declared.desk.Desk.{Desk}
@@ -24,7 +23,7 @@ use Rattle.xa_joined.specs.Joined.{Back, AllLeft}
 pub record ServerEnd : Type 0 where
   pub name : List ℕ
   pub lives : List Ending
-  pub cut : List Generation
+  pub cut : List Life
   pub shown : StarterShows
 
 -- a client made all of these calls, and left

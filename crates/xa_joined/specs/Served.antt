@@ -24,11 +24,11 @@ use Rattle.xa_clients.specs.xa_work.declared.work.Halt.TheVariants.{NoMemory, Wo
 use Rattle.xa_clients.specs.xa_caller.declared.cargo.Filling.{Filling}
 use Rattle.xa_script.specs.declared.script.Client.{Client}
 use Rattle.xa_clients.specs.xa_pipe.Life.{IsLife}
-use Rattle.xa_clients.specs.xa_pipe.Standing.{Ending}
+use Rattle.xa_clients.specs.xa_pipe.Standing.{Standing as Life, Ending}
 use Rattle.xa_clients.specs.xa_server.Served.{StarterShows}
 use Rattle.xa_clients.specs.xa_desk.declared.domain.Domain.{Domain}
 use Rattle.xa_clients.specs.xa_desk.Made.{IsMade}
-use Rattle.xa_links.specs.Lives.{lives_in, failed_starts, HasStarted, HasStartedSoFar}
+use Rattle.xa_links.specs.Lives.{lives_in, failed_starts, HasStarted, HasStartedSoFar, TookEach, IsCut}
 use Rattle.xa_joined.specs.Joined.{Back}
 use Rattle.xa_joined.specs.Told.{AreTold}
 
@@ -102,10 +102,14 @@ IsLifeOf setup clients past server over = (over.life.server.0 ≡ server) × IsL
 abbrev pub generations_of : List Ending → List Generation
 generations_of lives = map (λ (over : Ending). over.life.generation) lives
 
--- there is a list for each server, and its lives are the server's starts that succeeded
+abbrev pub lives_of : List Ending → List Life
+lives_of lives = map (λ (over : Ending). over.life) lives
+
+-- there is a list for each server, and its lives are the server's starts that succeeded; in each of them it took a request for each INVOKE
 pub record AreLives (setup : Setup) (past : List Event) (lives : List (List Ending)) : Type 0 where
   pub all : length lives ≡ length setup.servers
   pub each : EachNumbered (λ server its. generations_of its ≡ lives_in server past) 1 lives
+  pub taken : EachNumbered (λ server its. All (TookEach server past) (lives_of its)) 1 lives
 
 -- the starter is that of the server with that number, and shows what starts its worker made
 pub record IsStarterOf (setup : Setup) (server : ℕ) (named : List ℕ) (shown : StarterShows) (past : List Event) : Type 0 where
@@ -127,11 +131,18 @@ pub record IsServedWhole {S : Type 0} (named : S → List ℕ) (shows : S → St
   pub machine : IsHistory setup clients events
   pub carried : IsCarried named shows setup (length clients) (reverse events) lives starters
 
--- each server's starts that succeeded are its lives that ended, and then that which went on at the halt; where a server has no list it was not started
-pub record AreLivesSoFar (setup : Setup) (past : List Event) (lives : List (List Ending)) (cut : List (List Generation)) : Type 0 where
-  pub lives_of : length lives ≤ length setup.servers
-  pub cut_of : length cut ≤ length setup.servers
-  pub each : (server : ℕ) → 0 < server → server < length setup.servers + 1 → generations_of (list_in (numbered server lives)) ++ list_in (numbered server cut) ≡ lives_in server past
+-- a server's starts that succeeded are its lives that ended, and then that which went on at the halt and was cut; in each of them it took a request for
+-- each INVOKE, and the link of the one that was cut took the octets of those that were due
+pub record AreLivesOf (setup : Setup) (past : List Event) (server : ℕ) (lives : List Ending) (cut : List Life) : Type 0 where
+  pub are : generations_of lives ++ map (λ (life : Life). life.generation) cut ≡ lives_in server past
+  pub taken : All (TookEach server past) (lives_of lives ++ cut)
+  pub cut_off : All (IsCut (name_of setup server) server) cut
+
+-- so it is with each server; where one has no list it was not started
+pub record AreLivesSoFar (setup : Setup) (past : List Event) (lives : List (List Ending)) (cut : List (List Life)) : Type 0 where
+  pub lives_count : length lives ≤ length setup.servers
+  pub cut_count : length cut ≤ length setup.servers
+  pub each : (server : ℕ) → 0 < server → server < length setup.servers + 1 → AreLivesOf setup past server (list_in (numbered server lives)) (list_in (numbered server cut))
 
 -- the starter is that of the server with that number, and was asked for its starts, and for one more at most, whose event isn't noted
 pub record IsStarterSoFar (setup : Setup) (server : ℕ) (named : List ℕ) (shown : StarterShows) (past : List Event) : Type 0 where
@@ -144,8 +155,8 @@ HasStarters NoMemory setup starters = (length starters ≡ length setup.servers)
 HasStarters (Worn stamp) setup starters = length starters ≡ length setup.servers
 
 -- the merged events are the first of a run, and the lives and the starters' starts are those of these events; of the clients only their number counts, and of
--- what the links show nothing is said
-pub record IsServedSoFar {S : Type 0} (named : S → List ℕ) (shows : S → StarterShows) (halt : Halt) (setup : Setup) (clients : ℕ) (events : List Event) (lives : List (List Ending)) (cut : List (List Generation)) (starters : List S) : Type 0 where
+-- what the links of lives that ended show nothing is said
+pub record IsServedSoFar {S : Type 0} (named : S → List ℕ) (shows : S → StarterShows) (halt : Halt) (setup : Setup) (clients : ℕ) (events : List Event) (lives : List (List Ending)) (cut : List (List Life)) (starters : List S) : Type 0 where
   pub run : Run (opening setup clients) events (record { setup = setup; clients = clients; past = reverse events })
   pub made : All IsMade (reverse events)
   pub all : HasStarters halt setup starters

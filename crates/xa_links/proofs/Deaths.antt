@@ -1,9 +1,9 @@
 -- A life of a server ends.
-use Rattle.std.proofs.Common.{◌≡◌, ◌<◌, ℕ, ◌+◌, ◌==◌, ◌&&◌, true, false, List, [], ◌∷◌, ◌++◌, map, Option, Some, None, inl, inr, refl, sym, ◌∙◌, ap, subst, append-nil, arith, eq-eqb}
+use Rattle.std.proofs.Common.{◌≡◌, ◌<◌, ℕ, ◌+◌, ◌==◌, ◌&&◌, true, false, List, [], ◌∷◌, ◌++◌, map, length, Option, Some, None, inl, inr, refl, sym, ◌∙◌, ap, subst, append-nil, arith, eq-eqb}
 use Rattle.std.specs.Prelude.{IfSome, ⊤}
 use Rattle.std.specs.List.{All}
 use Rattle.std.proofs.lemmas.List.{map_push, append_assoc}
-use Rattle.std.proofs.lemmas.List.Elements.{All-nil, All-cons}
+use Rattle.std.proofs.lemmas.List.Elements.{All-nil, All-cons, All-push}
 use Rattle.xa_desk.specs.xa_types.declared.ids.Generation.{Generation}
 use Rattle.xa_desk.specs.xa_types.declared.ids.RequestId.{RequestId}
 use Rattle.xa_desk.specs.xa_types.declared.stamp.Stamp.{Stamp}
@@ -29,9 +29,9 @@ use Rattle.xa_desk.specs.xa_pipe.declared.turn.Turn.TheVariants.{AwaitsInvoke, E
 use Rattle.xa_desk.specs.xa_pipe.declared.turn.Turn.{Turn}
 use Rattle.xa_desk.specs.xa_pipe.declared.turn.Written.{Written}
 use Rattle.xa_desk.specs.xa_pipe.declared.turn.Written.TheVariants as writes
-use Rattle.xa_desk.specs.xa_pipe.Frames.{is_of_life}
+use Rattle.xa_desk.specs.xa_pipe.Frames.{is_of_life, is_take_in}
 use Rattle.xa_desk.specs.xa_pipe.Life.{stops_life, lost_by, may_end}
-use Rattle.xa_desk.specs.xa_pipe.Standing.{Ending, IsOver}
+use Rattle.xa_desk.specs.xa_pipe.Standing.{Standing as Life, Ending, IsOver}
 use Rattle.xa_desk.specs.xa_pipe.Following.{Settled, HasStopped}
 use Rattle.xa_desk.proofs.xa_pipe.Followed.{stops}
 use Rattle.xa_desk.specs.xa_server.declared.closing.Closing.{Closing}
@@ -50,14 +50,14 @@ use Rattle.xa_desk.specs.Serving.{IsServing, IsSentFor, IsToTell}
 use Rattle.xa_links.specs.declared.working.ServerWorker.{ServerWorker}
 use Rattle.xa_links.specs.declared.telling.Told.{Told}
 use Rattle.xa_desk.specs.Halting.{IsStopAt}
-use Rattle.xa_links.specs.Lives.{lives_in, IsHanded}
+use Rattle.xa_links.specs.Lives.{lives_in, IsHanded, TookEach, IsCut}
 use Rattle.xa_links.specs.Working.{cut_in}
 use Rattle.xa_links.specs.Steps.{Steps, Serves, IsToldOf, stop_by}
 use Rattle.xa_links.specs.Standing.{SettlesBy, IsLast, IsAtWork, IsOff, HasEnded}
 use Rattle.xa_links.proofs.Behind.{leads_behind}
 use Rattle.xa_links.proofs.Stepping.{still_steps, noted_steps}
-use Rattle.xa_links.proofs.Keeping.{OfLife, lives_same, handed_led}
-use Rattle.xa_links.proofs.Lasting.{number_of, at_kept, started_on, failed_on, ends_shut, ends_lived, ends_work, halts}
+use Rattle.xa_links.proofs.Keeping.{OfLife, lives_same, lives_on, skip_count, handed_led}
+use Rattle.xa_links.proofs.Lasting.{number_of, at_kept, started_on, failed_on, ends_shut, ends_lived, ends_work, lives_took, none_cut, none_off, halts}
 use Rattle.xa_desk.proofs.xa_pipe.Followed.{settled_led}
 use Rattle.xa_links.specs.Reasons.{ShowsReason}
 use Rattle.xa_links.proofs.Reasons.{reason_led}
@@ -202,26 +202,33 @@ module _ {L T : Type 0} {d : Domain} {named : T → List ℕ} {shows : T → Sta
   -- ---- at a halt
 
   -- where stamps came to their end, behind these
-  worn_ends : (more : List Event) (worn : Worn) (stopped : Stopped) → stopped ≡ stop_by worn → IsWorn worn new → Steps d more w.desk desk' → All (OfLife slot.made) more → slot'.server ≡ slot.server → slot'.made ≡ slot.made → HasEnded d named shows (Some stopped) (at_kept w kept slot' desk')
-  worn_ends more worn stopped by full steps its server made =
+  worn_ends : (more : List Event) (worn : Worn) (stopped : Stopped) → stopped ≡ stop_by worn → IsWorn worn new → Steps d more w.desk desk' → All (OfLife slot.made) more → All (λ (e : Event). is_take_in slot.server.0 over.life.generation.0 e ≡ false) more → slot'.server ≡ slot.server → slot'.made ≡ slot.made → TookEach slot.server.0 own over.life → HasEnded d named shows (Some stopped) (at_kept w kept slot' desk')
+  worn_ends more worn stopped by full steps its plain server made took =
       let s : ℕ = slot.server.0 in
+      let Took : Life → Type 0 = TookEach s (theirs new) in
+      let on = lives_on steps w.name w.queue.0 s slot.made w.served.lives.items over.life.generation (number_of at.serving) its at.lived in
+      let now_took : Took over.life = ap (count (is_take_in s over.life.generation.0)) steps.own ∙ skip_count (is_take_in s over.life.generation.0) more own plain ∙ took in
       let same : lives_in slot'.server.0 (theirs new) ≡ lives_in s own = ap (λ x. lives_in x.0 (theirs new)) server ∙ ap (lives_in s) steps.own ∙ lives_same s slot.made more own its in
       halts (at_kept w kept slot' desk') stopped leads.desk serving (ap named starter ∙ at.named_so)
-      (ap (λ (l : List Ending). map (λ (y : Ending). y.life.generation) l ++ cut_in w.cut) lives ∙ ap (λ (gs : List Generation). gs ++ cut_in w.cut) (map_push (λ (y : Ending). y.life.generation) w.served.lives.items over)
-      ∙ ap (λ (gs : List Generation). (map (λ (y : Ending). y.life.generation) w.served.lives.items ++ over.life.generation ∷ []) ++ gs) (ap cut_in at.cut) ∙ append-nil _ ∙ at.lived.are ∙ sym same)
+      (ap (λ (l : List Ending). map (λ (y : Ending). y.life.generation) l ++ map (λ (life : Life). life.generation) (cut_in w.cut)) lives ∙ ap (λ (gs : List Generation). gs ++ map (λ (life : Life). life.generation) (cut_in w.cut)) (map_push (λ (y : Ending). y.life.generation) w.served.lives.items over)
+      ∙ ap (λ (o : Option Life). (map (λ (y : Ending). y.life.generation) w.served.lives.items ++ over.life.generation ∷ []) ++ map (λ (life : Life). life.generation) (cut_in o)) at.cut ∙ append-nil _ ∙ at.lived.are ∙ sym same)
+      (subst (λ x. All (TookEach x.0 (theirs new)) (map (λ (y : Ending). y.life) kept.lives.items ++ cut_in w.cut)) (sym server) (none_cut Took (map (λ (y : Ending). y.life) kept.lives.items) w.cut at.cut
+      (subst (λ (l : List Ending). All Took (map (λ (y : Ending). y.life) l)) (sym {A = List Ending} lives) (subst (All Took) (sym (map_push (λ (y : Ending). y.life) w.served.lives.items over)) (All-push Took (map (λ (y : Ending). y.life) w.served.lives.items) over.life (lives_took w.served.lives.items on.each) now_took)))))
+      (none_off (IsCut w.name slot'.server.0) w.cut at.cut)
       (inl (started_on made (failed_on steps slot.made slot slot' server its) (ap shows starter) at.started)) (leads_behind w.desk desk' ⊤ leads seat at.told.0)
       (subst (IsStopAt desk') (sym by) (full.tells, full.at_end))
 
-  pub worn_still : (worn : Worn) (stopped : Stopped) → stopped ≡ stop_by worn → IsWorn worn old → slot' ≡ slot → new ≡ old → HasEnded d named shows (Some stopped) (at_kept w kept slot' desk')
-  worn_still worn stopped by full same work =
-      worn_ends [] worn stopped by (subst (IsWorn worn) (sym work) full) (still_steps leads (ap (λ (v : Working). v.id) work) (ap (λ (v : Working). v.clients) work) (ap (λ (v : Working). v.own) work)) (All-nil (OfLife slot.made)) (ap (λ (s : ServerSlot). s.server) same) (ap (λ (s : ServerSlot). s.made) same)
+  pub worn_still : (worn : Worn) (stopped : Stopped) → stopped ≡ stop_by worn → IsWorn worn old → slot' ≡ slot → new ≡ old → TookEach slot.server.0 own over.life → HasEnded d named shows (Some stopped) (at_kept w kept slot' desk')
+  worn_still worn stopped by full same work took =
+      worn_ends [] worn stopped by (subst (IsWorn worn) (sym work) full) (still_steps leads (ap (λ (v : Working). v.id) work) (ap (λ (v : Working). v.clients) work) (ap (λ (v : Working). v.own) work)) (All-nil (OfLife slot.made)) (All-nil (λ (e : Event). is_take_in slot.server.0 over.life.generation.0 e ≡ false)) (ap (λ (s : ServerSlot). s.server) same) (ap (λ (s : ServerSlot). s.made) same) took
 
-  pub dies_worn : (cause : StopCause) (worn : Worn) (stopped : Stopped) → stopped ≡ stop_by worn → life_in slot.doing ≡ over.life.generation → DiesWorn cause worn slot' slot new old → HasEnded d named shows (Some stopped) (at_kept w kept slot' desk')
-  dies_worn cause worn stopped by does (full, inl same) = worn_still worn stopped by (subst (IsWorn worn) same.1 full) same.0 same.1
-  dies_worn cause worn stopped by does (full, inr (stamp, ends)) =
+  pub dies_worn : (cause : StopCause) (worn : Worn) (stopped : Stopped) → stopped ≡ stop_by worn → life_in slot.doing ≡ over.life.generation → DiesWorn cause worn slot' slot new old → TookEach slot.server.0 own over.life → HasEnded d named shows (Some stopped) (at_kept w kept slot' desk')
+  dies_worn cause worn stopped by does (full, inl same) took = worn_still worn stopped by (subst (IsWorn worn) same.1 full) same.0 same.1 took
+  dies_worn cause worn stopped by does (full, inr (stamp, ends)) took =
       let e : Ended = record { request = ends.entry.request; server = slot.server; generation = life_in slot.doing; outcome = outcome_of cause } in
       worn_ends (End e ∷ []) worn stopped by full (noted_steps stamp (End e) old.room leads (number_of at.serving) ends.noted) (All-cons (OfLife slot.made) (End e) [] (ap (λ h. h.0) does ∙ last.number) (All-nil (OfLife slot.made)))
-      (ap (λ (s : ServerSlot). s.server) ends.left) (ap (λ (s : ServerSlot). s.made) ends.left)
+      (All-cons (λ (x : Event). is_take_in slot.server.0 over.life.generation.0 x ≡ false) (End e) [] refl (All-nil (λ (x : Event). is_take_in slot.server.0 over.life.generation.0 x ≡ false)))
+      (ap (λ (s : ServerSlot). s.server) ends.left) (ap (λ (s : ServerSlot). s.made) ends.left) took
 
 -- ---- what is asked of a death
 
@@ -230,6 +237,16 @@ settles_its d desk over past (Busy g request) settles = settles.0
 settles_its d desk over past (Idle g) settles = settles.0
 settles_its d desk over past Off settles = absurd settles
 settles_its d desk over past (Dying g) settles = absurd settles
+
+-- and so far there was a take for each INVOKE
+pub settles_took : (d : Domain) (desk : Desk) (over : Ending) (past : List Event) (server : ℕ) (doing : Doing) → over.life.server.0 ≡ server → SettlesBy d desk over past doing → TookEach server past over.life
+settles_took d desk over past server (Busy g request) its (same, settles) =
+    let e : Ended = record { request = request; server = over.life.server; generation = over.life.generation; outcome = lost_by over.cause } in
+    let settled = settles e (is_its over.life.server.0 over.life.generation.0 over.life.server.0 over.life.generation.0 refl refl) refl in
+    subst (λ (s : ℕ). count (is_take_in s over.life.generation.0) past ≡ length over.life.asked) its settled.taken
+settles_took d desk over past server (Idle g) its (same, settled) = subst (λ (s : ℕ). count (is_take_in s over.life.generation.0) past ≡ length over.life.asked) its settled.taken
+settles_took d desk over past server Off its settles = absurd settles
+settles_took d desk over past server (Dying g) its settles = absurd settles
 
 -- what was closed is what somebody is to be told
 pub told_of : (d : Domain) (desk : Desk) (closing : Closing) (told : Option Told) → IfSome told (λ t. t.closing ≡ closing) → IsToTell d desk closing → IfSome told (IsToldOf d desk)

@@ -39,7 +39,7 @@ use Rattle.xa_desk.specs.xa_pipe.declared.turn.Turn.TheVariants.{AwaitsReady, Aw
 use Rattle.xa_desk.specs.xa_pipe.Frames.{is_of_life, is_take_in, invocation, ready_frame, next_frame, return_frame, forward_frame, finish_frame}
 use Rattle.xa_desk.specs.xa_pipe.Life.{LinkShows, EachCame, EndsAs, IsForwarded, ComesTo, came_in, outcome_of, outcome_by, turn_behind, finishes_in}
 use Rattle.xa_desk.specs.xa_pipe.Pipe.{invoke_frame}
-use Rattle.xa_desk.specs.xa_pipe.Standing.{Standing as Life, Ending, IsOver, returned, tag_of}
+use Rattle.xa_desk.specs.xa_pipe.Standing.{Standing as Life, IsSound, Ending, IsOver, returned, tag_of}
 use Rattle.xa_desk.specs.xa_pipe.Changes.{Heard, Fell, Greeted, FellGreeting, Invoked, Unsent, ShutDown, Exits, next_invoke, with_said, turn_after}
 use Rattle.xa_desk.specs.xa_pipe.Following.{is_of, Follows, Settled}
 use Rattle.xa_desk.proofs.xa_pipe.Followed.{follows_greeted, follows_next, follows_take, follows_end, follows_forward, settles_fallen, settles_shut, settles_exited, settles_lost, settles_unsent}
@@ -61,7 +61,7 @@ use Rattle.xa_desk.specs.Found.{SawAtQueue}
 use Rattle.xa_desk.specs.Serving.{IsServing, IsSentFor}
 use Rattle.xa_desk.specs.xa_events.Cases.{IsShut}
 use Rattle.xa_links.specs.declared.working.ServerWorker.{ServerWorker}
-use Rattle.xa_links.specs.Lives.{IsHanded}
+use Rattle.xa_links.specs.Lives.{IsHanded, TookEach, IsCut}
 use Rattle.xa_links.specs.Steps.{Takes, is_exit, stop_by}
 use Rattle.xa_links.specs.Standing.{SettlesBy, IsLast, IsAtWork, IsOff, IsIn, IsFree, HasTaken, MayDie, HasEnded}
 use Rattle.xa_links.specs.Behind.{is_lost, ends_by}
@@ -72,7 +72,7 @@ use Rattle.xa_links.proofs.Behind.{calm_push}
 use Rattle.xa_links.proofs.Keeping.{Sendings, OfLife, handed_wider, handed_led, going_on}
 use Rattle.xa_desk.proofs.Staying.{queue_stays}
 use Rattle.xa_desk.specs.xa_events.Server.{was_shut_down}
-use Rattle.xa_links.proofs.Lasting.{at_desk, at_kept, number_of, last_on, work_on, ends_done}
+use Rattle.xa_links.proofs.Lasting.{at_desk, at_kept, number_of, last_on, work_on, in_took, ends_done}
 use Rattle.xa_links.proofs.Deaths.{is_its, death_in, stops_idle, worn_still}
 use Rattle.xa_desk.specs.xa_pipe.Life.{Reasons}
 use Rattle.xa_links.specs.Reasons.{ShowsReason}
@@ -450,6 +450,15 @@ module _ {L T : Type 0} {d : Domain} {named : T → List ℕ} {shows : T → Sta
   forwarded_in new old request forward told slot' desk' heard is passes =
       finished_in new old request (Forwards forward) AwaitsNext passes.event slot' desk' heard is refl passes.by (keeps_on (ShowsReason d desk') forward.service forward.payload passes.event (own_of w) passes.by) passes.done
 
+  -- and may have to be cut then
+  pub heard_took : (new old : Life) (f : Frame) {doing : Doing} {turn : Turn} {n : ℕ} (slot' : ServerSlot) (desk' : Desk) → Heard f new old → IsIn d named shows doing turn n old w → theirs desk'.caller.work ≡ own_of w → slot'.server ≡ w.served.slot.server → TookEach slot'.server.0 (theirs desk'.caller.work) new
+  heard_took new old f slot' desk' heard is own server =
+      subst (λ (l : Life). TookEach slot'.server.0 (theirs desk'.caller.work) l) (sym heard.made)
+      (subst (λ (es : List Event). TookEach slot'.server.0 es old) (sym {A = List Event} own) (subst (λ s. TookEach s.0 (own_of w) old) (sym server) (in_took is)))
+
+  pub heard_cut : (new old : Life) (f : Frame) {doing : Doing} {turn : Turn} {n : ℕ} (slot' : ServerSlot) → Heard f new old → IsIn d named shows doing turn n old w → slot'.server ≡ w.served.slot.server → IsSound new → IsCut w.name slot'.server.0 new
+  heard_cut new old f slot' heard is server sound = record { sound = sound; its = ap (λ (l : Life). l.server.0) heard.made ∙ ap (λ s. s.0) (is.last.server ∙ sym server); named = ap (λ (l : Life). l.name) heard.made ∙ is.last.named }
+
   pub in_turn : {doing : Doing} {turn turn' : Turn} {n : ℕ} {life : Life} → turn ≡ turn' → IsIn d named shows doing turn n life w → IsIn d named shows doing turn' n life w
   in_turn {doing} {turn} {turn'} {n} {life} same is = subst (λ (t : Turn). IsIn d named shows doing t n life w) same is
 
@@ -471,13 +480,13 @@ module _ {L T : Type 0} {d : Domain} {named : T → List ℕ} {shows : T → Sta
       → Leads d w.desk desk' → desk'.caller.seat ≡ w.desk.caller.seat → IsServing d w.queue.0 slot' desk' → (worn : Worn) (stopped : Stopped) → stopped ≡ stop_by worn → IsWorn worn w.desk.caller.work → slot' ≡ w.served.slot → desk'.caller.work ≡ w.desk.caller.work → HasEnded d named shows (Some stopped) (at_kept w kept slot' desk')
   exits_worn life over kept slot' desk' is exits ended lives starter leads seat serving worn stopped by full same work =
       worn_still w over (subst (λ (l : Life). IsAtWork d named shows w (l.generation ∷ [])) (sym exits.life) is.at) (subst (IsLast w.name w.served.slot) (sym exits.life) is.last) ended
-      (subst (λ (l : Life). AtEach (IsHanded l.server.0 l.generation.0 l.asked (IsSentFor d w.queue.0 w.desk)) (own_of w)) (sym exits.life) is.going.handed) kept lives starter slot' desk' leads seat serving worn stopped by full same work
+      (subst (λ (l : Life). AtEach (IsHanded l.server.0 l.generation.0 l.asked (IsSentFor d w.queue.0 w.desk)) (own_of w)) (sym exits.life) is.going.handed) kept lives starter slot' desk' leads seat serving worn stopped by full same work (subst (λ (l : Life). TookEach w.served.slot.server.0 (own_of w) l) (sym exits.life) (in_took is))
 
   pub shuts_worn : (life : Life) (over : Ending) (kept : Served L T) (slot' : ServerSlot) (desk' : Desk) → IsFree d named shows life w → ShutDown over life → IsOver over → kept.lives.items ≡ w.served.lives.items ++ over ∷ [] → kept.starter ≡ w.served.starter
       → Leads d w.desk desk' → desk'.caller.seat ≡ w.desk.caller.seat → IsServing d w.queue.0 slot' desk' → (worn : Worn) (stopped : Stopped) → stopped ≡ stop_by worn → IsWorn worn w.desk.caller.work → slot' ≡ w.served.slot → desk'.caller.work ≡ w.desk.caller.work → HasEnded d named shows (Some stopped) (at_kept w kept slot' desk')
   shuts_worn life over kept slot' desk' is shut ended lives starter leads seat serving worn stopped by full same work =
       let becomes : Becomes life.asked over.life life = record { link = over.life.link; said = life.said; turn = life.turn; made = shut.life } in
-      worn_still w over (at_still life.asked becomes is.at) (last_still life.asked becomes is.last) ended (handed_still life.asked becomes (IsSentFor d w.queue.0 w.desk) (own_of w) is.going.handed) kept lives starter slot' desk' leads seat serving worn stopped by full same work
+      worn_still w over (at_still life.asked becomes is.at) (last_still life.asked becomes is.last) ended (handed_still life.asked becomes (IsSentFor d w.queue.0 w.desk) (own_of w) is.going.handed) kept lives starter slot' desk' leads seat serving worn stopped by full same work (subst (λ (l : Life). TookEach w.served.slot.server.0 (own_of w) l) (sym shut.life) (in_took is))
 
   -- or it was told to end
 

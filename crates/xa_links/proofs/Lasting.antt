@@ -3,7 +3,8 @@ use Rattle.std.proofs.Common.{◌≡◌, ◌<◌, ◌⊎◌, ℕ, ◌+◌, Bool,
 use Rattle.std.specs.Prelude.{IfSome, ⊤}
 use Rattle.std.specs.List.{All}
 use Rattle.std.proofs.lemmas.Bool.{false≢true}
-use Rattle.std.proofs.lemmas.List.Elements.{All-nil, All-append, All-weaker}
+use Rattle.std.proofs.lemmas.List.{append-nil}
+use Rattle.std.proofs.lemmas.List.Elements.{All-nil, All-cons, All-append, All-map, All-weaker}
 use Rattle.xa_desk.specs.xa_types.declared.ids.Generation.{Generation}
 use Rattle.xa_desk.specs.xa_events.declared.event.Event.{Event}
 use Rattle.xa_desk.specs.xa_events.declared.event.Doing.{Doing}
@@ -20,7 +21,8 @@ use Rattle.xa_desk.specs.xa_work.Work.{Standing as Working, theirs}
 use Rattle.xa_desk.specs.xa_pipe.declared.turn.Turn.TheVariants.{AwaitsInvoke}
 use Rattle.xa_desk.specs.xa_pipe.declared.turn.Turn.{Turn}
 use Rattle.xa_desk.specs.xa_pipe.Life.{stops_life}
-use Rattle.xa_desk.specs.xa_pipe.Standing.{Standing as Life, Ending, IsOver}
+use Rattle.xa_desk.specs.xa_pipe.Frames.{is_take_in}
+use Rattle.xa_desk.specs.xa_pipe.Standing.{Standing as Life, IsSound, Ending, IsOver}
 use Rattle.xa_desk.specs.xa_pipe.Following.{is_of, HasStopped}
 use Rattle.xa_desk.specs.xa_server.declared.slot.ServerSlot.{ServerSlot}
 use Rattle.xa_desk.specs.xa_server.declared.served.Served.{Served}
@@ -36,7 +38,6 @@ use Rattle.xa_desk.specs.Serving.{IsServing, IsSentFor, LeftOthers, IsSwept}
 use Rattle.xa_desk.proofs.Staying.{queue_stays}
 use Rattle.xa_desk.specs.xa_work.declared.work.Halt.TheVariants.{NoMemory, Worn}
 use Rattle.xa_desk.specs.declared.stopped.Stopped.TheVariants.{Here, Elsewhere}
-use Rattle.xa_desk.specs.xa_server.Doings.{life_in}
 use Rattle.xa_desk.proofs.xa_server.Reading.{last_by_floor}
 use Rattle.xa_desk.specs.xa_restart.Rule.{IsLast as IsLastTick, may_start_by}
 use Rattle.xa_desk.proofs.Leading.{leads_trans}
@@ -44,10 +45,9 @@ use Rattle.xa_links.specs.declared.telling.Told.{Told}
 use Rattle.xa_links.specs.Behind.{TellsLast, IsCalm}
 use Rattle.xa_links.proofs.Behind.{leads_behind, tells_last, tells_calm, by_told}
 use Rattle.xa_links.proofs.Stepping.{told_steps, serving_told}
-use Rattle.xa_links.specs.declared.working.CutLife.{CutLife}
 use Rattle.xa_links.specs.declared.working.ServerWorker.{ServerWorker}
 use Rattle.xa_desk.specs.Halting.{IsStopAt}
-use Rattle.xa_links.specs.Lives.{failed_starts, lives_in, HasStarted, HasStartedSoFar, IsDone, IsHanded, IsLived, EndsShut, ServerShows}
+use Rattle.xa_links.specs.Lives.{failed_starts, lives_in, HasStarted, HasStartedSoFar, IsDone, IsHanded, IsLived, EndsShut, TookEach, IsCut, ServerShows}
 use Rattle.xa_links.specs.Working.{cut_in}
 use Rattle.xa_links.specs.Steps.{Steps, Serves, Tells}
 use Rattle.xa_links.specs.Standing.{Goes, HasLived, IsLast, IsGoing, IsAtWork, IsOff, IsIn, HasEnded}
@@ -183,12 +183,31 @@ module _ {L T : Type 0} {d : Domain} {named : T → List ℕ} {shows : T → Sta
       told = leads_behind w.desk desk' ⊤ serves.steps.leads seat at.told.0;
     }
 
+  -- ---- a take for each INVOKE
+
+  pub lives_took : {name : List ℕ} {queue server : ℕ} {desk : Desk} (lives : List Ending) → All (IsLived d name queue server desk) lives → All (TookEach server (theirs desk.caller.work)) (map (λ (over : Ending). over.life) lives)
+  lives_took {name} {queue} {server} {desk} lives each =
+      let own : List Event = theirs desk.caller.work in
+      All-map (TookEach server own) (λ (over : Ending). over.life) lives
+      (All-weaker (IsLived d name queue server desk) (λ (over : Ending). TookEach server own over.life) (λ over is. subst (λ (s : ℕ). count (is_take_in s over.life.generation.0) own ≡ length over.life.asked) is.its is.stopped.taken) lives each)
+
+  pub in_took : {w : ServerWorker L T} {doing : Doing} {turn : Turn} {n : ℕ} {life : Life} → IsIn d named shows doing turn n life w → TookEach w.served.slot.server.0 (theirs w.desk.caller.work) life
+  in_took {w} {doing} {turn} {n} {life} is = subst (λ s. count (is_take_in s.0 life.generation.0) (theirs w.desk.caller.work) ≡ length life.asked) is.last.server is.going.follows.taken
+
+  -- with none that was cut
+  pub none_cut : (P : Life → Type 0) (lives : List Life) (cut : Option Life) → cut ≡ None → All P lives → All P (lives ++ cut_in cut)
+  none_cut P lives cut none all = subst (λ (o : Option Life). All P (lives ++ cut_in o)) (sym none) (subst (All P) (sym (append-nil lives)) all)
+
+  pub none_off : (P : Life → Type 0) (cut : Option Life) → cut ≡ None → All P (cut_in cut)
+  none_off P cut none = subst (λ (o : Option Life). All P (cut_in o)) (sym none) (All-nil P)
+
   -- ---- where the worker's work is over
 
   -- at a halt
-  pub halts : (w : ServerWorker L T) (stopped : Stopped) → IsDesk d w.desk → IsServing d w.queue.0 w.served.slot w.desk → named w.served.starter ≡ w.name → map (λ (over : Ending). over.life.generation) w.served.lives.items ++ cut_in w.cut ≡ lives_in w.served.slot.server.0 (theirs w.desk.caller.work)
+  pub halts : (w : ServerWorker L T) (stopped : Stopped) → IsDesk d w.desk → IsServing d w.queue.0 w.served.slot w.desk → named w.served.starter ≡ w.name → map (λ (over : Ending). over.life.generation) w.served.lives.items ++ map (λ (life : Life). life.generation) (cut_in w.cut) ≡ lives_in w.served.slot.server.0 (theirs w.desk.caller.work)
+      → All (TookEach w.served.slot.server.0 (theirs w.desk.caller.work)) (map (λ (over : Ending). over.life) w.served.lives.items ++ cut_in w.cut) → All (IsCut w.name w.served.slot.server.0) (cut_in w.cut)
       → HasStartedSoFar w.name w.served.slot.made (failed_starts w.served.slot.server.0 (theirs w.desk.caller.work)) (shows w.served.starter) → TellsLast w.desk → IsStopAt w.desk stopped → HasEnded d named shows (Some stopped) w
-  halts w stopped is serving named_so are so_far told at_end = record {
+  halts w stopped is serving named_so are taken off so_far told at_end = record {
     is = is;
     number = number_of serving;
     named_so = named_so;
@@ -196,6 +215,8 @@ module _ {L T : Type 0} {d : Domain} {named : T → List ℕ} {shows : T → Sta
     hand = serving.hand;
     shown = record {
       lives_are = are;
+      taken = taken;
+      cut_off = off;
       so_far = subst (λ (n : ℕ). HasStartedSoFar w.name n (failed_starts w.served.slot.server.0 (theirs w.desk.caller.work)) (shows w.served.starter)) (sym (starts_count serving)) so_far;
       told = told;
       none_cut = λ whole. absurd (cc whole);
@@ -207,9 +228,11 @@ module _ {L T : Type 0} {d : Domain} {named : T → List ℕ} {shows : T → Sta
   }
 
   -- in a life, which is cut off
-  pub halts_at : (w : ServerWorker L T) (cut : Option (CutLife L)) (going : List Generation) (stopped : Stopped) → IsAtWork d named shows w going → cut_in cut ≡ going → IsStopAt w.desk stopped → HasEnded d named shows (Some stopped) (record w { cut = cut })
-  halts_at w cut going stopped at is at_end =
-      halts (record w { cut = cut }) stopped at.is at.serving at.named_so (ap (λ (l : List Generation). map (λ (over : Ending). over.life.generation) w.served.lives.items ++ l) is ∙ at.lived.are) (inl at.started) (by_told going w.desk at.told) at_end
+  pub halts_at : (w : ServerWorker L T) (cut : Option Life) (going : List Generation) (stopped : Stopped) → IsAtWork d named shows w going → map (λ (life : Life). life.generation) (cut_in cut) ≡ going → All (TookEach w.served.slot.server.0 (theirs w.desk.caller.work)) (cut_in cut) → All (IsCut w.name w.served.slot.server.0) (cut_in cut)
+      → IsStopAt w.desk stopped → HasEnded d named shows (Some stopped) (record w { cut = cut })
+  halts_at w cut going stopped at is took off at_end =
+      halts (record w { cut = cut }) stopped at.is at.serving at.named_so (ap (λ (l : List Generation). map (λ (over : Ending). over.life.generation) w.served.lives.items ++ l) is ∙ at.lived.are)
+      (All-append (TookEach w.served.slot.server.0 (theirs w.desk.caller.work)) (map (λ (over : Ending). over.life) w.served.lives.items) (cut_in cut) (lives_took w.served.lives.items at.lived.each) took) off (inl at.started) (by_told going w.desk at.told) at_end
 
   -- at its end
   pub ends_done : (w : ServerWorker L T) → IsAtWork d named shows w [] → w.served.slot.hand ≡ None → IsDone d w.queue.0 w.served.slot.server.0 w.desk → HasEnded d named shows None w
@@ -223,7 +246,9 @@ module _ {L T : Type 0} {d : Domain} {named : T → List ℕ} {shows : T → Sta
         idle = at.serving.idle;
         hand = subst (λ h. IfSome h (IsRight d.cells)) (sym hand) tt;
         shown = record {
-          lives_are = ap (λ (l : List Generation). map (λ (over : Ending). over.life.generation) w.served.lives.items ++ l) (ap cut_in at.cut) ∙ at.lived.are;
+          lives_are = ap (λ (o : Option Life). map (λ (over : Ending). over.life.generation) w.served.lives.items ++ map (λ (life : Life). life.generation) (cut_in o)) at.cut ∙ at.lived.are;
+          taken = none_cut (TookEach w.served.slot.server.0 (theirs w.desk.caller.work)) (map (λ (over : Ending). over.life) w.served.lives.items) w.cut at.cut (lives_took w.served.lives.items at.lived.each);
+          cut_off = none_off (IsCut w.name w.served.slot.server.0) w.cut at.cut;
           so_far = inl started;
           told = at.told;
           none_cut = λ whole. ap cut_in at.cut;
@@ -242,6 +267,8 @@ module _ {L T : Type 0} {d : Domain} {named : T → List ℕ} {shows : T → Sta
       let shown = ended.shown in
       let shows_same : ServerShows d w.name w.queue.0 s desk' w.served.lives.items (cut_in w.cut) (shows w.served.starter) (why ≡ None) = record {
         lives_are = shown.lives_are ∙ ap (lives_in s) (sym steps.own);
+        taken = subst (λ (own : List Event). All (TookEach s own) (map (λ (over : Ending). over.life) w.served.lives.items ++ cut_in w.cut)) (sym {A = List Event} steps.own) shown.taken;
+        cut_off = shown.cut_off;
         so_far = subst (λ (own : List Event). HasStartedSoFar w.name (length (starts s own)) (failed_starts s own) (shows w.served.starter)) (sym {A = List Event} steps.own) shown.so_far;
         told = tells_last w.desk desk' tells shown.told;
         none_cut = shown.none_cut;
@@ -268,10 +295,13 @@ module _ {L T : Type 0} {d : Domain} {named : T → List ℕ} {shows : T → Sta
       halts_on (Some (Here NoMemory)) is = tt
       halts_on (Some (Here (Worn stamp))) is = (is.0, ap (λ (desk : Desk). desk.caller.work.stamp.0) tells.rest ∙ is.1)
 
-  -- a life that goes on is cut off
-  pub cut_ends : (w other : ServerWorker L T) (g : Generation) (stopped : Stopped) → IsAtWork d named shows w (g ∷ []) → other ≡ record w { cut = other.cut } → cut_in other.cut ≡ life_in w.served.slot.doing ∷ [] → life_in w.served.slot.doing ≡ g → IsStopAt w.desk stopped
+  -- a life that goes on is cut
+  pub cut_ends : (w other : ServerWorker L T) (life : Life) (stopped : Stopped) → IsAtWork d named shows w (life.generation ∷ []) → other ≡ record w { cut = Some life } → TookEach w.served.slot.server.0 (theirs w.desk.caller.work) life → IsCut w.name w.served.slot.server.0 life → IsStopAt w.desk stopped
       → HasEnded d named shows (Some stopped) other
-  cut_ends w other g stopped at rest cut does stop = subst (HasEnded d named shows (Some stopped)) (sym rest) (halts_at w other.cut (g ∷ []) stopped at (cut ∙ ap (λ h. h ∷ []) does) stop)
+  cut_ends w other life stopped at rest took off stop =
+      let Took : Life → Type 0 = TookEach w.served.slot.server.0 (theirs w.desk.caller.work) in
+      let Off : Life → Type 0 = IsCut w.name w.served.slot.server.0 in
+      subst (HasEnded d named shows (Some stopped)) (sym rest) (halts_at w (Some life) (life.generation ∷ []) stopped at refl (All-cons Took life [] took (All-nil Took)) (All-cons Off life [] off (All-nil Off)) stop)
 
   -- somebody is told
   pub in_told : (w : ServerWorker L T) (desk' : Desk) (doing : Doing) (turn : Turn) (n : ℕ) (life : Life) {told : Option Told} → Tells d told w.desk desk' → IsIn d named shows doing turn n life w → IsIn d named shows doing turn n life (at_desk w w.served.slot desk')

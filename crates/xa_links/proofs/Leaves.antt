@@ -1,5 +1,5 @@
 -- A server is given up.
-use Rattle.std.proofs.Common.{◌≡◌, ◌<◌, ℕ, zero, suc, ◌+◌, ◌||◌, Bool, true, List, [], ◌∷◌, ◌++◌, map, length, Result, Ok, Err, None, inl, inr, refl, sym, ◌∙◌, ap, subst, arith, eq-eqb}
+use Rattle.std.proofs.Common.{◌≡◌, ◌<◌, ℕ, zero, suc, ◌+◌, ◌||◌, Bool, true, List, [], ◌∷◌, ◌++◌, map, length, Option, Result, Ok, Err, None, inl, inr, refl, sym, ◌∙◌, ap, subst, arith, eq-eqb}
 use Rattle.std.specs.Prelude.{OnOk, IfErr, IsSomeAnd, IfSome, ⊤}
 use Rattle.std.specs.List.{All, Contains}
 use Rattle.std.proofs.lemmas.List.Elements.{All-nil, All-cons, All-weaker, Contains-push}
@@ -12,6 +12,7 @@ use Rattle.xa_desk.specs.xa_events.declared.event.Doing.{Doing}
 use Rattle.xa_desk.specs.xa_events.declared.event.Doing.TheVariants.{Off}
 use Rattle.xa_desk.specs.xa_events.Server.{start_in, starts, is_gone}
 use Rattle.xa_desk.specs.xa_stamp.declared.home.Stamped.{Stamped}
+use Rattle.xa_desk.specs.xa_pipe.Standing.{Standing as Life}
 use Rattle.xa_desk.specs.xa_restart.Rule.{IsRuleOf}
 use Rattle.xa_desk.specs.xa_work.Work.{theirs}
 use Rattle.xa_desk.specs.xa_caller.Caller.{Standing as Caller}
@@ -29,7 +30,7 @@ use Rattle.xa_desk.specs.xa_held.Kept.{IsRight}
 use Rattle.xa_desk.specs.Serving.{IsServing, Sees, LeavesAs, OfDomain, Sweeps, IsSwept}
 use Rattle.xa_links.specs.declared.working.ServerWorker.{ServerWorker}
 use Rattle.xa_desk.specs.Halting.{IsStopAt}
-use Rattle.xa_links.specs.Lives.{failed_starts, HasStarted, IsDone, ServerShows}
+use Rattle.xa_links.specs.Lives.{failed_starts, HasStarted, IsDone, TookEach, IsCut, ServerShows}
 use Rattle.xa_links.specs.Working.{cut_in}
 use Rattle.xa_links.specs.Steps.{Retires, RetiresAs, OfDomainAt}
 use Rattle.xa_links.specs.Standing.{IsOff, HasEnded, why_of}
@@ -38,7 +39,7 @@ use Rattle.xa_links.specs.Behind.{TellsLast, ToldAll}
 use Rattle.xa_links.proofs.Behind.{still_behind, leads_behind, push_behind, told_last}
 use Rattle.xa_links.proofs.Stepping.{off_steps, seen_steps, steps_trans, domain_steps}
 use Rattle.xa_links.proofs.Keeping.{OfLife, lives_off, failed_same, skip_map}
-use Rattle.xa_links.proofs.Lasting.{at_desk, number_of, starts_count, started_on}
+use Rattle.xa_links.proofs.Lasting.{at_desk, number_of, starts_count, started_on, lives_took, none_cut, none_off}
 
 -- a server's worker isn't the domain
 some_number : (n : ℕ) (servers : List ServerSetup) (P : ServerSetup → Type 0) → IsSomeAnd (numbered n servers) P → 0 < n
@@ -151,7 +152,9 @@ module _ {L T : Type 0} {d : Domain} {named : T → List ℕ} {shows : T → Sta
       let failed : failed_starts s (theirs desk'.caller.work) ≡ failed_starts s own = ap (failed_starts s) steps.own ∙ failed_same s 0 retires.more own (its 0) in
       let started : HasStarted w.name (length (starts s (theirs desk'.caller.work))) (failed_starts s (theirs desk'.caller.work)) (shows w.served.starter) = started_on count failed refl off.at.started in
       let shown : ServerShows d w.name w.queue.0 s desk' w.served.lives.items (cut_in w.cut) (shows w.served.starter) (why_of r ≡ None) = record {
-        lives_are = ap (λ gs. map (λ over. over.life.generation) w.served.lives.items ++ gs) (ap cut_in off.at.cut) ∙ lived.are;
+        lives_are = ap (λ (o : Option Life). map (λ over. over.life.generation) w.served.lives.items ++ map (λ (life : Life). life.generation) (cut_in o)) off.at.cut ∙ lived.are;
+        taken = none_cut {L} {T} {d} {named} {shows} (TookEach s (theirs desk'.caller.work)) (map (λ over. over.life) w.served.lives.items) w.cut off.at.cut (lives_took {L} {T} {d} {named} {shows} w.served.lives.items lived.each);
+        cut_off = none_off {L} {T} {d} {named} {shows} (IsCut w.name s) w.cut off.at.cut;
         so_far = inl started;
         told = retires.told told;
         none_cut = λ whole. ap cut_in off.at.cut;

@@ -32,7 +32,7 @@ use Rattle.xa_desk.specs.declared.stopped.Stopped.TheVariants.{Here}
 use Rattle.xa_desk.specs.Desks.{Leads}
 use Rattle.xa_desk.specs.Serving.{IsServing, IsSentFor}
 use Rattle.xa_links.specs.declared.working.ServerWorker.{ServerWorker}
-use Rattle.xa_links.specs.Lives.{generation_in, lives_in, failed_starts, starts_of, HasStarted, HasStartedSoFar, IsHanded, IsLived}
+use Rattle.xa_links.specs.Lives.{generation_in, lives_in, failed_starts, starts_of, HasStarted, HasStartedSoFar, IsHanded, IsLived, TookEach, IsCut}
 use Rattle.xa_links.specs.Working.{cut_in}
 use Rattle.xa_links.specs.Steps.{Steps}
 use Rattle.xa_links.specs.Standing.{Goes, HasLived, IsAtWork, IsOff, IsIn, HasEnded}
@@ -40,7 +40,7 @@ use Rattle.xa_links.specs.Behind.{ToldAll, ToldBy}
 use Rattle.xa_links.proofs.Behind.{still_behind, push_behind, start_calm, told_last}
 use Rattle.xa_links.proofs.Stepping.{noted_steps, halted_own, halted_steps, halted_at}
 use Rattle.xa_links.proofs.Keeping.{handed_more, lived_one, stops_none, skip_count}
-use Rattle.xa_links.proofs.Lasting.{number_of, lives_moved, started_on, halts, goes_by}
+use Rattle.xa_links.proofs.Lasting.{number_of, lives_moved, started_on, lives_took, none_cut, none_off, halts, goes_by}
 use Rattle.xa_links.specs.Reasons.{ShowsReason}
 
 -- ---- what the starter shows
@@ -201,8 +201,13 @@ module _ {L T : Type 0} {d : Domain} {named : T → List ℕ} {shows : T → Sta
   halts_with n halt same noted so_far =
       let own_same : theirs desk'.caller.work ≡ theirs w.desk.caller.work = (halted_steps n halt leads noted).own in
       halts (served_at w served' desk') (Here halt) leads.desk serving (name ∙ off.at.named_so)
-      (ap (λ (l : List Ending). map (λ (over : Ending). over.life.generation) l ++ cut_in w.cut) lives ∙ ap (λ (gs : List Generation). map (λ (over : Ending). over.life.generation) w.served.lives.items ++ gs) (ap cut_in off.at.cut) ∙ off.at.lived.are
+      (ap (λ (l : List Ending). map (λ (over : Ending). over.life.generation) l ++ map (λ (life : Life). life.generation) (cut_in w.cut)) lives ∙ ap (λ (o : Option Life). map (λ (over : Ending). over.life.generation) w.served.lives.items ++ map (λ (life : Life). life.generation) (cut_in o)) off.at.cut ∙ off.at.lived.are
       ∙ sym (ap (λ (s : ServerSlot). lives_in s.server.0 (theirs desk'.caller.work)) same ∙ ap (lives_in w.served.slot.server.0) own_same))
+      (subst (λ (s : ServerSlot). All (TookEach s.server.0 (theirs desk'.caller.work)) (map (λ (over : Ending). over.life) served'.lives.items ++ cut_in w.cut)) (sym same)
+      (none_cut (TookEach w.served.slot.server.0 (theirs desk'.caller.work)) (map (λ (over : Ending). over.life) served'.lives.items) w.cut off.at.cut
+      (subst (λ (l : List Ending). All (TookEach w.served.slot.server.0 (theirs desk'.caller.work)) (map (λ (over : Ending). over.life) l)) (sym {A = List Ending} lives)
+      (subst (λ (l : List Event). All (TookEach w.served.slot.server.0 l) (map (λ (over : Ending). over.life) w.served.lives.items)) (sym {A = List Event} own_same) (lives_took w.served.lives.items off.at.lived.each)))))
+      (none_off (IsCut w.name served'.slot.server.0) w.cut off.at.cut)
       (subst (λ (s : ServerSlot). HasStartedSoFar w.name s.made (failed_starts s.server.0 (theirs desk'.caller.work)) (shows served'.starter)) (sym same) (subst (λ (l : List Event). HasStartedSoFar w.name w.served.slot.made (failed_starts w.served.slot.server.0 l) (shows served'.starter)) (sym {A = List Event} own_same) so_far))
       (still_behind w.desk desk' ⊤ (halted_own w.desk desk' n halt noted) seat off.at.told) (halted_at w.desk desk' n halt noted)
 

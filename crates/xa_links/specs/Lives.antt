@@ -19,7 +19,7 @@ use Rattle.xa_desk.specs.xa_pipe.Frames.{is_of_life, is_take_in, invocation}
 use Rattle.xa_desk.specs.xa_pipe.Following.{HasStopped}
 use Rattle.xa_desk.specs.xa_pipe.Life.{stops_life}
 use Rattle.xa_desk.specs.xa_pipe.Pipe.{invoke_frame}
-use Rattle.xa_desk.specs.xa_pipe.Standing.{Ending, IsOver}
+use Rattle.xa_desk.specs.xa_pipe.Standing.{Standing as Life, IsSound, Ending, IsOver}
 use Rattle.xa_desk.specs.xa_server.Served.{StarterShows}
 use Rattle.xa_desk.specs.xa_work.Work.{theirs}
 use Rattle.xa_desk.specs.declared.domain.Domain.{Domain}
@@ -88,6 +88,17 @@ pub record IsLived (d : Domain) (name : List ℕ) (queue server : ℕ) (desk : D
   pub shut : over.life.turn ≡ AwaitsInvoke → EndsShut d queue desk over
   pub handed : AtEach (IsHanded server over.life.generation.0 over.life.asked (IsSentFor d queue desk)) (theirs desk.caller.work)
 
+-- the server took a request for each INVOKE that was due to its program in that life
+abbrev pub TookEach : ℕ → List Event → Life → Type 0
+TookEach server own life = count (is_take_in server life.generation.0) own ≡ length life.asked
+
+-- a life that went on at a halt, of the server of that name and number, as it stood then: its link took the octets of the INVOKEs that were due, and its
+-- program spoke in turn
+pub record IsCut (name : List ℕ) (server : ℕ) (life : Life) : Type 0 where
+  pub sound : IsSound life
+  pub its : life.server.0 ≡ server
+  pub named : life.name ≡ name
+
 -- ---- its end
 
 -- the server was shut down, behind the close of its queue, where nothing waited; or it was given up, before another server of the queue, or as the
@@ -96,10 +107,13 @@ abbrev pub IsDone : Domain → ℕ → ℕ → Desk → Type 0
 IsDone d queue server desk = ((was_shut_down server (theirs desk.caller.work) ≡ true) × SawAtQueue d queue desk (IsShut d.setup queue))
     ⊎ ((is_gone server (theirs desk.caller.work) ≡ true) × (SawAtQueue d queue desk (LeftOthers d queue server) ⊎ SawAtQueue d queue desk (IsSwept d queue)))
 
--- all that the worker shows of its server in the end: which lives there were, how often its starter was asked, and that whoever was told was told
--- behind the end of a life; where it came to its end, also how each life went, and how the server was done
-pub record ServerShows (d : Domain) (name : List ℕ) (queue server : ℕ) (desk : Desk) (lives : List Ending) (cut : List Generation) (shown : StarterShows) (Whole : Type 0) : Type 0 where
-  pub lives_are : map (λ (over : Ending). over.life.generation) lives ++ cut ≡ lives_in server (theirs desk.caller.work)
+-- all that the worker shows of its server in the end: which lives there were, of which the last may have been cut, that it took a request for each INVOKE,
+-- how often its starter was asked, and that whoever was told was told behind the end of a life; where it came to its end, also how each life went, and
+-- how the server was done
+pub record ServerShows (d : Domain) (name : List ℕ) (queue server : ℕ) (desk : Desk) (lives : List Ending) (cut : List Life) (shown : StarterShows) (Whole : Type 0) : Type 0 where
+  pub lives_are : map (λ (over : Ending). over.life.generation) lives ++ map (λ (life : Life). life.generation) cut ≡ lives_in server (theirs desk.caller.work)
+  pub taken : All (TookEach server (theirs desk.caller.work)) (map (λ (over : Ending). over.life) lives ++ cut)
+  pub cut_off : All (IsCut name server) cut
   pub so_far : HasStartedSoFar name (length (starts server (theirs desk.caller.work))) (failed_starts server (theirs desk.caller.work)) shown
   pub told : TellsLast desk
   pub none_cut : Whole → cut ≡ []

@@ -1,6 +1,6 @@
 -- What a server's worker asks, and what it leaves (this project's own).
 use Rattle.std.specs.Prelude.{◌≡◌, ℕ, List, [], ◌∷◌, Option, Some, None, IfSome}
-use Rattle.xa_desk.specs.xa_types.declared.ids.Generation.{Generation}
+use Rattle.xa_desk.specs.xa_pipe.Standing.{Standing as Life}
 use Rattle.xa_desk.specs.xa_restart.Rule.{Standing as Restarts}
 use Rattle.xa_desk.specs.xa_caller.declared.phase.Phase.TheVariants.{Idle}
 use Rattle.xa_desk.specs.xa_server.Changes.{new_slot}
@@ -9,13 +9,12 @@ use Rattle.xa_desk.specs.declared.domain.Domain.{Domain}
 use Rattle.xa_desk.specs.Desks.{IsDesk, Leads}
 use Rattle.xa_desk.specs.Halting.{IsStopAt}
 use Rattle.xa_desk.specs.Serving.{IsServing}
-use Rattle.xa_links.specs.declared.working.CutLife.{CutLife}
 use Rattle.xa_links.specs.declared.working.ServerWorker.{ServerWorker}
 use Rattle.xa_links.specs.Lives.{HasStarted, ServerShows}
 
-abbrev pub cut_in : {L : Type 0} → Option (CutLife L) → List Generation
+abbrev pub cut_in : Option Life → List Life
 cut_in None = []
-cut_in (Some life) = life.generation ∷ []
+cut_in (Some life) = life ∷ []
 
 module _ {L T : Type 0} (d : Domain) (named : T → List ℕ) (shows : T → StarterShows) where
   -- a worker that has done nothing, of a server that was never started

@@ -8,4 +8,7 @@ mod taking;
 mod telling;
 mod working;
 
-pub use working::{CutLife, ServerWorker};
+pub use working::ServerWorker;
+
+// What crates above name of those below.
+pub use xa_desk::pipe::CutLife;

@@ -1,14 +1,13 @@
 // A life of a server.
-ghost use Rattle.std.specs.Prelude.{◌≡◌, ◌∷◌, [], IfOk, IfErr, IfSome, Some, None};
+ghost use Rattle.std.specs.Prelude.{◌≡◌, IfOk, IfErr, IfSome, Some, None};
 ghost use Rattle.xa_desk.specs.xa_types.declared.stamp.Stamp.{Stamp};
 ghost use Rattle.xa_desk.specs.xa_events.Cases.{IsShut};
 ghost use Rattle.xa_desk.specs.xa_events.Server.{is_shutdown};
 ghost use Rattle.xa_desk.specs.xa_events.declared.event.Doing.TheVariants as doings;
 ghost use Rattle.xa_desk.specs.xa_pipe.declared.turn.Turn.TheVariants.{AwaitsNext, Serving, Exited};
 ghost use Rattle.xa_desk.specs.xa_pipe.Frames.{return_frame, forward_frame};
-ghost use Rattle.xa_desk.specs.xa_pipe.Standing.{Standing as Lives, tag_of};
+ghost use Rattle.xa_desk.specs.xa_pipe.Standing.{Standing as Lives, IsSound, tag_of};
 ghost use Rattle.xa_desk.specs.xa_pipe.Changes.{Heard};
-ghost use Rattle.xa_desk.specs.xa_server.Doings.{life_in};
 ghost use Rattle.xa_desk.specs.xa_server.declared.slot.Last.TheVariants as lasts;
 ghost use Rattle.xa_desk.specs.xa_types.declared.ids.RequestId.{RequestId as Asked};
 ghost use Rattle.xa_desk.specs.xa_events.declared.event.Taken.{Taken};
@@ -16,13 +15,12 @@ ghost use Rattle.xa_desk.specs.Serving.{IsTaken};
 ghost use Rattle.xa_desk.specs.Desks.{IsDomain};
 ghost use Rattle.xa_desk.specs.Found.{SawAtQueue};
 ghost use Rattle.xa_links.specs.Steps.{IsToldOf, is_exit};
-ghost use Rattle.xa_links.specs.Working.{cut_in};
 ghost use Rattle.xa_links.specs.Standing.{Goes, IsIn, IsFree, HasTaken, MayDie, HasEnded, OverWith, ExchangedAs, OffAs};
 
 use crate::passing::forward;
 use crate::taking::stop_by;
 use crate::telling::{Told, tell_if, told_by};
-use crate::working::{CutLife, ServerWorker};
+use crate::working::ServerWorker;
 use std::alloc::Global;
 use std::sync::Wait;
 use xa_desk::events::StopCause;
@@ -58,14 +56,11 @@ fn is_shutdown(cause: StopCause) -> bool
 impl<L: Link, T: Starter<L>> ServerWorker<L, T> {
     // The life isn't gone on with.
     pub(crate) fn cut(&mut self, life: Life<L>)
-        ensures rest { self.new ≡ record self.old { cut = self.new.cut } }
-        ensures cut { cut_in self.new.cut ≡ life_in self.old.served.slot.doing ∷ [] }
+        ensures rest { self.new ≡ record self.old { cut = Some life } }
+        ensures sound { IsSound life }
     {
-        let killed = life.abandon();
-        self.cut = Some(CutLife {
-            generation: self.served.slot.life(),
-            killed,
-        });
+        let _turn = life.turn();
+        self.cut = Some(life.abandon());
     }
 
     // The life ended by itself.

@@ -11,18 +11,11 @@ use crate::taking::next;
 use crate::telling::{tell_if, told_by};
 use std::alloc::Global;
 use std::sync::Wait;
-use xa_desk::link::{Closed, Gate, Link, Starter};
-use xa_desk::pipe::Life;
+use xa_desk::link::{Gate, Link, Starter};
+use xa_desk::pipe::{CutLife, Life};
 use xa_desk::server::Served;
-use xa_desk::types::{Generation, Name, QueueId};
+use xa_desk::types::{Name, QueueId};
 use xa_desk::{Desk, Domain, Stopped};
-
-/// A life that the monitor didn't go on with, at a halt: its program was ended by force.
-#[derive(Drop)]
-pub struct CutLife<L> {
-    pub generation: Generation,
-    pub killed: Closed<L>,
-}
 
 /// A server's worker: its desk, the server with its lives, the server's name and queue, whether its first start is up or
 /// given up, the life that went on at a halt, and why it ended before its work was done, if it did.

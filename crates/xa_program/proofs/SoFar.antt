@@ -1,9 +1,10 @@
 -- A whole run is one so far.
-use Rattle.std.proofs.Common.{◌≡◌, ◌∙◌, ℕ, zero, suc, ◌+◌, List, [], ◌∷◌, length, reverse, Option, Some, None, inl, refl, sym, arith}
+use Rattle.std.proofs.Common.{◌≡◌, ◌∙◌, ℕ, zero, suc, ◌+◌, List, [], ◌∷◌, length, reverse, Option, Some, None, inl, refl, sym, subst, arith}
 use Rattle.std.specs.Prelude.{slice_get}
+use Rattle.std.specs.List.{All}
 use Rattle.std.proofs.lemmas.List.{append-nil}
+use Rattle.std.proofs.lemmas.List.Elements.{All-nil}
 use Rattle.std.proofs.lemmas.Option.{slice_get_within, get_or_from_slice_get}
-use Rattle.xa_domain.specs.xa_types.declared.ids.Generation.{Generation}
 use Rattle.xa_domain.specs.xa_types.declared.setup.Setup.{Setup}
 use Rattle.xa_domain.specs.xa_types.Setup.{numbered}
 use Rattle.xa_domain.specs.xa_events.declared.event.Event.{Event}
@@ -11,32 +12,38 @@ use Rattle.xa_domain.specs.xa_events.Words.{EachNumbered}
 use Rattle.xa_domain.specs.xa_crew.Ending.{list_in}
 use Rattle.xa_domain.specs.xa_work.declared.work.Halt.TheVariants as halts
 use Rattle.xa_domain.specs.xa_script.declared.script.Client.{Client}
-use Rattle.xa_domain.specs.xa_pipe.Standing.{Ending}
+use Rattle.xa_domain.specs.xa_pipe.Standing.{Standing as Life, Ending}
 use Rattle.xa_domain.specs.xa_server.Served.{StarterShows}
-use Rattle.xa_domain.specs.xa_links.Lives.{lives_in}
-use Rattle.xa_domain.specs.xa_joined.Served.{IsServedSoFar, AreLives, AreLivesSoFar, IsStarterOf, IsStarterSoFar, generations_of}
+use Rattle.xa_domain.specs.xa_links.Lives.{lives_in, TookEach, IsCut}
+use Rattle.xa_domain.specs.xa_joined.Served.{IsServedSoFar, AreLives, AreLivesOf, AreLivesSoFar, IsStarterOf, IsStarterSoFar, generations_of, lives_of, name_of}
 use Rattle.xa_domain.proofs.xa_carried.Numbered.{each_at, numbered_there}
 use Rattle.xa_domain.specs.Serving.{IsNoneCut, ComesTo}
 
 -- of no server a life was cut
-nothing_in : (cut : List (List Generation)) → IsNoneCut cut → (place : ℕ) (found : Option (List Generation)) → slice_get cut place ≡ found → list_in found ≡ []
+nothing_in : (cut : List (List Life)) → IsNoneCut cut → (place : ℕ) (found : Option (List Life)) → slice_get cut place ≡ found → list_in found ≡ []
 nothing_in cut none place None is = refl
 nothing_in cut none place (Some its) is = sym (get_or_from_slice_get cut place its [] is) ∙ none place [] (slice_get_within cut place its is)
 
-none_cut : (cut : List (List Generation)) → IsNoneCut cut → (server : ℕ) → list_in (numbered server cut) ≡ []
+none_cut : (cut : List (List Life)) → IsNoneCut cut → (server : ℕ) → list_in (numbered server cut) ≡ []
 none_cut cut none zero = refl
 none_cut cut none (suc place) = nothing_in cut none place (slice_get cut place) refl
 
-lives_so_far : (setup : Setup) (past : List Event) (lives : List (List Ending)) (cut : List (List Generation)) → AreLives setup past lives → length cut ≡ length setup.servers → IsNoneCut cut
+lives_so_far : (setup : Setup) (past : List Event) (lives : List (List Ending)) (cut : List (List Life)) → AreLives setup past lives → length cut ≡ length setup.servers → IsNoneCut cut
     → AreLivesSoFar setup past lives cut
 lives_so_far setup past lives cut are count none = record {
-  lives_of = let all = are.all in omega (arith, all);
-  cut_of = omega (arith, count);
+  lives_count = let all = are.all in omega (arith, all);
+  cut_count = omega (arith, count);
   each = λ server low high.
       let all = are.all in
       let there = numbered_there server lives low (omega (arith, high, all)) in
       let its = each_at (λ (n : ℕ) (its : List Ending). generations_of its ≡ lives_in n past) server lives there.0 are.each there.1 in
-      rw (there.1, none_cut cut none server) (append-nil (generations_of there.0) ∙ its);
+      let took = each_at (λ (n : ℕ) (its : List Ending). All (TookEach n past) (lives_of its)) server lives there.0 are.taken there.1 in
+      let Are : List Ending → List Life → Type 0 = AreLivesOf setup past server in
+      subst (λ (o : Option (List Ending)). Are (list_in o) (list_in (numbered server cut))) (sym there.1) (subst (Are there.0) (sym (none_cut cut none server)) (record {
+        are = append-nil (generations_of there.0) ∙ its;
+        taken = subst (All (TookEach server past)) (sym (append-nil (lives_of there.0))) took;
+        cut_off = All-nil (IsCut (name_of setup server) server);
+      }));
 }
 
 starters_so_far : {S : Type 0} (named : S → List ℕ) (shows : S → StarterShows) (setup : Setup) (past : List Event) (n : ℕ) (starters : List S)
@@ -45,7 +52,7 @@ starters_so_far named shows setup past n [] each = tt
 starters_so_far named shows setup past n (starter ∷ starters) each =
     (record { its = let first = each.0 in first.its; started = let first = each.0 in inl first.started }, starters_so_far named shows setup past (n + 1) starters each.1)
 
-pub whole_so_far : {S : Type 0} (named : S → List ℕ) (shows : S → StarterShows) (setup : Setup) (clients : List Client) (events : List Event) (lives : List (List Ending)) (cut : List (List Generation)) (starters : List S)
+pub whole_so_far : {S : Type 0} (named : S → List ℕ) (shows : S → StarterShows) (setup : Setup) (clients : List Client) (events : List Event) (lives : List (List Ending)) (cut : List (List Life)) (starters : List S)
     → ComesTo named shows setup clients None events lives cut starters → IsServedSoFar named shows halts.NoMemory setup (length clients) events lives cut starters
 whole_so_far named shows setup clients events lives cut starters comes =
     let whole = comes.0 in

@@ -8,10 +8,9 @@ use Rattle.xa_domain.specs.xa_stamp.Merge.{IsMerged, IsDense}
 use Rattle.xa_domain.specs.xa_script.declared.script.Client.{Client}
 use Rattle.xa_domain.specs.xa_script.Script.{IsScript, IsFirstFault}
 use Rattle.xa_text.specs.Transcript.{transcript}
-use Rattle.xa_domain.specs.xa_types.declared.ids.Generation.{Generation}
 use Rattle.xa_domain.specs.xa_work.declared.work.Halt.{Halt}
 use Rattle.xa_domain.specs.xa_work.declared.work.Halt.TheVariants as halts
-use Rattle.xa_domain.specs.xa_pipe.Standing.{Ending}
+use Rattle.xa_domain.specs.xa_pipe.Standing.{Standing as Life, Ending}
 use Rattle.xa_domain.specs.xa_server.Served.{StarterShows}
 use Rattle.xa_domain.specs.xa_joined.Served.{IsRecorded, IsServedWhole, IsServedSoFar, IsWorn}
 use Rattle.xa_domain.specs.Serving.{HasHomes, IsNoneCut}
@@ -80,7 +79,7 @@ pub record Handed (S : Type 0) : Type 0 where
   pub homes : List Notes
   pub history : List Event
   pub lives : List (List Ending)
-  pub cut : List (List Generation)
+  pub cut : List (List Life)
   pub starters : List S
 
 -- the name of a starter's server, and what the starter shows of its starts

@@ -16,13 +16,13 @@ use Rattle.xa_boot.specs.xa_link.declared.sink.Sink as Sink
 use Rattle.xa_boot.specs.xa_link.contracts.link.Closed as Closed
 use Rattle.xa_boot.specs.xa_pipe.contracts.noted.Said as Said
 use Rattle.xa_boot.specs.xa_pipe.contracts.noted.Asked as Asked
+use Rattle.xa_boot.specs.xa_pipe.contracts.over.CutLife as CutLife
 use Rattle.xa_boot.specs.xa_pipe.contracts.over.EndedLife as EndedLife
 use Rattle.xa_boot.specs.xa_pipe.contracts.over.Pipes as Pipes
 use Rattle.xa_boot.specs.xa_restart.contracts.lives.Lives as Lives
 use Rattle.xa_boot.specs.xa_queue.contracts.entry.Entry as Entry
 use Rattle.xa_boot.specs.xa_server.contracts.slot.ServerSlot as ServerSlot
 use Rattle.xa_boot.specs.xa_server.contracts.served.Served as Served
-use Rattle.xa_boot.specs.xa_links.contracts.working.CutLife as CutLife
 use Rattle.xa_boot.specs.xa_links.contracts.working.ServerWorker as ServerWorker
 use Rattle.xa_workers.proofs.Sending.{cargo_sends, desk_field, stopped_sends}
 
@@ -51,8 +51,8 @@ module _ (L : RattleType) (link : Link.Ghosts L.Denot) (source : Source.Ghosts L
   ended_sends : IsSend (EndedLife.the_row L link source sink)
   ended_sends = search (sendable, crosses, pipes_field, said_sends, asked_sends, name.the_send) depth 40 fits 20000
 
-  cut_sends : IsSend (CutLife.the_field L).row
-  cut_sends = search (sendable, crosses, l) depth 40 fits 20000
+  cut_sends : IsSend (CutLife.the_row L link source sink)
+  cut_sends = search (sendable, crosses, closed_field, said_sends, asked_sends, name.the_send) depth 40 fits 20000
 
   module _ (T : RattleType) (t : IsSend T) where
     served_field : IsSend (Served.the_field L T link source sink).row

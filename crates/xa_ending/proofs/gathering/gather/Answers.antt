@@ -73,4 +73,4 @@ returns g c = λ scripts done.
     let before : IsBeforeClients d (itself_of d closer) scripts c.args.clients.items g0 = record { done = done; taken = nothing_taken d named shows queues d.clients servers closer room c.add.new.self c.requires.room refl c.add.ensures } in
     let has = c.add_clients.ensures.taken (itself_of d closer) scripts before in
     let more = c.add_servers.ensures d (itself_of d closer) has.desks (before_servers d named shows queues d.clients servers (itself_of d closer) scripts c.args.clients.items c.args.servers.items room c.add.new.self g1 c.requires.room c.add_clients.ensures.kept many has c.requires.over) in
-    gathered d named shows scripts c.args.clients.items c.args.servers.items closer g0 g1 g2 c.with_halt-all.result many c.requires.over c.requires.closed has more c.with_halt-all.ensures
+    gathered d named shows scripts c.args.clients.items c.args.servers.items closer g0 g1 g2 c.with_halt-all.result c.requires.room.going many c.requires.over c.requires.closed has more c.with_halt-all.ensures

@@ -4,7 +4,7 @@ use Rattle.xa_desk.specs.xa_server.Doings.{is_death}
 use Rattle.xa_desk.specs.xa_server.Changes.{Dies, DiesWorn}
 use Rattle.xa_desk.specs.Serving.{IsServing}
 use Rattle.xa_links.proofs.Behind.{leads_behind}
-use Rattle.xa_links.proofs.Deaths.{dies_off, dies_worn, told_of, settles_its}
+use Rattle.xa_links.proofs.Deaths.{dies_off, dies_worn, told_of, settles_its, settles_took}
 use Rattle.xa_links.proofs.working.ServerWorker.died.Goals as goal
 
 pub returns-in-Ok-clause-over : goal.returns-in-Ok-clause-over
@@ -35,3 +35,4 @@ returns-in-Err-clause-halted g c =
     let serving = c.die.ensures.serving w.queue.0 (subst (λ (s : ServerSlot). IsServing d w.queue.0 s w.desk) (sym c.keep.ensures.slot) may.at.serving) in
     let worn = subst (λ (s : ServerSlot). DiesWorn c.cause-cause.result c.in-Err.worn slot' s desk'.caller.work w.desk.caller.work) c.keep.ensures.slot c.in-Err.ensures.worn in
     dies_worn w c.args.over may.at may.last c.cause-cause.ensures.over may.handed kept c.keep.ensures.lives c.keep.ensures.starter slot' desk' c.die.ensures.leads c.die.ensures.rest.1 serving c.cause-cause.result c.in-Err.worn c.stop_by.result c.stop_by.ensures (settles_its d w.desk c.args.over _ w.served.slot.doing may.settles) worn
+    (settles_took d w.desk c.args.over _ w.served.slot.server.0 w.served.slot.doing (ap (λ s. s.0) may.last.server) may.settles)

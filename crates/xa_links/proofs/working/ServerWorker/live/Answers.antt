@@ -1,7 +1,10 @@
-use Rattle.std.proofs.Common.{[], ap, subst}
+use Rattle.std.proofs.Common.{[], map, Option, ap, subst}
+use Rattle.xa_desk.specs.xa_pipe.Standing.{Standing as Life}
+use Rattle.xa_desk.specs.xa_work.Work.{theirs}
 use Rattle.xa_desk.specs.xa_server.Served.{Tries, Counts}
 use Rattle.xa_desk.specs.declared.stopped.Stopped.TheVariants.{Elsewhere}
-use Rattle.xa_links.proofs.Lasting.{halts_at, in_counted, goes_counted, goes_trans}
+use Rattle.xa_links.specs.Lives.{TookEach, IsCut}
+use Rattle.xa_links.proofs.Lasting.{none_off, halts_at, in_counted, goes_counted, goes_trans}
 use Rattle.xa_links.specs.Working.{cut_in}
 use Rattle.xa_links.proofs.Exchanges.{greeted_in, falls_greeting}
 use Rattle.xa_links.proofs.Starts.{served_at, starts_in, starts_goes, fails_off, start_halts}
@@ -11,7 +14,7 @@ pub returns-then-is_some-clause-halted : goal.returns-then-is_some-clause-halted
 returns-then-is_some-clause-halted g c =
     let w = c.args.self.now in
     let at = c.requires.off.off.at in
-    halts_at w w.cut [] Elsewhere at (ap cut_in at.cut) tt
+    halts_at w w.cut [] Elsewhere at (ap (λ (o : Option Life). map (λ (life : Life). life.generation) (cut_in o)) at.cut) (none_off (TookEach w.served.slot.server.0 (theirs w.desk.caller.work)) w.cut at.cut) (none_off (IsCut w.name w.served.slot.server.0) w.cut at.cut) tt
 
 pub returns-in-Ok-None-clause-off : goal.returns-in-Ok-None-clause-off
 returns-in-Ok-None-clause-off g c =

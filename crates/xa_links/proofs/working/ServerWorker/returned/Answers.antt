@@ -2,12 +2,11 @@ use Rattle.std.proofs.Common.{[], ◌∷◌, refl, sym, ◌∙◌, ap}
 use Rattle.std.proofs.lemmas.List.Elements.{All-nil}
 use Rattle.xa_desk.specs.xa_events.declared.event.Event.TheVariants.{End}
 use Rattle.xa_desk.specs.xa_server.declared.slot.ServerSlot.{ServerSlot}
-use Rattle.xa_desk.specs.xa_server.Doings.{life_in}
 use Rattle.xa_links.proofs.Behind.{still_calm}
 use Rattle.xa_links.proofs.Stepping.{halted_own, halted_steps, halted_at, still_serves}
 use Rattle.xa_links.proofs.Keeping.{OfLife}
 use Rattle.xa_links.proofs.Lasting.{at_desk, cut_ends, work_on, goes_by, goes_trans}
-use Rattle.xa_links.proofs.Exchanges.{return_done, returned_in, in_turn, exits_turn, stays_turn}
+use Rattle.xa_links.proofs.Exchanges.{Becomes, at_still, heard_took, heard_cut, return_done, returned_in, in_turn, exits_turn, stays_turn}
 use Rattle.xa_links.proofs.working.ServerWorker.returned.Goals as goal
 
 pub returns-in-Err-clause-halted : goal.returns-in-Err-clause-halted
@@ -21,7 +20,9 @@ returns-in-Err-clause-halted g c =
     let kept = c.in-Err.ensures.kept in
     let still = halted_steps 3 c.in-Err.halt leads c.in-Err.ensures.halted in
     let at = work_on w slot' desk' [] b.0.generation (still_serves still serving kept) (All-nil (OfLife w.served.slot.made)) (still_calm w.desk desk' (halted_own w.desk desk' 3 c.in-Err.halt c.in-Err.ensures.halted) c.finish-finished.ensures.rest.1) b.2.at in
-    cut_ends (at_desk w slot' desk') c.cut.new.self b.0.generation _ at c.cut.ensures.rest c.cut.ensures.cut (ap (λ (s : ServerSlot). life_in s.doing) kept ∙ ap life_in b.2.does) (halted_at w.desk desk' 3 c.in-Err.halt c.in-Err.ensures.halted)
+    let server = ap (λ (s : ServerSlot). s.server) kept in
+    let becomes : Becomes b.0.asked c.args.life b.0 = record { link = c.args.life.link; said = _; turn = _; made = b.3.made } in
+    cut_ends (at_desk w slot' desk') c.cut.new.self c.args.life _ (at_still b.0.asked becomes at) c.cut.ensures.rest (heard_took w c.args.life b.0 _ slot' desk' b.3 b.2 still.own server) (heard_cut w c.args.life b.0 _ slot' b.3 b.2 server c.cut.ensures.sound) (halted_at w.desk desk' 3 c.in-Err.halt c.in-Err.ensures.halted)
 
 pub exit-requires-clause-life : goal.exit-requires-clause-life
 exit-requires-clause-life g c =

@@ -1,10 +1,9 @@
 use Rattle.std.proofs.Common.{[], ◌∷◌, Ok, refl, ap, subst}
 use Rattle.xa_desk.specs.xa_events.declared.event.Event.TheVariants.{Take}
-use Rattle.xa_desk.specs.xa_server.Doings.{life_in}
 use Rattle.xa_links.specs.Steps.{NextFrom}
 use Rattle.xa_links.specs.Standing.{ExchangedAs}
 use Rattle.xa_links.proofs.Behind.{still_calm}
-use Rattle.xa_links.proofs.Lasting.{at_desk, in_on, cut_ends, goes_by, goes_trans, goes_cut}
+use Rattle.xa_links.proofs.Lasting.{at_desk, in_on, in_took, cut_ends, goes_by, goes_trans, goes_cut}
 use Rattle.xa_links.proofs.Exchanges.{taken_in}
 use Rattle.xa_links.proofs.working.ServerWorker.serve.Goals as goal
 
@@ -33,7 +32,7 @@ returns-in-Err-clause-halted g c =
     let l = c.loop.self in
     let waits = c.in-Err.ensures.0 in
     let is = in_on l c.next-in-loop.new.slot c.next-in-loop.new.desk _ _ 0 c.loop.life waits.serves waits.same (still_calm l.desk c.next-in-loop.new.desk waits.noted waits.seat) c.loop.invariant.free in
-    cut_ends (at_desk l c.next-in-loop.new.slot c.next-in-loop.new.desk) c.cut.new.self c.loop.life.generation c.in-Err.stopped is.at c.cut.ensures.rest c.cut.ensures.cut (ap life_in is.does) c.in-Err.ensures.1
+    cut_ends (at_desk l c.next-in-loop.new.slot c.next-in-loop.new.desk) c.cut.new.self c.loop.life c.in-Err.stopped is.at c.cut.ensures.rest (in_took is) (record { sound = c.cut.ensures.sound; its = ap (λ s. s.0) is.last.server; named = is.last.named }) c.in-Err.ensures.1
 
 pub exchange-requires-clause-taken : goal.exchange-requires-clause-taken
 exchange-requires-clause-taken g c κs within =
