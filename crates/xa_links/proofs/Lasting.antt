@@ -97,6 +97,21 @@ started_on {name} {n} {n'} {f} {f'} {shown} {shown'} made failed shows is =
 pub last_on : (name : List ℕ) (slot slot' : ServerSlot) (life : Life) → slot'.server ≡ slot.server → slot'.made ≡ slot.made → IsLast name slot life → IsLast name slot' life
 last_on name slot slot' life server made last = record { server = last.server ∙ sym server; named = last.named; number = last.number ∙ sym made }
 
+-- ---- a take for each INVOKE
+
+pub lives_took : {d : Domain} {name : List ℕ} {queue server : ℕ} {desk : Desk} (lives : List Ending) → All (IsLived d name queue server desk) lives → All (TookEach server (theirs desk.caller.work)) (map (λ (over : Ending). over.life) lives)
+lives_took {d} {name} {queue} {server} {desk} lives each =
+    let own : List Event = theirs desk.caller.work in
+    All-map (TookEach server own) (λ (over : Ending). over.life) lives
+    (All-weaker (IsLived d name queue server desk) (λ (over : Ending). TookEach server own over.life) (λ over is. subst (λ (s : ℕ). count (is_take_in s over.life.generation.0) own ≡ length over.life.asked) is.its is.stopped.taken) lives each)
+
+-- with none that was cut
+pub none_cut : (P : Life → Type 0) (lives : List Life) (cut : Option Life) → cut ≡ None → All P lives → All P (lives ++ cut_in cut)
+none_cut P lives cut none all = subst (λ (o : Option Life). All P (lives ++ cut_in o)) (sym none) (subst (All P) (sym (append-nil lives)) all)
+
+pub none_off : (P : Life → Type 0) (cut : Option Life) → cut ≡ None → All P (cut_in cut)
+none_off P cut none = subst (λ (o : Option Life). All P (cut_in o)) (sym none) (All-nil P)
+
 -- the worker with another slot at another desk
 abbrev pub at_desk : {L T : Type 0} → ServerWorker L T → ServerSlot → Desk → ServerWorker L T
 at_desk w slot desk = record w { desk = desk; served = record w.served { slot = slot } }
@@ -183,23 +198,8 @@ module _ {L T : Type 0} {d : Domain} {named : T → List ℕ} {shows : T → Sta
       told = leads_behind w.desk desk' ⊤ serves.steps.leads seat at.told.0;
     }
 
-  -- ---- a take for each INVOKE
-
-  pub lives_took : {name : List ℕ} {queue server : ℕ} {desk : Desk} (lives : List Ending) → All (IsLived d name queue server desk) lives → All (TookEach server (theirs desk.caller.work)) (map (λ (over : Ending). over.life) lives)
-  lives_took {name} {queue} {server} {desk} lives each =
-      let own : List Event = theirs desk.caller.work in
-      All-map (TookEach server own) (λ (over : Ending). over.life) lives
-      (All-weaker (IsLived d name queue server desk) (λ (over : Ending). TookEach server own over.life) (λ over is. subst (λ (s : ℕ). count (is_take_in s over.life.generation.0) own ≡ length over.life.asked) is.its is.stopped.taken) lives each)
-
   pub in_took : {w : ServerWorker L T} {doing : Doing} {turn : Turn} {n : ℕ} {life : Life} → IsIn d named shows doing turn n life w → TookEach w.served.slot.server.0 (theirs w.desk.caller.work) life
   in_took {w} {doing} {turn} {n} {life} is = subst (λ s. count (is_take_in s.0 life.generation.0) (theirs w.desk.caller.work) ≡ length life.asked) is.last.server is.going.follows.taken
-
-  -- with none that was cut
-  pub none_cut : (P : Life → Type 0) (lives : List Life) (cut : Option Life) → cut ≡ None → All P lives → All P (lives ++ cut_in cut)
-  none_cut P lives cut none all = subst (λ (o : Option Life). All P (lives ++ cut_in o)) (sym none) (subst (All P) (sym (append-nil lives)) all)
-
-  pub none_off : (P : Life → Type 0) (cut : Option Life) → cut ≡ None → All P (cut_in cut)
-  none_off P cut none = subst (λ (o : Option Life). All P (cut_in o)) (sym none) (All-nil P)
 
   -- ---- where the worker's work is over
 
@@ -361,8 +361,8 @@ module _ {L T : Type 0} {d : Domain} where
   }
 
   -- a life is cut off
-  pub goes_cut : (w old other : ServerWorker L T) → other ≡ record w { cut = other.cut } → Goes d old w → Goes d old other
-  goes_cut w old other rest goes = subst (Goes d old) (sym rest) (record { leads = goes.leads; id = goes.id; clients = goes.clients; server = goes.server; name = goes.name; queue = goes.queue })
+  pub goes_cut : (w old other : ServerWorker L T) {cut : Option Life} → other ≡ record w { cut = cut } → Goes d old w → Goes d old other
+  goes_cut w old other {cut} rest goes = subst (Goes d old) (sym rest) (record { leads = goes.leads; id = goes.id; clients = goes.clients; server = goes.server; name = goes.name; queue = goes.queue })
 
   -- its first start is counted
   pub goes_counted : (w old other : ServerWorker L T) → other ≡ record w { counted = other.counted } → Goes d old w → Goes d old other

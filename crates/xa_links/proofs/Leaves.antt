@@ -153,8 +153,8 @@ module _ {L T : Type 0} {d : Domain} {named : T → List ℕ} {shows : T → Sta
       let started : HasStarted w.name (length (starts s (theirs desk'.caller.work))) (failed_starts s (theirs desk'.caller.work)) (shows w.served.starter) = started_on count failed refl off.at.started in
       let shown : ServerShows d w.name w.queue.0 s desk' w.served.lives.items (cut_in w.cut) (shows w.served.starter) (why_of r ≡ None) = record {
         lives_are = ap (λ (o : Option Life). map (λ over. over.life.generation) w.served.lives.items ++ map (λ (life : Life). life.generation) (cut_in o)) off.at.cut ∙ lived.are;
-        taken = none_cut {L} {T} {d} {named} {shows} (TookEach s (theirs desk'.caller.work)) (map (λ over. over.life) w.served.lives.items) w.cut off.at.cut (lives_took {L} {T} {d} {named} {shows} w.served.lives.items lived.each);
-        cut_off = none_off {L} {T} {d} {named} {shows} (IsCut w.name s) w.cut off.at.cut;
+        taken = none_cut (TookEach s (theirs desk'.caller.work)) (map (λ over. over.life) w.served.lives.items) w.cut off.at.cut (lives_took w.served.lives.items lived.each);
+        cut_off = none_off (IsCut w.name s) w.cut off.at.cut;
         so_far = inl started;
         told = retires.told told;
         none_cut = λ whole. ap cut_in off.at.cut;

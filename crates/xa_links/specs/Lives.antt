@@ -64,6 +64,19 @@ pub record HasStarted (name : List ℕ) (n failed : ℕ) (shown : StarterShows) 
 abbrev pub HasStartedSoFar : List ℕ → ℕ → ℕ → StarterShows → Type 0
 HasStartedSoFar name n failed shown = HasStarted name n failed shown ⊎ HasStarted name (n + 1) failed shown ⊎ HasStarted name (n + 1) (failed + 1) shown
 
+-- ---- its INVOKEs
+
+-- the server took a request for each INVOKE that was due to its program in that life
+abbrev pub TookEach : ℕ → List Event → Life → Type 0
+TookEach server own life = count (is_take_in server life.generation.0) own ≡ length life.asked
+
+-- a life that went on at a halt, of the server of that name and number, as it stood then: its link took the octets of the INVOKEs that were due, and its
+-- program spoke in turn
+pub record IsCut (name : List ℕ) (server : ℕ) (life : Life) : Type 0 where
+  pub sound : IsSound life
+  pub its : life.server.0 ≡ server
+  pub named : life.name ≡ name
+
 -- ---- a life
 
 -- a take of the life was handed on by the INVOKE at its place among these, with what its request was sent for
@@ -87,17 +100,6 @@ pub record IsLived (d : Domain) (name : List ℕ) (queue server : ℕ) (desk : D
   pub stopped : HasStopped d.setup (ShowsReason d desk) over (theirs desk.caller.work)
   pub shut : over.life.turn ≡ AwaitsInvoke → EndsShut d queue desk over
   pub handed : AtEach (IsHanded server over.life.generation.0 over.life.asked (IsSentFor d queue desk)) (theirs desk.caller.work)
-
--- the server took a request for each INVOKE that was due to its program in that life
-abbrev pub TookEach : ℕ → List Event → Life → Type 0
-TookEach server own life = count (is_take_in server life.generation.0) own ≡ length life.asked
-
--- a life that went on at a halt, of the server of that name and number, as it stood then: its link took the octets of the INVOKEs that were due, and its
--- program spoke in turn
-pub record IsCut (name : List ℕ) (server : ℕ) (life : Life) : Type 0 where
-  pub sound : IsSound life
-  pub its : life.server.0 ≡ server
-  pub named : life.name ≡ name
 
 -- ---- its end
 
