@@ -1,6 +1,6 @@
 -- When callers are told, beside the end of a server's life (XATMI, tpgetrply; the order at an end is this project's own). Lists of entries have the
 -- oldest first.
-use Rattle.std.specs.Prelude.{◌≡◌, ℕ, ◌+◌, ◌<◌, Bool, true, false, List, [], ◌∷◌, ◌++◌, length, IsSomeAnd, ⊤, if◌then◌else◌}
+use Rattle.std.specs.Prelude.{◌≡◌, ℕ, ◌+◌, ◌<◌, ◌≤◌, Bool, true, false, List, [], ◌∷◌, ◌++◌, length, IsSomeAnd, ⊤, if◌then◌else◌}
 use Rattle.std.specs.List.{All, Contains, flat_map}
 use Rattle.xa_clients.specs.xa_types.declared.ids.ServerId.{ServerId}
 use Rattle.xa_clients.specs.xa_types.declared.setup.Setup.{Setup}
