@@ -422,7 +422,7 @@ module _ {L T : Type 0} (d : Domain) (named : T → List ℕ) (shows : T → Sta
         made = λ none. made_each d [] has.desks (map DeskOf servers) scripts 1 refl (has.made (more.before (none_before none).0));
         each = shows_each (stopped ≡ None) has.desks servers 1 first over (λ none. more.going (none_before none).0);
         why = ap (λ (o : Option Stopped). first_of o (here_by closer.halt)) (more.why ∙ ap (λ (o : Option Stopped). first_among o (map StopOf servers)) (has.why ∙ ap (λ (o : Option Stopped). first_among o (map why_left clients)) going))
-            ∙ sym (first_append None (map why_left clients) (map StopOf servers ++ here_by closer.halt ∷ []) ∙ first_push (first_among None (map why_left clients)) (map StopOf servers) (here_by closer.halt));
+            ∙ sym (first_push None (map why_left clients ++ map StopOf servers) (here_by closer.halt) ∙ ap (λ (o : Option Stopped). first_of o (here_by closer.halt)) (first_append None (map why_left clients) (map StopOf servers)));
         itself = λ none. no_halt closer.halt (none_before none).1;
         worn = if_first P g2.stopped (here_by closer.halt) more.taken.worn (halt_stops d clients closer desks closer.halt closed.halts);
         lives_are = more.lives_are;
