@@ -54,7 +54,7 @@ use Rattle.xa_ending.specs.Room.{IsNothing}
 use Rattle.xa_ending.specs.Gathered.{IsLeftDesk, IsStopAmong, home_of_desk, HasGathered}
 use Rattle.xa_ending.specs.declared.tokens.Tokens.{Tokens}
 use Rattle.xa_ending.specs.Gathering.{HasSpace, HasTokenSpace, HasWorkerSpace, HasServerSpace, KeepsServers, AddsTokens, HasTaken, IsBeforeClients, HasClients, HasClientsSo, IsBeforeServers, HasServers, HasServersSo}
-use Rattle.xa_ending.specs.Stops.{first_of, first_among, why_left, stops_of}
+use Rattle.xa_ending.specs.Stops.{first_of, first_among, why_left}
 use Rattle.xa_ending.proofs.Adding.{no_tokens, token_space, empty_space, less_space, there_some, all_some}
 
 -- ---- why it stopped

@@ -1,7 +1,7 @@
 -- Each answer tells what befell its request, behind the end of a life that was lost by that.
-use Rattle.std.proofs.Common.{◌≡◌, ℕ, zero, suc, ◌+◌, ◌<◌, ◌≤◌, ◌||◌, Bool, true, false, List, [], ◌∷◌, ◌++◌, map, length, Option, Some, None, inl, inr, refl, sym, ◌∙◌, ap, subst, append_assoc, append-nil, arith, if◌then◌else◌, eq-eqb}
+use Rattle.std.proofs.Common.{◌≡◌, ℕ, zero, suc, ◌+◌, ◌<◌, ◌≤◌, ◌||◌, Bool, true, false, List, [], ◌∷◌, ◌++◌, map, Option, Some, None, inl, inr, refl, sym, ◌∙◌, ap, subst, append_assoc, append-nil, arith, if◌then◌else◌, eq-eqb}
 use Rattle.std.specs.Prelude.{IfSome, IsSomeAnd, ⊤}
-use Rattle.std.specs.List.{All, Contains, filter, flat_map}
+use Rattle.std.specs.List.{All, Contains, flat_map}
 use Rattle.std.proofs.lemmas.Bool.{cases_Bool}
 use Rattle.std.proofs.lemmas.List.{map-append}
 use Rattle.std.proofs.lemmas.Option.{get_or_from_slice_get, slice_get_within}
@@ -14,15 +14,14 @@ use Rattle.xa_clients.specs.xa_types.declared.reply.Answer.{Answer as Reply}
 use Rattle.xa_clients.specs.xa_types.Setup.{numbered, queue_of}
 use Rattle.xa_clients.specs.xa_events.declared.event.Event.{Event}
 use Rattle.xa_clients.specs.xa_events.declared.event.Event.TheVariants.{Withdraw, Sweep, Gone, Down, Start, StartFailed, End, Stop, Answer}
-use Rattle.xa_clients.specs.xa_events.declared.event.Ended.{Ended}
 use Rattle.xa_clients.specs.xa_events.declared.event.Replied.{Replied}
 use Rattle.xa_clients.specs.xa_events.Cases.{HomePart}
 use Rattle.xa_clients.specs.xa_events.Server.{AllGone, is_gone}
 use Rattle.xa_clients.specs.xa_events.Homes.Home.{QueueHome}
-use Rattle.xa_clients.specs.xa_events.Homes.{Home, home_of, worker_of, of_worker, same_home, all_homes}
+use Rattle.xa_clients.specs.xa_events.Homes.{Home, home_of, worker_of, same_home}
 use Rattle.xa_clients.specs.xa_events.State.{caller_of}
 use Rattle.xa_clients.specs.xa_events.Request.{Settlement, settlement_in}
-use Rattle.xa_clients.specs.xa_events.Answers.{reply_of, IsAnswerTo}
+use Rattle.xa_clients.specs.xa_events.Answers.{reply_of}
 use Rattle.xa_clients.specs.xa_events.Words.{AtEach, count}
 use Rattle.xa_clients.proofs.xa_events.There.{known_server}
 use Rattle.xa_clients.proofs.xa_events.WordsLemmas.{count_no}
@@ -30,10 +29,9 @@ use Rattle.xa_clients.specs.xa_stamp.declared.home.Stamped.{Stamped}
 use Rattle.xa_clients.specs.xa_stamp.Home.{Notes, Rises, last_stamp}
 use Rattle.xa_clients.specs.xa_lock.declared.makers.Made.{Made}
 use Rattle.xa_clients.specs.xa_lock.Makers.{maker_of, noted_in}
-use Rattle.xa_clients.specs.xa_crew.Crew.{IsOfDomain, MayNote, no_stamp}
+use Rattle.xa_clients.specs.xa_crew.Crew.{MayNote, no_stamp}
 use Rattle.xa_clients.specs.xa_crew.Ending.{workers_of}
 use Rattle.xa_clients.specs.xa_crew.Seen.{past_in}
-use Rattle.xa_clients.specs.xa_lock.Pages.{StartsWith}
 use Rattle.xa_clients.proofs.xa_crew.Lists.{past_in-append, same_home-is, AtEach-cut}
 use Rattle.xa_clients.specs.xa_cell.declared.tokens.Seat.{Seat}
 use Rattle.xa_clients.specs.xa_cell.declared.view.Fill.{Fill}
@@ -53,10 +51,10 @@ use Rattle.xa_clients.specs.xa_desk.declared.domain.Domain.{Domain}
 use Rattle.xa_clients.specs.xa_desk.declared.desk.Desk.{Desk}
 use Rattle.xa_links.specs.Behind.{is_lost, ends_by, is_ending, SweepsOr, OnlySweeps, IsBehindEnd, FilledBehind, TellsLast}
 use Rattle.xa_links.specs.Lives.{ServerShows}
-use Rattle.xa_joined.specs.Joined.{Back, kept_of, noted_of, HasLeft, AllLeft}
+use Rattle.xa_joined.specs.Joined.{Back, kept_of, noted_of, AllLeft}
 use Rattle.xa_joined.specs.Ended.{ServerEnd, Ends}
 use Rattle.xa_joined.specs.Told.{all_noted, is_start, is_sweep, to_start, IsOverBefore, LostBefore, TellsAfter, GaveUpLast, ClearsLast, AreTold}
-use Rattle.xa_joined.specs.Served.{HoldAll, IsRecorded}
+use Rattle.xa_joined.specs.Served.{IsRecorded}
 use Rattle.xa_joined.proofs.Listed.{all_numbered, one_there}
 use Rattle.xa_joined.proofs.Going.{among}
 use Rattle.xa_joined.proofs.Clients.{noted_is}
