@@ -3,10 +3,12 @@ ghost use Rattle.std.specs.Prelude.{◌≡◌, ◌≤◌, IfSome};
 ghost use Rattle.xa_types.specs.declared.data.Data.TheVariants as kinds;
 ghost use Rattle.xa_stamp.specs.Home.{last_stamp};
 ghost use Rattle.xa_crew.specs.Crew.{no_stamp};
-ghost use Rattle.xa_cell.specs.Known.{IsSeatOf, IsTicketOf};
+ghost use Rattle.xa_cell.specs.Known.{known, callers_of, IsNew, IsSeatOf, IsTicketOf};
 ghost use Rattle.xa_cell.specs.Places.{IsShut};
 ghost use Rattle.xa_trials_callers.specs.Servers.{IsWaiting};
 
+use crate::clients::{end_seats, next_seat};
+use std::alloc::Global;
 use std::process::Abort;
 use xa_caller::{Caller, Cargo, Filling};
 use xa_cell::{Cancelled, Cells, Place, Seat};
@@ -25,6 +27,43 @@ pub enum Told {
     System,
     NoMemory,
     Halted,
+}
+
+/// Cells of a client, which has 50, and of a worker, which has 16, and the seats of both.
+pub fn open_cells<R: Abort>(rt: &R, alloc: Global) -> (Cells<Filling>, Seat<Filling>, Seat<Filling>)
+    ensures callers { callers_of result.0 ≡ 2 }
+    ensures table { IsSeatOf result.0 result.1 × IsSeatOf result.0 result.2 }
+    ensures shut { IsShut result.1 }
+    ensures new { IsNew result.2.first result.2.count (known result.2) }
+    ensures count { result.2.count ≡ 16 }
+{
+    let Ok((cells, mut seats)) = Cells::<Filling>::new(alloc, &[50, 16]) else {
+        panic!(rt; "no memory")
+    };
+    let own = next_seat(rt, &mut seats);
+    let seat = next_seat(rt, &mut seats);
+    end_seats(rt, seats);
+    (cells, seat, own)
+}
+
+/// Both seats come back, and the cells end.
+pub fn close_cells<R: Abort>(
+    rt: &R,
+    alloc: Global,
+    cells: Cells<Filling>,
+    seat: Seat<Filling>,
+    own: Seat<Filling>,
+)
+    requires callers { callers_of cells ≡ 2 }
+    requires table { IsSeatOf cells seat × IsSeatOf cells own }
+    requires shut { IsShut seat × IsShut own }
+{
+    let Ok(mut seats) = Vec::with_capacity(alloc, 2) else {
+        panic!(rt; "no memory")
+    };
+    seats.push_reserved(seat);
+    seats.push_reserved(own);
+    cells.close(seats);
 }
 
 /// The request that `ask` makes.

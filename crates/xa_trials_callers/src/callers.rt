@@ -180,6 +180,23 @@ fn ask_of(alloc: Global, service: &[u8], brings: Brings, way: Way) -> Option<Ask
     })
 }
 
+// What the server is to say to a call that a queue took.
+fn says_to<R: Abort>(rt: &R, told: Told) -> Says {
+    match told {
+        Told::Answered(says, _) => says,
+        Told::Refused(..) | Told::Waits | Told::Halts => panic!(rt; "sent"),
+    }
+}
+
+// Whether a call that no queue took may end by that step.
+fn is_unsent(step: &Step, told: Told) -> bool {
+    match step {
+        Step::Told(_) => true,
+        Step::Wait => matches!(told, Told::Waits),
+        Step::Halt(_) | Step::Halted => matches!(told, Told::Halts),
+    }
+}
+
 // Puts the request of a call on a queue, and answers it where one took it.
 fn go_on<R: Abort>(
     rt: &R,
@@ -198,17 +215,14 @@ fn go_on<R: Abort>(
     ensures { Rests setup.now cells.now client.new.last client.new.caller }
 {
     match put(rt, alloc, setup, cells, client, prepared, found, queues) {
-        Ok(entry) => match told {
-            Told::Answered(says, _) => answer(rt, setup, cells, client, entry, says, &ask.expect),
-            _ => panic!(rt; "sent"),
-        },
+        Ok(entry) => {
+            let says = says_to(rt, told);
+            answer(rt, setup, cells, client, entry, says, &ask.expect);
+        }
         Err(unsent) => {
             let no_block = ask.flags.no_block;
-            match give_back(rt, setup, cells, client, found, unsent, no_block) {
-                Step::Told(_) => {}
-                Step::Wait => assert!(rt; matches!(told, Told::Waits)),
-                _ => assert!(rt; matches!(told, Told::Halts)),
-            }
+            let step = give_back(rt, setup, cells, client, found, unsent, no_block);
+            assert!(rt; is_unsent(&step, told));
         }
     }
 }
@@ -300,10 +314,10 @@ fn is_told(noted: Option<&Stamped>, op: u32, brings: Brings, told: Told) -> bool
 }
 
 // The place of the first call that was told otherwise, by what its caller noted at home, where it left last.
-fn first_not_told(home: &Home) -> Option<usize> {
+fn first_not_told(home: &Home, calls: &[Call]) -> Option<usize> {
     let mut entries = home.entries().iter();
     let mut op: u32 = 0;
-    for (place, (_, brings, _, _, told)) in CALLS.iter().enumerate() {
+    for (place, (_, brings, _, _, told)) in calls.iter().enumerate() {
         if matches!(told, Told::Waits | Told::Halts) {
             continue;
         }
@@ -314,17 +328,17 @@ fn first_not_told(home: &Home) -> Option<usize> {
     }
     match entries.next() {
         Some(stamped) if matches!(stamped.event, Event::Leave(_)) => None,
-        _ => Some(CALLS.len()),
+        _ => Some(calls.len()),
     }
 }
 
 // Makes all calls. The place of the first that isn't told as it should be.
-fn tell<R: Abort>(rt: &R, alloc: Global, setup: &Setup) -> Option<usize>
+fn tell<R: Abort>(rt: &R, alloc: Global, setup: &Setup, calls: &[Call]) -> Option<usize>
     requires { is_configured setup.now ≡ true }
 {
     let (cells, client) = open(rt, alloc, setup);
     let mut client = client;
-    for row in &CALLS {
+    for row in calls {
         call(rt, alloc, setup, &cells, &mut client, row);
     }
     let Client { caller, last: _ } = client;
@@ -333,7 +347,7 @@ fn tell<R: Abort>(rt: &R, alloc: Global, setup: &Setup) -> Option<usize>
         seat,
         halt: _,
     } = caller.leave();
-    let failed = first_not_told(&work.home());
+    let failed = first_not_told(&work.home(), calls);
     assert!(rt; close(rt, alloc, cells, seat) == 50);
     failed
 }
@@ -500,14 +514,19 @@ fn is_wished<R: Abort>(
 }
 
 // The place of the first wish whose request has another priority.
-fn first_not_wished<R: Abort>(rt: &R, alloc: Global, setup: &Setup) -> Option<usize>
+fn first_not_wished<R: Abort>(
+    rt: &R,
+    alloc: Global,
+    setup: &Setup,
+    wishes: &[Wish],
+) -> Option<usize>
     requires { is_configured setup.now ≡ true }
 {
     let (cells, client) = open(rt, alloc, setup);
     let mut client = client;
     let mut place: usize = 0;
     let mut failed = None;
-    for wish in &WISHES {
+    for wish in wishes {
         if !is_wished(rt, alloc, setup, &cells, &mut client, wish) && failed.is_none() {
             failed = Some(place);
         }
@@ -535,7 +554,7 @@ fn setup<R: Abort>(rt: &R, alloc: Global) -> Setup
 #[test]
 fn each_call_is_told_and_leaves_its_cell(rt: HostRuntime) {
     let setup = setup(&rt, rt.alloc());
-    none_fails(&rt, tell(&rt, rt.alloc(), &setup));
+    none_fails(&rt, tell(&rt, rt.alloc(), &setup, &CALLS));
 }
 
 #[test]
@@ -547,5 +566,5 @@ fn a_halt_tells_a_caller_nothing(rt: HostRuntime) {
 #[test]
 fn a_request_has_the_priority_that_was_set(rt: HostRuntime) {
     let setup = setup(&rt, rt.alloc());
-    none_fails(&rt, first_not_wished(&rt, rt.alloc(), &setup));
+    none_fails(&rt, first_not_wished(&rt, rt.alloc(), &setup, &WISHES));
 }

@@ -1,6 +1,6 @@
 //! A client on one thread, of a trial that plays the board, the queues and the servers: each call here leaves it fit for the
 //! next one.
-ghost use Rattle.std.specs.Prelude.{◌≡◌, ℕ, ◌+◌, ◌<◌, ◌≤◌, ◌^◌, true, IfErr, IfOk, IfSome, MatchOption};
+ghost use Rattle.std.specs.Prelude.{◌≡◌, ℕ, ◌+◌, ◌<◌, ◌≤◌, ◌^◌, ◌++◌, [], ◌∷◌, true, IfErr, IfOk, IfSome, MatchOption};
 ghost use Rattle.xa_types.specs.Configured.{is_configured};
 ghost use Rattle.xa_cell.specs.Views.{at};
 ghost use Rattle.xa_cell.specs.Known.{known, IsSeatOf, callers_of};
@@ -127,6 +127,16 @@ fn next_op<R: Abort>(rt: &R, last: u32) -> u32
     }
 }
 
+fn shapes_of<R: Abort>(rt: &R, alloc: Global, setup: &Setup) -> Shapes
+    requires { is_configured setup.now ≡ true }
+    ensures { result ≡ setup.now.shapes }
+{
+    match Shapes::of(alloc, setup) {
+        Ok(shapes) => shapes,
+        Err(_) => panic!(rt; "no memory"),
+    }
+}
+
 /// Makes the request for a call, unless it is refused.
 pub fn prepare<R: Abort>(
     rt: &R,
@@ -142,10 +152,10 @@ pub fn prepare<R: Abort>(
     ensures { MatchOption result (Rests setup.now cells.now client.new.last client.new.caller) (λ made. HasDraft setup.now cells.now client.new.last made.1 made.0.entry client.new.caller) }
 {
     let op = next_op(rt, client.last);
-    let Ok(shapes) = Shapes::of(alloc, setup) else {
-        panic!(rt; "no memory")
-    };
-    let service = match client.caller.check(&shapes, op, ask) {
+    let shapes = shapes_of(rt, alloc, setup);
+    let checked = client.caller.check(&shapes, op, ask);
+    drop(shapes);
+    let service = match checked {
         Ok(service) => service,
         Err(Stop::Refused(_)) => {
             client.last = op;
@@ -202,6 +212,14 @@ fn queue_of(event: Event) -> u16 {
     queue
 }
 
+// What the queue at which a request is aimed does with it, where the board lists that queue at this place.
+fn state_at<R: Abort>(rt: &R, queues: Queues, attempt: u32, aimed: u16) -> State {
+    match queues.get(attempt as usize) {
+        Some((queue, state)) if *queue == aimed => *state,
+        Some(_) | None => panic!(rt; "it is aimed elsewhere"),
+    }
+}
+
 /// Puts the request on the first of the queues that is up. It comes back where none is, or memory runs out at one.
 pub fn put<R: Abort>(
     rt: &R,
@@ -223,11 +241,7 @@ pub fn put<R: Abort>(
     let mut aimed = queue_of(event);
     let mut why = Why::AllShut;
     for attempt in 0..64u32 {
-        let Some((queue, state)) = queues.get(attempt as usize) else {
-            panic!(rt; "no queue")
-        };
-        assert!(rt; aimed == *queue);
-        match state {
+        match state_at(rt, queues, attempt, aimed) {
             State::Up => {
                 let stamp = later_stamp(rt, &client.caller);
                 client.last = next_op(rt, client.last);
@@ -238,7 +252,7 @@ pub fn put<R: Abort>(
                 let why = Why::Halt(Halt::NoMemory);
                 return Err(Unsent { note, entry, why });
             }
-            State::Full => why = full(setup, *queue),
+            State::Full => why = full(setup, aimed),
             State::Down | State::Closed => {}
         }
         match client.caller.aim(alloc, entry, found, attempt + 1) {
@@ -407,22 +421,46 @@ pub fn leave<R: Abort>(
     Left { work, seat, halt }
 }
 
+/// The last of the seats.
+pub fn next_seat<R: Abort>(rt: &R, seats: &mut Vec<Seat<Filling>>) -> Seat<Filling>
+    ensures { seats.old.items ≡ seats.new.items ++ result ∷ [] }
+{
+    match seats.pop() {
+        Some(seat) => seat,
+        None => panic!(rt; "no seat"),
+    }
+}
+
+/// No seat is left.
+pub fn end_seats<R: Abort>(rt: &R, seats: Vec<Seat<Filling>>)
+    ensures { seats.items ≡ [] }
+{
+    if !seats.is_empty() {
+        panic!(rt; "one more seat")
+    }
+    seats.destroy_empty();
+}
+
+// The only one of the seats.
+fn only_seat<R: Abort>(rt: &R, seats: Vec<Seat<Filling>>) -> Seat<Filling>
+    ensures { seats.items ≡ result ∷ [] }
+{
+    let mut seats = seats;
+    let seat = next_seat(rt, &mut seats);
+    end_seats(rt, seats);
+    seat
+}
+
 /// 50 cells, and the client whose they are, which has made no call.
 pub fn open<R: Abort>(rt: &R, alloc: Global, setup: &Setup) -> (Cells<Filling>, Client)
     requires { is_configured setup.now ≡ true }
     ensures cells { callers_of result.0 ≡ 1 }
     ensures rests { Rests setup.now result.0 result.1.last result.1.caller }
 {
-    let Ok((cells, mut seats)) = Cells::<Filling>::new(alloc, &[50]) else {
+    let Ok((cells, seats)) = Cells::<Filling>::new(alloc, &[50]) else {
         panic!(rt; "no memory")
     };
-    let Some(seat) = seats.pop() else {
-        panic!(rt; "no seat")
-    };
-    if !seats.is_empty() {
-        panic!(rt; "a second seat")
-    }
-    seats.destroy_empty();
+    let seat = only_seat(rt, seats);
     let work = Work::new(alloc, setup, 1, CallerId(1), Stamp(0));
     let caller = Caller::new(work, seat, VERSION);
     (cells, Client { caller, last: 0 })

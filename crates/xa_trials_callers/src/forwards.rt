@@ -8,14 +8,14 @@ ghost use Rattle.xa_caller.specs.Serving.{IsForwardBy};
 ghost use Rattle.xa_caller.specs.declared.phase.Phase.TheVariants as phases;
 ghost use Rattle.xa_trials_callers.specs.Forwards.{Waits, Holds, IsOut, AreFor, LeavesOut, IsOver, IsSettled};
 
-use crate::askers::{REQUEST, Told, ask, tell};
+use crate::askers::{REQUEST, Told, ask, close_cells, open_cells, tell};
 use crate::callers::{
     A, BOTH_SHUT, Brings, DOWN_UP, FULL_DOWN, FULL_HALTS, PAIR, SHORT, UP, data_of, is_data,
 };
 use crate::clients::{Queues, State, VERSION, found_of};
 use crate::memory::setup_of;
 use crate::rows::none_fails;
-use crate::servers::{next_seat, next_stamp, seen};
+use crate::servers::{next_stamp, seen};
 use std::alloc::Global;
 use std::process::Abort;
 use xa_buffer::Shapes;
@@ -338,6 +338,21 @@ fn starve<R: Abort>(
     }
 }
 
+// What the queue at that place does with the request, which is to be put there by that event.
+fn state_at<R: Abort>(
+    rt: &R,
+    row: &Row,
+    attempt: u32,
+    entry: &Entry<Cargo>,
+    event: &Event,
+) -> State {
+    let (_, _, _, _, queues, _) = *row;
+    match queues.get(attempt as usize) {
+        Some((queue, state)) if is_aimed(entry, event, *queue, row) => *state,
+        Some(_) | None => panic!(rt; "it is aimed elsewhere"),
+    }
+}
+
 // Puts the request on the first of the queues that takes it.
 fn put<R: Abort>(
     rt: &R,
@@ -354,13 +369,8 @@ fn put<R: Abort>(
     requires found { (service : List ℕ) × AreFor setup.now service found.now }
     ensures { IsOver cells.now result worker.new.slot worker.new.caller }
 {
-    let (_, _, _, _, queues, _) = *row;
     for attempt in 0..64u32 {
-        let Some((queue, state)) = queues.get(attempt as usize) else {
-            panic!(rt; "no queue")
-        };
-        assert!(rt; is_aimed(&entry, &event, *queue, row));
-        match state {
+        match state_at(rt, row, attempt, &entry, &event) {
             State::Up => return go_on(rt, setup, cells, worker, entry, event),
             State::Halts => return starve(rt, setup, cells, worker, entry, event),
             State::Down | State::Closed | State::Full => {}
@@ -481,11 +491,7 @@ fn is_played<R: Abort>(
 fn is_so<R: Abort>(rt: &R, alloc: Global, setup: &Setup, row: &Row) -> bool
     requires { is_configured setup.now ≡ true }
 {
-    let Ok((cells, mut seats)) = Cells::<Filling>::new(alloc, &[50, 16]) else {
-        panic!(rt; "no memory")
-    };
-    let own = next_seat(rt, &mut seats);
-    let mut seat = next_seat(rt, &mut seats);
+    let (cells, mut seat, own) = open_cells(rt, alloc);
     let mut worker = worker_of(rt, alloc, setup, &cells, own);
     let right = is_played(rt, alloc, setup, &cells, &mut worker, &mut seat, row);
     let Worker { slot, caller } = worker;
@@ -496,18 +502,16 @@ fn is_so<R: Abort>(rt: &R, alloc: Global, setup: &Setup, row: &Row) -> bool
         halt: _,
     } = caller.leave();
     let ended = end_in(&work.home());
-    seats.push_reserved(seat);
-    seats.push_reserved(own);
-    cells.close(seats);
+    close_cells(rt, alloc, cells, seat, own);
     let (_, _, _, _, _, end) = *row;
     right && ended == end
 }
 
-fn first_not_so<R: Abort>(rt: &R, alloc: Global) -> Option<usize> {
+fn first_not_so<R: Abort>(rt: &R, alloc: Global, rows: &[Row]) -> Option<usize> {
     let Some(setup) = setup_of(alloc, SETUP) else {
         panic!(rt; "no setup")
     };
-    for (place, row) in ROWS.iter().enumerate() {
+    for (place, row) in rows.iter().enumerate() {
         if !is_so(rt, alloc, &setup, row) {
             return Some(place);
         }
@@ -517,5 +521,5 @@ fn first_not_so<R: Abort>(rt: &R, alloc: Global) -> Option<usize> {
 
 #[test]
 fn a_request_is_forwarded_or_ends(rt: HostRuntime) {
-    none_fails(&rt, first_not_so(&rt, rt.alloc()));
+    none_fails(&rt, first_not_so(&rt, rt.alloc(), &ROWS));
 }

@@ -15,7 +15,7 @@ ghost use Rattle.xa_server.specs.Doings.{IsBusy, IsIdle, is_death};
 ghost use Rattle.xa_server.specs.declared.slot.Last.TheVariants as lasts;
 ghost use Rattle.xa_trials_callers.specs.Servers.{Serves, Rests, Waits, IsClosed, IsPlain};
 
-use crate::askers::{Told, ask, tell};
+use crate::askers::{Told, ask, close_cells, open_cells, tell};
 use crate::memory::{link_of, setup_of};
 use crate::rows::none_fails;
 use std::alloc::Global;
@@ -647,17 +647,6 @@ fn told_at(end: End) -> Told {
     }
 }
 
-/// The last of the seats.
-pub fn next_seat<R: Abort>(rt: &R, seats: &mut Vec<Seat<Filling>>) -> Seat<Filling>
-    ensures items { seats.old.items ≡ seats.new.items ++ result ∷ [] }
-    ensures room { vec_capacity seats.new ≡ vec_capacity seats.old }
-{
-    match seats.pop() {
-        Some(seat) => seat,
-        None => panic!(rt; "no seat"),
-    }
-}
-
 // One server with that rule, and nothing else.
 fn plain_setup<R: Abort>(rt: &R, alloc: Global, restart: bool, maxgen: u8, grace: u32) -> Setup
     ensures { IsPlain restart maxgen grace result }
@@ -710,11 +699,14 @@ fn yard_of(alloc: Global, lives: &[Course]) -> Option<MemoryYard> {
     Some(MemoryYard::new(alloc, servers))
 }
 
-fn starter_of(alloc: Global, lives: &[Course]) -> Option<MemoryStarter> {
+fn starters_of(alloc: Global, yard: &mut MemoryYard) -> Option<Vec<MemoryStarter>> {
     let setup = setup_of(alloc, ONE_SERVER)?;
+    yard.starters(&setup).ok()
+}
+
+fn starter_of(alloc: Global, lives: &[Course]) -> Option<MemoryStarter> {
     let mut yard = yard_of(alloc, lives)?;
-    let mut starters = yard.starters(&setup).ok()?;
-    starters.pop()
+    starters_of(alloc, &mut yard)?.pop()
 }
 
 // Whether the callers of a server's requests are told what they should be, up to its end.
@@ -751,11 +743,7 @@ fn is_so<R: Abort>(rt: &R, alloc: Global, row: &Row) -> bool {
     let Some(starter) = starter_of(alloc, lives) else {
         panic!(rt; "no memory")
     };
-    let Ok((cells, mut seats)) = Cells::<Filling>::new(alloc, &[50, 16]) else {
-        panic!(rt; "no memory")
-    };
-    let own = next_seat(rt, &mut seats);
-    let mut seat = next_seat(rt, &mut seats);
+    let (cells, mut seat, own) = open_cells(rt, alloc);
     let work = Work::new(alloc, &setup, 1, CallerId(2), Stamp(0));
     let mut caller = Caller::new(work, own, 0);
     let slot = ServerSlot::new(ServerId(1), restarts);
@@ -775,14 +763,12 @@ fn is_so<R: Abort>(rt: &R, alloc: Global, row: &Row) -> bool {
         halt: _,
     } = caller.leave();
     drop(work);
-    seats.push_reserved(seat);
-    seats.push_reserved(own);
-    cells.close(seats);
+    close_cells(rt, alloc, cells, seat, own);
     right
 }
 
-fn first_not_so<R: Abort>(rt: &R, alloc: Global) -> Option<usize> {
-    for (place, row) in ROWS.iter().enumerate() {
+fn first_not_so<R: Abort>(rt: &R, alloc: Global, rows: &[Row]) -> Option<usize> {
+    for (place, row) in rows.iter().enumerate() {
         if !is_so(rt, alloc, row) {
             return Some(place);
         }
@@ -792,5 +778,5 @@ fn first_not_so<R: Abort>(rt: &R, alloc: Global) -> Option<usize> {
 
 #[test]
 fn servers_end_and_start_again(rt: HostRuntime) {
-    none_fails(&rt, first_not_so(&rt, rt.alloc()));
+    none_fails(&rt, first_not_so(&rt, rt.alloc(), &ROWS));
 }

@@ -13,9 +13,9 @@ returns-in-Ok-prepare g c =
     let ask = c.args.ask.now in
     let last = c.args.client.now.last in
     let found = c.in-Some.found in
-    let valid = subst (λ (s : Setup). is_invalid_call s ask ≡ false) c.requires.rests.1.configured c.in-Ok-check.ensures.ok.0 in
+    let valid = subst (λ (s : Setup). is_invalid_call s ask ≡ false) c.requires.rests.1.configured c.in-Ok.ensures.ok.0 in
     let version = c.in-Some.ensures.version in
     let low : found.version ≤ 256 = omega (arith, version) in
-    let s = subst (λ (k : Standing). Stands setup last k) (sym c.in-Ok-check.ensures.kept) c.requires.rests.1 in
-    drafted setup c.args.cells.now c.next_op-op.result last c.in-Ok-check.service ask.payload found c.in-Ok-prepare.prepared c.prepare.new.self c.check.new.self
+    let s = subst (λ (k : Standing). Stands setup last k) (sym c.in-Ok.ensures.kept) c.requires.rests.1 in
+    drafted setup c.args.cells.now c.next_op-op.result last c.in-Ok.service ask.payload found c.in-Ok-prepare.prepared c.prepare.new.self c.check-checked.new.self
     c.next_op-op.ensures low (sound_ask setup ask valid) c.in-Some.ensures.rows c.prepare.ensures.cells.0 s c.in-Ok-prepare.ensures.ok
