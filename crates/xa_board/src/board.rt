@@ -9,16 +9,13 @@ ghost use Rattle.xa_board.specs.Reader.{Finds};
 ghost use Rattle.xa_board.specs.declared.board.BoardRefused.TheVariants as refusals;
 
 use crate::Reader;
-use crate::rows::{count_on, first_on, is_same, put, row_of, take_out, take_out_all};
+use crate::rows::{ROWS, Rows, count_on, first_on, is_same, row_of};
 use std::alloc::Global;
 use std::marker::Model;
 use std::snapshot::Snapshot;
 use xa_events::{Advertised, Event, Withdrawn};
 use xa_stamp::{Home, Noted, Stamped};
 use xa_types::{CallerId, Name, NoMemory, QueueId, Row, Stamp, Worn};
-
-/// How many rows may stand.
-pub(crate) const ROWS: usize = 256;
 
 /// Why the board isn't changed. It is as it was then.
 #[derive(Clone, Copy, PartialEq, Eq)]
@@ -63,7 +60,7 @@ pub struct Changed {
 pub struct Board {
     first: Stamp,
     home: Home,
-    rows: Vec<Row>,
+    rows: Rows,
 }
 
 impl Model for Board {
@@ -124,7 +121,7 @@ impl Board {
         requires { first.0 ≤ 2 ^ 63 }
         ensures { IfOk result (λ board. board ≡ record { first = first; entries = []; rows = [] }) }
     {
-        let rows = Vec::with_capacity(alloc, ROWS)?;
+        let rows = Rows::new(alloc)?;
         Ok(Board {
             first,
             home: Home::new(alloc, first),
@@ -183,7 +180,7 @@ impl Board {
         ensures kept { OnErr result (self.new ≡ self.old) }
         ensures board { ReadsAsNoted self.new }
     {
-        if let Some(why) = put_refused(&self.rows, &row) {
+        if let Some(why) = put_refused(self.rows.as_slice(), &row) {
             return Err(why);
         }
         let version = self.version() + 1;
@@ -199,7 +196,7 @@ impl Board {
         let event = Event::Advertise(advertised);
         let told = Snapshot::of(&event);
         let stamp = self.home.note(seen, event)?;
-        put(&mut self.rows, row);
+        self.rows.put(row);
         let noted = Noted { stamp, event: told };
         Ok(Changed { version, noted })
     }
@@ -225,7 +222,7 @@ impl Board {
         ensures kept { OnErr result (self.new ≡ self.old) }
         ensures board { ReadsAsNoted self.new }
     {
-        if row_of(&self.rows, service, queue).is_none() {
+        if row_of(self.rows.as_slice(), service, queue).is_none() {
             return Err(BoardRefused::NoEnt);
         }
         let version = self.version() + 1;
@@ -240,7 +237,7 @@ impl Board {
         let event = Event::Withdraw(withdrawn);
         let told = Snapshot::of(&event);
         let stamp = self.home.note(seen, event)?;
-        take_out(&mut self.rows, service, queue);
+        self.rows.take_out(service, queue);
         let noted = Noted { stamp, event: told };
         Ok(Changed { version, noted })
     }
@@ -257,14 +254,14 @@ impl Board {
         ensures kept { OnErr result (self.new ≡ self.old) }
         ensures board { ReadsAsNoted self.new }
     {
-        let count = count_on(&self.rows, queue);
+        let count = count_on(self.rows.as_slice(), queue);
         let larger = seen.max(self.stamp());
         if larger.0 > Stamp::LAST.0 - u64::from(count) {
             return Err(BoardRefused::Worn(larger));
         }
         self.home.reserve(count)?;
-        let stamp = note_withdrawals(&mut self.home, larger, &self.rows, queue);
-        take_out_all(&mut self.rows, queue);
+        let stamp = note_withdrawals(&mut self.home, larger, self.rows.as_slice(), queue);
+        self.rows.take_out_all(queue);
         Ok(stamp)
     }
 
@@ -273,7 +270,7 @@ impl Board {
         ensures value { result ≡ option_map (λ row. row.service) (slice_get (rows_on queue.0 self.now.rows) 0) }
         ensures board { ReadsAsNoted self.now }
     {
-        first_on(&self.rows, queue)
+        first_on(self.rows.as_slice(), queue)
     }
 
     /// Looks a service up: the reader finds its rows, for conversations or those that aren't, of the version that is

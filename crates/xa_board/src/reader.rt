@@ -2,11 +2,10 @@
 ghost use Rattle.std.specs.Prelude.{◌≡◌, ◌≤◌, [], max, length, IfOk};
 ghost use Rattle.xa_board.specs.Board.{rows_seen};
 
-use crate::board::ROWS;
-use crate::rows::find;
+use crate::rows::{ROWS, Rows};
 use std::alloc::Global;
 use std::marker::Model;
-use xa_types::{Found, Name, NoMemory, Row, Stamp};
+use xa_types::{Found, Name, NoMemory, Stamp};
 
 /// Reads the board, and keeps what it found last, in room for 256 rows.
 #[derive(Drop)]
@@ -66,7 +65,7 @@ impl Reader {
         &mut self,
         version: u64,
         stamp: Stamp,
-        rows: &[Row],
+        rows: &Rows,
         service: &Name,
         conversational: bool,
     )
@@ -79,7 +78,7 @@ impl Reader {
         let found = &mut self.found;
         found.version = version;
         found.stamp = stamp;
-        find(rows, service, conversational, &mut found.rows);
+        rows.find(service, conversational, &mut found.rows);
         self.least = self.least.max(version);
     }
 }

@@ -2,7 +2,7 @@ use Rattle.std.proofs.Common.{◌≡◌, ◌≤◌, ◌++◌, drop, vec_len, vec
 use Rattle.xa_board.specs.Board.{rows_seen}
 use Rattle.xa_board.proofs.rows.find.Given as goal
 
-abbrev pub invariant-loop-row : goal.invariant-loop-row
-invariant-loop-row l =
-    (vec_len l.found ≤ l.row-index) × (vec_capacity l.initial.found ≤ vec_capacity l.found)
-    × (l.found.items ++ rows_seen l.service l.conversational (drop l.row-index l.rows) ≡ rows_seen l.service l.conversational l.rows)
+abbrev pub invariant-loop-place : goal.invariant-loop-place
+invariant-loop-place l =
+    (vec_len l.found ≤ l.place) × (vec_capacity l.initial.found ≤ vec_capacity l.found)
+    × (l.found.items ++ rows_seen l.service l.conversational (drop l.place l.rows) ≡ rows_seen l.service l.conversational l.rows)

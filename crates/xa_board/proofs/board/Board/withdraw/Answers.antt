@@ -13,9 +13,8 @@ invariant_of-self-2 c =
     let w : Withdrawn = record { by = c.args.by; op = c.args.op; service = c.args.service.now; queue = c.args.queue; version = c.version-version.result + 1 } in
     let few : length (without c.args.service.now c.args.queue.0 old.rows) ≤ 256 = omega (arith, filter-le-length (λ r. not (is_row_of c.args.service.now c.args.queue.0 r)) old.rows, c.self.invariant.board.few) in
     record {
-      board = rw (c.note.ensures.first, c.reserve.ensures.first, c.in_ok-stamp.ensures.entries, c.reserve.ensures.entries, c.take_out.ensures.rows) (withdrawn-noted old c.in_ok-stamp.stamp w c.self.invariant.board few);
+      board = rw (c.note.ensures.first, c.reserve.ensures.first, c.in_ok-stamp.ensures.entries, c.reserve.ensures.entries, c.take_out.ensures) (withdrawn-noted old c.in_ok-stamp.stamp w c.self.invariant.board few);
       first = c.self.invariant.first ∙ sym (c.note.ensures.first ∙ c.reserve.ensures.first);
-      room = omega (arith, c.take_out.ensures.capacity, c.self.invariant.room);
     }
 
 pub returns-clause-board : goal.returns-clause-board
@@ -23,4 +22,4 @@ returns-clause-board c =
     let old = standing_of c.self.inside in
     let w : Withdrawn = record { by = c.args.by; op = c.args.op; service = c.args.service.now; queue = c.args.queue; version = c.version-version.result + 1 } in
     let few : length (without c.args.service.now c.args.queue.0 old.rows) ≤ 256 = omega (arith, filter-le-length (λ r. not (is_row_of c.args.service.now c.args.queue.0 r)) old.rows, c.self.invariant.board.few) in
-    rw (c.note.ensures.first, c.reserve.ensures.first, c.in_ok-stamp.ensures.entries, c.reserve.ensures.entries, c.take_out.ensures.rows) (withdrawn-noted old c.in_ok-stamp.stamp w c.self.invariant.board few)
+    rw (c.note.ensures.first, c.reserve.ensures.first, c.in_ok-stamp.ensures.entries, c.reserve.ensures.entries, c.take_out.ensures) (withdrawn-noted old c.in_ok-stamp.stamp w c.self.invariant.board few)
