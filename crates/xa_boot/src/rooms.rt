@@ -11,7 +11,7 @@ use std::alloc::Global;
 use std::sync::atomic::AtomicU64;
 use xa_clients::buffer::Shapes;
 use xa_clients::caller::Filling;
-use xa_clients::desk::Waits;
+use xa_clients::desk::{Signals, Waits};
 use xa_clients::held::QueueNote;
 use xa_clients::lock::LockPass;
 use xa_clients::restart::Lives;
@@ -67,19 +67,11 @@ fn limits(alloc: Global, clients: u16, workers: u16) -> Result<Vec<u32>, NoMemor
     Ok(limits)
 }
 
-fn event_counts(alloc: Global, count: usize) -> Result<Vec<EventCount>, NoMemory> {
-    let mut all = Vec::with_capacity(alloc, count)?;
-    for _ in 0..count {
-        all.push_reserved(EventCount::new());
-    }
-    Ok(all)
-}
-
 fn waits(alloc: Global, queues: usize, workers: u16) -> Result<Waits, NoMemory> {
     Ok(Waits {
-        work: event_counts(alloc, queues)?,
+        work: Signals::new(alloc, queues.saturating_add(1))?,
         room: EventCount::new(),
-        replies: event_counts(alloc, usize::from(workers))?,
+        replies: Signals::new(alloc, usize::from(workers))?,
         ready: EventCount::new(),
         up: AtomicU64::new(0),
     })

@@ -7,14 +7,10 @@ ghost use Rattle.xa_clients.specs.Going.{IsReady, IsWaiting, IsStopped, Performs
 use crate::sending::{refused_by, send};
 use std::alloc::Global;
 use std::sync::Wait;
-use std::thread;
 use xa_desk::caller::Step;
 use xa_desk::link::{Gate, Point, stay};
 use xa_desk::types::{Ask, Op};
 use xa_desk::{Desk, Domain, Stopped};
-
-// How often it looks for an answer before it sleeps. Others run between two looks.
-const LOOKS: u32 = 100;
 
 fn told_by(step: Step) -> Result<bool, Stopped>
     ensures { result ≡ told_by step }
@@ -45,27 +41,16 @@ fn await_reply<W: Wait>(rt: &W, domain: &Domain, desk: &mut Desk, ask: &Ask) -> 
     ensures told { OnOk result (IsReady domain.now desk.old.caller.op desk.new) }
     ensures stopped { IfErr result (IsStopped desk.new) }
 {
-    for _ in 0..LOOKS {
-        if is_told(domain, desk, ask)? {
-            return Ok(());
-        }
-        thread::yield_now();
-    }
-    let reply = domain.waits.replies.get(usize::from(desk.caller.id().0));
+    let caller = desk.caller.id();
     for _ in rt.forever() {
-        let key = match reply {
-            Some(reply) => Some(reply.prepare_wait()),
-            None => None,
-        };
+        let seen = domain.waits.replies.count(caller.0);
         if is_told(domain, desk, ask)? {
             return Ok(());
         }
         if domain.halt.get().is_some() {
             return Err(Stopped::Elsewhere);
         }
-        if let Some(key) = key {
-            key.wait(rt);
-        }
+        domain.waits.replies.wait(rt, caller.0, seen);
     }
     unreachable!()
 }

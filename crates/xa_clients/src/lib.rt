@@ -17,6 +17,6 @@ pub use xa_desk::{
 // What xa_desk itself has.
 pub mod desk {
     pub use xa_desk::{
-        Desk, Domain, Done, HaltWord, NotPassed, Stopped, SweptOut, Took, Unsent, Waits,
+        Desk, Domain, Done, HaltWord, NotPassed, Signals, Stopped, SweptOut, Took, Unsent, Waits,
     };
 }

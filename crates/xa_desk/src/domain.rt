@@ -2,6 +2,7 @@
 ghost use Rattle.std.specs.Prelude.{◌<◌};
 
 use crate::halting::HaltWord;
+use crate::signal::Signals;
 use crossbeam_utils::sync::EventCount;
 use std::sync::Wait;
 use std::sync::atomic::AtomicU64;
@@ -14,14 +15,14 @@ use xa_told::lock::Guarded;
 use xa_told::types::{CallerId, QueueId, Setup, Stamp};
 use xa_told::work::Halt;
 
-/// Where workers sleep: the servers of each queue, until something waits there or it is closed; callers, until a queue has
-/// room or isn't up any more; each caller, until it is answered; and clients before their first call, until each server's
-/// first start is up or given up, of which there is a count.
+/// What workers wait for: the servers of each queue, by its number, that something waits there or it is closed; callers, that
+/// a queue has room or isn't up any more; each caller, by its number, that it is answered; and clients before their first
+/// call, that each server's first start is up or given up, of which there is a count. Each is woken at a halt too.
 #[derive(Drop)]
 pub struct Waits {
-    pub work: Vec<EventCount>,
+    pub work: Signals,
     pub room: EventCount,
-    pub replies: Vec<EventCount>,
+    pub replies: Signals,
     pub ready: EventCount,
     pub up: AtomicU64,
 }
@@ -42,12 +43,8 @@ pub struct Domain {
 
 impl Domain {
     /// Something waits at the queue, or it closed: one of its servers that sleep is woken.
-    pub fn wake_server(&self, queue: QueueId)
-        requires { 0 < queue.0 }
-    {
-        if let Some(work) = self.waits.work.get(usize::from(queue.0) - 1) {
-            work.notify_one();
-        }
+    pub fn wake_server(&self, queue: QueueId) {
+        self.waits.work.give(queue.0);
     }
 
     /// A queue has room, or has gone down or closed: callers that sleep until then are woken.
@@ -75,21 +72,15 @@ impl Domain {
 
     /// The caller's request was answered.
     pub fn wake_caller(&self, caller: CallerId) {
-        if let Some(reply) = self.waits.replies.get(usize::from(caller.0)) {
-            reply.notify_all();
-        }
+        self.waits.replies.give(caller.0);
     }
 
     /// All that sleep are woken.
     pub fn wake_all(&self) {
-        for work in &self.waits.work {
-            work.notify_all();
-        }
+        self.waits.work.give_all();
         self.waits.room.notify_all();
         self.waits.ready.notify_all();
-        for reply in &self.waits.replies {
-            reply.notify_all();
-        }
+        self.waits.replies.give_all();
     }
 
     /// The run halts: each worker is told, and woken.

@@ -12,6 +12,7 @@ mod halting;
 mod passing;
 mod serving;
 mod setting;
+mod signal;
 mod stopped;
 
 pub use calls::Unsent;
@@ -21,6 +22,7 @@ pub use domain::{Domain, Waits};
 pub use halting::HaltWord;
 pub use passing::NotPassed;
 pub use serving::{SweptOut, Took};
+pub use signal::Signals;
 pub use stopped::Stopped;
 
 // What crates above name of those below.

@@ -1,5 +1,5 @@
 -- A server that is done with its request, or passes it on.
-use Rattle.std.proofs.Common.{◌≡◌, ◌<◌, ℕ, ◌+◌, Bool, true, false, if◌then◌else◌, List, [], ◌∷◌, ◌++◌, Option, Some, None, Result, Ok, Err, refl, sym, ◌∙◌, ap, subst, append-nil, length, arith}
+use Rattle.std.proofs.Common.{◌≡◌, ◌<◌, ℕ, ◌+◌, Bool, true, false, if◌then◌else◌, List, [], ◌∷◌, ◌++◌, Option, Some, None, Result, Ok, Err, refl, sym, ◌∙◌, ap, subst, append-nil, arith}
 use Rattle.std.specs.Prelude.{IfSome, nat_lt, ◌&&◌}
 use Rattle.std.specs.List.{find}
 use Rattle.std.proofs.lemmas.List.Elements.{All-contains}
@@ -44,7 +44,7 @@ use Rattle.xa_desk.specs.declared.desk.Desk.{Desk}
 use Rattle.xa_desk.specs.Desks.{IsDesk, Leads}
 use Rattle.xa_desk.specs.Found.{HasFound, ShowsWhy}
 use Rattle.xa_desk.specs.Halting.{IsHaltAt}
-use Rattle.xa_desk.specs.Passing.{IsPassing, holding, forwarded_to}
+use Rattle.xa_desk.specs.Passing.{IsPassing, holding}
 use Rattle.xa_desk.specs.Serving.{IsServing, IsTaken, IsToTell, Sees}
 use Rattle.xa_desk.proofs.Staying.{found_stays}
 use Rattle.xa_desk.proofs.Stopping.{same_leads}
@@ -269,12 +269,6 @@ module _ (d : Domain) (slot slot' last : ServerSlot) (a b c : Desk) (same : slot
 pub still_out : {d : Domain} (entry back : Entry Cargo) (event : Event) (slot slot' : ServerSlot) (desk : Desk) → slot' ≡ slot → back ≡ entry → IsPassing d (its_queue d slot) entry event slot' desk → IsPassing d (its_queue d slot') back event slot' desk
 still_out {d} entry back event slot slot' desk same is passing =
     subst (λ (s : ServerSlot). IsPassing d (its_queue d s) back event slot' desk) (sym same) (subst (λ (x : Entry Cargo). IsPassing d (its_queue d slot) x event slot' desk) (sym is) passing)
-
--- it is out to a queue
-pub goes_somewhere : {d : Domain} {queue : ℕ} (entry : Entry Cargo) (event : Event) (slot : ServerSlot) (desk : Desk) → IsPassing d queue entry event slot desk → 0 < forwarded_to event
-goes_somewhere {d} entry event slot desk passing =
-    let places = All-contains (λ (row : Row). (0 < row.queue.0) × (row.queue.0 < length d.queues.items + 1)) desk.reader.found.rows passing.row passing.found.places passing.among in
-    subst (λ (e : Event). 0 < forwarded_to e) (sym passing.event_is) places.0
 
 -- ---- what a forward of the slot comes to, by the way that it goes
 

@@ -1,7 +1,7 @@
 -- Why a forward fails, by what its server's worker saw.
-use Rattle.std.proofs.Common.{◌≡◌, ◌⊎◌, ◌<◌, ◌≤◌, ◌==◌, ℕ, ◌+◌, Bool, true, false, if◌then◌else◌, List, [], ◌∷◌, ◌++◌, take, length, append_assoc, Option, Some, None, Result, Ok, Err, inl, inr, refl, sym, ◌∙◌, ap, subst, arith, ltb-false}
-use Rattle.std.specs.Prelude.{IsSomeAnd, IfSome, nat_lt, ◌&&◌, slice_get, get_or}
-use Rattle.std.specs.List.{All, find, filter}
+use Rattle.std.proofs.Common.{◌≡◌, ◌⊎◌, ◌<◌, ◌≤◌, ℕ, ◌+◌, Bool, true, false, if◌then◌else◌, List, [], ◌∷◌, ◌++◌, take, append_assoc, Option, Some, None, Err, inl, inr, refl, sym, ◌∙◌, ap, subst, arith, ltb-false}
+use Rattle.std.specs.Prelude.{IsSomeAnd, nat_lt, ◌&&◌, slice_get}
+use Rattle.std.specs.List.{All, find}
 use Rattle.std.proofs.lemmas.Bool.{and_parts}
 use Rattle.std.proofs.lemmas.List.{take_all, take-take}
 use Rattle.std.proofs.lemmas.List.Elements.{All-take, All-more, All-weaker}
@@ -11,7 +11,6 @@ use Rattle.xa_desk.specs.xa_types.declared.ids.RequestId.{RequestId}
 use Rattle.xa_desk.specs.xa_types.declared.ids.ServerId.{ServerId}
 use Rattle.xa_desk.specs.xa_types.declared.row.Row.{Row}
 use Rattle.xa_desk.specs.xa_types.declared.stamp.Stamp.{Stamp}
-use Rattle.xa_desk.specs.xa_types.declared.setup.Setup.{Setup}
 use Rattle.xa_desk.specs.xa_types.Found.{FoundRows}
 use Rattle.xa_desk.specs.xa_types.Kind.{is_accepted, kind_of, is_sound}
 use Rattle.xa_desk.specs.xa_types.Name.{is_name}
@@ -23,7 +22,6 @@ use Rattle.xa_desk.specs.xa_events.declared.event.Outcome.{Outcome}
 use Rattle.xa_desk.specs.xa_events.declared.event.Outcome.TheVariants.{BadForward}
 use Rattle.xa_desk.specs.xa_events.Calls.{IsShutOut, is_accepted_by}
 use Rattle.xa_desk.specs.xa_events.Homes.{is_own_at, of_worker}
-use Rattle.xa_desk.specs.xa_events.Homes.Home.{QueueHome}
 use Rattle.xa_desk.specs.xa_events.Local.{worker_events}
 use Rattle.xa_desk.specs.xa_events.Request.{is_entry_of}
 use Rattle.xa_desk.specs.xa_events.State.{caller_of}
@@ -33,12 +31,10 @@ use Rattle.xa_desk.specs.xa_stamp.declared.home.Stamped.{Stamped}
 use Rattle.xa_desk.specs.xa_crew.Finishing.{IsSpent, ForwardEndsOwn}
 use Rattle.xa_desk.specs.xa_crew.Seen.{past_in, IfNew, SawSince}
 use Rattle.xa_desk.proofs.xa_crew.Lists.{count_part}
-use Rattle.xa_desk.specs.xa_held.declared.cargo.Invocation.{Invocation}
 use Rattle.xa_desk.specs.xa_held.Kept.{Brings}
 use Rattle.xa_desk.specs.xa_queue.declared.entry.Entry.{Entry}
 use Rattle.xa_desk.specs.xa_queue.declared.queue.Refusal.{Refusal}
 use Rattle.xa_desk.specs.xa_queue.declared.queue.Refusal.TheVariants as refusals
-use Rattle.xa_desk.specs.xa_work.declared.work.Halt.{Halt}
 use Rattle.xa_desk.specs.xa_work.Work.{theirs}
 use Rattle.xa_desk.specs.xa_caller.Drafts.{Cargo}
 use Rattle.xa_desk.specs.xa_server.Forwarding.{row_or, way_of}
@@ -47,7 +43,6 @@ use Rattle.xa_desk.specs.declared.desk.Desk.{Desk}
 use Rattle.xa_desk.specs.Desks.{GoesOn, IsDesk, Leads}
 use Rattle.xa_desk.specs.Found.{SawItsOwnAt, HasFound, ShowsWhy}
 use Rattle.xa_desk.specs.Passing.{forwarded_to}
-use Rattle.xa_desk.specs.Serving.{IsTaken}
 use Rattle.xa_desk.specs.Whole.{Whole, entries_of}
 use Rattle.xa_desk.proofs.Preparing.{none_passes, weaker_front, listed_shows}
 use Rattle.xa_desk.proofs.Staying.{itself_stays}

@@ -70,13 +70,14 @@ module _ {L T : Type 0} {d : Domain} {named : T → List ℕ} {shows : T → Sta
       }
 
   -- what is left of it shows how the server lived
-  pub served_by : (old w other : ServerWorker L T) → Goes d old w → HasEnded d named shows w.stopped w → w.served.slot.hand ≡ None → other ≡ record w { counted = other.counted } → HasServed d named shows old other
-  served_by old w other goes ended hand rest = subst (HasServed d named shows old) (sym rest) (record {
+  pub served_by : (old w other : ServerWorker L T) → Goes d old w → HasEnded d named shows w.stopped w → w.served.slot.hand ≡ None → other ≡ record w { counted = other.counted } → other.counted ≡ true → HasServed d named shows old other
+  served_by old w other goes ended hand rest counted = subst (HasServed d named shows old) (sym rest) (record {
     leads = goes.leads;
     id = goes.id;
     clients = goes.clients;
     idle = ended.idle;
     hand = hand;
+    counted = counted;
     server = goes.server;
     starter = ended.named_so ∙ goes.name;
     shown = subst (λ (n : List ℕ). Shown n old.queue.0 old.served.slot.server.0) goes.name (subst (λ (q : ℕ). Shown w.name q old.served.slot.server.0) (ap (λ q. q.0) goes.queue) (subst (λ (s : ℕ). Shown w.name w.queue.0 s) (ap (λ s. s.0) goes.server) ended.shown));

@@ -1,5 +1,5 @@
 -- What a server's worker asks, and what it leaves (this project's own).
-use Rattle.std.specs.Prelude.{◌≡◌, ℕ, List, [], ◌∷◌, Option, Some, None, IfSome}
+use Rattle.std.specs.Prelude.{◌≡◌, ℕ, true, List, [], ◌∷◌, Option, Some, None, IfSome}
 use Rattle.xa_desk.specs.xa_pipe.Standing.{Standing as Life}
 use Rattle.xa_desk.specs.xa_restart.Rule.{Standing as Restarts}
 use Rattle.xa_desk.specs.xa_caller.declared.phase.Phase.TheVariants.{Idle}
@@ -31,13 +31,14 @@ module _ {L T : Type 0} (d : Domain) (named : T → List ℕ) (shows : T → Sta
     pub name_is : named worker.served.starter ≡ worker.name
     pub unasked : HasStarted worker.name 0 0 (shows worker.served.starter)
 
-  -- behind its work: its desk went on and may be left, nothing is in hand, and it shows how its server lived
+  -- behind its work: its desk went on and may be left, nothing is in hand, its first start is counted, and it shows how its server lived
   pub record HasServed (old new : ServerWorker L T) : Type 0 where
     pub leads : Leads d old.desk new.desk
     pub id : new.desk.caller.work.id ≡ old.desk.caller.work.id
     pub clients : new.desk.caller.work.clients ≡ old.desk.caller.work.clients
     pub idle : new.desk.caller.phase ≡ Idle
     pub hand : new.served.slot.hand ≡ None
+    pub counted : new.counted ≡ true
     pub server : new.served.slot.server ≡ old.served.slot.server
     pub starter : named new.served.starter ≡ old.name
     pub shown : ServerShows d old.name old.queue.0 old.served.slot.server.0 new.desk new.served.lives.items (cut_in new.cut) (shows new.served.starter) (new.stopped ≡ None)

@@ -6,15 +6,11 @@ ghost use Rattle.xa_desk.specs.Serving.{IsServing};
 ghost use Rattle.xa_links.specs.Steps.{TakesFrom, LooksFrom, NextFrom, stop_by};
 
 use std::sync::Wait;
-use std::thread;
 use xa_desk::link::{Gate, Point, stay};
 use xa_desk::server::ServerSlot;
 use xa_desk::types::{QueueId, Worn};
 use xa_desk::work::Halt;
 use xa_desk::{Desk, Domain, Stopped, Took};
-
-// How often it looks for a request before it sleeps. Others run between two looks.
-const LOOKS: u32 = 100;
 
 /// Why it halts where stamps came to their end.
 pub(crate) fn stop_by(worn: Worn) -> Stopped
@@ -91,26 +87,12 @@ pub(crate) fn next<W: Wait, G: Gate>(
     requires left { slot.old.gone ≡ false }
     ensures { NextFrom domain.now queue.0 result slot.old slot.new desk.old desk.new }
 {
-    for _ in 0..LOOKS {
-        match look(rt, domain, gate, desk, slot, queue) {
-            Ok(Some(took)) => return Ok(took),
-            Ok(None) => thread::yield_now(),
-            Err(stopped) => return Err(stopped),
-        }
-    }
-    let work = domain.waits.work.get(usize::from(queue.0) - 1);
     for _ in rt.forever() {
-        let key = match work {
-            Some(work) => Some(work.prepare_wait()),
-            None => None,
-        };
+        let seen = domain.waits.work.count(queue.0);
         match look(rt, domain, gate, desk, slot, queue) {
             Ok(Some(took)) => return Ok(took),
-            Ok(None) => {}
+            Ok(None) => domain.waits.work.wait(rt, queue.0, seen),
             Err(stopped) => return Err(stopped),
-        }
-        if let Some(key) = key {
-            key.wait(rt);
         }
     }
     unreachable!()

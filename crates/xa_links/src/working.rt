@@ -1,5 +1,5 @@
 // A server's worker.
-ghost use Rattle.std.specs.Prelude.{◌≡◌, IfOk, IfErr, Some, None};
+ghost use Rattle.std.specs.Prelude.{◌≡◌, true, IfOk, IfErr, Some, None};
 ghost use Rattle.xa_desk.specs.xa_events.declared.event.Doing.TheVariants as doings;
 ghost use Rattle.xa_desk.specs.Desks.{IsDomain};
 ghost use Rattle.xa_links.specs.Standing.{Goes, IsFree, MayGoOn, HasEnded, OffAs, why_of};
@@ -66,7 +66,8 @@ impl<L: Link, T: Starter<L>> ServerWorker<L, T> {
 
     // The server's first start is up or given up.
     fn count_up(&mut self, domain: &Domain)
-        ensures { self.new ≡ record self.old { counted = self.new.counted } }
+        ensures rest { self.new ≡ record self.old { counted = self.new.counted } }
+        ensures counted { self.new.counted ≡ true }
     {
         if !self.counted {
             self.counted = true;

@@ -15,7 +15,15 @@ pub fn child_work<I: Source, O: Sink>(
     input: &mut I,
     out: &mut O,
 ) -> Status
-    ensures { ServerEnds name.now (I.left input.old) (I.left input.new) (I.gave input.old) (I.gave input.new) (O.took out.old) (O.took out.new) (I.read_faults input.old) (I.read_faults input.new) (O.write_faults out.old) (O.write_faults out.new) result }
+    ensures { ServerEnds name.now (record {
+      input = record { left = I.left input.old; left_after = I.left input.new; gave = I.gave input.old; gave_after = I.gave input.new };
+      reads_before = I.read_faults input.old;
+      reads_after = I.read_faults input.new;
+      took_before = O.took out.old;
+      took_after = O.took out.new;
+      writes_before = O.write_faults out.old;
+      writes_after = O.write_faults out.new;
+    }) result }
 {
     match work(alloc, name, input, out) {
         Ok(()) => Status::Done,

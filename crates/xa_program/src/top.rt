@@ -89,7 +89,15 @@ pub fn run<R: Threads + Wait + Sync, S: Shelf, I: Source, O: Sink, Y: Yard, G: G
 
     // What the program of a server comes to; nothing is handed back.
     ensures server { (name : List ℕ) → command_in (map string_bytes words.now) ≡ Some (Server name)
-        → ServerEnds name (I.left input.old) (I.left input.new) (I.gave input.old) (I.gave input.new) (O.took out.old) (O.took out.new) (I.read_faults input.old) (I.read_faults input.new) (O.write_faults out.old) (O.write_faults out.new) result.status
+        → ServerEnds name (record {
+          input = record { left = I.left input.old; left_after = I.left input.new; gave = I.gave input.old; gave_after = I.gave input.new };
+          reads_before = I.read_faults input.old;
+          reads_after = I.read_faults input.new;
+          took_before = O.took out.old;
+          took_after = O.took out.new;
+          writes_before = O.write_faults out.old;
+          writes_after = O.write_faults out.new;
+        }) result.status
         × HandsNothing (record { homes = result.homes.homes; history = result.history.items; lives = map (λ v. v.items) result.lives.items; cut = map cut_in result.cut.items; starters = result.starters.items }) }
 
     // Where the words, the configuration, the input or the script are refused, nothing is handed back.
@@ -129,7 +137,15 @@ fn obey<R: Threads + Wait + Sync, S: Shelf, I: Source, O: Sink, Y: Yard, G: Gate
         command.now result.status (record { homes = result.homes.homes; history = result.history.items; lives = map (λ v. v.items) result.lives.items; cut = map cut_in result.cut.items; starters = result.starters.items }) }
     ensures yard { AsksYard (S.file shelf.old) (Some command.now) result.status (Y.asked yard.old) (Y.asked yard.new) }
     ensures server { (name : List ℕ) → command.now ≡ Server name
-        → ServerEnds name (I.left input.old) (I.left input.new) (I.gave input.old) (I.gave input.new) (O.took out.old) (O.took out.new) (I.read_faults input.old) (I.read_faults input.new) (O.write_faults out.old) (O.write_faults out.new) result.status
+        → ServerEnds name (record {
+          input = record { left = I.left input.old; left_after = I.left input.new; gave = I.gave input.old; gave_after = I.gave input.new };
+          reads_before = I.read_faults input.old;
+          reads_after = I.read_faults input.new;
+          took_before = O.took out.old;
+          took_after = O.took out.new;
+          writes_before = O.write_faults out.old;
+          writes_after = O.write_faults out.new;
+        }) result.status
         × HandsNothing (record { homes = result.homes.homes; history = result.history.items; lives = map (λ v. v.items) result.lives.items; cut = map cut_in result.cut.items; starters = result.starters.items }) }
     ensures early { EndsEarly result.status (record { homes = result.homes.homes; history = result.history.items; lives = map (λ v. v.items) result.lives.items; cut = map cut_in result.cut.items; starters = result.starters.items }) }
 {

@@ -7,29 +7,11 @@ returns-in_err-is_told-clause-goes g c = looks_on c.args.domain.now c.args.ask.n
 pub returns-then-branch-clause-goes : goal.returns-then-branch-clause-goes
 returns-then-branch-clause-goes g c = looks_on c.args.domain.now c.args.ask.now c.args.desk.now.caller.op c.args.desk.now c.loop.desk c.is_told.new.desk c.loop.invariant.goes c.loop.invariant.waiting c.is_told.ensures.goes
 
+pub returns-then-is_some-clause-goes : goal.returns-then-is_some-clause-goes
+returns-then-is_some-clause-goes g c = looks_on c.args.domain.now c.args.ask.now c.args.desk.now.caller.op c.args.desk.now c.loop.desk c.is_told.new.desk c.loop.invariant.goes c.loop.invariant.waiting c.is_told.ensures.goes
+
 pub loop-preserved : goal.loop-preserved
 loop-preserved g c = record {
   goes = looks_on c.args.domain.now c.args.ask.now c.args.desk.now.caller.op c.args.desk.now c.loop.desk c.is_told.new.desk c.loop.invariant.goes c.loop.invariant.waiting c.is_told.ensures.goes;
   waiting = waits_on c.args.domain.now c.args.ask.now c.args.desk.now.caller.op c.loop.desk c.is_told.new.desk c.in_ok-is_told.field-0 c.if-branch.false c.loop.invariant.waiting c.in_ok-is_told.ensures.told;
-}
-
-pub returns-in_err-is_told-2-clause-goes : goal.returns-in_err-is_told-2-clause-goes
-returns-in_err-is_told-2-clause-goes g c = looks_on c.args.domain.now c.args.ask.now c.args.desk.now.caller.op c.args.desk.now c.loop-2.desk c.is_told-in-loop-2.new.desk c.loop-2.invariant.goes c.loop-2.invariant.waiting c.is_told-in-loop-2.ensures.goes
-
-pub returns-then-branch-2-clause-goes : goal.returns-then-branch-2-clause-goes
-returns-then-branch-2-clause-goes g c = looks_on c.args.domain.now c.args.ask.now c.args.desk.now.caller.op c.args.desk.now c.loop-2.desk c.is_told-in-loop-2.new.desk c.loop-2.invariant.goes c.loop-2.invariant.waiting c.is_told-in-loop-2.ensures.goes
-
-pub returns-then-is_some-clause-goes : goal.returns-then-is_some-clause-goes
-returns-then-is_some-clause-goes g c = looks_on c.args.domain.now c.args.ask.now c.args.desk.now.caller.op c.args.desk.now c.loop-2.desk c.is_told-in-loop-2.new.desk c.loop-2.invariant.goes c.loop-2.invariant.waiting c.is_told-in-loop-2.ensures.goes
-
-pub loop-2-preserved-in-Some-key : goal.loop-2-preserved-in-Some-key
-loop-2-preserved-in-Some-key g c = record {
-  goes = looks_on c.args.domain.now c.args.ask.now c.args.desk.now.caller.op c.args.desk.now c.loop-2.desk c.is_told-in-loop-2.new.desk c.loop-2.invariant.goes c.loop-2.invariant.waiting c.is_told-in-loop-2.ensures.goes;
-  waiting = waits_on c.args.domain.now c.args.ask.now c.args.desk.now.caller.op c.loop-2.desk c.is_told-in-loop-2.new.desk c.in_ok-is_told-2.field-0 c.if-branch-2.false c.loop-2.invariant.waiting c.in_ok-is_told-2.ensures.told;
-}
-
-pub loop-2-preserved : goal.loop-2-preserved
-loop-2-preserved g c = record {
-  goes = looks_on c.args.domain.now c.args.ask.now c.args.desk.now.caller.op c.args.desk.now c.loop-2.desk c.is_told-in-loop-2.new.desk c.loop-2.invariant.goes c.loop-2.invariant.waiting c.is_told-in-loop-2.ensures.goes;
-  waiting = waits_on c.args.domain.now c.args.ask.now c.args.desk.now.caller.op c.loop-2.desk c.is_told-in-loop-2.new.desk c.in_ok-is_told-2.field-0 c.if-branch-2.false c.loop-2.invariant.waiting c.in_ok-is_told-2.ensures.told;
 }

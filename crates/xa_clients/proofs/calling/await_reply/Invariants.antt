@@ -7,9 +7,3 @@ invariant-loop g l = record {
   goes : GoesBy l.domain l.fn.desk.caller.op l.ask l.fn.desk l.desk;
   waiting : IsWaiting l.domain l.fn.desk.caller.op l.desk;
 }
-
-abbrev pub invariant-loop-2 : goal.invariant-loop-2
-invariant-loop-2 g l = record {
-  goes : GoesBy l.domain l.fn.desk.caller.op l.ask l.fn.desk l.desk;
-  waiting : IsWaiting l.domain l.fn.desk.caller.op l.desk;
-}

@@ -1,17 +1,14 @@
-use Rattle.std.proofs.Common.{◌<◌, refl, sym, ◌∙◌, ap, subst}
+use Rattle.std.proofs.Common.{refl, sym, ◌∙◌, ap}
 use Rattle.xa_desk.specs.xa_queue.declared.entry.Entry.{Entry}
 use Rattle.xa_desk.specs.xa_work.Work.{theirs}
 use Rattle.xa_desk.specs.xa_caller.Caller.{Standing as Caller}
 use Rattle.xa_desk.specs.xa_caller.Drafts.{Cargo}
 use Rattle.xa_desk.specs.Passing.{forwarded_to}
 use Rattle.xa_links.specs.declared.passing.Tried.TheVariants as tries
-use Rattle.xa_links.proofs.Onward.{back_none, back_seen, forward_done, forward_by, goes_somewhere, halt_shown, still_out, retaken, tried_from}
+use Rattle.xa_links.proofs.Onward.{back_none, back_seen, forward_done, forward_by, halt_shown, still_out, retaken, tried_from}
 use Rattle.xa_links.specs.Reasons.{ShowsReason}
 use Rattle.xa_links.proofs.Reasons.{by_stays, tried_stays, tried_more}
 use Rattle.xa_links.proofs.passing.try_to_pass.Goals as goal
-
-pub wake_server-requires : goal.wake_server-requires
-wake_server-requires g c = subst (λ n. 0 < n) (sym c.in-Ok.ensures.queue) (goes_somewhere c.args.entry c.args.event c.args.slot.now c.args.desk.now c.requires.passing)
 
 pub returns-in-Ok : goal.returns-in-Ok
 returns-in-Ok g c =

@@ -15,18 +15,3 @@ returns-in-Ok-Some g c = waits_next c.look.new.slot c.look.new.desk (Ok c.in-Ok-
 
 pub returns-in-Err : goal.returns-in-Err
 returns-in-Err g c = waits_next c.look.new.slot c.look.new.desk (Err c.in-Err.stopped) c.loop.invariant.waits c.in-Err.ensures
-
-pub loop-2-init : goal.loop-2-init
-loop-2-init g c = record { waits = c.loop.invariant.waits }
-
-pub loop-2-preserved : goal.loop-2-preserved
-loop-2-preserved g c = record { waits = waits_trans c.loop-2.invariant.waits (subst (λ o. LooksFrom c.args.domain.now c.args.queue.0 (Ok o) c.loop-2.slot c.look-in-loop-2.new.slot c.loop-2.desk c.look-in-loop-2.new.desk) c.in-Ok-None-look.field-0-is c.in-Ok-None-look.ensures).0 }
-
-pub loop-2-preserved-in-Some-key : goal.loop-2-preserved-in-Some-key
-loop-2-preserved-in-Some-key g c = record { waits = waits_trans c.loop-2.invariant.waits (subst (λ o. LooksFrom c.args.domain.now c.args.queue.0 (Ok o) c.loop-2.slot c.look-in-loop-2.new.slot c.loop-2.desk c.look-in-loop-2.new.desk) c.in-Ok-None-look.field-0-is c.in-Ok-None-look.ensures).0 }
-
-pub returns-in-Ok-Some-look : goal.returns-in-Ok-Some-look
-returns-in-Ok-Some-look g c = waits_next c.look-in-loop-2.new.slot c.look-in-loop-2.new.desk (Ok c.in-Ok-Some-look.took) c.loop-2.invariant.waits (subst (λ o. LooksFrom c.args.domain.now c.args.queue.0 (Ok o) c.loop-2.slot c.look-in-loop-2.new.slot c.loop-2.desk c.look-in-loop-2.new.desk) c.in-Ok-Some-look.field-0-is c.in-Ok-Some-look.ensures)
-
-pub returns-in-Err-look : goal.returns-in-Err-look
-returns-in-Err-look g c = waits_next c.look-in-loop-2.new.slot c.look-in-loop-2.new.desk (Err c.in-Err-look.stopped) c.loop-2.invariant.waits c.in-Err-look.ensures

@@ -6,8 +6,3 @@ abbrev pub invariant-loop : goal.invariant-loop
 invariant-loop g l = record {
   waits : Waits l.domain l.queue.0 l.fn.slot l.slot l.fn.desk l.desk;
 }
-
-abbrev pub invariant-loop-2 : goal.invariant-loop-2
-invariant-loop-2 g l = record {
-  waits : Waits l.domain l.queue.0 l.fn.slot l.slot l.fn.desk l.desk;
-}

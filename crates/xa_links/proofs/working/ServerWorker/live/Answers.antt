@@ -47,7 +47,7 @@ serve-requires-clause-free g c κs within =
     let begins = subst (λ o. Tries w.name 0 o served'.slot w.served.slot desk'.caller.work w.desk.caller.work) c.in-Ok-Some.field-0-is c.in-Ok-Some.ensures.tried in
     let faults = subst (λ o. Counts o (g.T.Starter.start_faults w.served.starter) (g.T.Starter.start_faults served'.starter)) c.in-Ok-Some.field-0-is c.in-Ok-Some.ensures.counted in
     let is = starts_in w off served' desk' s.leads s.rest.2 (s.serving w.queue.0 off.at.serving) s.same s.rest.1 c.in-Ok-Some.life begins c.in-Ok-Some.ensures.asked faults c.in-Ok-Some.ensures.room in
-    in_counted (served_at w served' desk') c.count_up.new.self c.count_up.ensures (greeted_in (served_at w served' desk') c.in-Ok.life c.in-Ok-Some.life c.in-Ok.ensures.greeted is)
+    in_counted (served_at w served' desk') c.count_up.new.self c.count_up.ensures.rest (greeted_in (served_at w served' desk') c.in-Ok.life c.in-Ok-Some.life c.in-Ok.ensures.greeted is)
 
 pub died-requires-clause-may : goal.died-requires-clause-may
 died-requires-clause-may g c =
@@ -81,7 +81,7 @@ returns-in-Ok-clause-goes g c =
     let s = c.start-started.ensures in
     let begins = subst (λ o. Tries w.name 0 o served'.slot w.served.slot desk'.caller.work w.desk.caller.work) c.in-Ok-Some.field-0-is c.in-Ok-Some.ensures.tried in
     let goes = starts_goes w off served' desk' s.leads s.rest.2 (s.serving w.queue.0 off.at.serving) s.same s.rest.1 c.in-Ok-Some.life begins in
-    goes_trans w c.count_up.new.self c.serve.new.self (goes_counted (served_at w served' desk') w c.count_up.new.self c.count_up.ensures goes) c.serve.ensures.goes
+    goes_trans w c.count_up.new.self c.serve.new.self (goes_counted (served_at w served' desk') w c.count_up.new.self c.count_up.ensures.rest goes) c.serve.ensures.goes
 
 pub returns-in_ok-died-in-Err-greet-clause-goes : goal.returns-in_ok-died-in-Err-greet-clause-goes
 returns-in_ok-died-in-Err-greet-clause-goes g c =
