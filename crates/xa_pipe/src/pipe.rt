@@ -14,8 +14,10 @@ use xa_frame::{Body, Frame, NextRefused, Reader, append, append_invoke};
 use xa_link::{Closed, Link, put};
 use xa_types::{Data, Mode, Name, NoMemory};
 
-// How many octets one read takes at most.
+// How many octets a read takes at most, and how many of them one takes behind which fewer octets than that wait.
 const PIECE: usize = 8192;
+
+const FIRST: usize = 512;
 
 /// The monitor's end of the pipes of one life.
 pub struct Pipe<L: Link> {
@@ -241,8 +243,29 @@ impl<L: Link> Pipe<L> {
         ensures why { IfErr result (λ cause. (frames : List Frame) → HasRead self.old frames → ReadsNone self.new frames cause) }
         ensures counts { IfErr result (λ cause. CountsReads cause self.old.reads self.new.reads) }
     {
-        let mut piece = [0; PIECE];
-        match self.link.read(&mut piece) {
+        if (self.reader.pending() as usize) < FIRST {
+            return self.pull_into(&mut [0; FIRST]);
+        }
+        self.pull_into(&mut [0; PIECE])
+    }
+
+    // Reads into that place.
+    fn pull_into(&mut self, piece: &mut [u8]) -> Result<(), StopCause>
+        requires few { length self.old.rest < 66_012 }
+        requires partial { IsPartial self.old.rest }
+        requires piece { (0 < length piece.old) × (length piece.old ≤ 8192) }
+        ensures took { self.new.took ≡ self.old.took }
+        ensures writes { self.new.writes ≡ self.old.writes }
+        ensures whose { self.new.whose ≡ self.old.whose }
+        ensures grew { OnOk result ((frames : List Frame) → HasRead self.old frames → HasRead self.new frames) }
+        ensures more { OnOk result (length self.old.rest < length self.new.rest) }
+        ensures within { OnOk result (length self.new.rest ≤ length self.old.rest + 8192) }
+        ensures well { OnOk result (self.new.reads ≡ self.old.reads) }
+        ensures kept { IfErr result (λ cause. (frames : List Frame) → HasRead self.old frames → Keeps self.new frames cause) }
+        ensures why { IfErr result (λ cause. (frames : List Frame) → HasRead self.old frames → ReadsNone self.new frames cause) }
+        ensures counts { IfErr result (λ cause. CountsReads cause self.old.reads self.new.reads) }
+    {
+        match self.link.read(piece) {
             Err(_) => Err(StopCause::ReadFault),
             Ok(0) => Err(StopCause::EndOfInput),
             Ok(count) => match self.reader.feed(&piece[..count]) {
