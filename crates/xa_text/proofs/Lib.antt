@@ -1,4 +1,4 @@
 pub mod InTurn
 pub mod Pairs
-pub mod Parting
+pub mod Telling
 pub mod Passing

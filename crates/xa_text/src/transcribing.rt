@@ -4,10 +4,10 @@ ghost use Rattle.xa_events.specs.declared.event.Event.{Event};
 ghost use Rattle.xa_events.specs.Caller.{call_in, is_call_of, op_in, last_op};
 ghost use Rattle.xa_events.specs.Said.{descriptor_given, descriptor_of, refusal_reply, item_reply, reply_shown_by};
 ghost use Rattle.xa_text.specs.Line.{reply_text, line_text};
-ghost use Rattle.xa_text.specs.Telling.{IsTold};
-ghost use Rattle.xa_text.specs.Parting.{IsParted, lists_of, pointed};
+ghost use Rattle.std.specs.List.{All};
+ghost use Rattle.xa_text.specs.Telling.{IsTold, IsFresh, AreTold};
 ghost use Rattle.xa_text.specs.InTurn.{IsInTurn, CallsInTurn, AllInTurn};
-ghost use Rattle.xa_text.specs.Transcript.{lines_up_to, transcript};
+ghost use Rattle.xa_text.specs.Transcript.{transcript};
 
 use crate::line::{
     push_answered, push_call, push_done, push_event, push_fault, push_given, push_message,
@@ -195,23 +195,53 @@ fn tell(
     Ok(Place { op, start })
 }
 
-fn push_lines(
-    out: &mut Vec<u8>,
-    name: &Name,
-    client: usize,
-    events: &[&Event],
-) -> Result<(), NoMemory>
-    requires { CallsInTurn client (reverse (pointed events.now)) }
-    ensures { OnOk result (let past = reverse (pointed events.now) in out.new.items ≡ out.old.items ++ lines_up_to name.now client past (last_op client past)) }
+// The lines of a client so far, and how far they have come.
+#[derive(Drop)]
+struct Told {
+    text: Vec<u8>,
+    place: Place,
+}
+
+// Goes on to the next event, for the client of whose call it is, if it is of one.
+fn tell_maker(told: &mut Vec<Told>, names: &[Name], event: &Event) -> Result<(), NoMemory>
+    requires { length told.old.items ≡ length names.now }
+    ensures { OnOk result ((past : List Event) → ((client : ℕ) → 0 < client → client < length names.now + 1 → IsInTurn client event.now past)
+        → AreTold names.now past told.old.items → AreTold names.now (event.now ∷ past) told.new.items) }
 {
-    let mut place = Place {
-        op: 0,
-        start: out.len(),
+    let Some(by) = maker_of(event) else {
+        return Ok(());
     };
-    for event in events {
-        place = tell(out, place, name, client, event)?;
+    let by = usize::from(by);
+    if 0 < by && by <= told.len() {
+        let own = &mut told[by - 1];
+        own.place = tell(&mut own.text, own.place, &names[by - 1], by, event)?;
     }
     Ok(())
+}
+
+fn none_told(alloc: Global, clients: usize) -> Result<Vec<Told>, NoMemory>
+    ensures len { IfOk result (λ told. length told.items ≡ clients) }
+    ensures fresh { IfOk result (λ told. All IsFresh told.items) }
+{
+    let mut all = Vec::with_capacity(alloc, clients)?;
+    for _ in 0..clients {
+        let place = Place { op: 0, start: 0 };
+        let text = Vec::new(alloc);
+        all.push_reserved(Told { text, place });
+    }
+    Ok(all)
+}
+
+// The lines of the clients with these names, by all events of a history.
+fn all_told(alloc: Global, history: &[Event], names: &[Name]) -> Result<Vec<Told>, NoMemory>
+    requires { AllInTurn (length names.now) (reverse history.now) }
+    ensures { IfOk result (λ told. AreTold names.now (reverse history.now) told.items) }
+{
+    let mut told = none_told(alloc, names.len())?;
+    for event in history {
+        tell_maker(&mut told, names, event)?;
+    }
+    Ok(told)
 }
 
 // The number of the client's last call behind the event, where `last` is that before it; None where it is out of turn.
@@ -253,75 +283,6 @@ pub fn calls_in_turn(history: &[Event], clients: usize) -> bool
     true
 }
 
-// What a line takes at most beside its data, of which each octet is two digits.
-const LINE: usize = 128;
-
-fn data_len(payload: &Data) -> usize {
-    match payload {
-        Data::Absent => 0,
-        Data::Octet(octets) | Data::Struct(_, octets) => octets.slice().len(),
-    }
-}
-
-// How many octets of data a line tells by this event.
-fn told_len(event: &Event) -> usize {
-    match event {
-        Event::Answer(replied) => match &replied.answer {
-            Answer::Success(_, payload) | Answer::Failed(_, payload) => data_len(payload),
-            Answer::Error(_) => 0,
-        },
-        Event::Receive(received) => match &received.item {
-            Item::Message(payload, _) | Item::Ending(_, _, payload) => data_len(payload),
-        },
-        _ => 0,
-    }
-}
-
-// Room for all lines, so that they needn't be moved while they grow.
-fn room_for(history: &[Event]) -> usize {
-    let mut room = 0usize;
-    for event in history {
-        if call_in(event).is_some() {
-            let line = told_len(event).saturating_mul(2).saturating_add(LINE);
-            room = room.saturating_add(line);
-        }
-    }
-    room
-}
-
-// Puts the event behind those of its client, where it is of a call of one of so many.
-fn keep<'a>(own: &mut Vec<Vec<&'a Event>>, event: &'a Event) -> Result<(), NoMemory>
-    ensures { OnOk result ((clients : ℕ) (past : List Event) → IsParted clients past (lists_of own.old.items)
-        → IsParted clients (event.entry.now ∷ past) (lists_of own.new.items)) }
-{
-    let Some(by) = maker_of(event) else {
-        return Ok(());
-    };
-    let by = usize::from(by);
-    if 0 < by && by <= own.len() {
-        own[by - 1].push(event)?;
-    }
-    Ok(())
-}
-
-// The events of each of so many clients' calls, in their order.
-fn by_client<'a>(
-    alloc: Global,
-    history: &'a [Event],
-    clients: usize,
-) -> Result<Vec<Vec<&'a Event>>, NoMemory>
-    ensures { IfOk result (λ own. IsParted clients (reverse history.now) (lists_of own.items)) }
-{
-    let mut own = Vec::with_capacity(alloc, clients)?;
-    for _ in 0..clients {
-        own.push(Vec::new(alloc))?;
-    }
-    for event in history {
-        keep(&mut own, event)?;
-    }
-    Ok(own)
-}
-
 /// The transcript of a history, whose events stand in the order in which they were made: the lines of the clients with
 /// these names, one client after another, and of each a line for each of its calls, of what the call was told by its
 /// newest event. The clients are the callers from 1 on. The one error is that memory runs out.
@@ -329,10 +290,14 @@ pub fn transcript(alloc: Global, history: &[Event], names: &[Name]) -> Result<Oc
     requires { AllInTurn (length names.now) (reverse history.now) }
     ensures { IfOk result (λ lines. lines ≡ transcript names.now (reverse history.now)) }
 {
-    let own = by_client(alloc, history, names.len())?;
-    let mut lines = Vec::with_capacity(alloc, room_for(history))?;
-    for (place, name) in names.iter().enumerate() {
-        push_lines(&mut lines, name, place + 1, &own[place])?;
+    let mut lines = Vec::new(alloc);
+    for Told { text, .. } in all_told(alloc, history, names)? {
+        // The first lines are taken as they are, since they may be all that there are.
+        if lines.is_empty() {
+            lines = text;
+        } else {
+            lines.extend_from_slice(&text)?;
+        }
     }
     Ok(Octets::from_vec(lines))
 }
