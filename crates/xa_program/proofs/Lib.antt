@@ -5,3 +5,4 @@ pub mod Ending
 pub mod Failing
 pub mod Given
 pub mod SoFar
+pub mod Pieces

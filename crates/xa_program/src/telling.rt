@@ -1,5 +1,7 @@
 // The history of a run that was served, and its transcript.
-ghost use Rattle.std.specs.Prelude.{◌≡◌, ◌⊎◌, [], List, length, reverse, None, IfOk};
+ghost use Rattle.std.specs.Prelude.{◌≡◌, ◌⊎◌, [], List, length, reverse, None, IfOk, OnOk, OnErr};
+ghost use Rattle.std.specs.List.{flat_map};
+ghost use Rattle.xa_domain.specs.xa_link.Told.{Grew, GrewByPart, Rose};
 ghost use Rattle.xa_domain.specs.xa_events.declared.event.Event.{Event};
 ghost use Rattle.xa_domain.specs.xa_stamp.Merge.{IsMerged};
 ghost use Rattle.xa_text.specs.InTurn.{AllInTurn};
@@ -13,7 +15,7 @@ use xa_domain::Halt;
 use xa_domain::script::Client;
 use xa_domain::stamp::{Record, merge};
 use xa_events::Event;
-use xa_link::{Sink, put};
+use xa_link::{Failed, Sink, put};
 use xa_text::transcript;
 use xa_types::{Name, NoMemory, Octets};
 
@@ -27,12 +29,25 @@ fn names_of(alloc: Global, clients: &[Client]) -> Result<Vec<Name>, NoMemory>
     Ok(names)
 }
 
-fn lines_of(alloc: Global, history: &[Event], clients: &[Client]) -> Result<Octets, NoMemory>
+fn pieces_of(alloc: Global, history: &[Event], clients: &[Client]) -> Result<Vec<Octets>, NoMemory>
     requires { AllInTurn (length clients.now) (reverse history.now) }
-    ensures { IfOk result (λ lines. lines ≡ transcript (names_of clients.now) (reverse history.now)) }
+    ensures { IfOk result (λ pieces. flat_map (λ piece. piece) pieces.items ≡ transcript (names_of clients.now) (reverse history.now)) }
 {
     let names = names_of(alloc, clients)?;
     transcript(alloc, history, names.as_slice())
+}
+
+// Writes the pieces one after another.
+fn put_all<O: Sink>(out: &mut O, pieces: &[Octets]) -> Result<(), Failed>
+    ensures whole { OnOk result (Grew (O.took out.old) (O.took out.new) (flat_map (λ piece. piece) pieces.now)) }
+    ensures part { OnErr result (GrewByPart (O.took out.old) (O.took out.new) (flat_map (λ piece. piece) pieces.now)) }
+    ensures cause { OnErr result (Rose (O.write_faults out.old) (O.write_faults out.new)) }
+    ensures quiet { OnOk result (O.write_faults out.new ≡ O.write_faults out.old) }
+{
+    for piece in pieces {
+        put(out, piece.slice())?;
+    }
+    Ok(())
 }
 
 // Writes the transcript of the history.
@@ -40,10 +55,10 @@ fn print<O: Sink>(alloc: Global, history: &[Event], clients: &[Client], out: &mu
     requires { AllInTurn (length clients.now) (reverse history.now) }
     ensures { Printed (O.took out.old) (O.took out.new) (O.write_faults out.old) (O.write_faults out.new) (transcript (names_of clients.now) (reverse history.now)) result }
 {
-    let Ok(lines) = lines_of(alloc, history, clients) else {
+    let Ok(pieces) = pieces_of(alloc, history, clients) else {
         return Status::NoMemory;
     };
-    match put(out, lines.slice()) {
+    match put_all(out, pieces.as_slice()) {
         Ok(()) => Status::Done,
         Err(_) => Status::WriteFault,
     }

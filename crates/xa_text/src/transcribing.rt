@@ -4,7 +4,7 @@ ghost use Rattle.xa_events.specs.declared.event.Event.{Event};
 ghost use Rattle.xa_events.specs.Caller.{call_in, is_call_of, op_in, last_op};
 ghost use Rattle.xa_events.specs.Said.{descriptor_given, descriptor_of, refusal_reply, item_reply, reply_shown_by};
 ghost use Rattle.xa_text.specs.Line.{reply_text, line_text};
-ghost use Rattle.std.specs.List.{All};
+ghost use Rattle.std.specs.List.{All, flat_map};
 ghost use Rattle.xa_text.specs.Telling.{IsTold, IsFresh, AreTold};
 ghost use Rattle.xa_text.specs.InTurn.{IsInTurn, CallsInTurn, AllInTurn};
 ghost use Rattle.xa_text.specs.Transcript.{transcript};
@@ -284,20 +284,20 @@ pub fn calls_in_turn(history: &[Event], clients: usize) -> bool
 }
 
 /// The transcript of a history, whose events stand in the order in which they were made: the lines of the clients with
-/// these names, one client after another, and of each a line for each of its calls, of what the call was told by its
-/// newest event. The clients are the callers from 1 on. The one error is that memory runs out.
-pub fn transcript(alloc: Global, history: &[Event], names: &[Name]) -> Result<Octets, NoMemory>
+/// these names, a piece for each client, and in it a line for each of its calls, of what the call was told by its newest
+/// event. The clients are the callers from 1 on. The one error is that memory runs out.
+pub fn transcript(
+    alloc: Global,
+    history: &[Event],
+    names: &[Name],
+) -> Result<Vec<Octets>, NoMemory>
     requires { AllInTurn (length names.now) (reverse history.now) }
-    ensures { IfOk result (λ lines. lines ≡ transcript names.now (reverse history.now)) }
+    ensures { IfOk result (λ pieces. flat_map (λ piece. piece) pieces.items ≡ transcript names.now (reverse history.now)) }
 {
-    let mut lines = Vec::new(alloc);
-    for Told { text, .. } in all_told(alloc, history, names)? {
-        // The first lines are taken as they are, since they may be all that there are.
-        if lines.is_empty() {
-            lines = text;
-        } else {
-            lines.extend_from_slice(&text)?;
-        }
+    let told = all_told(alloc, history, names)?;
+    let mut pieces = Vec::with_capacity(alloc, told.len())?;
+    for Told { text, .. } in told {
+        pieces.push_reserved(Octets::from_vec(text));
     }
-    Ok(Octets::from_vec(lines))
+    Ok(pieces)
 }

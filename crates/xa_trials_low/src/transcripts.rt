@@ -113,13 +113,25 @@ fn push_event(alloc: Global, history: &mut Vec<Event>, service: Name, step: Step
     history.push(event_of(alloc, service, step)?).ok()
 }
 
+// Whether there is a piece for each name, and they are these octets, one after another.
+fn are_pieces_of(pieces: &[Octets], names: &[Name], octets: &[u8]) -> bool {
+    let mut left = octets;
+    for piece in pieces {
+        match left.strip_prefix(piece.slice()) {
+            Some(further) => left = further,
+            None => return false,
+        }
+    }
+    left.is_empty() && pieces.len() == names.len()
+}
+
 fn prints(alloc: Global, history: &[Event], names: &[Name], want: Option<&[u8]>) -> bool {
     if !calls_in_turn(history, names.len()) {
         return want.is_none();
     }
-    match transcript(alloc, history, names) {
-        Ok(lines) => want == Some(lines.slice()),
-        Err(_) => false,
+    match (transcript(alloc, history, names), want) {
+        (Ok(pieces), Some(lines)) => are_pieces_of(&pieces, names, lines),
+        _ => false,
     }
 }
 

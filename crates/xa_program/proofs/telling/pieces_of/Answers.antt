@@ -1,7 +1,7 @@
 use Rattle.std.proofs.Common.{◌≡◌, ◌∙◌, length, ap}
 use Rattle.std.proofs.lemmas.List.{length-map}
 use Rattle.xa_domain.specs.xa_script.declared.script.Client.{Client}
-use Rattle.xa_program.proofs.telling.lines_of.Goals as goal
+use Rattle.xa_program.proofs.telling.pieces_of.Goals as goal
 
 pub transcript-requires : goal.transcript-requires
 transcript-requires c =
