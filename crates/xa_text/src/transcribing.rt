@@ -286,11 +286,7 @@ pub fn calls_in_turn(history: &[Event], clients: usize) -> bool
 /// The transcript of a history, whose events stand in the order in which they were made: the lines of the clients with
 /// these names, a piece for each client, and in it a line for each of its calls, of what the call was told by its newest
 /// event. The clients are the callers from 1 on. The one error is that memory runs out.
-pub fn transcript(
-    alloc: Global,
-    history: &[Event],
-    names: &[Name],
-) -> Result<Vec<Octets>, NoMemory>
+pub fn transcript(alloc: Global, history: &[Event], names: &[Name]) -> Result<Vec<Octets>, NoMemory>
     requires { AllInTurn (length names.now) (reverse history.now) }
     ensures { IfOk result (λ pieces. flat_map (λ piece. piece) pieces.items ≡ transcript names.now (reverse history.now)) }
 {
