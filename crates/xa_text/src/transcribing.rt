@@ -284,8 +284,9 @@ pub fn calls_in_turn(history: &[Event], clients: usize) -> bool
 }
 
 /// The transcript of a history, whose events stand in the order in which they were made: the lines of the clients with
-/// these names, a piece for each client, and in it a line for each of its calls, of what the call was told by its newest
-/// event. The clients are the callers from 1 on. The one error is that memory runs out.
+/// these names, one client after another, and of each a line for each of its calls, of what the call was told by its
+/// newest event. It comes in pieces, which make it one after another. The clients are the callers from 1 on. The one error
+/// is that memory runs out.
 pub fn transcript(alloc: Global, history: &[Event], names: &[Name]) -> Result<Vec<Octets>, NoMemory>
     requires { AllInTurn (length names.now) (reverse history.now) }
     ensures { IfOk result (λ pieces. flat_map (λ piece. piece) pieces.items ≡ transcript names.now (reverse history.now)) }
