@@ -1,77 +1,56 @@
 #!/usr/bin/env python3
-"""Rates calls: the server of the queue RATES. docs/protocol.md says what it reads and writes.
+"""Rates calls: the server of the queue RATES, with the library examples/servers/sunzheg.py.
 
 TARIFF takes "PREFIX CENTS", the price of a minute to numbers that begin so, and returns how many tariffs there are.
 RATE takes "ACCOUNT NUMBER SECONDS", and returns a structure `rated` by the longest prefix that has a tariff.
 The tariffs are kept as long as this process runs.
 """
 
-import os
-import struct
 import sys
+from pathlib import Path
 
-READY, NEXT, RETURN, INVOKE, SHUTDOWN = 0x01, 0x02, 0x04, 0x11, 0x13
-TPSUCCESS, TPFAIL = 0, 1
-NO_DATA = b"\0"
+sys.path.insert(0, str(Path(__file__).resolve().parents[1] / "servers"))
+
+from sunzheg import TPFAIL, TPSUCCESS, Typed, routine, serve, shape, tpreturn
+
+# As in telephone.toml.
+shape("rated", "account string 16", "number string 16", "seconds int", "cents long")
+
+MISREAD, NO_TARIFF = 99, 1
 
 tariffs = {"+": 50}
 
 
-def read(count):
-    octets = sys.stdin.buffer.read(count)
-    if len(octets) < count:
-        sys.exit()
-    return octets
+def words_of(request, count):
+    """The words of a request's text; none where it hasn't so many."""
+    words = request.data.decode(errors="replace").split() if isinstance(request.data, bytes) else []
+    return words if len(words) == count else None
 
 
-def write(kind, tag, body=b""):
-    sys.stdout.buffer.write(struct.pack(">2sBBII", b"XA", 1, kind, len(body), tag) + body)
-    sys.stdout.buffer.flush()
+def is_number(word):
+    return word.isascii() and word.isdigit() and len(word) < 9
 
 
-def name_at(body, at):
-    end = at + 1 + body[at]
-    return body[at + 1 : end].decode(), end
+@routine("TARIFF")
+def tariff(request):
+    words = words_of(request, 2)
+    if not words or not is_number(words[1]):
+        return tpreturn(TPFAIL, MISREAD)
+    tariffs[words[0]] = int(words[1])
+    return tpreturn(TPSUCCESS, len(tariffs))
 
 
-def text_at(body, at):
-    """The text of X_OCTET data, or an empty one."""
-    return body[at + 5 :].decode() if body[at] == 1 else ""
-
-
-def tariff(words):
-    prefix, cents = words
-    tariffs[prefix] = int(cents)
-    return TPSUCCESS, len(tariffs), NO_DATA
-
-
-def rate(words):
-    account, number, seconds = words
+@routine("RATE")
+def rate(request):
+    words = words_of(request, 3)
+    if not words or not is_number(words[2]) or any(len(word.encode()) > 16 for word in words[:2]):
+        return tpreturn(TPFAIL, MISREAD)
+    account, number, seconds = words[0], words[1], int(words[2])
     best = max((prefix for prefix in tariffs if number.startswith(prefix)), key=len, default=None)
     if best is None:
-        return TPFAIL, 1, NO_DATA
-    cents = -(-int(seconds) // 60) * tariffs[best]
-    rated = struct.pack(">16s16siq", account.encode(), number.encode(), int(seconds), cents)
-    return TPSUCCESS, 0, b"\2" + b"\5rated" + struct.pack(">I", len(rated)) + rated
+        return tpreturn(TPFAIL, NO_TARIFF)
+    minutes = -(-seconds // 60)
+    return Typed("rated", account=account, number=number, seconds=seconds, cents=minutes * tariffs[best])
 
 
-def answer(body):
-    _service, at = name_at(body, 0)
-    routine, at = name_at(body, at)
-    try:
-        words = text_at(body, at + 1).split()
-        return {"TARIFF": tariff, "RATE": rate}[routine](words)
-    except (KeyError, ValueError):
-        return TPFAIL, 99, NO_DATA
-
-
-name = os.fsencode(sys.argv[2])
-write(READY, 0, bytes([len(name)]) + name)
-while True:
-    write(NEXT, 0)
-    _mark, _version, kind, length, tag = struct.unpack(">2sBBII", read(12))
-    body = read(length)
-    if kind == SHUTDOWN:
-        sys.exit()
-    value, code, data = answer(body)
-    write(RETURN, tag, struct.pack(">Bi", value, code) + data)
+serve()

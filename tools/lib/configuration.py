@@ -237,6 +237,24 @@ def program(value):
     yield from text(value, checks(), "a text, the program's path")
 
 
+def spoils(text, form=NAME):
+    """What makes these octets no name, or no identifier, in words."""
+    if not 1 <= len(text) <= 31:
+        return f"it has {len(text)} octets"
+    allowed = range(0x21, 0x7F) if form is NAME else IDENTIFIER_OCTETS
+    for place, octet in enumerate(text, 1):
+        if octet not in allowed:
+            return f"its octet {place} is 0x{octet:02x}{f', {chr(octet)!r}' if 0x20 <= octet < 0x7F else ''}"
+    return "it begins with a dot" if form is NAME else f"it begins with {chr(text[0])!r}, which is no letter"
+
+
+IDENTIFIER_OCTETS = b"ABCDEFGHIJKLMNOPQRSTUVWXYZabcdefghijklmnopqrstuvwxyz0123456789_"
+
+
+def no_name(text, form=NAME):
+    return f"{text!r} is no {'name' if form is NAME else 'identifier'}: {spoils(text.encode(), form)}"
+
+
 def is_of(form, value):
     return value.kind == "string" and form.fullmatch(octets(value)) is not None
 
@@ -244,7 +262,7 @@ def is_of(form, value):
 def name(value):
     def checks():
         if not is_of(NAME, value):
-            yield BAD_NAME, f"{value.data!r} is no name", A_NAME
+            yield BAD_NAME, no_name(value.data), A_NAME
 
     yield from text(value, checks(), A_NAME)
 
@@ -255,7 +273,7 @@ def new_name(form, earlier):
     def check(value):
         def checks():
             if not is_of(form, value):
-                yield BAD_NAME, f"{value.data!r} is none", taken
+                yield BAD_NAME, no_name(value.data, form), taken
             if value.data in earlier:
                 yield DOUBLED, f"an earlier entry is named '{value.data}' too", "names that differ"
 
@@ -272,7 +290,7 @@ def name_among(names):
     def check(value):
         def checks():
             if not is_of(NAME, value):
-                yield BAD_NAME, f"{value.data!r} is no name", A_NAME
+                yield BAD_NAME, no_name(value.data), A_NAME
             if value.data not in names:
                 yield NO_SUCH, f"no queue is named '{value.data}'", listed(names), like(value.data, names)
 
@@ -289,7 +307,7 @@ def queue_among(names):
     def check(earlier, value):
         def checks():
             if not is_of(NAME, value):
-                yield BAD_NAME, f"{value.data!r} is no name", A_NAME
+                yield BAD_NAME, no_name(value.data), A_NAME
             if value.data in texts_of(earlier):
                 yield DOUBLED, f"'{value.data}' stands before in this array", "each queue once"
             if value.data not in names:
@@ -356,3 +374,9 @@ def idle_keys(document):
         for key in TABLES[where.split("[")[0]]:
             if entry.kind == "table" and key in entry.data and key in IDLE:
                 yield f"{where}.{key}", entry.keys[key], IDLE[key]
+        if where.startswith("server["):
+            restart, maxgen = entry.get("restart"), entry.get("maxgen")
+            if restart and restart.data and (maxgen.data if maxgen else 1) == 1:
+                yield f"{where}.restart", entry.keys["restart"], "maxgen is 1, so there is one start; write maxgen = 3, for example"
+            if maxgen and maxgen.data > 1 and not (restart and restart.data):
+                yield f"{where}.maxgen", entry.keys["maxgen"], "there is one start without restart = true"

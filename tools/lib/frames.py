@@ -2,9 +2,46 @@
 
 import struct
 
-READY, NEXT, RETURN, FORWARD, INVOKE, SHUTDOWN = 0x01, 0x02, 0x04, 0x05, 0x11, 0x13
-NAMES = {READY: "READY", NEXT: "NEXT", RETURN: "RETURN", FORWARD: "FORWARD", INVOKE: "INVOKE", SHUTDOWN: "SHUTDOWN"}
+READY, NEXT, OP, RETURN, FORWARD, INVOKE, REPLY, SHUTDOWN = 0x01, 0x02, 0x03, 0x04, 0x05, 0x11, 0x12, 0x13
+NAMES = {
+    READY: "READY", NEXT: "NEXT", OP: "OP", RETURN: "RETURN", FORWARD: "FORWARD",
+    INVOKE: "INVOKE", REPLY: "REPLY", SHUTDOWN: "SHUTDOWN",
+}
 OUTCOMES = ["TPSUCCESS", "TPFAIL", "TPEXIT"]
+MODES = ["a reply is wanted", "no reply is wanted", "a conversation, in which it receives first", "a conversation, in which it sends first"]
+FLAGS = ["TPNOBLOCK", "TPNOTIME", "TPNOREPLY", "TPNOTRAN", "TPSIGRSTRT"]
+DIRECTIONS = ["neither", "TPSENDONLY", "TPRECVONLY", "both"]
+ERRORS = [
+    "TPEINVAL", "TPENOENT", "TPEITYPE", "TPEOTYPE", "TPEBADDESC", "TPELIMIT", "TPEBLOCK", "TPETIME",
+    "TPEPROTO", "TPESYSTEM", "TPEMATCH", "TPESVCFAIL", "TPESVCERR", "TPEEVENT", "NOMEM",
+]
+EVENTS = ["TPEV_DISCONIMM", "TPEV_SENDONLY", "TPEV_SVCERR", "TPEV_SVCFAIL", "TPEV_SVCSUCC", "NOMEM"]
+# The calls that a service makes, by the number of their OP: the name, and the fields in their order.
+OPERATIONS = {
+    1: ("tpcall", "flags service kind data"),
+    2: ("tpacall", "flags service data"),
+    3: ("tpgetrply", "flags descriptor kind"),
+    4: ("tpgetrply with TPGETANY", "flags kind"),
+    5: ("tpcancel", "descriptor"),
+    6: ("tpconnect", "flags direction service data"),
+    7: ("tpsend", "flags descriptor passes data"),
+    8: ("tprecv", "flags descriptor"),
+    9: ("tpdiscon", "descriptor"),
+    10: ("tpsprio", "absolute number"),
+    11: ("tpadvertise", "service routine"),
+    12: ("tpunadvertise", "service"),
+    13: ("a tick of the clock", "ticks"),
+}
+# What a REPLY tells, by its number.
+REPLIES = {
+    0: ("done", ""),
+    1: ("a descriptor", "descriptor"),
+    2: ("the time", "time"),
+    3: ("an answer", "descriptor answer"),
+    4: ("a message", "data"),
+    5: ("an event", "event code data"),
+    6: ("an error", "error"),
+}
 BEGINS, HEADER, MOST_BODY, MOST_DATA = b"XA\1", 12, 66_000, 65_536
 NO_DATA = b"\0"
 
@@ -87,9 +124,70 @@ class Body:
             raise NoFrame(f"data has at most {MOST_DATA:,} octets, and not {length:,}")
         return subtype, self.take(length)
 
+    def choice(self, what, words, first=0):
+        """One of these words, of which the first has that number."""
+        number = self.number(1)
+        if not first <= number < first + len(words):
+            raise NoFrame(f"{what} is a number from {first} to {first + len(words) - 1}, and not {number}")
+        return words[number - first]
+
+    def flags(self):
+        number = self.number(1)
+        if number >= 1 << len(FLAGS):
+            raise NoFrame(f"flags are a number below {1 << len(FLAGS)}, and not {number}")
+        return [flag for place, flag in enumerate(FLAGS) if number >> place & 1]
+
+    def kind(self):
+        """The kind of a buffer: none, X_OCTET, or the subtype of X_C_TYPE."""
+        number = self.number(1)
+        if number > 2:
+            raise NoFrame(f"there is no buffer of kind {number:02x}")
+        return [None, "X_OCTET"][number] if number < 2 else f"X_C_TYPE {self.name().decode()}"
+
+    def field(self, what, found):
+        """Takes the field of an OP or a REPLY."""
+        if what == "data":
+            found["subtype"], found["data"] = self.data()
+        elif what == "answer":
+            outcome = self.choice("the u8 of an answer", ["TPSUCCESS", "TPFAIL", "an error"])
+            for each in ["error"] if outcome == "an error" else ["code", "data"]:
+                self.field(each, found)
+            found.setdefault("outcome", outcome)
+        else:
+            found[what] = FIELDS[what](self)
+
     def end(self):
         if self.at < len(self.octets):
             raise NoFrame("octets stand behind the last field of a body")
+
+
+FIELDS = {
+    "flags": Body.flags,
+    "service": Body.word,
+    "routine": Body.word,
+    "kind": Body.kind,
+    "descriptor": lambda body: body.number(8),
+    "time": lambda body: body.number(8),
+    "ticks": lambda body: body.number(4),
+    "number": lambda body: body.number(4, signed=True),
+    "code": lambda body: body.number(4, signed=True),
+    "direction": lambda body: body.choice("the u8 of tpconnect", DIRECTIONS),
+    "passes": lambda body: body.choice("the u8 of tpsend", ["goes on sending", "TPRECVONLY"]),
+    "absolute": lambda body: body.choice("the u8 of tpsprio", ["added", "TPABSOLUTE"]),
+    "event": lambda body: body.choice("an event", EVENTS, 1),
+    "error": lambda body: body.choice("an error", ERRORS, 1),
+}
+
+
+def numbered(rest, name, table):
+    """The fields of an OP or a REPLY, whose first octet says which."""
+    number = rest.number(1)
+    if number not in table:
+        raise NoFrame(f"there is no {name} of number {number}")
+    found = {"does": table[number][0]}
+    for what in table[number][1].split():
+        rest.field(what, found)
+    return found
 
 
 def fields(kind, body):
@@ -108,8 +206,11 @@ def fields(kind, body):
         found["service"] = rest.word()
         found["subtype"], found["data"] = rest.data()
     elif kind == INVOKE:
-        found["service"], found["routine"], found["mode"] = rest.name(), rest.name(), rest.number(1)
+        found["service"], found["routine"] = rest.name(), rest.name()
+        found["mode"] = MODES.index(rest.choice("the mode", MODES))
         found["subtype"], found["data"] = rest.data()
+    elif kind in (OP, REPLY):
+        found = numbered(rest, NAMES[kind], OPERATIONS if kind == OP else REPLIES)
     rest.end()
     return found
 
@@ -138,9 +239,26 @@ def told(kind, tag, found):
     if kind == INVOKE:
         service, routine = found["service"].decode(), found["routine"].decode()
         by = "" if service == routine else f" by {routine}"
-        return f"{words} {tag}: {service}{by}, {shown_data(found['subtype'], found['data'])}"
+        mode = f", {MODES[found['mode']]}" if found["mode"] else ""
+        return f"{words} {tag}: {service}{by}{mode}, {shown_data(found['subtype'], found['data'])}"
     if kind == RETURN:
         return f"{words} {tag}: {found['outcome']}, code {found['code']}, {shown_data(found['subtype'], found['data'])}"
     if kind == FORWARD:
         return f"{words} {tag}: to {shown(found['service'])}, {shown_data(found['subtype'], found['data'])}"
+    if kind in (OP, REPLY):
+        return f"{words} {tag}: {', '.join(shown_fields(found))}"
     return words
+
+
+def shown_fields(found):
+    """The fields of an OP or a REPLY in words, the first of which says which it is."""
+    yield found["does"]
+    for what, value in found.items():
+        if what in ("service", "routine"):
+            yield f"{what} {shown(value)}"
+        elif what == "flags":
+            yield " ".join(value) or "no flags"
+        elif what == "data":
+            yield shown_data(found["subtype"], value)
+        elif what not in ("does", "subtype"):
+            yield value if isinstance(value, str) else f"{what} {'none' if value is None else value}"

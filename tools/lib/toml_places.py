@@ -175,6 +175,10 @@ class Reader:
                 self.at = bare.end()
                 parts.append((bare[0], start))
             else:
+                if self.sees("//") or self.sees(";") or self.sees("--"):
+                    self.refuse("a comment begins with #")
+                if self.sees("{"):
+                    self.refuse("this is JSON perhaps; a configuration is TOML, with lines as [[queue]] and name = \"Q\"")
                 self.refuse("a key is letters, digits, '_' and '-', or a text in quotes")
             self.space()
             if not self.takes("."):
@@ -211,7 +215,12 @@ class Reader:
         behind = WORD.match(self.text, found[0]) if found else None
         if not found or behind:
             word = WORD.match(self.text, self.at)
-            self.refuse(f"'{word[0] if word else self.text[self.at]}' is no value; a text stands in quotes")
+            said = word[0] if word else self.text[self.at]
+            if said.lower() in ("true", "false", "yes", "no", "on", "off"):
+                self.refuse(f"'{said}' is no value; yes and no are written true and false")
+            if said[0] in "\u201c\u201d\u201e\u2018\u2019\u00ab":
+                self.refuse(f"a text stands in straight quotes, \", and not in '{said[0]}'")
+            self.refuse(f"'{said}' is no value; a text stands in quotes")
         self.at = found[0]
         return getattr(self, found[1])(found[2], start)
 
@@ -279,7 +288,8 @@ class Reader:
     def pair(self, table, depth):
         parts = self.key()
         if not self.takes("="):
-            self.refuse("'=' is missing behind a key")
+            colon = ", and not ':'" if self.sees(":") else ""
+            self.refuse(f"'=' stands between a key and its value{colon}")
         self.space()
         for key, start in parts[:-1]:
             if key not in table.data:
