@@ -7,7 +7,7 @@ use Rattle.xa_script.specs.declared.script.Client.{Client}
 use Rattle.xa_script.specs.declared.draft.Cause.TheVariants.{NotServed}
 use Rattle.xa_script.specs.Calls.{op_of}
 use Rattle.xa_script.specs.Served.{is_served}
-use Rattle.xa_script.specs.Script.{Taken, client_with, with_call, with_op, called}
+use Rattle.xa_script.specs.Draft.{Taken, client_with, with_call, with_op, called}
 use Rattle.xa_script.specs.Draft.{drafted}
 
 last_call : (done : List Client) (client : Client) (op : Op) → with_call (done ++ client ∷ []) op ≡ done ++ client_with client.name (client.ops ++ op ∷ []) ∷ []

@@ -1,8 +1,17 @@
 pub mod Texts
 pub mod Places
 pub mod Numbers
+pub mod Names
 pub mod FieldsRead
 pub mod FlagsRead
 pub mod Clients
 pub mod ScriptCut
+pub mod Fronts
+pub mod PartsRead
+pub mod SentRead
+pub mod FlagsSaid
+pub mod CallRead
+pub mod LineSays
+pub mod ScriptSays
+pub mod ScriptCalls
 pub mod ReadLines

@@ -4,11 +4,11 @@ use Rattle.std.specs.Str.Lines.{lines}
 use Rattle.xa_types.specs.declared.setup.Setup.{Setup}
 use Rattle.xa_script.specs.declared.script.Client.{Client}
 use Rattle.xa_script.specs.declared.draft.Cause.{Cause}
-use Rattle.xa_script.specs.Script.{Taken, and_then, with_line, read_all, cause_number, IsFirstFault}
+use Rattle.xa_script.specs.Script.{IsScriptOf, IsFirstFault}
+use Rattle.xa_script.specs.Draft.{Taken, with_line, read_all, cause_number}
+use Rattle.xa_script.proofs.LineSays.{least, least_stops}
+use Rattle.xa_script.proofs.ScriptSays.{going, script_read, script_again}
 use Rattle.xa_script.proofs.Texts.{some_is}
-
-abbrev going : Setup → ℕ → List (List ℕ) → Taken → Taken
-going setup most rest taken = and_then (λ more. read_all setup most more rest) taken
 
 joined : (setup : Setup) (most : ℕ) (before after : List (List ℕ)) (taken : Taken)
     → ((clients : List Client) → read_all setup most clients (before ++ after) ≡ going setup most after (read_all setup most clients before))
@@ -60,16 +60,14 @@ first_fault setup most octets rest n clients line cause reached stops = record {
   clients = clients;
   text = line;
   after = rest;
-  cause = cause;
   cut = reached.cut;
   counted = ap (λ k. k + 1) reached.counted;
-  script = reached.script;
-  fault = stops;
-  numbered = refl;
+  script = script_read setup most reached.before clients reached.script;
+  fault = least setup most clients line cause stops;
 }
 
-pub all_read : (setup : Setup) (most : ℕ) (all : List (List ℕ)) (n : ℕ) (clients : List Client) → IsReadTo setup most all n clients [] → read_all setup most [] all ≡ Ok clients
-all_read setup most all n clients reached = ap (read_all setup most []) (reached.cut ∙ append-nil reached.before) ∙ reached.script
+pub all_read : (setup : Setup) (most : ℕ) (all : List (List ℕ)) (n : ℕ) (clients : List Client) → IsReadTo setup most all n clients [] → IsScriptOf setup most all clients
+all_read setup most all n clients reached = script_read setup most all clients (ap (read_all setup most []) (reached.cut ∙ append-nil reached.before) ∙ reached.script)
 
 -- ---- there is one reading
 
@@ -79,14 +77,27 @@ clients_are a b h = cc h
 pub one_script : (setup : Setup) (most : ℕ) (all : List (List ℕ)) (a b : List Client) → read_all setup most [] all ≡ Ok a → read_all setup most [] all ≡ Ok b → a ≡ b
 one_script setup most all a b first second = clients_are a b (sym first ∙ second)
 
-stops_at : (setup : Setup) (most : ℕ) (octets : List ℕ) (line number : ℕ) → (fault : IsFirstFault setup most octets line number) → read_all setup most [] (lines octets) ≡ Err fault.cause
-stops_at setup most octets line number fault =
-    ap (read_all setup most []) fault.cut ∙ read_append setup most [] fault.before (fault.text ∷ fault.after) ∙ ap (going setup most (fault.text ∷ fault.after)) fault.script
-    ∙ one_line setup most fault.clients fault.text fault.after ∙ ap (going setup most fault.after) fault.fault
+abbrev Stopped : Setup → ℕ → List Client → List ℕ → ℕ → Type 0
+Stopped setup most clients text number = (cause : Cause) × (with_line setup most clients text ≡ Err cause) × (number ≡ cause_number cause)
 
-pub no_fault : (setup : Setup) (most : ℕ) (octets : List ℕ) (line number : ℕ) (clients : List Client) → read_all setup most [] (lines octets) ≡ Ok clients
+stopped : (setup : Setup) (most : ℕ) (octets : List ℕ) (line number : ℕ) → (fault : IsFirstFault setup most octets line number) → Stopped setup most fault.clients fault.text number
+stopped setup most octets line number fault = least_stops setup most fault.clients fault.text number fault.fault
+
+before_read : (setup : Setup) (most : ℕ) (octets : List ℕ) (line number : ℕ) → (fault : IsFirstFault setup most octets line number) → read_all setup most [] fault.before ≡ Ok fault.clients
+before_read setup most octets line number fault = script_again setup most fault.before fault.clients fault.script
+
+stops_at : (setup : Setup) (most : ℕ) (octets : List ℕ) (line number : ℕ) → (fault : IsFirstFault setup most octets line number) → (cause : Cause)
+    → with_line setup most fault.clients fault.text ≡ Err cause → read_all setup most [] (lines octets) ≡ Err cause
+stops_at setup most octets line number fault cause stops =
+    ap (read_all setup most []) fault.cut ∙ read_append setup most [] fault.before (fault.text ∷ fault.after)
+    ∙ ap (going setup most (fault.text ∷ fault.after)) (before_read setup most octets line number fault)
+    ∙ one_line setup most fault.clients fault.text fault.after ∙ ap (going setup most fault.after) stops
+
+pub no_fault : (setup : Setup) (most : ℕ) (octets : List ℕ) (line number : ℕ) (clients : List Client) → IsScriptOf setup most (lines octets) clients
     → IsFirstFault setup most octets line number → ⊥
-no_fault setup most octets line number clients read fault = let wrong : ◌≡◌ {A = Taken} (Ok clients) (Err fault.cause) = sym read ∙ stops_at setup most octets line number fault in cc
+no_fault setup most octets line number clients script fault =
+    let s = stopped setup most octets line number fault in
+    let wrong : ◌≡◌ {A = Taken} (Ok clients) (Err s.0) = sym (script_again setup most (lines octets) clients script) ∙ stops_at setup most octets line number fault s.0 s.1 in cc
 
 abbrev Place : Type 0
 Place = ℕ × Cause
@@ -121,19 +132,22 @@ placed setup most (line ∷ before) after text n clients found cause read fault 
       | Err other ↦ λ h. absurd cc
     ] read
 
-place_is : (setup : Setup) (most : ℕ) (octets : List ℕ) (line number : ℕ) → (fault : IsFirstFault setup most octets line number)
-    → place_from setup most (lines octets) 0 [] ≡ Some (line, fault.cause)
-place_is setup most octets line number fault =
+place_is : (setup : Setup) (most : ℕ) (octets : List ℕ) (line number : ℕ) → (fault : IsFirstFault setup most octets line number) → (cause : Cause)
+    → with_line setup most fault.clients fault.text ≡ Err cause → place_from setup most (lines octets) 0 [] ≡ Some (line, cause)
+place_is setup most octets line number fault cause stops =
     let counted = fault.counted in
     let sum : 0 + length fault.before + 1 ≡ line = omega (arith, counted) in
-    ap (λ all. place_from setup most all 0 []) fault.cut ∙ placed setup most fault.before fault.after fault.text 0 [] fault.clients fault.cause fault.script fault.fault
-    ∙ ap (λ k. Some (k, fault.cause)) sum
+    ap (λ all. place_from setup most all 0 []) fault.cut
+    ∙ placed setup most fault.before fault.after fault.text 0 [] fault.clients cause (before_read setup most octets line number fault) stops
+    ∙ ap (λ k. Some (k, cause)) sum
 
 pub one_fault : (setup : Setup) (most : ℕ) (octets : List ℕ) (line other number reason : ℕ) → IsFirstFault setup most octets line number → IsFirstFault setup most octets other reason
     → (line ≡ other) × (number ≡ reason)
 one_fault setup most octets line other number reason first second =
-    let same = some_is (line, first.cause) (other, second.cause) (sym (place_is setup most octets line number first) ∙ place_is setup most octets other reason second) in
-    (ap (λ (p : Place). p.0) same, first.numbered ∙ ap (λ (p : Place). cause_number p.1) same ∙ sym second.numbered)
+    let a = stopped setup most octets line number first in
+    let b = stopped setup most octets other reason second in
+    let same = some_is (line, a.0) (other, b.0) (sym (place_is setup most octets line number first a.0 a.1) ∙ place_is setup most octets other reason second b.0 b.1) in
+    (ap (λ (p : Place). p.0) same, a.2 ∙ ap (λ (p : Place). cause_number p.1) same ∙ sym b.2)
 
 abbrev Faulty : Setup → ℕ → List Client → List (List ℕ) → Cause → Type 0
 Faulty setup most clients all cause = (before : List (List ℕ)) × (found : List Client) × (text : List ℕ) × (after : List (List ℕ))
@@ -151,11 +165,20 @@ faulty setup most clients (line ∷ all) cause h =
     ] refl h
 
 pub sound : (setup : Setup) (most : ℕ) (octets : List ℕ) → ((line number : ℕ) → IsFirstFault setup most octets line number → ⊥)
-    → (clients : List Client) × (read_all setup most [] (lines octets) ≡ Ok clients)
+    → (clients : List Client) × IsScriptOf setup most (lines octets) clients
 sound setup most octets none =
-    elim (read_all setup most [] (lines octets)) as (λ (t : Taken). read_all setup most [] (lines octets) ≡ t → (clients : List Client) × (read_all setup most [] (lines octets) ≡ Ok clients)) [
-      | Ok clients ↦ λ e. (clients, e)
+    elim (read_all setup most [] (lines octets)) as (λ (t : Taken). read_all setup most [] (lines octets) ≡ t → (clients : List Client) × IsScriptOf setup most (lines octets) clients) [
+      | Ok clients ↦ λ e. (clients, script_read setup most (lines octets) clients e)
       | Err cause ↦ λ e.
           let f = faulty setup most [] (lines octets) cause e in
-          absurd (none (length f.0 + 1) (cause_number cause) (record { before = f.0; clients = f.1; text = f.2; after = f.3; cause = cause; cut = f.4; counted = refl; script = f.5; fault = f.6; numbered = refl }))
+          absurd (none (length f.0 + 1) (cause_number cause) (record {
+            before = f.0;
+            clients = f.1;
+            text = f.2;
+            after = f.3;
+            cut = f.4;
+            counted = refl;
+            script = script_read setup most f.0 f.1 f.5;
+            fault = least setup most f.1 f.2 cause f.6;
+          }))
     ] refl

@@ -58,7 +58,7 @@ no_octet [] h = refl
 no_octet (x ∷ []) h = none_last (is_marked x) x h
 no_octet (x ∷ y ∷ more) h = none_of_two (x == 34) (x == 92) (is_marked y) x y more h
 
-unmarked : (x : ℕ) (more : List ℕ) → is_marked x ≡ false → next_octet (x ∷ more) ≡ Some (spelled x more)
+pub unmarked : (x : ℕ) (more : List ℕ) → is_marked x ≡ false → next_octet (x ∷ more) ≡ Some (spelled x more)
 unmarked x [] h = ap (λ m. cond m None (Some (spelled x []))) h
 unmarked x (y ∷ more) h = grind arith
 

@@ -1,12 +1,7 @@
--- The calls of a script: a line's first word tells the kind of call, and its parts follow in order (this project's own). A line that is of its form
--- may still have what the setup doesn't take: then it says no call.
-use Rattle.std.specs.Prelude.{ℕ, zero, suc, ℤ, ◌&&◌, nat_le, nat_lt, Bool, true, false, if◌then◌else◌, List, length, drop, take, codes, Option, Some, None, option_map, is_some, not, pos, negsuc}
+-- How the code reads the rest of a line of each kind of call. No public contract rests on these.
+use Rattle.std.specs.Prelude.{ℕ, zero, suc, ℤ, ◌&&◌, nat_le, nat_lt, Bool, true, false, if◌then◌else◌, List, length, codes, Option, Some, None, option_map, is_some, not, pos, negsuc}
 use Rattle.std.specs.Str.{bytes_eq}
 use Rattle.xa_types.specs.declared.setup.Setup.{Setup}
-use Rattle.xa_types.specs.declared.setup.ShapeSetup.{ShapeSetup}
-use Rattle.xa_types.specs.declared.data.Data.{Data}
-use Rattle.xa_types.specs.declared.data.Kind.{Kind}
-use Rattle.xa_types.specs.declared.data.Kind.TheVariants as kinds
 use Rattle.xa_types.specs.declared.call.Ask.{Ask}
 use Rattle.xa_types.specs.declared.call.CallFlags.{CallFlags}
 use Rattle.xa_types.specs.declared.call.Direction.{Direction}
@@ -17,21 +12,13 @@ use Rattle.xa_script.specs.declared.flags.Flags.{Flags}
 use Rattle.xa_script.specs.declared.calls.Verb.{Verb}
 use Rattle.xa_script.specs.declared.calls.Verb.TheVariants as verbs
 use Rattle.xa_script.specs.Words.{◌>>=◌, word_at, next_word, is_blank, number_of, no_more}
-use Rattle.xa_buffer.specs.Contents.{shape_of}
 use Rattle.xa_script.specs.Payload.{payload_at, signed_of}
+pub use Rattle.xa_script.specs.Asked.{expect_of, kind_with, ask_with}
 
 -- ---- flags
 
 abbrev pub no_flags : CallFlags
 no_flags = record { no_block = false; no_time = false; no_reply = false; no_tran = false; sig_restart = false }
-
-abbrev pub shape_kind : ShapeSetup → Kind
-shape_kind shape = kinds.Struct shape.name
-
--- the kind of a TPNOCHANGE buffer: `octet`, or `c:` and a shape, which the setup may not have
-unfoldable pub expect_of : Setup → List ℕ → Option (Option Kind)
-expect_of setup word = if bytes_eq word (codes "octet") then Some (Some kinds.Octet)
-    else (if bytes_eq (take 2 word) (codes "c:") then Some (option_map shape_kind (shape_of setup.shapes (drop 2 word))) else None)
 
 -- one flag more, which doesn't stand already
 unfoldable pub flagged : CallFlags → List ℕ → Option CallFlags
@@ -89,17 +76,6 @@ direction_of word = if bytes_eq word (codes "send") then Some directions.SendOnl
     else None)))
 
 -- ---- calls
-
--- the kind of a buffer, if the setup takes it
-abbrev pub kind_with : Option (Option Kind) → Option (Option Kind)
-kind_with None = Some None
-kind_with (Some None) = None
-kind_with (Some (Some kind)) = Some (Some kind)
-
--- what is asked, if the setup takes each part
-abbrev pub ask_with : List ℕ → Option Data → Flags → Direction → Option Ask
-ask_with service None flags direction = None
-ask_with service (Some payload) flags direction = option_map (λ (kind : Option Kind). record { service = service; payload = payload; flags = flags.call; expect = kind; direction = direction }) (kind_with flags.expect)
 
 -- SERVICE DATA FLAGS
 unfoldable pub ask_of : Setup → Bool → List ℕ → Option (Option Ask)

@@ -1,8 +1,11 @@
-pub mod Words
+pub mod Parts
 pub mod Structures
-pub mod Payload
-pub mod Calls
+pub mod Sent
+pub mod Asked
 pub mod Served
 pub mod Script
 pub mod Readings
+pub mod Words
+pub mod Payload
+pub mod Calls
 pub mod Draft

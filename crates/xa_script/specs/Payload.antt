@@ -1,5 +1,5 @@
--- The data of a call, as a script writes it (this project's own). A setup may not take what is written: then there is none.
-use Rattle.std.specs.Prelude.{ℕ, zero, suc, ◌+◌, ◌-◌, ◌==◌, ◌&&◌, not, nat_lt, nat_le, ℤ, pos, negsuc, Bool, if◌then◌else◌, List, [], ◌∷◌, ◌++◌, length, take, drop, map, replicate, codes, Option, Some, None, option_map, is_some}
+-- How the code reads the data of a call. No public contract rests on these.
+use Rattle.std.specs.Prelude.{ℕ, zero, suc, ◌+◌, ◌==◌, Bool, if◌then◌else◌, List, [], ◌∷◌, ◌++◌, length, take, drop, replicate, codes, Option, Some, None, option_map, is_some}
 use Rattle.std.specs.List.{position}
 use Rattle.std.specs.Str.{bytes_eq}
 use Rattle.xa_types.specs.Configured.{is_among}
@@ -9,22 +9,9 @@ use Rattle.xa_types.specs.declared.data.Data.TheVariants.{Absent, Octet}
 use Rattle.xa_buffer.specs.declared.value.FieldValue.{FieldValue}
 use Rattle.xa_buffer.specs.declared.value.FieldValue.TheVariants.{Whole, Text}
 use Rattle.xa_script.specs.declared.structures.Field.{Field}
-use Rattle.xa_script.specs.Words.{◌>>=◌, skip_spaces, next_word, cut_word, word_at, name_of, is_quoted, quoted_at, decimal, is_decimal, number_of, hex_octet, hex_from}
+use Rattle.xa_script.specs.Words.{◌>>=◌, skip_spaces, next_word, cut_word, word_at, name_of, is_quoted, quoted_at, number_of, hex_octet, hex_from}
 use Rattle.xa_script.specs.Structures.{struct_of}
-
--- the number, if 64 bits hold it with its sign
-abbrev pub whole_of : ℕ → Option ℤ
-whole_of n = if nat_lt n 9223372036854775808 then Some (pos n) else None
-
--- that number below 0, which isn't 0
-abbrev pub below_of : ℕ → Option ℤ
-below_of n = if nat_le n 9223372036854775808 then Some (negsuc (n - 1)) else None
-
--- a number in decimal, with `-` where it is below 0
-unfoldable pub signed_of : List ℕ → Option (Option ℤ)
-signed_of [] = None
-signed_of (sign ∷ digits) = if sign == 45 then (if is_decimal digits && not (decimal digits == 0) then Some (below_of (decimal digits)) else None)
-    else (if is_decimal (sign ∷ digits) then Some (whole_of (decimal (sign ∷ digits))) else None)
+pub use Rattle.xa_script.specs.Sent.{whole_of, below_of, signed_of, given_names}
 
 abbrev pub text_value : List ℕ → Option FieldValue
 text_value text = Some (Text text)
@@ -48,9 +35,6 @@ field_at octets = do
   name ← name_of (take place (skip_spaces octets))
   value ← value_at (drop (place + 1) (skip_spaces octets))
   Some (record { name = name; value = value.0 }, value.1)
-
-abbrev pub given_names : List Field → List (List ℕ)
-given_names given = map (λ (field : Field). field.name) given
 
 -- one more field, which is not given already
 abbrev pub one_more : List Field → Field × List ℕ → Option (List Field × List ℕ)

@@ -1,27 +1,22 @@
 -- Data of X_C_TYPE: a zeroed buffer of its shape, in which each field that is given is put; how it lies there the buffer says (this project's own).
-use Rattle.std.specs.Prelude.{ℕ, List, [], ◌∷◌, Option, Some}
+use Rattle.std.specs.Prelude.{ℕ, if◌then◌else◌, List, [], ◌∷◌, Option, Some, None}
 use Rattle.std.specs.Result.{result_ok}
+use Rattle.xa_types.specs.Name.{is_name}
 use Rattle.xa_types.specs.declared.setup.Setup.{Setup}
 use Rattle.xa_types.specs.declared.data.Data.{Data}
 use Rattle.xa_types.specs.declared.data.Kind.TheVariants as kinds
 use Rattle.xa_buffer.specs.declared.buffer.Content.{Content}
-use Rattle.xa_buffer.specs.declared.refusal.BufferRefused.{BufferRefused}
-use Rattle.xa_buffer.specs.declared.refusal.BufferRefused.TheVariants.{NoEntry, BadSize, NoField, WrongKind, TooLong, WrongLength, NoMemory}
 use Rattle.xa_buffer.specs.Contents.{allocated, with_field, packed}
 use Rattle.xa_script.specs.declared.structures.Field.{Field}
-use Rattle.xa_script.specs.declared.words.ReadError.{ReadError}
-use Rattle.xa_script.specs.declared.words.ReadError.TheVariants as errors
-use Rattle.xa_script.specs.Words.{◌>>=◌, name_of}
 
--- why nothing is read where a buffer refuses
-abbrev pub reason_of : BufferRefused → ReadError
-reason_of NoEntry = errors.NoForm
-reason_of BadSize = errors.NoForm
-reason_of NoField = errors.NoForm
-reason_of WrongKind = errors.NoForm
-reason_of TooLong = errors.NoForm
-reason_of WrongLength = errors.NoForm
-reason_of NoMemory = errors.NoMemory
+-- the second of what the first gives, where both give something
+infixl 10 ◌>>=◌
+abbrev pub ◌>>=◌ : {A B : Type 0} → Option A → (A → Option B) → Option B
+(Some x) >>= f = f x
+None >>= f = None
+
+abbrev pub name_of : List ℕ → Option (List ℕ)
+name_of octets = if is_name octets then Some octets else None
 
 -- with a field that is given, where the shape has it and it takes its value
 abbrev pub with_given : Content → Field → Option Content

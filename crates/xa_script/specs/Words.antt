@@ -1,15 +1,13 @@
--- The parts of a line: words, quoted texts and numbers, each with the octets behind it (this project's own).
-use Rattle.std.specs.Prelude.{ℕ, ◌+◌, ◌-◌, ◌*◌, ◌≡◌, ◌==◌, ◌||◌, ◌&&◌, not, nat_le, Bool, true, false, if◌then◌else◌, List, [], ◌∷◌, ◌++◌, length, drop, Option, Some, None, Result, Ok, Err}
-use Rattle.std.specs.List.{before_first, position_or_len, list_all}
-use Rattle.xa_types.specs.Name.{is_name, is_digit}
+-- How the code reads the parts of a line, each with the octets behind it. No public contract rests on these.
+use Rattle.std.specs.Prelude.{ℕ, ◌+◌, ◌*◌, ◌≡◌, ◌==◌, ◌&&◌, Bool, true, false, if◌then◌else◌, List, [], ◌∷◌, ◌++◌, length, drop, Option, Some, None, Result, Ok, Err}
+use Rattle.std.specs.List.{before_first, position_or_len}
+pub use Rattle.xa_script.specs.Parts.{is_printed, is_space, is_end, is_marked, decimal_from, decimal, is_decimal, number_of, hex_digit}
+pub use Rattle.xa_script.specs.Structures.{◌>>=◌, name_of}
 use Rattle.xa_script.specs.declared.words.NoForm.{NoForm}
 use Rattle.xa_script.specs.declared.words.ReadError.{ReadError}
 use Rattle.xa_script.specs.declared.words.ReadError.TheVariants as errors
-
-infixl 10 ◌>>=◌
-abbrev pub ◌>>=◌ : {A B : Type 0} → Option A → (A → Option B) → Option B
-(Some x) >>= f = f x
-None >>= f = None
+use Rattle.xa_buffer.specs.declared.refusal.BufferRefused.{BufferRefused}
+use Rattle.xa_buffer.specs.declared.refusal.BufferRefused.TheVariants as refusals
 
 -- what a function returned, seen by view, is what the octets say
 abbrev pub Reads : {X Y : Type 0} → (X → Y) → Result X NoForm → Option Y → Type 0
@@ -25,11 +23,15 @@ abbrev pub Makes : {X Y : Type 0} → (X → Y) → Result X ReadError → Optio
 Makes view (Ok x) said = said ≡ Some (view x)
 Makes view (Err e) said = Fails e said
 
-abbrev pub is_printed : ℕ → Bool
-is_printed octet = nat_le 32 octet && nat_le octet 126
-
-abbrev pub is_space : ℕ → Bool
-is_space octet = octet == 32
+-- why nothing is read where a buffer refuses
+abbrev pub reason_of : BufferRefused → ReadError
+reason_of refusals.NoEntry = errors.NoForm
+reason_of refusals.BadSize = errors.NoForm
+reason_of refusals.NoField = errors.NoForm
+reason_of refusals.WrongKind = errors.NoForm
+reason_of refusals.TooLong = errors.NoForm
+reason_of refusals.WrongLength = errors.NoForm
+reason_of refusals.NoMemory = errors.NoMemory
 
 abbrev pub skip_spaces : List ℕ → List ℕ
 skip_spaces [] = []
@@ -43,11 +45,6 @@ abbrev pub is_skipped : List ℕ → Bool
 is_skipped [] = true
 is_skipped (octet ∷ rest) = if octet == 35 then true else is_blank (octet ∷ rest)
 
--- nothing follows, or a space
-abbrev pub is_end : List ℕ → Bool
-is_end [] = true
-is_end (octet ∷ rest) = octet == 32
-
 -- the octets before the first space, and those from it on
 unfoldable pub cut_word : List ℕ → List ℕ × List ℕ
 cut_word octets = (before_first is_space octets, drop (position_or_len is_space octets) octets)
@@ -59,17 +56,11 @@ next_word octets = cut_word (skip_spaces octets)
 unfoldable pub word_at : List ℕ → Option (List ℕ × List ℕ)
 word_at octets = if length (next_word octets).0 == 0 then None else Some (next_word octets)
 
-abbrev pub name_of : List ℕ → Option (List ℕ)
-name_of octets = if is_name octets then Some octets else None
-
 -- nothing more stands in the line
 abbrev pub no_more : {A : Type 0} → A → List ℕ → Option A
 no_more x octets = if is_blank octets then Some x else None
 
 -- ---- quoted texts
-
-abbrev pub is_marked : ℕ → Bool
-is_marked octet = octet == 34 || octet == 92
 
 -- an octet of a quoted text: a double quote and a backslash have a backslash before them
 abbrev pub next_octet : List ℕ → Option (ℕ × List ℕ)
@@ -101,28 +92,6 @@ unfoldable pub quoted_at : List ℕ → Option (List ℕ × List ℕ)
 quoted_at octets = if is_quoted octets then ended (text_in_front (drop 1 octets)).0 (text_in_front (drop 1 octets)).1 else None
 
 -- ---- numbers
-
--- the number that these digits go on
-abbrev pub decimal_from : ℕ → List ℕ → ℕ
-decimal_from n [] = n
-decimal_from n (digit ∷ digits) = decimal_from (n * 10 + (digit - 48)) digits
-
-abbrev pub decimal : List ℕ → ℕ
-decimal digits = decimal_from 0 digits
-
--- digits, of which the first is no zero but in `0`
-abbrev pub is_decimal : List ℕ → Bool
-is_decimal [] = false
-is_decimal (digit ∷ []) = is_digit digit
-is_decimal (digit ∷ other ∷ digits) = not (digit == 48) && list_all is_digit (digit ∷ other ∷ digits)
-
--- a number in decimal from the one to the other
-unfoldable pub number_of : ℕ → ℕ → List ℕ → Option ℕ
-number_of least most word = if is_decimal word && (nat_le least (decimal word) && nat_le (decimal word) most) then Some (decimal word) else None
-
--- the digits 0 to 9 and a to f
-abbrev pub hex_digit : ℕ → Option ℕ
-hex_digit octet = if is_digit octet then Some (octet - 48) else (if nat_le 97 octet && nat_le octet 102 then Some (octet - 87) else None)
 
 unfoldable pub hex_octet : ℕ → ℕ → Option ℕ
 hex_octet first second = do

@@ -4,8 +4,8 @@ ghost use Rattle.std.specs.Str.{bytes_eq};
 ghost use Rattle.xa_types.specs.Configured.{is_among};
 ghost use Rattle.xa_script.specs.Served.{is_served};
 ghost use Rattle.xa_script.specs.Words.{Reads};
-ghost use Rattle.xa_script.specs.Script.{cause_number, client_with, client_names, client_of, begun, with_client, called, with_line};
-ghost use Rattle.xa_script.specs.Draft.{kept};
+ghost use Rattle.xa_script.specs.Script.{client_names};
+ghost use Rattle.xa_script.specs.Draft.{cause_number, client_with, client_of, begun, with_client, called, with_line, kept};
 
 use crate::calls::{Verb, op_of, verb_of};
 use crate::script::{Client, Script};
@@ -66,7 +66,7 @@ fn is_served(op: &Op) -> bool
 }
 
 // The one word behind `client`.
-#[tactic(auto, unfolding(crate::specs::Script::client_of))]
+#[tactic(auto, unfolding(crate::specs::Draft::client_of))]
 fn client_of(octets: &[u8]) -> Result<&[u8], NoForm>
     ensures { Reads (λ x. x.now) result (client_of octets.now) }
 {
@@ -209,7 +209,7 @@ impl Draft {
     }
 
     /// Goes on with a line, where there may be so many clients; or why the line is refused.
-    #[tactic(auto, unfolding(crate::specs::Script::with_line))]
+    #[tactic(auto, unfolding(crate::specs::Draft::with_line))]
     pub fn take_line(
         &mut self,
         alloc: Global,

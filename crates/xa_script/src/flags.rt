@@ -22,7 +22,7 @@ fn no_flags() -> CallFlags
 }
 
 // A kind is `octet`, or `c:` and the name of a shape.
-#[tactic(auto, unfolding(crate::specs::Calls::expect_of))]
+#[tactic(auto, unfolding(crate::specs::Asked::expect_of))]
 fn expect_of(setup: &Shaped, word: &[u8]) -> Result<Option<Kind>, NoForm>
     ensures { Reads (λ x. x) result (expect_of setup.now word.now) }
 {

@@ -39,7 +39,7 @@ fn below_of(digits: &[u8]) -> Result<Option<i64>, NoForm>
 }
 
 // A number in decimal, with `-` where it is below 0, if 64 bits hold it with its sign.
-#[tactic(auto, unfolding(crate::specs::Payload::signed_of))]
+#[tactic(auto, unfolding(crate::specs::Sent::signed_of))]
 pub fn signed_of(word: &[u8]) -> Result<Option<i64>, NoForm>
     ensures { Reads (λ number. number) result (signed_of word.now) }
 {

@@ -2,9 +2,8 @@ ghost use Rattle.std.specs.Prelude.{◌≡◌, ◌∷◌, [], ◌<◌, ◌≤◌
 ghost use Rattle.std.specs.List.{position};
 ghost use Rattle.std.specs.Str.Lines.{lines, strip_carriage_return};
 ghost use Rattle.xa_types.specs.Configured.{is_configured};
-ghost use Rattle.xa_script.specs.Script.{IsScript};
+ghost use Rattle.xa_script.specs.Script.{IsScript, IsScriptOf};
 ghost use Rattle.xa_script.specs.Readings.{NamesFirstFault, OneScript, NoFaultyScript, OneFirstFault, SoundIsScript};
-ghost use Rattle.xa_script.specs.Script.{read_all};
 ghost use Rattle.xa_script.specs.Draft.{is_line_end};
 
 use crate::draft::Draft;
@@ -83,7 +82,7 @@ fn read_lines(
     most: u16,
 ) -> Result<Draft, ScriptRefused>
     requires { length octets.now < 2 ^ 32 }
-    ensures found { IfOk result (λ draft. read_all setup.now most [] (lines octets.now) ≡ Ok draft) }
+    ensures found { IfOk result (IsScriptOf setup.now most (lines octets.now)) }
     ensures refused { IfErr result (NamesFirstFault setup.now most octets.now) }
 {
     let mut draft = Draft::new(alloc);

@@ -22,7 +22,7 @@ pub struct Field {
 
 impl From<BufferRefused> for ReadError {
     ghost use Rattle.std.specs.Prelude.{◌≡◌};
-    ghost use Rattle.xa_script.specs.Structures.{reason_of};
+    ghost use Rattle.xa_script.specs.Words.{reason_of};
 
     ghost from_gives = { λ why e. e ≡ reason_of why };
 

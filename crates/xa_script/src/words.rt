@@ -284,7 +284,7 @@ pub fn decimal(digits: &[u8]) -> Option<u64>
 }
 
 /// A number in decimal from the one to the other.
-#[tactic(auto, unfolding(crate::specs::Words::number_of))]
+#[tactic(auto, unfolding(crate::specs::Parts::number_of))]
 pub fn number_of(least: u64, most: u64, word: &[u8]) -> Result<u64, NoForm>
     ensures number { Reads (λ n. n) result (number_of least most word.now) }
     ensures within { IfOk result (λ n. (least ≤ n) × (n ≤ most)) }
