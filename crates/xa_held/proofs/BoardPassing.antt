@@ -1,6 +1,6 @@
 -- What a pass knows of the board once it has left.
 use Rattle.std.proofs.Common.{◌≡◌, ◌<◌, ◌≤◌, ℕ, zero, suc, arith, inl, inr, List, [], ◌∷◌, ◌++◌, append_assoc, Result, Ok, Err, length, refl, sym, ap, ◌∙◌, subst}
-use Rattle.std.specs.Prelude.{◌⊎◌}
+use Rattle.std.specs.Prelude.{◌⊎◌, Bool}
 use Rattle.std.specs.List.{All}
 use Rattle.std.proofs.lemmas.List.Elements.{All-nil, All-cons, All-map, All-weaker}
 use Rattle.xa_types.specs.declared.ids.CallerId.{CallerId}
@@ -8,6 +8,7 @@ use Rattle.xa_types.specs.declared.ids.QueueId.{QueueId}
 use Rattle.xa_types.specs.declared.row.Row.{Row}
 use Rattle.xa_types.specs.declared.setup.Setup.{Setup}
 use Rattle.xa_types.specs.declared.stamp.Stamp.{Stamp}
+use Rattle.xa_types.specs.Found.{FoundRows}
 use Rattle.xa_lock.specs.declared.pass.Page.{Page}
 use Rattle.xa_lock.specs.Pages.{StartsWith, GrewBy, Knows, page_seeing, page_leaving}
 use Rattle.xa_board.specs.declared.board.Changed.{Changed}
@@ -19,11 +20,12 @@ use Rattle.xa_lock.specs.Makers.{noted_in}
 use Rattle.xa_held.specs.declared.kept_board.BoardNote.{BoardNote}
 use Rattle.xa_held.specs.declared.kept_board.BoardNote.TheVariants.{Opened, By, Looked}
 use Rattle.xa_held.specs.declared.kept_board.Clearing.{Clearing}
+use Rattle.xa_held.specs.declared.kept_board.Look.{Look}
 use Rattle.xa_held.specs.declared.kept_board.Clearing.TheVariants.{Withdrew, Clear}
 use Rattle.xa_held.specs.Board.{Held, IsSoundBoard, Turns, maker_of, made_in, top}
 use Rattle.xa_held.specs.Joins.{changes_at}
 use Rattle.xa_held.proofs.Climbing.{below, topped}
-use Rattle.xa_held.specs.BoardSteps.{AdvertisedAs, WithdrewAs, ClearedAs}
+use Rattle.xa_held.specs.BoardSteps.{AdvertisedAs, WithdrewAs, ClearedAs, LookedUpAs}
 use Rattle.xa_held.specs.BoardVisits.{SeesBoard, BoardVisits, HasStampIn, ReachesBoard}
 use Rattle.xa_held.proofs.Pages.{grown_by, same_maker, own_more}
 
@@ -111,6 +113,9 @@ module _ (p q : Page BoardNote) (old new : Held) (found : q ≡ page_seeing p ol
     clear_visits seen maker queue (Ok (Clear look)) t = visits _ _ t
     clear_visits seen maker queue (Err why) t = visits _ _ t
 
+    pub look_visits : (maker : CallerId) (service : List ℕ) (conversational : Bool) (found : FoundRows) (look : Look) → LookedUpAs (Turns old new) maker service conversational found look → LookedUpAs (BoardVisits p q') maker service conversational found look
+    look_visits maker service conversational found look t = visits _ _ t
+
   -- whose entries these are
   module _ (seen : Stamp) (maker : CallerId) (ours : p.maker ≡ maker.0) where
     abbrev Its : BoardNote → Type 0
@@ -131,3 +136,6 @@ module _ (p q : Page BoardNote) (old new : Held) (found : q ≡ page_seeing p ol
     clear_grown queue (Ok (Withdrew noted)) t = grown _ _ (mine _ refl) t
     clear_grown queue (Ok (Clear look)) t = grown _ _ (mine _ (ap (λ (m : CallerId). m.0) t.how.0.its)) t
     clear_grown queue (Err why) t = grown _ _ (All-nil Its) t
+
+    pub look_grown : (service : List ℕ) (conversational : Bool) (found : FoundRows) (look : Look) → LookedUpAs (Turns old new) maker service conversational found look → GrewBy maker_of q.maker q.seen new.notes
+    look_grown service conversational found look t = grown _ _ (mine _ (ap (λ (m : CallerId). m.0) t.how.0.its)) t

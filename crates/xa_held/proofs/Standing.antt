@@ -293,10 +293,10 @@ module _ {p p' : Page BoardNote} {name : List ℕ} {wanted : Bool} {found : Foun
   found_seen = looks.how.1 ∙ ap (λ (h : Held). version_of h.board) (sym looks.how.0) ∙ ap (λ (l : List Stamped). published (past_in l)) (sym changes_are)
 
   -- and where it has a change its stamp is below any that is behind all that was seen
-  pub found_later : (last stamp : Stamp) → ReachesBoard p' last → last.0 < stamp.0 → 0 < found.version → found.stamp.0 < stamp.0
-  found_later last stamp reaches less more =
+  pub found_later : (last stamp : Stamp) → All (λ (x : Stamped). x.stamp.0 ≤ last.0) (changes_at p'.seen) → last.0 < stamp.0 → 0 < found.version → found.stamp.0 < stamp.0
+  found_later last stamp reached less more =
       let count : found.version ≡ length (changes_at p'.seen) = found_seen ∙ ap (λ (l : List Stamped). published (past_in l)) changes_are ∙ looks.reads.changes ∙ ap length (sym changes_are) in
       let first : Stamp = looks.new.board.first in
       let is_last = looks.how.2.stamp ∙ ap (λ (h : Held). stamp_of h.board) (sym looks.how.0) ∙ ap (last_stamp first) (sym changes_are) in
-      let low = last_low first (changes_at p'.seen) last.0 reaches.each (omega (arith, count, more)) in
+      let low = last_low first (changes_at p'.seen) last.0 reached (omega (arith, count, more)) in
       omega (arith, less, is_last, low)

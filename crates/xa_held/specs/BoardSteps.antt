@@ -1,9 +1,10 @@
 -- What a call of the board under a lock answers, by how the board changes: at the board itself, or for a worker's pass (this project's own).
-use Rattle.std.specs.Prelude.{◌≡◌, ◌⊎◌, ℕ, ◌+◌, ◌≤◌, ◌^◌, List, [], ◌∷◌, ◌++◌, Option, Some, None, Result, Ok, Err, slice_get}
+use Rattle.std.specs.Prelude.{◌≡◌, ◌⊎◌, ℕ, ◌+◌, ◌≤◌, ◌^◌, Bool, List, [], ◌∷◌, ◌++◌, Option, Some, None, Result, Ok, Err, slice_get}
 use Rattle.xa_types.specs.declared.ids.CallerId.{CallerId}
 use Rattle.xa_types.specs.declared.ids.QueueId.{QueueId}
 use Rattle.xa_types.specs.declared.row.Row.{Row}
 use Rattle.xa_types.specs.declared.stamp.Stamp.{Stamp}
+use Rattle.xa_types.specs.Found.{FoundRows}
 use Rattle.xa_events.specs.declared.event.Event.{Event}
 use Rattle.xa_events.specs.declared.event.Event.TheVariants.{Advertise, Withdraw}
 use Rattle.xa_stamp.specs.declared.told.Noted.{Noted}
@@ -11,6 +12,7 @@ use Rattle.xa_board.specs.declared.board.Changed.{Changed}
 use Rattle.xa_board.specs.declared.board.BoardRefused.{BoardRefused}
 use Rattle.xa_board.specs.declared.board.BoardRefused.TheVariants.{NoMemory}
 use Rattle.xa_board.specs.Board.{version_of}
+use Rattle.xa_board.specs.Reader.{Finds}
 use Rattle.xa_board.specs.Changes.{next_change, changed, without, rows_on, advertise_refused, withdraw_refused}
 use Rattle.xa_held.specs.declared.kept_board.BoardNote.{BoardNote}
 use Rattle.xa_held.specs.declared.kept_board.BoardNote.TheVariants.{By, Looked}
@@ -30,7 +32,7 @@ pub record Makes (seen : Stamp) (version : ℕ) (noted : Noted) (event : Event) 
   pub board : new.board ≡ changed old.board noted.stamp event rows
   pub last : new.last ≡ noted.stamp
 
--- that maker looked at the board, and had seen that stamp
+-- that maker looked at the board, and had seen that stamp, behind which all later changes are
 pub record IsLook (seen : Stamp) (maker : CallerId) (look : Look) (old : Held) : Type 0 where
   pub its : look.maker ≡ maker
   pub before : look.before ≡ old.last
@@ -62,3 +64,7 @@ module _ (Change : List BoardNote → (Held → Held → Type 0) → Type 0) whe
       × Makes seen (version_of old.board + 1) noted (withdrawal (record { 0 = 0 }) 0 row.service queue (version_of old.board + 1)) (without row.service queue.0 old.board.rows) old new)
   ClearedAs seen maker queue (Ok (Clear look)) = Change (Looked look ∷ []) (λ old new. IsLook seen maker look old × (rows_on queue.0 old.board.rows ≡ []) × (new.board ≡ old.board) × (new.last ≡ look.stamp))
   ClearedAs seen maker queue (Err why) = Change [] (λ old new. (new ≡ old) × (row : Row) × (slice_get (rows_on queue.0 old.board.rows) 0 ≡ Some row) × ((withdraw_refused (raised_by seen old) row.service queue.0 old.board ≡ Some why) ⊎ (why ≡ NoMemory)))
+
+  -- the service was looked up, which left that look, raised no stamp and changed nothing else
+  abbrev pub LookedUpAs : CallerId → List ℕ → Bool → FoundRows → Look → Type 0
+  LookedUpAs maker service conversational found look = Change (Looked look ∷ []) (λ old new. IsLook (record { 0 = 0 }) maker look old × (new.board ≡ old.board) × (new.last ≡ old.last) × Finds old.board service conversational found)

@@ -1,14 +1,12 @@
 // One step at the locked board, with a worker's pass.
-ghost use Rattle.std.specs.Prelude.{◌≡◌, ◌≤◌, ◌^◌, [], max};
+ghost use Rattle.std.specs.Prelude.{◌≡◌, ◌≤◌, ◌^◌, max};
 ghost use Rattle.xa_lock.specs.Known.{known, IsPassOf};
 ghost use Rattle.xa_types.specs.declared.setup.Setup.{Setup};
-ghost use Rattle.xa_board.specs.Board.{version_of};
-ghost use Rattle.xa_board.specs.Reader.{Finds};
 ghost use Rattle.xa_held.specs.Board.{IsPlaced};
-ghost use Rattle.xa_held.specs.BoardSteps.{AdvertisedAs, WithdrewAs, ClearedAs};
+ghost use Rattle.xa_held.specs.BoardSteps.{AdvertisedAs, WithdrewAs, ClearedAs, LookedUpAs};
 ghost use Rattle.xa_held.specs.BoardVisits.{SeesBoard, BoardVisits, ReachesBoard};
 
-use crate::kept_board::{BoardNote, Clearing, KeptBoard};
+use crate::kept_board::{BoardNote, Clearing, KeptBoard, Look};
 use std::sync::Wait;
 use xa_board::{BoardRefused, Changed, Reader};
 use xa_lock::{Guarded, LockPass};
@@ -111,23 +109,27 @@ pub fn clear_at<W: Wait>(
     }
 }
 
-/// Looks a service up at the locked board: the reader finds its rows, and the version is answered.
+/// Looks a service up at the locked board, in the work of that maker: the reader finds its rows, and the look that stands
+/// there now is answered.
 pub fn look_up_at<W: Wait>(
     rt: &W,
     board: &Guarded<KeptBoard>,
     pass: LockPass<BoardNote>,
+    maker: CallerId,
     reader: &mut Reader,
     name: &Name,
     conversational: bool,
-) -> AtBoard<u64>
+) -> AtBoard<Look>
     requires lock { IsPassOf board.now pass }
+    requires maker { (known pass).maker ≡ maker.0 }
     ensures lock { IsPassOf board.now result.pass }
     ensures reached { ReachesBoard (known result.pass) result.last }
-    ensures found { BoardVisits (known pass) (known result.pass) [] (λ old new. (new ≡ old) × (result.answer ≡ version_of old.board) × Finds old.board name.now conversational reader.new.found) }
-    ensures least { reader.new.least ≡ max reader.old.least result.answer }
+    ensures found { LookedUpAs (BoardVisits (known pass) (known result.pass)) maker name.now conversational reader.new.found result.answer }
+    ensures least { reader.new.least ≡ max reader.old.least reader.new.found.version }
 {
-    let held = board.enter(rt, pass);
-    let answer = held.get().lookup(reader, name, conversational);
+    let mut held = board.enter(rt, pass);
+    let _found = held.get().version();
+    let answer = held.value().lookup(maker, reader, name, conversational);
     let last = held.get().stamp();
     AtBoard {
         pass: board.leave(held),

@@ -1,10 +1,9 @@
 // The board as a lock guards it.
 ghost use Rattle.std.specs.Prelude.{◌≡◌, ◌^◌, ◌<◌, ◌≤◌, ◌∷◌, [], max};
 ghost use Rattle.xa_board.specs.Board.{ReadsAsNoted, version_of};
-ghost use Rattle.xa_board.specs.Reader.{Finds};
 ghost use Rattle.xa_held.specs.declared.kept_board.BoardNote.TheVariants.{Opened};
 ghost use Rattle.xa_held.specs.Board.{IsPlaced, IsSoundBoard, Turns};
-ghost use Rattle.xa_held.specs.BoardSteps.{AdvertisedAs, WithdrewAs, ClearedAs};
+ghost use Rattle.xa_held.specs.BoardSteps.{AdvertisedAs, WithdrewAs, ClearedAs, LookedUpAs};
 
 use http_server::Log;
 use std::marker::Model;
@@ -15,7 +14,8 @@ use xa_lock::{Chronicle, Made};
 use xa_stamp::{Home, Noted};
 use xa_types::{CallerId, Name, QueueId, Row, Setup, Stamp};
 
-/// A worker that found no row of a queue on the board, the stamp that all later changes are behind, and the last one before.
+/// A worker that looked a service up, or found no row of a queue on the board, the stamp that all later changes are behind,
+/// and the last one before.
 #[derive(Clone, Copy)]
 pub struct Look {
     pub maker: CallerId,
@@ -31,7 +31,7 @@ pub enum BoardNote {
     Looked(Look),
 }
 
-// What a change or a look is kept as, beside the event: of a look that of the queue that goes down.
+// What a change or a look is kept as, beside the event: of a look that of the queue that goes down, or of queue 0.
 #[derive(Clone, Copy)]
 pub(crate) enum Mark {
     Changed(CallerId, Stamp),
@@ -171,13 +171,25 @@ impl KeptBoard {
         Ok(Clearing::Withdrew(changed.noted))
     }
 
-    /// Looks a service up, as the board does.
-    pub fn lookup(&self, reader: &mut Reader, name: &Name, conversational: bool) -> u64
-        ensures value { result ≡ version_of self.now.board }
-        ensures found { Finds self.now.board name.now conversational reader.new.found }
-        ensures least { reader.new.least ≡ max reader.old.least result }
+    /// Looks a service up, as the board does, in the work of that maker. That leaves a look, which raises no stamp.
+    pub fn lookup(
+        &mut self,
+        maker: CallerId,
+        reader: &mut Reader,
+        name: &Name,
+        conversational: bool,
+    ) -> Look
+        ensures found { LookedUpAs (Turns self.old self.new) maker name.now conversational reader.new.found result }
+        ensures least { reader.new.least ≡ max reader.old.least reader.new.found.version }
     {
-        self.board.lookup(reader, name, conversational)
+        let _version = self.board.lookup(reader, name, conversational);
+        let look = Look {
+            maker,
+            stamp: self.last,
+            before: self.last,
+        };
+        self.notes = self.notes.and(&Mark::Looked(look), &down_of(QueueId(0)));
+        look
     }
 
     /// The number of its changes.
