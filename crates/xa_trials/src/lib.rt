@@ -9,6 +9,8 @@ mod commands;
 #[cfg(test)]
 mod configurations;
 #[cfg(test)]
+mod ends;
+#[cfg(test)]
 mod forwards;
 #[cfg(test)]
 mod gated;

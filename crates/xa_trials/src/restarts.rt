@@ -246,12 +246,23 @@ fn is_served<R: Runtime, G: Gate>(
     }
 }
 
-/// Whether the run of a row goes so.
-pub fn serves<R: Runtime>(rt: &R, (config, script, lives, wrote, noted): Row) -> bool {
+/// Whether a script by that configuration, with a server of these lives, writes one of these and notes that of the server.
+pub fn serves_one_of<R: Runtime>(
+    rt: &R,
+    read: (&[u8], &[u8]),
+    lives: &[Option<Life<'_>>],
+    wrote: &[&[u8]],
+    noted: &[Noted],
+) -> bool {
     match lives_of(rt.alloc(), lives) {
-        Some(mut yard) => is_served(rt, &mut yard, &OpenGate, (config, script), &[wrote], noted),
+        Some(mut yard) => is_served(rt, &mut yard, &OpenGate, read, wrote, noted),
         None => false,
     }
+}
+
+/// Whether the run of a row goes so.
+pub fn serves<R: Runtime>(rt: &R, (config, script, lives, wrote, noted): Row) -> bool {
+    serves_one_of(rt, (config, script), lives, &[wrote], noted)
 }
 
 fn first_not_served<R: Runtime>(rt: &R) -> Option<usize> {

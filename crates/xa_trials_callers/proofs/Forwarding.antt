@@ -41,8 +41,7 @@ use Rattle.xa_server.specs.Forwarding.{Fails, ForwardsAs, LeftBy, IsOnWay, AimsO
 use Rattle.xa_server.specs.Slot.{Stands}
 use Rattle.xa_server.proofs.Beginning.{new_stands}
 use Rattle.xa_server.proofs.Reading.{IsServers, stand-more}
-use Rattle.xa_trials_callers.specs.Forwards.{IsBetween, Holds, IsOut, IsSettled, IsOver, LeavesOut, AreFor}
-use Rattle.xa_trials_callers.specs.Servers.{IsClosed, ticket_in}
+use Rattle.xa_trials_callers.specs.Forwards.{IsBetween, Holds, IsOut, IsSettled, IsOver, LeavesOut, AreFor, IsClosed, ticket_in}
 use Rattle.xa_trials_callers.proofs.Serving.{busy_dies, finish_closed, death_closed}
 
 -- ---- a server that was never started

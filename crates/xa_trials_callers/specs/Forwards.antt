@@ -1,5 +1,5 @@
 -- A server that forwards its request: with a life that waits for one, with one in hand, with one that is out, and behind it.
-use Rattle.std.specs.Prelude.{◌≡◌, ◌⊎◌, ℕ, ◌≤◌, true, List, None, IfSome}
+use Rattle.std.specs.Prelude.{◌≡◌, ◌⊎◌, ℕ, ◌≤◌, true, List, [], ◌∷◌, Option, Some, None, IfSome}
 use Rattle.xa_types.specs.declared.setup.Setup.{Setup}
 use Rattle.xa_types.specs.Found.{FoundRows}
 use Rattle.xa_types.specs.Name.{is_name}
@@ -9,7 +9,10 @@ use Rattle.xa_stamp.specs.Home.{last_stamp}
 use Rattle.xa_crew.specs.Crew.{no_stamp}
 use Rattle.xa_queue.specs.declared.entry.Entry.{Entry}
 use Rattle.xa_cell.specs.declared.cells.Cells.{Cells}
-use Rattle.xa_cell.specs.Known.{IsSeatOf, IsTicketOf}
+use Rattle.xa_cell.specs.declared.tokens.Seat.{Seat}
+use Rattle.xa_cell.specs.declared.tokens.Ticket.{Ticket}
+use Rattle.xa_cell.specs.Known.{known, IsSeatOf, IsTicketOf}
+use Rattle.xa_cell.specs.Places.{OpenAre}
 use Rattle.xa_caller.specs.declared.cargo.Filling.{Filling}
 use Rattle.xa_caller.specs.declared.phase.Phase.TheVariants.{Idle}
 use Rattle.xa_caller.specs.Caller.{Standing as Calling, AreRowsOf}
@@ -72,3 +75,18 @@ pub record AreFor (setup : Setup) (named : List ℕ) (found : FoundRows) : Type 
   pub service : List ℕ
   pub rows : AreRowsOf setup service found.rows
   pub same : is_name named ≡ true → service ≡ named
+
+-- ---- its caller
+
+-- one place of the seat is open, at that cell
+abbrev pub IsWaiting : ℕ → Seat Filling → Type 0
+IsWaiting cell seat = OpenAre ((cell, record { caller = record { 0 = 1 }; number = 1 }) ∷ []) (known seat)
+
+abbrev pub ticket_in : Option (Entry Cargo) → Option (Ticket Filling)
+ticket_in None = None
+ticket_in (Some entry) = Some entry.cargo.ticket
+
+-- it closes the request that was in hand, no later than the caller's last event
+pub record IsClosed (hand : Option (Entry Cargo)) (closing : Closing) (c : Calling) : Type 0 where
+  pub ticket : closing.ticket ≡ ticket_in hand
+  pub later : closing.stamp.0 ≤ last_stamp no_stamp c.work.own

@@ -5,7 +5,7 @@ ghost use Rattle.xa_stamp.specs.Home.{last_stamp};
 ghost use Rattle.xa_crew.specs.Crew.{no_stamp};
 ghost use Rattle.xa_cell.specs.Known.{known, callers_of, IsNew, IsSeatOf, IsTicketOf};
 ghost use Rattle.xa_cell.specs.Places.{IsShut};
-ghost use Rattle.xa_trials_callers.specs.Servers.{IsWaiting};
+ghost use Rattle.xa_trials_callers.specs.Forwards.{IsWaiting};
 
 use crate::clients::{end_seats, next_seat};
 use std::alloc::Global;

@@ -1,6 +1,6 @@
-//! A server that forwards its request: on which queue that goes on, and what waits for it there, and how it ends where it
-//! doesn't go on.
-ghost use Rattle.std.specs.Prelude.{◌≡◌, ℕ, true, List, None, IfSome};
+//! A server with a request in hand: where that is forwarded, on which queue it goes on, and what waits for it there, and
+//! how it ends where it doesn't go on; and that its caller is told of a halt.
+ghost use Rattle.std.specs.Prelude.{◌≡◌, ◌<◌, ◌≤◌, ◌^◌, ℕ, true, List, None, IfSome};
 ghost use Rattle.xa_types.specs.Configured.{is_configured};
 ghost use Rattle.xa_cell.specs.Known.{known, IsNew, IsSeatOf, IsTicketOf};
 ghost use Rattle.xa_cell.specs.Places.{IsShut};
@@ -15,9 +15,9 @@ use crate::callers::{
 use crate::clients::{Queues, State, VERSION, found_of};
 use crate::memory::setup_of;
 use crate::rows::none_fails;
-use crate::servers::{next_stamp, seen};
 use std::alloc::Global;
 use std::process::Abort;
+use std::snapshot::Snapshot;
 use xa_buffer::Shapes;
 use xa_caller::{Aimed, Caller, Cargo, Filling, Left};
 use xa_cell::{Cells, Seat};
@@ -95,6 +95,27 @@ static ROWS: [Row; 18] = [
     (0, OWN, b"ECHO", A, FULL_HALTS, End::Starved),
     (5, MORE, b"PAIR", PAIR, &[(2, State::Halts)], End::Starved),
 ];
+
+// The next stamp of the caller, at another home.
+fn next_stamp<R: Abort>(rt: &R, caller: &Caller) -> Stamp
+    ensures later { caller.now.work.stamp.0 < result.0 }
+    ensures bound { result.0 ≤ 2 ^ 63 }
+{
+    let last = caller.stamp();
+    if last == Stamp::LAST {
+        panic!(rt; "worn")
+    }
+    Stamp(last.0 + 1)
+}
+
+// That event, of which nothing but what contracts see stays.
+fn seen(event: Event) -> Snapshot<Event>
+    ensures { result.value ≡ event }
+{
+    let seen = Snapshot::of(&event);
+    drop(event);
+    seen
+}
 
 // A server and its caller.
 struct Worker {
@@ -519,7 +540,52 @@ fn first_not_so<R: Abort>(rt: &R, alloc: Global, rows: &[Row]) -> Option<usize> 
     None
 }
 
+// Whether the caller of a request that the server has in hand is told that the run halts.
+fn is_let_go<R: Abort>(
+    rt: &R,
+    setup: &Setup,
+    cells: &Cells<Filling>,
+    worker: &mut Worker,
+    seat: &mut Seat<Filling>,
+) -> bool
+    requires waits { Waits setup.now cells.now worker.old.slot worker.old.caller }
+    requires table { IsSeatOf cells.now seat.old }
+    requires shut { IsShut seat.old }
+    ensures free { worker.new.slot.hand ≡ None }
+    ensures idle { worker.new.caller.phase ≡ phases.Idle }
+    ensures table { IsSeatOf cells.now worker.new.caller.seat × IsSeatOf cells.now seat.new }
+    ensures shut { IsShut seat.new }
+{
+    let (place, entry) = ask(rt, cells, seat);
+    take(rt, setup, cells, worker, entry);
+    let Some(closing) = worker.slot.give_up() else {
+        panic!(rt; "nothing in hand")
+    };
+    tell(&mut worker.caller, cells, seat, place, closing) == Told::Halted
+}
+
 #[test]
 fn a_request_is_forwarded_or_ends(rt: HostRuntime) {
     none_fails(&rt, first_not_so(&rt, rt.alloc(), &ROWS));
+}
+
+#[test]
+fn a_halt_tells_the_caller_of_a_request_in_hand(rt: HostRuntime) {
+    let alloc = rt.alloc();
+    let Some(setup) = setup_of(alloc, SETUP) else {
+        panic!(rt; "no setup")
+    };
+    let (cells, mut seat, own) = open_cells(&rt, alloc);
+    let mut worker = worker_of(&rt, alloc, &setup, &cells, own);
+    let right = is_let_go(&rt, &setup, &cells, &mut worker, &mut seat);
+    let Worker { slot, caller } = worker;
+    slot.end();
+    let Left {
+        work,
+        seat: own,
+        halt: _,
+    } = caller.leave();
+    drop(work);
+    close_cells(&rt, alloc, cells, seat, own);
+    assert!(rt; right);
 }

@@ -16,5 +16,3 @@ mod memory;
 mod restarts;
 #[cfg(test)]
 mod rows;
-#[cfg(test)]
-mod servers;

@@ -8,7 +8,7 @@ use xa_restart::Lives;
 // RESTART, MAXGEN and GRACE; and ticks, each with whether the server may be started then. Where it may, it is.
 type Row = (bool, u8, u32, &'static [(u64, bool)]);
 
-static ROWS: [Row; 9] = [
+static ROWS: [Row; 19] = [
     (true, 2, 10, &[(0, true), (5, true), (9, false)]),
     (
         true,
@@ -64,6 +64,36 @@ static ROWS: [Row; 9] = [
         u32::MAX,
         &[(1, true), (4_294_967_295, false), (4_294_967_296, true)],
     ),
+    // Servers that start again behind lives of several kinds.
+    (
+        true,
+        7,
+        10,
+        &[
+            (0, true),
+            (0, true),
+            (0, true),
+            (1, true),
+            (2, true),
+            (3, true),
+            (4, true),
+            (9, false),
+        ],
+    ),
+    (true, 2, 10, &[(0, true), (0, true), (9, false)]),
+    (true, 2, 10, &[(0, true), (0, true), (10, true), (10, true)]),
+    (
+        true,
+        2,
+        10,
+        &[(0, true), (9, true), (10, true), (18, false)],
+    ),
+    (true, 2, 10, &[(0, true), (9, true), (10, true), (19, true)]),
+    (true, 1, 3, &[(7, true), (10, true), (13, true), (16, true)]),
+    (true, 3, 10, &[(0, true), (0, true), (0, true), (9, false)]),
+    (false, 9, 10, &[(0, true), (99, false)]),
+    (false, 9, 10, &[(0, true)]),
+    (true, 1, 10, &[(5, true)]),
 ];
 
 // Whether the server may be started at these ticks so.

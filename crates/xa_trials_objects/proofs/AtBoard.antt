@@ -1,5 +1,5 @@
 -- What a worker at the locked board knows: at first, and behind each step.
-use Rattle.std.proofs.Common.{◌≡◌, ℕ, ◌+◌, ◌<◌, List, [], ◌∷◌, length, Option, Some, None, Result, Ok, Err, refl, sym, ap, ◌∙◌, subst}
+use Rattle.std.proofs.Common.{◌≡◌, ℕ, ◌+◌, ◌<◌, Bool, List, [], ◌∷◌, length, Option, Some, None, Result, Ok, Err, refl, sym, ap, ◌∙◌, subst}
 use Rattle.xa_types.specs.declared.ids.CallerId.{CallerId}
 use Rattle.xa_types.specs.declared.ids.QueueId.{QueueId}
 use Rattle.xa_types.specs.declared.row.Row.{Row}
@@ -8,6 +8,7 @@ use Rattle.xa_types.specs.declared.setup.Setup.{Setup}
 use Rattle.xa_types.specs.declared.stamp.Stamp.{Stamp}
 use Rattle.xa_types.specs.Rows.{row_with, row_for}
 use Rattle.xa_types.specs.Setup.{service_named}
+use Rattle.xa_types.specs.Found.{FoundRows}
 use Rattle.xa_lock.specs.declared.guarded.Guarded.{Guarded}
 use Rattle.xa_lock.specs.declared.pass.LockPass.{LockPass}
 use Rattle.xa_lock.specs.Known.{known, IsPassOf}
@@ -16,10 +17,11 @@ use Rattle.xa_board.specs.declared.board.Changed.{Changed}
 use Rattle.xa_board.specs.declared.board.BoardRefused.{BoardRefused}
 use Rattle.xa_held.specs.declared.kept_board.BoardNote.{BoardNote}
 use Rattle.xa_held.specs.declared.kept_board.BoardNote.TheVariants.{Opened}
+use Rattle.xa_held.specs.declared.kept_board.Look.{Look}
 use Rattle.xa_held.specs.declared.kept_board.Clearing.{Clearing}
 use Rattle.xa_held.specs.declared.kept_board.Clearing.TheVariants.{Withdrew, Clear}
 use Rattle.xa_held.specs.Board.{Held, IsPlaced}
-use Rattle.xa_held.specs.BoardSteps.{AdvertisedAs, WithdrewAs, ClearedAs}
+use Rattle.xa_held.specs.BoardSteps.{AdvertisedAs, WithdrewAs, ClearedAs, LookedUpAs}
 use Rattle.xa_held.specs.BoardVisits.{BoardVisits}
 use Rattle.xa_trials_objects.specs.Held.{IsOwn}
 
@@ -57,3 +59,6 @@ module _ (board : Guarded Held BoardNote) (setup : Setup) where
       cleared queue (Ok (Withdrew noted)) v = goes_on v
       cleared queue (Ok (Clear stamp)) v = goes_on v
       cleared queue (Err why) v = goes_on v
+
+    pub looked_up : (maker : CallerId) (service : List ℕ) (conversational : Bool) (found : FoundRows) (look : Look) → LookedUpAs (BoardVisits (known pass) (known left)) maker service conversational found look → IsOwn board setup left
+    looked_up maker service conversational found look v = goes_on v

@@ -163,9 +163,14 @@ fn is_told<R: Wait>(
             (pass, is_cleared(answer, told) && last.0 == want)
         }
         Ask::Find => {
-            let at = look_up_at(rt, board, pass, reader, &service, false);
-            let AtBoard { pass, last, answer } = at;
-            let right = has_found(answer, &reader.found().rows, told);
+            let at = look_up_at(rt, board, pass, maker, reader, &service, false);
+            let AtBoard {
+                pass,
+                last,
+                answer: _,
+            } = at;
+            let found = reader.found();
+            let right = has_found(found.version, &found.rows, told);
             (pass, right && last.0 == want)
         }
     }

@@ -1,6 +1,6 @@
 use Rattle.std.proofs.Common.{◌≡◌}
 use Rattle.xa_lock.specs.Known.{known, IsPassOf}
-use Rattle.xa_enters.proofs.threads.work.Given as goal
+use Rattle.xa_trials_objects.proofs.locks.work.Given as goal
 
 -- the pass in hand
 abbrev pub invariant-loop : goal.invariant-loop

@@ -1,7 +1,7 @@
 use Rattle.std.proofs.Common.{◌≡◌, ◌+◌, ◌≤◌, length, vec_len, vec_capacity, IsSomeAnd}
 use Rattle.std.specs.List.{All}
 use Rattle.xa_lock.specs.Known.{IsPassOf}
-use Rattle.xa_enters.proofs.threads.passes_in.Given as goal
+use Rattle.xa_trials_objects.proofs.locks.passes_in.Given as goal
 
 -- the passes so far, and the places that are left
 abbrev pub invariant-loop-place : goal.invariant-loop-place
