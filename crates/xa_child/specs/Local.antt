@@ -1,13 +1,15 @@
 -- What the link of a program in memory tells.
 use Rattle.std.specs.Prelude.{ℕ, ◌≤◌, List, length}
 use Rattle.xa_types.specs.declared.ids.Generation.{Generation}
+use Rattle.xa_link.specs.declared.link.Fate.{Fate}
 use Rattle.xa_child.specs.LocalHolds.{Holds}
 use Rattle.xa_child.specs.declared.local.LocalLink.TheInside.{Inside}
 
--- its server's name, its generation, the octets that went to it, those that came from it and those that are still to come, and how often a write failed
+-- its server's name, its generation, what became of it, the octets that went to it, those that came from it and those that are still to come, and how often a write failed
 pub record LocalTold : Type 0 where
   pub name : List ℕ
   pub generation : Generation
+  pub fate : Fate
   pub took : List ℕ
   pub gave : List ℕ
   pub left : List ℕ

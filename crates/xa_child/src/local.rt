@@ -3,6 +3,7 @@ ghost use Rattle.std.specs.Prelude.{◌≡◌, ◌≤◌, ◌<◌, ◌-◌, ◌+
 ghost use Rattle.xa_child.specs.Child.{greeting};
 ghost use Rattle.xa_frame.specs.Spelling.{all_spelled};
 ghost use Rattle.xa_frame.specs.Stream.{IsPartial};
+ghost use Rattle.xa_link.specs.declared.link.Fate.TheVariants.{Running};
 ghost use Rattle.xa_link.specs.Told.{Rose};
 ghost use Rattle.xa_child.specs.LocalHolds.{Holds, Says};
 
@@ -12,7 +13,7 @@ use crate::working::behind;
 use std::alloc::Global;
 use std::marker::Model;
 use xa_frame::{Frame, Reader};
-use xa_link::{Closed, Failed, Link, Sink, Source, StartRefused, Starter, Yard};
+use xa_link::{Closed, Failed, Fate, Link, Sink, Source, StartRefused, Starter, Yard};
 use xa_types::{Generation, Name, NoMemory, ServerSetup, Setup};
 
 /// How many octets a write takes at most.
@@ -25,6 +26,7 @@ const PIECE: usize = 8192;
 pub struct LocalLink {
     name: Name,
     generation: Generation,
+    fate: Fate,
     serving: Serving,
     takes: bool,
     taken: Vec<u8>,
@@ -39,7 +41,7 @@ impl Model for LocalLink {
 
     ghost Value = { LocalTold };
 
-    ghost view = { λ l. record { name = l.name; generation = l.generation; took = l.taken.items; gave = take l.at l.given.items; left = drop l.at l.given.items; faults = l.faults } };
+    ghost view = { λ l. record { name = l.name; generation = l.generation; fate = l.fate; took = l.taken.items; gave = take l.at l.given.items; left = drop l.at l.given.items; faults = l.faults } };
 
     ghost invariant = { IsLocal };
 }
@@ -132,6 +134,7 @@ impl LocalLink {
         ensures faults { IfOk result (λ link. link.faults ≡ 0) }
         ensures name { IfOk result (λ link. link.name ≡ name.now) }
         ensures generation { IfOk result (λ link. link.generation ≡ generation) }
+        ensures runs { IfOk result (λ link. link.fate ≡ Running) }
     {
         let (child, frames) = Child::start(alloc, name)?;
         let given = greet(alloc, name, frames.as_slice())?;
@@ -143,6 +146,7 @@ impl LocalLink {
         Ok(LocalLink {
             name: *name,
             generation,
+            fate: Fate::Running,
             serving,
             takes: true,
             taken: Vec::new(alloc),
@@ -169,7 +173,7 @@ impl LocalLink {
         ensures end { result ≡ 0 → 0 < length into.new → self.old.left ≡ [] }
         ensures took { self.new.took ≡ self.old.took }
         ensures faults { self.new.faults ≡ self.old.faults }
-        ensures whose { (self.new.name ≡ self.old.name) × (self.new.generation ≡ self.old.generation) }
+        ensures whose { (self.new.name ≡ self.old.name) × (self.new.generation ≡ self.old.generation) × (self.new.fate ≡ self.old.fate) }
     {
         let n = give(self.given.as_slice(), self.at, into);
         self.at += n;
@@ -181,7 +185,7 @@ impl LocalLink {
         ensures took { OnOk result (self.new.took ≡ self.old.took ++ octets.now) }
         ensures same { OnErr result (self.new.took ≡ self.old.took) }
         ensures gave { self.new.gave ≡ self.old.gave }
-        ensures whose { (self.new.name ≡ self.old.name) × (self.new.generation ≡ self.old.generation) }
+        ensures whose { (self.new.name ≡ self.old.name) × (self.new.generation ≡ self.old.generation) × (self.new.fate ≡ self.old.fate) }
         ensures quiet { OnOk result (self.new.faults ≡ self.old.faults) }
         ensures rose { OnErr result (Rose self.old.faults self.new.faults) }
         ensures later { self.old.faults ≤ self.new.faults }
@@ -207,7 +211,7 @@ impl Source for LocalLink {
 
     ghost read_faults = { λ _. 0 };
 
-    ghost beside_reads = { λ l. (Some l.took, l.faults, Some (l.name, l.generation)) };
+    ghost beside_reads = { λ l. (Some l.took, l.faults, record { whose = Some (l.name, l.generation); fate = Some l.fate }) };
 
     fn read(&mut self, into: &mut [u8]) -> Result<usize, Failed> {
         Ok(self.copy(into))
@@ -221,7 +225,7 @@ impl Sink for LocalLink {
 
     ghost write_faults = { λ l. l.faults };
 
-    ghost beside_writes = { λ l. (Some l.gave, 0, Some (l.name, l.generation)) };
+    ghost beside_writes = { λ l. (Some l.gave, 0, record { whose = Some (l.name, l.generation); fate = Some l.fate }) };
 
     fn write(&mut self, from: &[u8]) -> Result<usize, Failed> {
         let n = from.len().min(PIECE);
@@ -233,22 +237,31 @@ impl Sink for LocalLink {
 impl Link for LocalLink {
     ghost use Rattle.std.specs.Prelude.{refl, Some};
 
-    ghost whose = { λ l. Some (l.name, l.generation) };
+    ghost shows = { λ l. record {
+      took = Some l.took;
+      gave = Some l.gave;
+      left = Some l.left;
+      reads = 0;
+      writes = l.faults;
+      program = record { whose = Some (l.name, l.generation); fate = Some l.fate };
+    } };
+
+    ghost shown = { λ _. refl };
 
     ghost reads_alone = { λ _. refl };
 
     ghost writes_alone = { λ _. refl };
 
     // The program runs only within a write.
-    fn kill(self) -> Closed<LocalLink> {
+    fn kill(mut self) -> Closed<LocalLink> {
+        self.fate = Fate::Killed;
         Closed::of(self)
     }
 
-    fn close(self) -> Closed<LocalLink> {
+    fn close(mut self) -> Closed<LocalLink> {
+        self.fate = Fate::Closed;
         Closed::of(self)
     }
-
-    fn end(&mut self) {}
 }
 
 /// Starts a server's program in memory, and tells what it was asked for.
@@ -262,11 +275,7 @@ pub struct LocalStarter {
 impl Starter<LocalLink> for LocalStarter {
     ghost use Rattle.std.specs.Prelude.{Some};
 
-    ghost server_name = { λ s. s.server };
-
-    ghost start_faults = { λ _. 0 };
-
-    ghost asked = { λ s. Some s.asked.items };
+    ghost shows = { λ s. record { name = s.server; asked = Some s.asked.items; faults = 0 } };
 
     fn server(&self) -> Name {
         self.server

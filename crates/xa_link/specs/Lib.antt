@@ -1,4 +1,5 @@
 pub mod Told
+pub mod Links
 pub mod Reads
 pub mod Starts
 pub mod Files

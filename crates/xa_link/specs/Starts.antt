@@ -3,6 +3,13 @@ use Rattle.std.specs.Prelude.{◌≡◌, ℕ, List, [], ◌∷◌, ◌++◌, Opt
 use Rattle.xa_types.specs.declared.ids.Generation.{Generation}
 use Rattle.xa_types.specs.declared.setup.Setup.{Setup}
 
+-- what a starter shows: its server's name, the starts that it was asked for, each with the server's name and the generation, where it tells them, and
+-- how often one failed
+pub record StarterShows : Type 0 where
+  pub name : List ℕ
+  pub asked : Option (List (List ℕ × Generation))
+  pub faults : ℕ
+
 -- one file more was asked for, of that name; what isn't told stays so
 abbrev pub AsksFile : Option (List (List ℕ)) → Option (List (List ℕ)) → List ℕ → Type 0
 AsksFile before now name = now ≡ option_map (λ names. names ++ name ∷ []) before

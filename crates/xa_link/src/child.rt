@@ -75,7 +75,7 @@ impl<P: OpenProcess + Drop> Source for ChildLink<P> {
 
     ghost read_faults = { λ l. l.from.faults };
 
-    ghost beside_reads = { λ l. (None, l.to.faults, l.whose) };
+    ghost beside_reads = { λ l. (None, l.to.faults, record { whose = l.whose; fate = None }) };
 
     fn read(&mut self, into: &mut [u8]) -> Result<usize, Failed>
         ensures bound { IfOk result (λ n. n ≤ length into.new) }
@@ -94,7 +94,7 @@ impl<P: OpenProcess + Drop> Sink for ChildLink<P> {
 
     ghost write_faults = { λ l. l.to.faults };
 
-    ghost beside_writes = { λ l. (None, l.from.faults, l.whose) };
+    ghost beside_writes = { λ l. (None, l.from.faults, record { whose = l.whose; fate = None }) };
 
     fn write(&mut self, from: &[u8]) -> Result<usize, Failed>
         ensures bound { IfOk result (λ n. n ≤ length from.now) }
@@ -112,7 +112,16 @@ impl<P: OpenProcess + Drop> Sink for ChildLink<P> {
 impl<P: OpenProcess + Drop> Link for ChildLink<P> {
     ghost use Rattle.std.specs.Prelude.{refl};
 
-    ghost whose = { λ l. l.whose };
+    ghost shows = { λ l. record {
+      took = None;
+      gave = None;
+      left = None;
+      reads = l.from.faults;
+      writes = l.to.faults;
+      program = record { whose = l.whose; fate = None };
+    } };
+
+    ghost shown = { λ _. refl };
 
     ghost reads_alone = { λ _. refl };
 
@@ -127,10 +136,6 @@ impl<P: OpenProcess + Drop> Link for ChildLink<P> {
 
     fn close(self) -> Closed<ChildLink<P>> {
         Closed::of(self)
-    }
-
-    fn end(&mut self) {
-        let _ = end(&mut self.child);
     }
 }
 
@@ -364,11 +369,7 @@ fn spawn<R: Processes + Files>(
 
 impl<R: Processes + Files + AllocGlobal + Eprint> Starter<ChildLink<R::Started>>
     for ChildStarter<R> {
-    ghost server_name = { λ s. s.server };
-
-    ghost start_faults = { λ s. s.faults };
-
-    ghost asked = { λ _. None };
+    ghost shows = { λ s. record { name = s.server; asked = None; faults = s.faults } };
 
     fn server(&self) -> Name {
         self.server

@@ -1,9 +1,17 @@
 // The pipes of a life.
-ghost use Rattle.std.specs.Prelude.{◌≡◌, ℕ, List, Option};
-ghost use Rattle.xa_types.specs.declared.ids.Generation.{Generation};
+ghost use Rattle.std.specs.Prelude.{◌≡◌};
+ghost use Rattle.xa_link.specs.Links.{LinkShows, killed, closed};
 
 use crate::{Sink, Source};
 use std::snapshot::Snapshot;
+
+/// What became of a program: it runs, it was ended by force, or its pipes were closed and it ended by itself.
+#[derive(Clone, Copy)]
+pub enum Fate {
+    Running,
+    Killed,
+    Closed,
+}
 
 /// What is left of the pipes of a life that were closed: nothing can be read from it or written to it, and clauses read what
 /// the pipes were.
@@ -29,42 +37,22 @@ impl<L: Drop> Closed<L> {
 }
 
 /// The two pipes of one life of a server: what the server writes is read from it, and what is written to it the server
-/// reads. Each direction leaves the other alone.
+/// reads. Each direction leaves the other alone, and the program.
 pub trait Link: Source + Sink {
-    /// Whose it is, once its program was started: its server's name, and the generation.
-    ghost whose: { Self → Option (List ℕ × Generation) };
+    /// What it shows.
+    ghost shows: { Self → LinkShows };
 
-    /// Ends the server's program by force, and waits for it. What went through the pipes and what failed was as it is now,
-    /// and so was whose they are.
+    /// Ends the server's program by force, and waits for it. Nothing else changes.
     fn kill(self) -> Closed<Self>
-        ensures took { Self.took result.was.value ≡ Self.took self }
-        ensures gave { Self.gave result.was.value ≡ Self.gave self }
-        ensures left { Self.left result.was.value ≡ Self.left self }
-        ensures whose { whose result.was.value ≡ whose self }
-        ensures reads { Self.read_faults result.was.value ≡ Self.read_faults self }
-        ensures writes { Self.write_faults result.was.value ≡ Self.write_faults self };
+        ensures { shows result.was.value ≡ killed (shows self) };
 
-    /// Closes both pipes, and waits for the server's program, which ends by itself. What went through the pipes and what
-    /// failed was as it is now, and so was whose they are.
+    /// Closes both pipes, and waits for the server's program, which ends by itself. Nothing else changes.
     fn close(self) -> Closed<Self>
-        ensures took { Self.took result.was.value ≡ Self.took self }
-        ensures gave { Self.gave result.was.value ≡ Self.gave self }
-        ensures left { Self.left result.was.value ≡ Self.left self }
-        ensures whose { whose result.was.value ≡ whose self }
-        ensures reads { Self.read_faults result.was.value ≡ Self.read_faults self }
-        ensures writes { Self.write_faults result.was.value ≡ Self.write_faults self };
+        ensures { shows result.was.value ≡ closed (shows self) };
 
-    /// Ends the server's program by force, and waits for it, where it hasn't ended yet. What went through the pipes and
-    /// what failed stays as it is, and so does whose it is.
-    fn end(&mut self)
-        ensures took { Self.took self.new ≡ Self.took self.old }
-        ensures gave { Self.gave self.new ≡ Self.gave self.old }
-        ensures left { Self.left self.new ≡ Self.left self.old }
-        ensures whose { whose self.new ≡ whose self.old }
-        ensures reads { Self.read_faults self.new ≡ Self.read_faults self.old }
-        ensures writes { Self.write_faults self.new ≡ Self.write_faults self.old };
+    ghost shown: { (link : Self) → shows link ≡ record { took = Self.took link; gave = Self.gave link; left = Self.left link; reads = Self.read_faults link; writes = Self.write_faults link; program = (shows link).program } };
 
-    ghost reads_alone: { (link : Self) → Self.beside_reads link ≡ (Self.took link, Self.write_faults link, whose link) };
+    ghost reads_alone: { (link : Self) → Self.beside_reads link ≡ (Self.took link, Self.write_faults link, (shows link).program) };
 
-    ghost writes_alone: { (link : Self) → Self.beside_writes link ≡ (Self.gave link, Self.read_faults link, whose link) };
+    ghost writes_alone: { (link : Self) → Self.beside_writes link ≡ (Self.gave link, Self.read_faults link, (shows link).program) };
 }

@@ -1,6 +1,6 @@
 // Where octets go.
 ghost use Rattle.std.specs.Prelude.{◌⊎◌, ◌≡◌, ◌≤◌, ◌<◌, ◌+◌, ℕ, List, [], take, drop, length, Option, IfOk, OnOk, OnErr, IsErr};
-ghost use Rattle.xa_types.specs.declared.ids.Generation.{Generation};
+ghost use Rattle.xa_link.specs.Links.{Program};
 ghost use Rattle.xa_link.specs.Told.{Rose, Grew, GrewByPart};
 
 use crate::Failed;
@@ -13,8 +13,8 @@ pub trait Sink {
     /// How often a write failed, or took nothing of a piece that isn't empty. It stands still at 2^64 - 1.
     ghost write_faults: { Self → ℕ };
 
-    /// What a write leaves alone: of a link what it gave, how often a read failed, and whose it is.
-    ghost beside_writes: { Self → Option (List ℕ) × ℕ × Option (List ℕ × Generation) };
+    /// What a write leaves alone: of a link what it gave, how often a read failed, and its program.
+    ghost beside_writes: { Self → Option (List ℕ) × ℕ × Program };
 
     /// Takes octets off the front of the piece, and answers how many. Where it fails, it took none.
     fn write(&mut self, from: &[u8]) -> Result<usize, Failed>

@@ -1,6 +1,6 @@
 // Where octets come from.
 ghost use Rattle.std.specs.Prelude.{◌≡◌, ◌≤◌, ◌<◌, ℕ, List, take, length, Option, IfOk, OnErr, OnOk, IsErr};
-ghost use Rattle.xa_types.specs.declared.ids.Generation.{Generation};
+ghost use Rattle.xa_link.specs.Links.{Program};
 ghost use Rattle.xa_link.specs.Told.{Rose, Grew, Shrank, Empty};
 
 use thiserror::Error;
@@ -21,8 +21,8 @@ pub trait Source {
     /// How often a read failed. It stands still at 2^64 - 1.
     ghost read_faults: { Self → ℕ };
 
-    /// What a read leaves alone: of a link what it took, how often a write failed, and whose it is.
-    ghost beside_reads: { Self → Option (List ℕ) × ℕ × Option (List ℕ × Generation) };
+    /// What a read leaves alone: of a link what it took, how often a write failed, and its program.
+    ghost beside_reads: { Self → Option (List ℕ) × ℕ × Program };
 
     /// Fills the front of the piece with the next octets, and answers how many they are. 0 for a piece that isn't
     /// empty is the end. Where it fails, nothing was given.

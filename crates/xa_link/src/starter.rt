@@ -1,10 +1,10 @@
 // How servers are started.
-ghost use Rattle.std.specs.Prelude.{◌≡◌, ◌≤◌, ◌<◌, ℕ, true, List, [], length, map, All, Option, Some, IfSome, IfOk, OnOk, OnErr, IsErrOf};
+ghost use Rattle.std.specs.Prelude.{◌≡◌, ◌≤◌, ◌<◌, ℕ, true, List, [], length, map, All, Option, IfSome, IfOk, OnOk, OnErr, IsErrOf};
 ghost use Rattle.xa_types.specs.Configured.{is_configured};
-ghost use Rattle.xa_types.specs.declared.ids.Generation.{Generation};
 ghost use Rattle.xa_types.specs.declared.setup.Setup.{Setup};
-ghost use Rattle.xa_link.specs.Told.{Rose, Empty};
-ghost use Rattle.xa_link.specs.Starts.{AsksFor, AsksStarters};
+ghost use Rattle.xa_link.specs.Links.{IsFresh};
+ghost use Rattle.xa_link.specs.Told.{Rose};
+ghost use Rattle.xa_link.specs.Starts.{StarterShows, AsksFor, AsksStarters};
 
 use crate::Link;
 use thiserror::Error;
@@ -21,35 +21,26 @@ pub enum StartRefused {
 
 /// Starts the lives of one server.
 pub trait Starter<L: Link> {
-    /// The server's name.
-    ghost server_name: { Self → List ℕ };
-
-    /// How often a start failed. It stands still at 2^64 - 1.
-    ghost start_faults: { Self → ℕ };
-
-    /// The starts that it was asked for, each with the server's name and the generation, where it tells them. One that
-    /// memory ran out for is none.
-    ghost asked: { Self → Option (List (List ℕ × Generation)) };
+    /// What it shows. Its count stands still at 2^64 - 1, and a start that memory ran out for is none.
+    ghost shows: { Self → StarterShows };
 
     /// The server's name.
     fn server(&self) -> Name
-        ensures { result ≡ server_name self.now };
+        ensures { result ≡ (shows self.now).name };
 
     /// Starts the server, which is its own, for the `generation`th time, and gives the pipes of that life. Nothing went
-    /// through them, and nothing failed.
+    /// through them, nothing failed, and its program runs.
     fn start(&mut self, server: &Name, generation: Generation) -> Result<L, StartRefused>
-        requires own { server.now ≡ server_name self.old }
-        ensures same { server_name self.new ≡ server_name self.old }
-        ensures whose { IfOk result (λ link. L.whose link ≡ Some (server.now, generation)) }
-        ensures counts { IfOk result (λ link. (L.read_faults link ≡ 0) × (L.write_faults link ≡ 0)) }
-        ensures fresh { IfOk result (λ link. Empty (L.took link) × Empty (L.gave link)) }
-        ensures started { OnOk result (AsksFor (asked self.old) (asked self.new) server.now generation) }
-        ensures failed { IsErrOf result StartRefused.Failed → AsksFor (asked self.old) (asked self.new) server.now generation }
-        ensures starved { IsErrOf result StartRefused.NoMemory → asked self.new ≡ asked self.old }
+        requires own { server.now ≡ (shows self.old).name }
+        ensures same { (shows self.new).name ≡ (shows self.old).name }
+        ensures fresh { IfOk result (λ link. IsFresh server.now generation (L.shows link)) }
+        ensures started { OnOk result (AsksFor (shows self.old).asked (shows self.new).asked server.now generation) }
+        ensures failed { IsErrOf result StartRefused.Failed → AsksFor (shows self.old).asked (shows self.new).asked server.now generation }
+        ensures starved { IsErrOf result StartRefused.NoMemory → shows self.new ≡ shows self.old }
 
-        ensures later { start_faults self.old ≤ start_faults self.new }
-        ensures cause { IsErrOf result StartRefused.Failed → Rose (start_faults self.old) (start_faults self.new) }
-        ensures quiet { (IsErrOf result StartRefused.Failed → ⊥) → start_faults self.new ≡ start_faults self.old };
+        ensures later { (shows self.old).faults ≤ (shows self.new).faults }
+        ensures cause { IsErrOf result StartRefused.Failed → Rose ((shows self.old).faults) ((shows self.new).faults) }
+        ensures quiet { (IsErrOf result StartRefused.Failed → ⊥) → (shows self.new).faults ≡ (shows self.old).faults };
 }
 
 /// Where the starters of a domain come from.
@@ -68,9 +59,9 @@ pub trait Yard {
     fn starters(&mut self, setup: &Setup) -> Result<Vec<Self::Start>, NoMemory>
         requires { is_configured setup.now ≡ true }
         ensures each { IfOk result (λ all. length all.items ≡ length setup.now.servers) }
-        ensures names { IfOk result (λ all. map (λ s. Self.Start.server_name s) all.items ≡ map (λ server. server.name) setup.now.servers) }
-        ensures counts { IfOk result (λ all. All (λ s. Self.Start.start_faults s ≡ 0) all.items) }
-        ensures none { IfOk result (λ all. All (λ s. IfSome (Self.Start.asked s) (λ starts. starts ≡ [])) all.items) }
+        ensures names { IfOk result (λ all. map (λ s. (Self.Start.shows s).name) all.items ≡ map (λ server. server.name) setup.now.servers) }
+        ensures counts { IfOk result (λ all. All (λ s. (Self.Start.shows s).faults ≡ 0) all.items) }
+        ensures none { IfOk result (λ all. All (λ s. IfSome (Self.Start.shows s).asked (λ starts. starts ≡ [])) all.items) }
         ensures asked { OnOk result (AsksStarters (asked self.old) (asked self.new) setup.now) }
         ensures starved { OnErr result (asked self.new ≡ asked self.old) };
 }

@@ -1,5 +1,6 @@
 // The standard streams, and other readers and writers.
 ghost use Rattle.std.specs.Prelude.{◌≡◌, ◌≤◌, ◌<◌, ◌⊎◌, [], length, IfOk, OnOk, IsErr, Ok, None};
+ghost use Rattle.xa_link.specs.Links.{no_program};
 ghost use Rattle.xa_link.specs.Told.{Rose};
 ghost use Rattle.std.specs.Io.KnownBytes.{ReadConsumes, WriteAppends};
 
@@ -48,7 +49,7 @@ impl<R: Read> Source for ReadSource<R> {
 
     ghost read_faults = { λ s. s.faults };
 
-    ghost beside_reads = { λ _. (None, 0, None) };
+    ghost beside_reads = { λ _. (None, 0, no_program) };
 
     fn read(&mut self, into: &mut [u8]) -> Result<usize, Failed>
         ensures bound { IfOk result (λ n. n ≤ length into.new) }
@@ -100,7 +101,7 @@ impl<W: Write> Sink for WriteSink<W> {
 
     ghost write_faults = { λ s. s.faults };
 
-    ghost beside_writes = { λ _. (None, 0, None) };
+    ghost beside_writes = { λ _. (None, 0, no_program) };
 
     fn write(&mut self, from: &[u8]) -> Result<usize, Failed>
         ensures bound { IfOk result (λ n. n ≤ length from.now) }

@@ -1,6 +1,6 @@
 -- What the takes of a life came to, how that grows, and where it stays.
 use Rattle.std.proofs.Common.{◌≡◌, ◌⊎◌, ℕ, ℤ, suc, Bool, true, false, List, [], ◌∷◌, ◌++◌, length, inl, inr, refl, ◌∙◌, ap, subst, sym}
-use Rattle.std.specs.Prelude.{IfSome, if◌then◌else◌}
+use Rattle.std.specs.Prelude.{IfSome, ◌&&◌, if◌then◌else◌}
 use Rattle.xa_types.specs.declared.setup.Setup.{Setup}
 use Rattle.xa_types.specs.declared.data.Data.{Data}
 use Rattle.xa_types.specs.declared.call.Rval.{Rval}
@@ -14,12 +14,13 @@ use Rattle.xa_pipe.specs.declared.hearing.Finish.TheVariants.{Returns, Forwards}
 use Rattle.xa_events.specs.declared.event.Outcome.{Outcome}
 use Rattle.xa_events.specs.declared.event.Outcome.TheVariants.{BadReturn, BadForward, Starved}
 use Rattle.xa_events.specs.declared.event.StopCause.{StopCause}
-use Rattle.xa_events.specs.Words.{AtEach}
+use Rattle.xa_events.specs.Finishing.{returned}
 use Rattle.xa_frame.specs.declared.frame.Frame.{Frame}
-use Rattle.xa_pipe.specs.Frames.{is_of_life, frames_out}
-use Rattle.xa_pipe.specs.Life.{Turn, Finish, LifeId, LinkShows, IsLife, Occurrence, Reasons, MayFail, EndsAs, IsForwarded, ComesTo, EachCame, AllCame, StopsClosed, Took, due, came_in, cause_of, outcome_of, finishes_in}
+use Rattle.xa_pipe.specs.Frames.{is_of_life}
+use Rattle.xa_pipe.specs.Life.{Turn, Finish, Occurrence, Reasons, MayFail, EndsAs, IsForwarded, ComesTo, EachCame, AllCame, came_in, finishes_in}
 use Rattle.xa_pipe.specs.declared.turn.Turn.TheVariants.{AwaitsReady, AwaitsNext, AwaitsInvoke, Serving, Exited}
 use Rattle.xa_pipe.specs.Pipe.{Piped, CutOff}
+use Rattle.xa_pipe.specs.Standing.{Ending, IsLife}
 use Rattle.xa_pipe.proofs.Saying.{none_returned}
 
 -- the end of a request of the life is one more
@@ -32,14 +33,14 @@ pub came_forward : (server g : ℕ) (f : Forwarded) (past : List Event) → is_o
     → came_in server g (Forward f ∷ past) ≡ came_in server g past ++ (record { event = Forward f; before = past }) ∷ []
 came_forward server g f past is = rw is refl
 
-outcome_no : (value : Rval) (code : ℤ) (payload : Data) → outcome_of value code payload ≡ Starved → ⊥
-outcome_no Success code payload e = cc e
-outcome_no Fail code payload e = cc e
-outcome_no ExitValue code payload e = cc e
+returned_no : (value : Rval) (code : ℤ) (payload : Data) → returned value code payload ≡ Starved → ⊥
+returned_no Success code payload e = cc e
+returned_no Fail code payload e = cc e
+returned_no ExitValue code payload e = cc e
 
 -- no RETURN says that memory ran out
-says_no : (sound : Bool) (value : Rval) (code : ℤ) (payload : Data) → (if sound then outcome_of value code payload else BadReturn) ≡ Starved → ⊥
-says_no true value code payload e = outcome_no value code payload e
+says_no : (stands : Bool) (value : Rval) (code : ℤ) (payload : Data) → (if stands then returned value code payload else BadReturn) ≡ Starved → ⊥
+says_no true value code payload e = returned_no value code payload e
 says_no false value code payload e = cc e
 
 both_no : (event : Event) (outcome : Outcome) → (outcome ≡ Starved → ⊥) → EndsAs outcome event → EndsAs Starved event → ⊥
@@ -70,7 +71,7 @@ module _ (setup : Setup) (Why : Reasons) where
   forwarded_no service payload event before goes_on starved = absurd starved
 
   comes_no : (back : Finish) (o : Occurrence) → ComesTo setup Why back o → EndsAs Starved o.event → ⊥
-  comes_no (Returns back) o comes starved = both_no o.event _ (says_no (is_sound setup back.payload) back.value back.code back.payload) comes starved
+  comes_no (Returns back) o comes starved = both_no o.event _ (says_no (is_sound setup back.payload && true) back.value back.code back.payload) comes starved
   comes_no (Forwards forward) o comes starved = forwarded_no forward.service forward.payload o.event o.before comes starved
 
   each_no : (finishes : List Finish) (earlier later : List Occurrence) (o : Occurrence) → EachCame setup Why finishes (earlier ++ o ∷ later) → EndsAs Starved o.event → ⊥
@@ -99,9 +100,10 @@ module _ (setup : Setup) (Why : Reasons) where
   starved_in cause Exited finishes came earlier later o each is starved = absurd (each_no finishes earlier later o (subst (λ (os : List Occurrence). EachCame setup Why finishes os) is each) starved)
 
 -- a request that ends as Starved is the last of its life, and was in hand as that ended
-pub starved_last : (setup : Setup) (clients : ℕ) (life : LifeId) (past : List Event) (link : LinkShows) (earlier later : List Occurrence) (o : Occurrence) (it : IsLife setup clients life past link)
-    → came_in life.server life.generation past ≡ earlier ++ o ∷ later → EndsAs Starved o.event → (it.turn ≡ Serving) × (later ≡ [])
-starved_last setup clients id past link earlier later o it is starved = starved_in setup (MayFail setup clients) it.cause it.turn (finishes_in it.frames) (came_in id.server id.generation past) earlier later o it.came is starved
+pub starved_last : (setup : Setup) (clients : ℕ) (past : List Event) (over : Ending) (earlier later : List Occurrence) (o : Occurrence) → IsLife setup clients past over
+    → came_in over.life.server.0 over.life.generation.0 past ≡ earlier ++ o ∷ later → EndsAs Starved o.event → (over.life.turn ≡ Serving) × (later ≡ [])
+starved_last setup clients past over earlier later o it is starved =
+    starved_in setup (MayFail setup clients) over.cause over.life.turn (finishes_in over.life.said) (came_in over.life.server.0 over.life.generation.0 past) earlier later o it.came is starved
 
 -- ---- as the life ends
 
@@ -116,25 +118,3 @@ module _ (setup : Setup) (Why : Reasons) where
   pub came_cut_off : (name : List ℕ) (pipe : Piped) (cause : StopCause) (cut : CutOff name pipe cause) → AllCame setup Why cause cut.turn (finishes_in cut.frames) []
   came_cut_off name pipe cause cut =
       came_greeting cause cut.turn (finishes_in cut.frames) [] cut.greets (subst (λ (rs : List Finish). EachCame setup Why rs []) (sym (none_returned cut.says)) tt)
-
--- ---- behind events that are none of the life's
-
-pub life_kept : (setup : Setup) (clients : ℕ) (life : LifeId) (past now : List Event) (link : LinkShows) → frames_out life.server life.generation now ≡ frames_out life.server life.generation past
-    → came_in life.server life.generation now ≡ came_in life.server life.generation past → cause_of life.server life.generation now ≡ cause_of life.server life.generation past
-    → (AtEach (StopsClosed setup life.server life.generation) past → AtEach (StopsClosed setup life.server life.generation) now) → IsLife setup clients life past link → IsLife setup clients life now link
-life_kept setup clients id past now link out came cause stops life = record {
-  cause = life.cause;
-  turn = life.turn;
-  returned = life.returned;
-  frames = life.frames;
-  written = life.written;
-  stopped = cause ∙ life.stopped;
-  says = life.says;
-  came = subst (λ (os : List Occurrence). AllCame setup (MayFail setup clients) life.cause life.turn (finishes_in life.frames) os) (sym came) life.came;
-  may = life.may;
-  closed = λ awaits. stops (life.closed awaits);
-  counted = life.counted;
-  whose = life.whose;
-  took_frames = subst (λ (fs : List Frame). IfSome link.took (Took life.written (due life.written life.turn fs))) (sym out) life.took_frames;
-  gave_frames = life.gave_frames;
-}

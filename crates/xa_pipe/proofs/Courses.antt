@@ -1,29 +1,31 @@
 -- How a life is kept by each of its calls, and what is left where it ends.
-use Rattle.std.proofs.Common.{◌≡◌, ℕ, ◌+◌, ◌-◌, ◌^◌, ◌%◌, min, true, List, [], ◌∷◌, ◌++◌, length, Option, inl, inr, refl, sym, ◌∙◌, ap, subst, append-nil, append_assoc}
-use Rattle.std.specs.Prelude.{IfSome, IfOk, Result, Ok, Err}
-use Rattle.xa_types.specs.declared.ids.Generation.{Generation}
+use Rattle.std.proofs.Common.{◌≡◌, ℕ, ◌+◌, ◌-◌, ◌^◌, ◌%◌, min, true, List, [], ◌∷◌, ◌++◌, length, Option, Some, None, inl, inr, refl, sym, ◌∙◌, ap, subst, append-nil, append_assoc}
+use Rattle.std.specs.Prelude.{IfSome, IfOk, Result, Ok, Err, option_map}
 use Rattle.std.proofs.Math.Nat.{mod-add-mod}
 use Rattle.std.proofs.lemmas.List.{length-append}
 use Rattle.xa_types.specs.declared.data.Data.{Data}
 use Rattle.xa_types.specs.declared.call.Rval.{Rval}
 use Rattle.xa_types.specs.declared.call.Rval.TheVariants.{Success, Fail, Exit as ExitValue}
+use Rattle.xa_link.specs.declared.link.Fate.{Fate}
+use Rattle.xa_link.specs.declared.link.Fate.TheVariants as fates
+use Rattle.xa_link.specs.Links.{Program, HasFate, IsFresh}
 use Rattle.xa_link.specs.Told.{Rose, Grew, GrewByPart}
 use Rattle.xa_frame.specs.declared.frame.Frame.{Frame}
 use Rattle.xa_frame.specs.declared.frame.Body.TheVariants.{Next}
 use Rattle.xa_frame.specs.Spelling.{spelled, HasSpelling}
 use Rattle.xa_events.specs.declared.event.StopCause.{StopCause}
-use Rattle.xa_events.specs.declared.event.StopCause.TheVariants.{Shutdown, WriteFault, Starved}
+use Rattle.xa_events.specs.declared.event.StopCause.TheVariants.{Shutdown, Exit, ReadFault, WriteFault, Starved}
 use Rattle.xa_pipe.specs.declared.course.Course.{Course}
 use Rattle.xa_pipe.specs.declared.hearing.Finish.TheVariants.{Returns, Forwards}
 use Rattle.xa_pipe.specs.declared.turn.Turn.TheVariants.{AwaitsReady, AwaitsNext, AwaitsInvoke, Serving, Exited}
 use Rattle.xa_pipe.specs.declared.turn.Written.TheVariants.{Whole}
 use Rattle.xa_pipe.specs.Frames.{ready_frame, next_frame, shutdown_frame, finish_frame}
-use Rattle.xa_pipe.specs.Life.{Turn, Finish, Says, MaySay, Took, Gave, LinkShows, IsCounted, IsOf, is_writing, may_end, tag_after, turn_behind, finishes_in}
+use Rattle.xa_pipe.specs.Life.{Turn, Finish, Says, MaySay, Took, Gave, LinkShows, IsCounted, awaiting, is_reading, is_writing, may_end, tag_after, turn_behind, finishes_in}
 use Rattle.xa_pipe.specs.Life.Says.{Silent, Named, Free, Invoked, Answers, Passes}
-use Rattle.xa_pipe.specs.Pipe.{Piped, shown, invoke_frame, Wrote, HasRead, CountsWrites}
-use Rattle.xa_pipe.specs.Standing.{Standing, IsOver, GaveFirst, id_of, tag_of, due_in}
+use Rattle.xa_pipe.specs.Pipe.{Piped, shown, invoke_frame, Wrote, HasRead, Ceases, CountsReads, CountsWrites}
+use Rattle.xa_pipe.specs.Standing.{Standing, IsSound, IsCutOff, IsOver, cut_short, GaveFirst, fate_by, tag_of, due_in}
 use Rattle.xa_pipe.specs.Changes.{Heard, Greeted, Invoked as HasInvoked, turn_after, with_said, with_asked, next_invoke}
-use Rattle.xa_pipe.specs.Kept.{standing_of, ending_of, IsKept, tag_after_turn, unwritten}
+use Rattle.xa_pipe.specs.Kept.{standing_of, ending_of, fate_left, IsKept, tag_after_turn, unwritten}
 use Rattle.xa_pipe.proofs.Frames.{told_more, read_same}
 use Rattle.xa_pipe.proofs.Saying.{returned_is, finishes_append, finishes_next, finishes_push}
 use Rattle.xa_pipe.proofs.Taking.{took_more, took_cut, took_missing}
@@ -98,12 +100,12 @@ greets old mid new f ready first next =
     }
 
 -- a write changes what the link took, and may change what it still holds
-link_written : (old new : LinkShows) → new.gave ≡ old.gave → new.reads ≡ old.reads → new.writes ≡ old.writes → new.whose ≡ old.whose → new ≡ record old { took = new.took; left = new.left }
-link_written old new gave reads writes whose =
+link_written : (old new : LinkShows) → new.gave ≡ old.gave → new.reads ≡ old.reads → new.writes ≡ old.writes → new.program ≡ old.program → new ≡ record old { took = new.took; left = new.left }
+link_written old new gave reads writes program =
     ap (λ (told : Option (List ℕ)). record new { gave = told }) gave
     ∙ (ap (λ (count : ℕ). record new { gave = old.gave; reads = count }) reads
     ∙ (ap (λ (count : ℕ). record new { gave = old.gave; reads = old.reads; writes = count }) writes
-    ∙ ap (λ (its : Option (List ℕ × Generation)). record new { gave = old.gave; reads = old.reads; writes = old.writes; whose = its }) whose))
+    ∙ ap (λ (its : Program). record new { gave = old.gave; reads = old.reads; writes = old.writes; program = its }) program))
 
 -- what is known of a value, of which more follows
 pub ok_more : {T E : Type 0} (result : Result T E) (is so : T → Type 0) → ((value : T) → is value → so value) → IfOk result is → IfOk result so
@@ -117,17 +119,18 @@ module _ {L : Type 0} where
   pub in_turn : (c : Course L) (s : Standing) (turn : Turn) → standing_of c ≡ s → s.turn ≡ turn → c.turn ≡ turn
   in_turn c s turn is at = ap (λ (x : Standing). x.turn) is ∙ at
 
-  pub kept_begun : (c : Course L) → c.asked ≡ [] → c.said ≡ [] → c.turn ≡ AwaitsReady → c.tag ≡ 1 → Wrote c.pipe [] → HasRead c.pipe [] → c.pipe.reads ≡ 0 → c.pipe.writes ≡ 0
-      → IsOf (id_of (standing_of c)) c.pipe.whose → IsKept c
-  kept_begun c asked said turn tag wrote read reads writes whose = record {
+  pub kept_begun : (c : Course L) → c.asked ≡ [] → c.said ≡ [] → c.turn ≡ AwaitsReady → c.tag ≡ 1 → Wrote c.pipe [] → HasRead c.pipe []
+      → IsFresh c.name c.generation (shown c.pipe) → IsKept c
+  kept_begun c asked said turn tag wrote read fresh = record {
     sound = record {
       says = subst (λ (t : Turn). Says c.name (length (finishes_in c.said)) c.said t) (sym turn)
           (subst (λ (fs : List Frame). Says c.name (length (finishes_in fs)) fs AwaitsReady) (sym said) Silent);
       took = subst (λ (fs : List Frame). Wrote c.pipe fs) (sym asked) wrote;
       gave = subst (λ (fs : List Frame). GaveFirst c.pipe.gave fs) (sym said) (told_more c.pipe.gave _ _ (λ octets e. (c.pipe.rest, e)) read.told);
-      reads = reads;
-      writes = writes;
-      whose = whose;
+      reads = fresh.reads;
+      writes = fresh.writes;
+      whose = fresh.whose;
+      fate = fresh.runs;
     };
     read = subst (λ (fs : List Frame). HasRead c.pipe fs) (sym said) read;
     tag = tag ∙ ap (λ (fs : List Frame). tag_after (length (finishes_in fs))) (sym said);
@@ -137,8 +140,8 @@ module _ {L : Type 0} where
   pub kept_heard : (old mid new : Course L) (f : Frame) → mid ≡ record old { pipe = mid.pipe }
       → new ≡ record mid { said = mid.said ++ f ∷ []; turn = turn_after mid.turn f.body; tag = tag_after_turn mid.turn mid.tag }
       → IsKept old → MaySay old.name old.tag old.turn f → HasSpelling f → HasRead mid.pipe (old.said ++ f ∷ [])
-      → mid.pipe.took ≡ old.pipe.took → mid.pipe.reads ≡ old.pipe.reads → mid.pipe.writes ≡ old.pipe.writes → mid.pipe.whose ≡ old.pipe.whose → IsKept new
-  kept_heard old mid new f same noted kept may spelling read took reads writes whose =
+      → mid.pipe.took ≡ old.pipe.took → mid.pipe.reads ≡ old.pipe.reads → mid.pipe.writes ≡ old.pipe.writes → mid.pipe.program ≡ old.pipe.program → IsKept new
+  kept_heard old mid new f same noted kept may spelling read took reads writes program =
       subst IsKept (sym (noted ∙ ap (λ (m : Course L). record m { said = m.said ++ f ∷ []; turn = turn_after m.turn f.body; tag = tag_after_turn m.turn m.tag }) same)) (record {
         sound = record {
           says = heard_says old.name _ old.said old.turn f kept.sound.says (subst (λ (tag : ℕ). MaySay old.name tag old.turn f) kept.tag may) spelling;
@@ -146,7 +149,8 @@ module _ {L : Type 0} where
           gave = told_more mid.pipe.gave _ _ (λ octets e. (mid.pipe.rest, e)) read.told;
           reads = reads ∙ kept.sound.reads;
           writes = writes ∙ kept.sound.writes;
-          whose = whose ∙ kept.sound.whose;
+          whose = ap (λ (p : Program). p.whose) program ∙ kept.sound.whose;
+          fate = subst (HasFate fates.Running) (sym program) kept.sound.fate;
         };
         read = read;
         tag = heard_tag old.name old.said old.turn old.tag f kept.tag may;
@@ -155,8 +159,8 @@ module _ {L : Type 0} where
   -- with an INVOKE in hand
   pub kept_invoked : (old new : Course L) (f : Frame) → old.turn ≡ AwaitsInvoke → new ≡ record old { pipe = new.pipe; asked = old.asked ++ f ∷ []; turn = Serving } → IsKept old
       → Grew old.pipe.took new.pipe.took (spelled f) → new.pipe.gave ≡ old.pipe.gave → new.pipe.rest ≡ old.pipe.rest → new.pipe.place ≡ old.pipe.place
-      → new.pipe.reads ≡ old.pipe.reads → new.pipe.writes ≡ old.pipe.writes → new.pipe.whose ≡ old.pipe.whose → IsKept new
-  kept_invoked old new f idle made kept took gave rest place reads writes whose =
+      → new.pipe.reads ≡ old.pipe.reads → new.pipe.writes ≡ old.pipe.writes → new.pipe.program ≡ old.pipe.program → IsKept new
+  kept_invoked old new f idle made kept took gave rest place reads writes program =
       let read = read_same old.pipe new.pipe old.said gave rest place kept.read in
       subst IsKept (sym made) (record {
         sound = record {
@@ -165,7 +169,8 @@ module _ {L : Type 0} where
           gave = told_more new.pipe.gave _ _ (λ octets e. (new.pipe.rest, e)) read.told;
           reads = reads ∙ kept.sound.reads;
           writes = writes ∙ kept.sound.writes;
-          whose = whose ∙ kept.sound.whose;
+          whose = ap (λ (p : Program). p.whose) program ∙ kept.sound.whose;
+          fate = subst (HasFate fates.Running) (sym program) kept.sound.fate;
         };
         read = read;
         tag = kept.tag;
@@ -173,12 +178,12 @@ module _ {L : Type 0} where
 
   pub invokes : (old new : Course L) (service routine : List ℕ) (payload : Data) → new ≡ record old { pipe = new.pipe; asked = old.asked ++ invoke_frame service routine old.tag payload ∷ []; turn = Serving }
       → IsKept old → Grew old.pipe.took new.pipe.took (spelled (invoke_frame service routine old.tag payload)) → new.pipe.gave ≡ old.pipe.gave
-      → new.pipe.reads ≡ old.pipe.reads → new.pipe.writes ≡ old.pipe.writes → new.pipe.whose ≡ old.pipe.whose
+      → new.pipe.reads ≡ old.pipe.reads → new.pipe.writes ≡ old.pipe.writes → new.pipe.program ≡ old.pipe.program
       → HasInvoked (next_invoke service routine payload (standing_of old)) (standing_of new) (standing_of old)
-  invokes old new service routine payload made kept took gave reads writes whose = record {
+  invokes old new service routine payload made kept took gave reads writes program = record {
     made = ap standing_of made
         ∙ (ap (λ (tag : ℕ). with_asked (invoke_frame service routine tag payload) (shown new.pipe) (standing_of old)) kept.tag
-        ∙ ap (λ (l : LinkShows). with_asked (next_invoke service routine payload (standing_of old)) l (standing_of old)) (link_written (shown old.pipe) (shown new.pipe) gave reads writes whose));
+        ∙ ap (λ (l : LinkShows). with_asked (next_invoke service routine payload (standing_of old)) l (standing_of old)) (link_written (shown old.pipe) (shown new.pipe) gave reads writes program));
     took = subst (λ (tag : ℕ). Grew old.pipe.took new.pipe.took (spelled (invoke_frame service routine tag payload))) kept.tag took;
   }
 
@@ -210,37 +215,106 @@ gave_unwritten WriteFault name tag turn pipe frames before counts read = told_mo
 gave_unwritten Starved name tag turn pipe frames before counts read = told_more pipe.gave _ _ (λ octets e. (pipe.rest, e, (λ whole. cc whole))) read.told
 gave_unwritten cause name tag turn pipe frames before counts read = absurd counts
 
+counted_reads : (cause : StopCause) (before after writes : ℕ) → CountsReads cause before after → before ≡ 0 → writes ≡ 0 → IsCounted cause after writes
+counted_reads ReadFault before after writes counts none well = (once before after counts none, well)
+counted_reads WriteFault before after writes counts none well = absurd counts
+counted_reads Shutdown before after writes counts none well = absurd counts
+counted_reads Exit before after writes counts none well = absurd counts
+counted_reads cause before after writes counts none well = (counts ∙ none, well)
+
+due_reading : (turn : Turn) (asked : List Frame) → is_reading turn ≡ true → due_in turn asked ≡ asked
+due_reading AwaitsInvoke asked reading = cc reading
+due_reading turn asked reading = refl
+
+-- what becomes of a program that runs
+fate_is : (cause : StopCause) (told : Option Fate) → IfSome told (λ fate. fate ≡ fates.Running) → IfSome (fate_left cause told) (λ fate. fate ≡ fate_by cause)
+fate_is Shutdown told runs = runs
+fate_is Exit None runs = tt
+fate_is Exit (Some fate) runs = refl
+fate_is cause None runs = tt
+fate_is cause (Some fate) runs = refl
+
 module _ {L : Type 0} where
   -- as a frame was to be written
   pub unsent_over : (old new : Course L) (turn : Turn) (asked : List Frame) (f : Frame) (cause : StopCause) → new ≡ record old { pipe = new.pipe; asked = asked; turn = turn }
       → due_in turn asked ≡ old.asked ++ f ∷ [] → is_writing turn ≡ true → Says old.name (length (finishes_in old.said)) old.said turn → IsKept old
       → CountsWrites cause old.pipe.writes new.pipe.writes → (cause ≡ WriteFault → GrewByPart old.pipe.took new.pipe.took (spelled f)) → (cause ≡ Starved → new.pipe.took ≡ old.pipe.took)
-      → new.pipe.gave ≡ old.pipe.gave → new.pipe.rest ≡ old.pipe.rest → new.pipe.place ≡ old.pipe.place → new.pipe.reads ≡ old.pipe.reads → new.pipe.whose ≡ old.pipe.whose
+      → new.pipe.gave ≡ old.pipe.gave → new.pipe.rest ≡ old.pipe.rest → new.pipe.place ≡ old.pipe.place → new.pipe.reads ≡ old.pipe.reads → new.pipe.program ≡ old.pipe.program
       → IsOver (ending_of new cause (unwritten cause))
-  unsent_over old new turn asked f cause made due writing says kept counts part starved gave rest place reads whose =
+  unsent_over old new turn asked f cause made due writing says kept counts part starved gave rest place reads program =
       subst (λ (c : Course L). IsOver (ending_of c cause (unwritten cause))) (sym made) (record {
         says = says;
         may = may_unwritten cause turn old.pipe.writes new.pipe.writes counts writing;
         took = subst (λ (fs : List Frame). IfSome new.pipe.took (Took (unwritten cause) fs)) (sym due) (took_unwritten cause old.pipe new.pipe old.asked f counts kept.sound.took part starved);
         gave = gave_unwritten cause old.name _ turn new.pipe old.said old.pipe.writes counts (read_same old.pipe new.pipe old.said gave rest place kept.read);
         counted = counted_unwritten cause new.pipe.reads old.pipe.writes new.pipe.writes counts (reads ∙ kept.sound.reads) kept.sound.writes;
-        whose = whose ∙ kept.sound.whose;
+        whose = ap (λ (p : Program). p.whose) program ∙ kept.sound.whose;
         killed = refl;
         left_open = refl;
+        fate = fate_is cause new.pipe.program.fate (subst (HasFate fates.Running) (sym program) kept.sound.fate);
       })
 
   -- by SHUTDOWN
   pub shut_over : (old new : Course L) → new ≡ record old { pipe = new.pipe } → old.turn ≡ AwaitsInvoke → IsKept old → Grew old.pipe.took new.pipe.took (spelled shutdown_frame)
       → new.pipe.gave ≡ old.pipe.gave → new.pipe.rest ≡ old.pipe.rest → new.pipe.place ≡ old.pipe.place → new.pipe.reads ≡ old.pipe.reads → new.pipe.writes ≡ old.pipe.writes
-      → new.pipe.whose ≡ old.pipe.whose → IsOver (ending_of new Shutdown Whole)
-  shut_over old new made idle kept took gave rest place reads writes whose =
+      → new.pipe.program ≡ old.pipe.program → IsOver (ending_of new Shutdown Whole)
+  shut_over old new made idle kept took gave rest place reads writes program =
       subst (λ (c : Course L). IsOver (ending_of c Shutdown Whole)) (sym made) (record {
         says = kept.sound.says;
         may = ap (λ (t : Turn). may_end Shutdown t Whole) idle;
         took = subst (λ (t : Turn). IfSome new.pipe.took (Took Whole (due_in t old.asked))) (sym idle) (took_more old.pipe.took new.pipe.took old.asked shutdown_frame kept.sound.took took);
         gave = told_more new.pipe.gave _ _ (λ octets e. (new.pipe.rest, e, tt)) (read_same old.pipe new.pipe old.said gave rest place kept.read).told;
         counted = (reads ∙ kept.sound.reads, writes ∙ kept.sound.writes);
-        whose = whose ∙ kept.sound.whose;
+        whose = ap (λ (p : Program). p.whose) program ∙ kept.sound.whose;
         killed = refl;
         left_open = refl;
+        fate = fate_is Shutdown new.pipe.program.fate (subst (HasFate fates.Running) (sym program) kept.sound.fate);
       })
+
+  -- as a frame of its program was to come
+  pub fallen_over : (old new : Course L) (cause : StopCause) → new ≡ record old { pipe = new.pipe } → is_reading old.turn ≡ true → IsKept old
+      → Ceases (awaiting old.name old.tag old.said old.turn) new.pipe cause → new.pipe.took ≡ old.pipe.took → CountsReads cause old.pipe.reads new.pipe.reads → new.pipe.writes ≡ old.pipe.writes
+      → new.pipe.program ≡ old.pipe.program → IsOver (ending_of new cause Whole)
+  fallen_over old new cause made reading kept ceases took counts writes program =
+      subst (λ (c : Course L). IsOver (ending_of c cause Whole)) (sym made) (record {
+        says = kept.sound.says;
+        may = ceases.may;
+        took = subst (λ (fs : List Frame). IfSome new.pipe.took (Took Whole fs)) (sym (due_reading old.turn old.asked reading))
+            (subst (λ (told : Option (List ℕ)). IfSome told (Took Whole old.asked)) (sym took) kept.sound.took);
+        gave = subst (λ (tag : ℕ). Gave (awaiting old.name tag old.said old.turn) cause new.pipe.gave new.pipe.left) kept.tag ceases.gave;
+        counted = counted_reads cause old.pipe.reads new.pipe.reads new.pipe.writes counts kept.sound.reads (writes ∙ kept.sound.writes);
+        whose = ap (λ (p : Program). p.whose) program ∙ kept.sound.whose;
+        killed = refl;
+        left_open = refl;
+        fate = fate_is cause new.pipe.program.fate (subst (HasFate fates.Running) (sym program) kept.sound.fate);
+      })
+
+  -- by TPEXIT
+  pub exited_over : (c : Course L) → c.turn ≡ Exited → IsKept c → IsOver (ending_of c Exit Whole)
+  exited_over c exited kept = record {
+    says = kept.sound.says;
+    may = ap (λ (t : Turn). may_end Exit t Whole) exited;
+    took = subst (λ (t : Turn). IfSome c.pipe.took (Took Whole (due_in t c.asked))) (sym exited) kept.sound.took;
+    gave = told_more c.pipe.gave _ _ (λ octets e. (c.pipe.rest, e, tt)) kept.read.told;
+    counted = (kept.sound.reads, kept.sound.writes);
+    whose = kept.sound.whose;
+    killed = refl;
+    left_open = refl;
+    fate = fate_is Exit c.pipe.program.fate kept.sound.fate;
+  }
+
+-- and where it is cut
+pub cut_sound : (life : Standing) → IsSound life → IsCutOff (cut_short life)
+cut_sound life sound = record {
+  says = sound.says;
+  took = sound.took;
+  gave = sound.gave;
+  reads = sound.reads;
+  writes = sound.writes;
+  whose = sound.whose;
+  fate = cut_fate life.link.program.fate;
+}
+  where
+    cut_fate : (told : Option Fate) → IfSome (option_map (λ _. fates.Killed) told) (λ fate. fate ≡ fates.Killed)
+    cut_fate None = tt
+    cut_fate (Some fate) = refl

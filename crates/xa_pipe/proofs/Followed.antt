@@ -6,6 +6,7 @@ use Rattle.std.proofs.lemmas.List.{length-append}
 use Rattle.xa_types.specs.declared.setup.Setup.{Setup}
 use Rattle.xa_types.specs.declared.data.Data.{Data}
 use Rattle.xa_types.specs.declared.ids.ServerId.{ServerId}
+use Rattle.xa_link.specs.Links.{closed}
 use Rattle.xa_types.specs.declared.ids.Generation.{Generation}
 use Rattle.xa_frame.specs.declared.frame.Frame.{Frame}
 use Rattle.xa_events.specs.declared.event.Event.{Event}
@@ -21,8 +22,8 @@ use Rattle.xa_pipe.specs.declared.hearing.Finish.TheVariants.{Returns, Forwards}
 use Rattle.xa_pipe.specs.declared.turn.Turn.TheVariants.{AwaitsReady, AwaitsNext, AwaitsInvoke, Serving, Exited}
 use Rattle.xa_pipe.specs.declared.turn.Written.TheVariants.{Whole, Cut, Missing}
 use Rattle.xa_pipe.specs.Frames.{is_of_life, is_take_in, written_at, ready_frame, next_frame, finish_frame, farewell, frames_out}
-use Rattle.xa_pipe.specs.Life.{Turn, Finish, Written, LinkShows, Occurrence, Reasons, MayFail, IsLife, Took, EachCame, AllCame, EndsAs, ComesTo, stops_life, cause_of, cause_in, came_at, came_in, finishes_in, lost_by, due, may_end}
-use Rattle.xa_pipe.specs.Standing.{Standing, Ending, IsOver, id_of, returned, due_in}
+use Rattle.xa_pipe.specs.Life.{Turn, Finish, LinkShows, Occurrence, Reasons, MayFail, EachCame, AllCame, EndsAs, ComesTo, stops_life, cause_of, cause_in, came_at, came_in, finishes_in, lost_by}
+use Rattle.xa_pipe.specs.Standing.{Standing, Ending, IsOver, IsLife}
 use Rattle.xa_pipe.specs.Changes.{begun, Heard, Fell, Greeted, Invoked, Unsent, ShutDown, Exits}
 use Rattle.xa_pipe.specs.Following.{is_of, Follows, Settled, EndsLast, HasStopped, IsSent, IsBorneOut, StandsIn}
 use Rattle.xa_pipe.proofs.Coming.{came_end, came_forward, came_push}
@@ -192,7 +193,7 @@ module _ (setup : Setup) {Why : Reasons} where
   settles_shut old over own shut idle follows = settles old over own over.life.link shut.life (λ h. cc (h, idle)) follows
 
   pub settles_exited : (old : Standing) (over : Ending) (own : List Event) → Exits over old → old.turn ≡ Exited → Follows setup Why old own → Settled setup Why over own
-  settles_exited old over own exits done follows = settles old over own old.link exits.life (λ h. cc (h, done)) follows
+  settles_exited old over own exits done follows = settles old over own (closed old.link) exits.life (λ h. cc (h, done)) follows
 
   -- with the request in hand
   loses : (over : Ending) (own : List Event) (e : Ended) → over.life.turn ≡ Serving → is_of_life over.life.server.0 over.life.generation.0 e.server.0 e.generation.0 ≡ true → e.outcome ≡ lost_by over.cause
@@ -390,23 +391,6 @@ module _ (setup : Setup) (clients : ℕ) (Why : Reasons) (its : Event → Bool) 
       by_one true is led = led_append setup Why (MayFail setup clients) (came_in server g (filter its past)) (came_in server g past) (came_at server g e (filter its past)) (came_at server g e past) led (came_borne e past failed.0)
       by_one false is led = subst (EachBorne (came_in server g (filter its past))) (sym (came_idle server g e past (others_not e is))) led
 
--- ---- what was due
-
-due_unshut : (turn : Turn) (written : Written) (asked : List Frame) → (turn ≡ AwaitsInvoke → written ≡ Whole → ⊥) → due written turn asked ≡ due_in turn asked
-due_unshut AwaitsInvoke Whole asked not = absurd (not refl refl)
-due_unshut AwaitsInvoke Cut asked not = refl
-due_unshut AwaitsInvoke Missing asked not = refl
-due_unshut turn Whole asked not = refl
-due_unshut turn Cut asked not = refl
-due_unshut turn Missing asked not = refl
-
-due_at : (cause : StopCause) (turn : Turn) (written : Written) (asked : List Frame) → may_end cause turn written ≡ true → due written turn (asked ++ farewell cause) ≡ due_in turn asked
-due_at Shutdown AwaitsInvoke Whole asked may = refl
-due_at Shutdown turn written asked may = absurd (cc may)
-due_at cause turn written asked may =
-    ap (λ (fs : List Frame). due written turn fs) (append-nil asked)
-    ∙ due_unshut turn written asked (λ idle whole. cc (subst (λ (w : Written). may_end cause AwaitsInvoke w ≡ true) whole (subst (λ (t : Turn). may_end cause t written ≡ true) idle may)))
-
 -- ---- what was written
 
 take_next : (n : ℕ) (fs : List Frame) → take n fs ++ take 1 (drop n fs) ≡ take (suc n) fs
@@ -465,7 +449,7 @@ module _ (server g : ℕ) (asked : List Frame) where
 -- ---- the law
 
 pub is_life : (setup : Setup) (clients : ℕ) (Why : Reasons) (over : Ending) (own past : List Event) → IsOver over → HasStopped setup Why over own → StandsIn setup clients Why over own past
-    → IsLife setup clients (id_of over.life) past over.life.link
+    → IsLife setup clients past over
 is_life setup clients Why over own past ended noted stands =
     let server = over.life.server.0 in
     let g = over.life.generation.0 in
@@ -482,21 +466,10 @@ is_life setup clients Why over own past ended noted stands =
     let sent : frames_out server g past ≡ over.life.asked ++ farewell over.cause
     = out_stopped server g over.life.asked over.cause past (subst (λ (es : List Event). EndsLast server g es) same noted.last) (sym why ∙ noted.stopped) stands.sent
     ∙ ap (λ (fs : List Frame). fs ++ farewell over.cause) (ap (λ (n : ℕ). take n over.life.asked) takes ∙ take_whole over.life.asked) in
-    let due_is : due_in over.life.turn over.life.asked ≡ due over.written over.life.turn (frames_out server g past)
-    = sym (ap (λ (fs : List Frame). due over.written over.life.turn fs) sent ∙ due_at over.cause over.life.turn over.written over.life.asked ended.may) in
     record {
-      cause = over.cause;
-      turn = over.life.turn;
-      returned = returned over.life;
-      frames = over.life.said;
-      written = over.written;
+      over_is = ended;
       stopped = sym why ∙ noted.stopped;
-      says = ended.says;
+      asked = sent;
       came = all_led setup Why (MayFail setup clients) over.cause over.life.turn (finishes_in over.life.said) (came_in server g own) (came_in server g past) led noted.came;
-      may = ended.may;
       closed = stands.closed;
-      counted = ended.counted;
-      whose = ended.whose;
-      took_frames = subst (λ (fs : List Frame). IfSome over.life.link.took (Took over.written fs)) due_is ended.took;
-      gave_frames = ended.gave;
     }

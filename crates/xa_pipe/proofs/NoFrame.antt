@@ -4,7 +4,7 @@ use Rattle.std.specs.Prelude.{min}
 use Rattle.std.proofs.Transfers.{starts_with_of_append}
 use Rattle.std.proofs.lemmas.Grind.{common_steps}
 use Rattle.std.proofs.lemmas.List.{length-append}
-use Rattle.xa_types.specs.declared.ids.Generation.{Generation}
+use Rattle.xa_link.specs.Links.{Program}
 use Rattle.xa_frame.specs.declared.frame.Frame.{Frame}
 use Rattle.xa_frame.specs.declared.reader.NextRefused.{NextRefused}
 use Rattle.xa_frame.specs.declared.reader.NextRefused.TheVariants.{BadFrame, NoMemory}
@@ -27,20 +27,20 @@ partial_few octets (inr (kind, size, tag, body, lacks)) =
     omega (arith, text, most, lacks.short)
 
 -- the pipe with what its reader holds
-abbrev pub piped : Option (List ℕ) → Option (List ℕ) → Option (List ℕ) → ℕ → ℕ → Option (List ℕ × Generation) → Incoming → Piped
-piped took gave left reads writes whose reader = record { took = took; gave = gave; left = left; reads = reads; writes = writes; whose = whose; rest = reader.rest; place = reader.place }
+abbrev pub piped : Option (List ℕ) → Option (List ℕ) → Option (List ℕ) → ℕ → ℕ → Program → Incoming → Piped
+piped took gave left reads writes program reader = record { took = took; gave = gave; left = left; reads = reads; writes = writes; program = program; rest = reader.rest; place = reader.place }
 
 -- where it gives a frame, that was read behind the others
-pub reads_next : (took gave left : Option (List ℕ)) (reads writes : ℕ) (whose : Option (List ℕ × Generation)) (old new : Incoming) (frames : List Frame) (f : Frame) → old.rest ≡ spelled f ++ new.rest → new.place ≡ min (old.place + length (spelled f)) (2 ^ 64 - 1)
-    → HasRead (piped took gave left reads writes whose old) frames → HasRead (piped took gave left reads writes whose new) (frames ++ f ∷ [])
-reads_next took gave left reads writes whose old new frames f stood moved read = read_more (piped took gave left reads writes whose old) (piped took gave left reads writes whose new) frames f refl stood moved read
+pub reads_next : (took gave left : Option (List ℕ)) (reads writes : ℕ) (program : Program) (old new : Incoming) (frames : List Frame) (f : Frame) → old.rest ≡ spelled f ++ new.rest → new.place ≡ min (old.place + length (spelled f)) (2 ^ 64 - 1)
+    → HasRead (piped took gave left reads writes program old) frames → HasRead (piped took gave left reads writes program new) (frames ++ f ∷ [])
+reads_next took gave left reads writes program old new frames f stood moved read = read_more (piped took gave left reads writes program old) (piped took gave left reads writes program new) frames f refl stood moved read
 
-refused_same : (took gave left : Option (List ℕ)) (reads writes : ℕ) (whose : Option (List ℕ × Generation)) (reader : Incoming) (frames : List Frame) (why : NextRefused) → Refused reader reader why → HasRead (piped took gave left reads writes whose reader) frames
-    → Keeps (piped took gave left reads writes whose reader) frames (ended_by why) × ReadsNone (piped took gave left reads writes whose reader) frames (ended_by why)
-refused_same took gave left reads writes whose reader frames (BadFrame place) refused read = (read, (refused.1 ∙ read.place, refused.2))
-refused_same took gave left reads writes whose reader frames NoMemory refused read = (
+refused_same : (took gave left : Option (List ℕ)) (reads writes : ℕ) (program : Program) (reader : Incoming) (frames : List Frame) (why : NextRefused) → Refused reader reader why → HasRead (piped took gave left reads writes program reader) frames
+    → Keeps (piped took gave left reads writes program reader) frames (ended_by why) × ReadsNone (piped took gave left reads writes program reader) frames (ended_by why)
+refused_same took gave left reads writes program reader frames (BadFrame place) refused read = (read, (refused.1 ∙ read.place, refused.2))
+refused_same took gave left reads writes program reader frames NoMemory refused read = (
   told_more gave _ _ (λ octets e. starts_with_of_append octets (all_spelled frames) reader.rest e) read.told,
-  stands_more (piped took gave left reads writes whose reader) frames refused.1.0 refused.1.1 read refused.1.2,
+  stands_more (piped took gave left reads writes program reader) frames refused.1.0 refused.1.1 read refused.1.2,
 )
 
 unchanged : (old new : Incoming) (why : NextRefused) → Refused old new why → new ≡ old
@@ -48,8 +48,8 @@ unchanged old new (BadFrame place) refused = refused.0
 unchanged old new NoMemory refused = refused.0
 
 -- where it refuses, the frames that were read stay, and it shows why there is no other
-pub refused_reads : (took gave left : Option (List ℕ)) (reads writes : ℕ) (whose : Option (List ℕ × Generation)) (old new : Incoming) (frames : List Frame) (why : NextRefused) → Refused old new why → HasRead (piped took gave left reads writes whose old) frames
-    → Keeps (piped took gave left reads writes whose new) frames (ended_by why) × ReadsNone (piped took gave left reads writes whose new) frames (ended_by why)
-refused_reads took gave left reads writes whose old new frames why refused read =
+pub refused_reads : (took gave left : Option (List ℕ)) (reads writes : ℕ) (program : Program) (old new : Incoming) (frames : List Frame) (why : NextRefused) → Refused old new why → HasRead (piped took gave left reads writes program old) frames
+    → Keeps (piped took gave left reads writes program new) frames (ended_by why) × ReadsNone (piped took gave left reads writes program new) frames (ended_by why)
+refused_reads took gave left reads writes program old new frames why refused read =
     let same = unchanged old new why refused in
-    rw same (refused_same took gave left reads writes whose old frames why (subst (λ r. Refused old r why) same refused) read)
+    rw same (refused_same took gave left reads writes program old frames why (subst (λ r. Refused old r why) same refused) read)

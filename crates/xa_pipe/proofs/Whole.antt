@@ -13,10 +13,10 @@ use Rattle.xa_events.specs.declared.event.Event.{Event}
 use Rattle.xa_events.specs.declared.event.Outcome.TheVariants.{Starved as StarvedOutcome}
 use Rattle.xa_events.specs.declared.event.StopCause.{StopCause}
 use Rattle.xa_events.specs.declared.event.StopCause.TheVariants.{Shutdown, Exit, EndOfInput, ReadFault, WriteFault, BadBytes, OutOfTurn, Starved}
-use Rattle.xa_pipe.specs.Life.{Says, Turn, Finish, Written, LifeId, LinkShows, Occurrence, Reasons, MayFail, EndsAs, EachCame, AllCame, MaySay, IsLife, IsCounted, Shows, came_in, finishes_in, lost_by, may_end, tag_after}
+use Rattle.xa_pipe.specs.Life.{Says, Turn, Finish, Written, Occurrence, Reasons, MayFail, EndsAs, EachCame, AllCame, MaySay, IsCounted, Shows, came_in, finishes_in, lost_by, may_end, tag_after}
 use Rattle.xa_pipe.specs.declared.turn.Turn.TheVariants.{AwaitsReady, AwaitsNext, AwaitsInvoke, Serving, Exited}
+use Rattle.xa_pipe.specs.Standing.{Ending, IsLife, returned, last_turn}
 use Rattle.xa_pipe.specs.Whole.{GivesAll, CameAsSaid}
-use Rattle.xa_pipe.proofs.Ceasing.{stood}
 use Rattle.xa_pipe.proofs.Coming.{came_length}
 use Rattle.xa_pipe.proofs.Saying.{all_spelt, finishes_append, answers_next}
 
@@ -138,13 +138,16 @@ module _ (setup : Setup) (Why : Reasons) (name : List ℕ) (returned n : ℕ) (f
   by_turn Serving here (earlier, last, is, each, lost) may counted shows both = one_in_hand earlier last is each lost here may counted shows both
   by_turn Exited here each may counted shows both = none_in_hand each both
 
-pub ends_as_said : (setup : Setup) (clients : ℕ) (life : LifeId) (past : List Event) (link : LinkShows) (frames : List Frame) → IsLife setup clients life past link → link.reads ≡ 0 → link.writes ≡ 0 → GivesAll life.name frames link
-    → length (came_in life.server life.generation past) ≤ length (finishes_in frames) → CameAsSaid setup (MayFail setup clients) (finishes_in frames) (came_in life.server life.generation past)
-ends_as_said setup clients id past link frames life no_reads no_writes gives few =
-    let at = stood id.name (tag_after life.returned) life.frames life.turn life.written in
-    let told = subst (λ (t : Option (List ℕ)). IfSome t (λ octets. (rest : List ℕ) × (octets ≡ all_spelled life.frames ++ rest) × Shows at life.cause rest link.left)) gives.given life.gave_frames in
-    let octets : all_spelled life.frames ++ (told.0 ++ gives.others) ≡ all_spelled frames ++ gives.more =
-    sym (append_assoc (all_spelled life.frames) told.0 gives.others) ∙ (ap (λ (xs : List ℕ). xs ++ gives.others) (sym told.1) ∙ gives.whole) in
-    let counted = subst (λ (writes : ℕ). IsCounted life.cause 0 writes) no_writes (subst (λ (reads : ℕ). IsCounted life.cause reads link.writes) no_reads life.counted) in
-    by_turn setup (MayFail setup clients) id.name life.returned gives.returned life.frames frames gives.turn life.cause life.written gives.says (came_in id.server id.generation past) link.left gives.others told.0 gives.more gives.held few
-    life.turn life.says life.came life.may counted told.2 (fronts life.frames frames (told.0 ++ gives.others) gives.more (all_spelt life.says) (all_spelt gives.says) octets)
+pub ends_as_said : (setup : Setup) (clients : ℕ) (past : List Event) (over : Ending) (frames : List Frame) → IsLife setup clients past over → over.life.link.reads ≡ 0 → over.life.link.writes ≡ 0
+    → GivesAll over.life.name frames over.life.link → length (came_in over.life.server.0 over.life.generation.0 past) ≤ length (finishes_in frames)
+    → CameAsSaid setup (MayFail setup clients) (finishes_in frames) (came_in over.life.server.0 over.life.generation.0 past)
+ends_as_said setup clients past over frames is no_reads no_writes gives few =
+    let life = over.life in
+    let ended = is.over_is in
+    let came = came_in life.server.0 life.generation.0 past in
+    let told = subst (λ (t : Option (List ℕ)). IfSome t (λ octets. (rest : List ℕ) × (octets ≡ all_spelled life.said ++ rest) × Shows (last_turn over) over.cause rest life.link.left)) gives.given ended.gave in
+    let octets : all_spelled life.said ++ (told.0 ++ gives.others) ≡ all_spelled frames ++ gives.more =
+    sym (append_assoc (all_spelled life.said) told.0 gives.others) ∙ (ap (λ (xs : List ℕ). xs ++ gives.others) (sym told.1) ∙ gives.whole) in
+    let counted = subst (λ (writes : ℕ). IsCounted over.cause 0 writes) no_writes (subst (λ (reads : ℕ). IsCounted over.cause reads life.link.writes) no_reads ended.counted) in
+    by_turn setup (MayFail setup clients) life.name (returned life) gives.returned life.said frames gives.turn over.cause over.written gives.says came life.link.left gives.others told.0 gives.more gives.held few
+    life.turn ended.says is.came ended.may counted told.2 (fronts life.said frames (told.0 ++ gives.others) gives.more (all_spelt ended.says) (all_spelt gives.says) octets)

@@ -3,6 +3,7 @@ use Rattle.std.specs.Prelude.{◌≡◌, ◌⊎◌, ℕ, List, [], ◌∷◌, �
 use Rattle.xa_types.specs.declared.ids.ServerId.{ServerId}
 use Rattle.xa_types.specs.declared.ids.Generation.{Generation}
 use Rattle.xa_types.specs.declared.data.Data.{Data}
+use Rattle.xa_link.specs.Links.{closed}
 use Rattle.xa_link.specs.Told.{Grew}
 use Rattle.xa_frame.specs.declared.frame.Frame.{Frame}
 use Rattle.xa_frame.specs.declared.frame.Body.{Body}
@@ -81,8 +82,8 @@ pub record ShutDown (over : Ending) (old : Standing) : Type 0 where
   pub life : over.life ≡ record old { link = over.life.link }
   pub gave : over.life.link.gave ≡ old.link.gave
 
--- the life ended by TPEXIT; nothing was read or written
+-- the life ended by TPEXIT: its link was closed, and nothing was read or written
 pub record Exits (over : Ending) (old : Standing) : Type 0 where
-  pub life : over.life ≡ old
+  pub life : over.life ≡ record old { link = closed old.link }
   pub cause : over.cause ≡ Exit
   pub written : over.written ≡ Whole

@@ -1,7 +1,10 @@
 -- How a life is kept. No public contract rests on this file.
-use Rattle.std.specs.Prelude.{◌≡◌, ℕ, ◌+◌, ◌%◌, ◌^◌}
+use Rattle.std.specs.Prelude.{◌≡◌, ℕ, ◌+◌, ◌%◌, ◌^◌, Option, option_map}
+use Rattle.xa_link.specs.declared.link.Fate.{Fate}
+use Rattle.xa_link.specs.declared.link.Fate.TheVariants as fates
+use Rattle.xa_link.specs.Links.{LinkShows}
 use Rattle.xa_events.specs.declared.event.StopCause.{StopCause}
-use Rattle.xa_events.specs.declared.event.StopCause.TheVariants.{WriteFault}
+use Rattle.xa_events.specs.declared.event.StopCause.TheVariants.{Shutdown, Exit, WriteFault}
 use Rattle.xa_pipe.specs.declared.course.Course.{Course}
 use Rattle.xa_pipe.specs.declared.turn.Written.{Written}
 use Rattle.xa_pipe.specs.declared.turn.Written.TheVariants.{Cut, Missing}
@@ -20,6 +23,16 @@ abbrev pub unwritten : StopCause → Written
 unwritten WriteFault = Cut
 unwritten cause = Missing
 
+-- what became of the program of a life that ends by that cause, where the link tells it: behind SHUTDOWN it goes on, behind TPEXIT it was closed
+abbrev pub fate_left : StopCause → Option Fate → Option Fate
+fate_left Shutdown told = told
+fate_left Exit told = option_map (λ _. fates.Closed) told
+fate_left cause told = option_map (λ _. fates.Killed) told
+
+-- what the link shows then
+abbrev pub left_by : StopCause → LinkShows → LinkShows
+left_by cause link = record link { program = record link.program { fate = fate_left cause link.program.fate } }
+
 module _ {L : Type 0} where
   abbrev pub standing_of : Course L → Standing
   standing_of c = record { name = c.name; server = c.server; generation = c.generation; link = shown c.pipe; asked = c.asked; said = c.said; turn = c.turn }
@@ -31,4 +44,4 @@ module _ {L : Type 0} where
 
   -- the life that ended there
   abbrev pub ending_of : Course L → StopCause → Written → Ending
-  ending_of c cause written = record { life = standing_of c; cause = cause; written = written; killed = is_killed cause; left_open = is_open cause }
+  ending_of c cause written = record { life = record (standing_of c) { link = left_by cause (shown c.pipe) }; cause = cause; written = written; killed = is_killed cause; left_open = is_open cause }

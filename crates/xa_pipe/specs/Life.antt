@@ -5,10 +5,10 @@ use Rattle.xa_types.specs.declared.data.Data.{Data}
 use Rattle.xa_types.specs.declared.setup.Setup.{Setup}
 use Rattle.xa_types.specs.declared.ids.Generation.{Generation}
 use Rattle.xa_types.specs.declared.call.Rval.{Rval}
-use Rattle.xa_types.specs.declared.call.Rval.TheVariants.{Success, Exit as ExitValue}
-use Rattle.xa_types.specs.Kind.{is_sound}
+use Rattle.xa_types.specs.declared.call.Rval.TheVariants.{Exit as ExitValue}
 use Rattle.xa_types.specs.Setup.{queue_of}
 use Rattle.xa_link.specs.Told.{Empty}
+pub use Rattle.xa_link.specs.Links.{LinkShows}
 use Rattle.xa_frame.specs.declared.frame.Frame.{Frame}
 use Rattle.xa_frame.specs.declared.frame.Body.{Body}
 use Rattle.xa_frame.specs.declared.frame.Body.TheVariants.{Return as ReturnBody, Forward as ForwardBody}
@@ -18,12 +18,12 @@ use Rattle.xa_events.specs.declared.event.Event.{Event}
 use Rattle.xa_events.specs.declared.event.Event.TheVariants.{Forward, End, Stop}
 use Rattle.xa_events.specs.declared.event.Ended.{Ended}
 use Rattle.xa_events.specs.declared.event.Outcome.{Outcome}
-use Rattle.xa_events.specs.declared.event.Outcome.TheVariants.{Returned, Failed, BadReturn, BadForward, Died, Starved}
+use Rattle.xa_events.specs.declared.event.Outcome.TheVariants.{BadForward, Died, Starved}
 use Rattle.xa_events.specs.declared.event.StopCause.{StopCause}
 use Rattle.xa_events.specs.declared.event.StopCause.TheVariants.{Shutdown, Exit, EndOfInput, ReadFault, WriteFault, BadBytes, OutOfTurn, Starved as StarvedStop}
 use Rattle.xa_events.specs.Words.{latest, from_each, AtEach}
 use Rattle.xa_events.specs.Queue.{is_closed}
-use Rattle.xa_events.specs.Finishing.{ForwardEnds}
+use Rattle.xa_events.specs.Finishing.{ForwardEnds, return_by}
 pub use Rattle.xa_pipe.specs.declared.hearing.Finish.{Finish}
 use Rattle.xa_pipe.specs.declared.hearing.Finish.TheVariants.{Returns, Forwards}
 pub use Rattle.xa_pipe.specs.declared.turn.Turn.{Turn}
@@ -63,15 +63,6 @@ pub record Occurrence : Type 0 where
   pub event : Event
   pub before : List Event
 
--- how a request ends by a RETURN with data that is sound
-abbrev pub outcome_of : Rval → ℤ → Data → Outcome
-outcome_of Success code payload = Returned code payload
-outcome_of value code payload = Failed code payload
-
--- how a request ends by a RETURN: TPEXIT fails as TPFAIL does, and data that isn't sound is a bad return (XATMI, tpreturn)
-abbrev pub outcome_by : Setup → Rval → ℤ → Data → Outcome
-outcome_by setup value code payload = if is_sound setup payload then outcome_of value code payload else BadReturn
-
 -- the event is the end of a request, with that outcome
 abbrev pub EndsAs : Outcome → Event → Type 0
 EndsAs outcome (End e) = e.outcome ≡ outcome
@@ -91,9 +82,9 @@ IsForwarded Why service payload (Forward f) before = (f.service ≡ service) × 
 IsForwarded Why service payload (End e) before = ((version : ℕ) × (e.outcome ≡ BadForward version)) × Why service payload e before
 IsForwarded Why service payload e before = ⊥
 
--- what the program said comes to that event: by a RETURN the request ends as it says, and by a FORWARD it is forwarded
+-- what the program said comes to that event: by a RETURN the request ends as it says, since its service began no conversation, and by a FORWARD it is forwarded
 abbrev pub ComesTo : Setup → Reasons → Finish → Occurrence → Type 0
-ComesTo setup Why (Returns back) came = EndsAs (outcome_by setup back.value back.code back.payload) came.event
+ComesTo setup Why (Returns back) came = EndsAs (return_by setup [] back.value back.code back.payload) came.event
 ComesTo setup Why (Forwards forward) came = IsForwarded Why forward.service forward.payload came.event came.before
 
 -- each comes to one event, in order
@@ -218,12 +209,6 @@ IsCut frames octets = (earlier : List Frame) × (last : Frame) × (n : ℕ) × (
 abbrev pub LacksLast : List Frame → List ℕ → Type 0
 LacksLast frames octets = (earlier : List Frame) × (last : Frame) × (frames ≡ earlier ++ last ∷ []) × (octets ≡ all_spelled earlier)
 
--- the frames that were due to the program: those that the events say, and SHUTDOWN where it couldn't be written
-abbrev pub due : Written → Turn → List Frame → List Frame
-due Whole turn frames = frames
-due _ AwaitsInvoke frames = frames ++ shutdown_frame ∷ []
-due _ turn frames = frames
-
 -- what the link took of these frames: all; all but an end of the last; or all but the last
 abbrev pub Took : Written → List Frame → List ℕ → Type 0
 Took Whole frames octets = octets ≡ all_spelled frames
@@ -256,32 +241,6 @@ pub record LifeId : Type 0 where
   pub server : ℕ
   pub generation : ℕ
 
--- what a link shows: what it took, gave and still holds, where it tells that, how often its reads and writes failed, and whose it is
-pub record LinkShows : Type 0 where
-  pub took : Option (List ℕ)
-  pub gave : Option (List ℕ)
-  pub left : Option (List ℕ)
-  pub reads : ℕ
-  pub writes : ℕ
-  pub whose : Option (List ℕ × Generation)
-
 -- it is the link of that life
 abbrev pub IsOf : LifeId → Option (List ℕ × Generation) → Type 0
 IsOf life whose = whose ≡ Some (life.name, record { 0 = life.generation })
-
--- how a life went and why it ended, by its events, in a domain of so many clients, and by what its link shows
-pub record IsLife (setup : Setup) (clients : ℕ) (life : LifeId) (past : List Event) (link : LinkShows) : Type 0 where
-  pub cause : StopCause
-  pub turn : Turn
-  pub returned : ℕ
-  pub frames : List Frame
-  pub written : Written
-  pub stopped : cause_of life.server life.generation past ≡ Some cause
-  pub says : Says life.name returned frames turn
-  pub came : AllCame setup (MayFail setup clients) cause turn (finishes_in frames) (came_in life.server life.generation past)
-  pub may : may_end cause turn written ≡ true
-  pub closed : turn ≡ AwaitsInvoke → AtEach (StopsClosed setup life.server life.generation) past
-  pub counted : IsCounted cause link.reads link.writes
-  pub whose : IsOf life link.whose
-  pub took_frames : IfSome link.took (Took written (due written turn (frames_out life.server life.generation past)))
-  pub gave_frames : Gave (record { name = life.name; tag = tag_after returned; frames = frames; turn = turn; written = written }) cause link.gave link.left

@@ -2,8 +2,8 @@
 use Rattle.std.specs.Prelude.{◌≡◌, ◌⊎◌, ℕ, List, [], ◌++◌, true, Option, IfSome}
 use Rattle.std.specs.Io.{StartsWith}
 use Rattle.xa_types.specs.declared.data.Data.{Data}
-use Rattle.xa_types.specs.declared.ids.Generation.{Generation}
 use Rattle.xa_types.specs.declared.call.Mode.TheVariants.{Reply}
+use Rattle.xa_link.specs.Links.{Program}
 use Rattle.xa_link.specs.Told.{Rose, Empty}
 use Rattle.xa_frame.specs.declared.frame.Frame.{Frame}
 use Rattle.xa_frame.specs.declared.frame.Body.TheVariants.{Invoke}
@@ -20,20 +20,20 @@ use Rattle.xa_pipe.specs.Life.{Turn, Says, LastTurn, LinkShows, Gave, awaiting, 
 abbrev pub invoke_frame : List ℕ → List ℕ → ℕ → Data → Frame
 invoke_frame service routine tag payload = record { tag = tag; body = Invoke service routine Reply payload }
 
--- what the link took, gave and still holds, where it tells them, how often its reads and writes failed, whose it is, and of what it gave the octets that aren't read as a frame, and their place
+-- what the link took, gave and still holds, where it tells them, how often its reads and writes failed, its program, and of what it gave the octets that aren't read as a frame, and their place
 pub record Piped : Type 0 where
   pub took : Option (List ℕ)
   pub gave : Option (List ℕ)
   pub left : Option (List ℕ)
   pub reads : ℕ
   pub writes : ℕ
-  pub whose : Option (List ℕ × Generation)
+  pub program : Program
   pub rest : List ℕ
   pub place : ℕ
 
 -- what the link of the pipe shows
 abbrev pub shown : Piped → LinkShows
-shown pipe = record { took = pipe.took; gave = pipe.gave; left = pipe.left; reads = pipe.reads; writes = pipe.writes; whose = pipe.whose }
+shown pipe = record { took = pipe.took; gave = pipe.gave; left = pipe.left; reads = pipe.reads; writes = pipe.writes; program = pipe.program }
 
 -- these frames were written
 abbrev pub Wrote : Piped → List Frame → Type 0

@@ -6,8 +6,8 @@ ghost use Rattle.xa_pipe.specs.Life.{MaySay, awaiting, is_reading, turn_behind};
 ghost use Rattle.xa_pipe.specs.Pipe.{HasRead, Ceases, CountsReads, shown};
 ghost use Rattle.xa_pipe.specs.Changes.{turn_after};
 ghost use Rattle.xa_pipe.specs.Ended.{pipes_show, are_killed, are_open};
-ghost use Rattle.xa_pipe.specs.Standing.{IsSound, IsOver, is_killed, is_open};
-ghost use Rattle.xa_pipe.specs.Kept.{standing_of, ending_of, tag_after_turn};
+ghost use Rattle.xa_pipe.specs.Standing.{IsSound, IsOver, cut_short, is_killed, is_open};
+ghost use Rattle.xa_pipe.specs.Kept.{standing_of, ending_of, left_by, tag_after_turn};
 
 use crate::hearing::{is_finish, is_next, is_ready, out_of_turn};
 use crate::noted::{Asked, Said};
@@ -85,7 +85,7 @@ impl<L: Link> Course<L> {
         ensures same { self.new ≡ record self.old { pipe = self.new.pipe } }
         ensures may { IfOk result (λ f. MaySay self.old.name self.old.tag self.old.turn f × HasSpelling f) }
         ensures read { IfOk result (λ f. HasRead self.old.pipe self.old.said → HasRead self.new.pipe (self.old.said ++ f ∷ [])) }
-        ensures beside { (self.new.pipe.took ≡ self.old.pipe.took) × (self.new.pipe.writes ≡ self.old.pipe.writes) × (self.new.pipe.whose ≡ self.old.pipe.whose) }
+        ensures beside { (self.new.pipe.took ≡ self.old.pipe.took) × (self.new.pipe.writes ≡ self.old.pipe.writes) × (self.new.pipe.program ≡ self.old.pipe.program) }
         ensures well { OnOk result (self.new.pipe.reads ≡ self.old.pipe.reads) }
         ensures why { IfErr result (λ cause. HasRead self.old.pipe self.old.said → Ceases (awaiting self.old.name self.old.tag self.old.said self.old.turn) self.new.pipe cause) }
         ensures counts { IfErr result (λ cause. CountsReads cause self.old.pipe.reads self.new.pipe.reads) }
@@ -111,7 +111,7 @@ impl<L: Link> Course<L> {
     /// The monitor goes on with it no more: its program is ended by force, in whichever turn.
     pub fn cut(self) -> CutLife<L>
         requires { IsSound (standing_of self) }
-        ensures { result ≡ standing_of self }
+        ensures { result ≡ cut_short (standing_of self) }
     {
         let Course {
             name,
@@ -169,7 +169,7 @@ impl<L: Link> Course<L> {
 fn close<L: Link>(pipe: Pipe<L>, cause: StopCause) -> Pipes<L>
     ensures killed { are_killed result ≡ is_killed cause }
     ensures left_open { are_open result ≡ is_open cause }
-    ensures shows { pipes_show (λ l. record { took = L.took l; gave = L.gave l; left = L.left l; reads = L.read_faults l; writes = L.write_faults l; whose = L.whose l }) result ≡ shown pipe }
+    ensures shows { pipes_show L.shows result ≡ left_by cause (shown pipe) }
 {
     match cause {
         StopCause::Shutdown => Pipes::Open(pipe.into_link()),

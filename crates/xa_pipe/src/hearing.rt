@@ -133,7 +133,7 @@ impl<L: Link> Pipe<L> {
         ensures spelling { OnOk result (HasSpelling (ready_frame server.now)) }
         ensures took { self.new.took ≡ self.old.took }
         ensures writes { self.new.writes ≡ self.old.writes }
-        ensures whose { self.new.whose ≡ self.old.whose }
+        ensures program { self.new.program ≡ self.old.program }
         ensures well { OnOk result (self.new.reads ≡ self.old.reads) }
         ensures why { IfErr result (λ cause. (tag : ℕ) (frames : List Frame) → HasRead self.old frames → Ceases (awaiting server.now tag frames AwaitsReady) self.new cause) }
         ensures counts { IfErr result (λ cause. CountsReads cause self.old.reads self.new.reads) }
@@ -152,7 +152,7 @@ impl<L: Link> Pipe<L> {
         ensures spelling { OnOk result (HasSpelling (ready_frame server.now)) }
         ensures took { self.new.took ≡ self.old.took }
         ensures writes { self.new.writes ≡ self.old.writes }
-        ensures whose { self.new.whose ≡ self.old.whose }
+        ensures program { self.new.program ≡ self.old.program }
         ensures well { OnOk result (self.new.reads ≡ self.old.reads) }
         ensures why { IfErr result (λ cause. HasRead self.old [] → CutOff server.now self.new cause) }
         ensures counts { IfErr result (λ cause. CountsReads cause self.old.reads self.new.reads) }
@@ -166,7 +166,7 @@ impl<L: Link> Pipe<L> {
         ensures read { OnOk result ((frames : List Frame) → HasRead self.old frames → HasRead self.new (frames ++ next_frame ∷ [])) }
         ensures took { self.new.took ≡ self.old.took }
         ensures writes { self.new.writes ≡ self.old.writes }
-        ensures whose { self.new.whose ≡ self.old.whose }
+        ensures program { self.new.program ≡ self.old.program }
         ensures well { OnOk result (self.new.reads ≡ self.old.reads) }
         ensures why { IfErr result (λ cause. (name : List ℕ) (tag : ℕ) (frames : List Frame) → HasRead self.old frames → Ceases (awaiting name tag frames AwaitsNext) self.new cause) }
         ensures counts { IfErr result (λ cause. CountsReads cause self.old.reads self.new.reads) }
@@ -184,7 +184,7 @@ impl<L: Link> Pipe<L> {
         ensures spelling { IfOk result (λ back. HasSpelling (finish_frame number back)) }
         ensures took { self.new.took ≡ self.old.took }
         ensures writes { self.new.writes ≡ self.old.writes }
-        ensures whose { self.new.whose ≡ self.old.whose }
+        ensures program { self.new.program ≡ self.old.program }
         ensures well { OnOk result (self.new.reads ≡ self.old.reads) }
         ensures why { IfErr result (λ cause. (name : List ℕ) (frames : List Frame) → HasRead self.old frames → Ceases (awaiting name number frames Serving) self.new cause) }
         ensures counts { IfErr result (λ cause. CountsReads cause self.old.reads self.new.reads) }

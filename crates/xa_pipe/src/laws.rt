@@ -3,15 +3,16 @@ ghost use Rattle.std.specs.Prelude.{◌≡◌, ◌≤◌, ℕ, List, length};
 ghost use Rattle.xa_types.specs.declared.setup.Setup.{Setup};
 ghost use Rattle.xa_frame.specs.declared.frame.Frame.{Frame};
 ghost use Rattle.xa_events.specs.declared.event.Event.{Event};
-ghost use Rattle.xa_pipe.specs.Life.{LifeId, LinkShows, MayFail, IsLife, came_in, finishes_in};
+ghost use Rattle.xa_pipe.specs.Life.{MayFail, came_in, finishes_in};
+ghost use Rattle.xa_pipe.specs.Standing.{Ending, IsLife};
 ghost use Rattle.xa_pipe.specs.Whole.{GivesAll, CameAsSaid};
 
 /// Where no read and no write of the link failed, and it gives a RETURN or a FORWARD to each request of the life, whole and
 /// in turn, each request came to what that says, but that memory may have run out for the last. Nothing shows that it had
 /// really run out.
 pub fn ends_as_said()
-    ensures { (setup : Setup) (clients : ℕ) (life : LifeId) (past : List Event) (link : LinkShows) (frames : List Frame)
-        → IsLife setup clients life past link → link.reads ≡ 0 → link.writes ≡ 0 → GivesAll life.name frames link
-        → length (came_in life.server life.generation past) ≤ length (finishes_in frames)
-        → CameAsSaid setup (MayFail setup clients) (finishes_in frames) (came_in life.server life.generation past) }
+    ensures { (setup : Setup) (clients : ℕ) (past : List Event) (over : Ending) (frames : List Frame)
+        → IsLife setup clients past over → over.life.link.reads ≡ 0 → over.life.link.writes ≡ 0 → GivesAll over.life.name frames over.life.link
+        → length (came_in over.life.server.0 over.life.generation.0 past) ≤ length (finishes_in frames)
+        → CameAsSaid setup (MayFail setup clients) (finishes_in frames) (came_in over.life.server.0 over.life.generation.0 past) }
 {}

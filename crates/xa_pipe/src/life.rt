@@ -1,10 +1,10 @@
 // A life of a server: the monitor's end of it.
-ghost use Rattle.std.specs.Prelude.{◌≡◌, IfOk, IfErr, true, Some};
-ghost use Rattle.xa_link.specs.Told.{Empty};
+ghost use Rattle.std.specs.Prelude.{◌≡◌, IfOk, IfErr, true};
+ghost use Rattle.xa_link.specs.Links.{IsFresh};
 ghost use Rattle.xa_frame.specs.Spelling.{IsData};
 ghost use Rattle.xa_pipe.specs.Frames.{ready_frame, next_frame, finish_frame};
 ghost use Rattle.xa_pipe.specs.Life.{is_reading};
-ghost use Rattle.xa_pipe.specs.Standing.{IsSound, tag_of};
+ghost use Rattle.xa_pipe.specs.Standing.{IsSound, cut_short, tag_of};
 ghost use Rattle.xa_pipe.specs.Kept.{unwritten};
 ghost use Rattle.xa_frame.specs.declared.frame.Frame.{Frame};
 ghost use Rattle.xa_pipe.specs.Changes.{begun, Heard, Fell, Greeted, FellGreeting, next_invoke, Invoked, Unsent, ShutDown, Exits};
@@ -60,12 +60,8 @@ impl<L: Link> Life<L> {
         server: ServerId,
         generation: Generation,
     ) -> Life<L>
-        requires took { Empty (L.took link) }
-        requires gave { Empty (L.gave link) }
-        requires reads { L.read_faults link ≡ 0 }
-        requires writes { L.write_faults link ≡ 0 }
-        requires whose { L.whose link ≡ Some (name, generation) }
-        ensures { result ≡ begun name server generation (record { took = L.took link; gave = L.gave link; left = L.left link; reads = L.read_faults link; writes = L.write_faults link; whose = L.whose link }) }
+        requires { IsFresh name generation (L.shows link) }
+        ensures { result ≡ begun name server generation (L.shows link) }
     {
         Life {
             course: Course {
@@ -184,7 +180,7 @@ impl<L: Link> Life<L> {
 
     /// The monitor goes on with it no more: its program is ended by force, in whichever turn.
     pub fn abandon(self) -> CutLife<L>
-        ensures { result ≡ self }
+        ensures { result ≡ cut_short self }
     {
         let Life { course } = self;
         course.cut()

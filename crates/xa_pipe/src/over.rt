@@ -1,7 +1,7 @@
 // A life that ended, or was cut.
 ghost use Rattle.std.specs.Prelude.{◌≡◌};
 ghost use Rattle.xa_events.specs.declared.event.StopCause.TheVariants.{Shutdown, Exit};
-ghost use Rattle.xa_pipe.specs.Standing.{IsSound, IsOver};
+ghost use Rattle.xa_pipe.specs.Standing.{IsCutOff, IsOver};
 ghost use Rattle.xa_pipe.specs.Ended.{pipes_show, closed_show, are_killed, are_open};
 
 use crate::noted::{Asked, Said};
@@ -40,9 +40,9 @@ impl<L: Link> Model for EndedLife<L> {
 
     ghost Value = { Ending };
 
-    ghost view = { λ e. ending e (pipes_show (λ l. record { took = L.took l; gave = L.gave l; left = L.left l; reads = L.read_faults l; writes = L.write_faults l; whose = L.whose l }) e.pipes) };
+    ghost view = { λ e. ending e (pipes_show L.shows e.pipes) };
 
-    ghost invariant = { λ e. IsOver (ending e (pipes_show (λ l. record { took = L.took l; gave = L.gave l; left = L.left l; reads = L.read_faults l; writes = L.write_faults l; whose = L.whose l }) e.pipes)) };
+    ghost invariant = { λ e. IsOver (ending e (pipes_show L.shows e.pipes)) };
 }
 
 impl<L: Link> EndedLife<L> {
@@ -72,7 +72,7 @@ impl<L: Link> EndedLife<L> {
     pub fn into_pipes(self) -> Pipes<L>
         ensures killed { are_killed result ≡ self.killed }
         ensures left_open { are_open result ≡ self.left_open }
-        ensures shows { pipes_show (λ l. record { took = L.took l; gave = L.gave l; left = L.left l; reads = L.read_faults l; writes = L.write_faults l; whose = L.whose l }) result ≡ self.life.link }
+        ensures shows { pipes_show L.shows result ≡ self.life.link }
         ensures over { IsOver self }
     {
         let EndedLife {
@@ -103,14 +103,14 @@ pub struct CutLife<L: Link> {
 }
 
 impl<L: Link> Model for CutLife<L> {
-    ghost use Rattle.xa_pipe.specs.Standing.{Standing, IsSound};
+    ghost use Rattle.xa_pipe.specs.Standing.{Standing, IsCutOff};
     ghost use Rattle.xa_pipe.specs.Ended.{cut_at};
 
     ghost Value = { Standing };
 
-    ghost view = { λ c. cut_at (λ l. record { took = L.took l; gave = L.gave l; left = L.left l; reads = L.read_faults l; writes = L.write_faults l; whose = L.whose l }) c };
+    ghost view = { λ c. cut_at L.shows c };
 
-    ghost invariant = { λ c. IsSound (cut_at (λ l. record { took = L.took l; gave = L.gave l; left = L.left l; reads = L.read_faults l; writes = L.write_faults l; whose = L.whose l }) c) };
+    ghost invariant = { λ c. IsCutOff (cut_at L.shows c) };
 }
 
 impl<L: Link> CutLife<L> {
@@ -123,8 +123,8 @@ impl<L: Link> CutLife<L> {
 
     /// What is left of its pipes.
     pub fn into_pipes(self) -> Closed<L>
-        ensures shows { closed_show (λ l. record { took = L.took l; gave = L.gave l; left = L.left l; reads = L.read_faults l; writes = L.write_faults l; whose = L.whose l }) result ≡ self.link }
-        ensures sound { IsSound self }
+        ensures shows { closed_show L.shows result ≡ self.link }
+        ensures cut_off { IsCutOff self }
     {
         let CutLife {
             name: _,

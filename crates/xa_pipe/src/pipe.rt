@@ -1,4 +1,5 @@
 ghost use Rattle.std.specs.Prelude.{◌≡◌, ◌++◌, ◌∷◌, ◌+◌, ◌<◌, ◌≤◌, [], List, length, IfOk, IfErr, OnOk, OnErr};
+ghost use Rattle.xa_link.specs.Links.{killed, closed};
 ghost use Rattle.xa_link.specs.Told.{Rose, Grew, GrewByPart, Empty};
 ghost use Rattle.xa_frame.specs.declared.frame.Frame.{Frame};
 ghost use Rattle.xa_frame.specs.Spelling.{spelled, HasSpelling, IsData};
@@ -37,7 +38,7 @@ impl<L: Link> Model for Pipe<L> {
       left = L.left p.link;
       reads = L.read_faults p.link;
       writes = L.write_faults p.link;
-      whose = L.whose p.link;
+      program = (L.shows p.link).program;
       rest = p.reader.rest;
       place = p.reader.place;
     } };
@@ -62,7 +63,7 @@ fn write<L: Link>(link: &mut L, octets: &[u8]) -> Result<(), StopCause>
     ensures part { OnErr result (GrewByPart (L.took link.old) (L.took link.new) octets.now) }
     ensures gave { L.gave link.new ≡ L.gave link.old }
     ensures reads { L.read_faults link.new ≡ L.read_faults link.old }
-    ensures whose { L.whose link.new ≡ L.whose link.old }
+    ensures program { (L.shows link.new).program ≡ (L.shows link.old).program }
     ensures well { OnOk result (L.write_faults link.new ≡ L.write_faults link.old) }
     ensures why { IfErr result (λ cause. (cause ≡ StopCause.WriteFault) × Rose (L.write_faults link.old) (L.write_faults link.new)) }
 {
@@ -87,10 +88,7 @@ impl<L: Link> Pipe<L> {
     pub fn new(alloc: Global, link: L) -> Pipe<L>
         requires took { Empty (L.took link) }
         requires gave { Empty (L.gave link) }
-        ensures reads { result.reads ≡ L.read_faults link }
-        ensures writes { result.writes ≡ L.write_faults link }
-        ensures whose { result.whose ≡ L.whose link }
-        ensures shows { shown result ≡ record { took = L.took link; gave = L.gave link; left = L.left link; reads = L.read_faults link; writes = L.write_faults link; whose = L.whose link } }
+        ensures shows { shown result ≡ L.shows link }
         ensures wrote { Wrote result [] }
         ensures read { HasRead result [] }
     {
@@ -103,12 +101,7 @@ impl<L: Link> Pipe<L> {
 
     /// The link, with what went through it.
     pub fn into_link(self) -> L
-        ensures took { L.took result ≡ self.took }
-        ensures gave { L.gave result ≡ self.gave }
-        ensures left { L.left result ≡ self.left }
-        ensures reads { L.read_faults result ≡ self.reads }
-        ensures writes { L.write_faults result ≡ self.writes }
-        ensures whose { L.whose result ≡ self.whose }
+        ensures { L.shows result ≡ shown self }
     {
         let Pipe {
             link,
@@ -136,7 +129,7 @@ impl<L: Link> Pipe<L> {
         ensures rest { self.new.rest ≡ self.old.rest }
         ensures place { self.new.place ≡ self.old.place }
         ensures reads { self.new.reads ≡ self.old.reads }
-        ensures whose { self.new.whose ≡ self.old.whose }
+        ensures program { self.new.program ≡ self.old.program }
         ensures well { OnOk result (self.new.writes ≡ self.old.writes) }
         ensures why { IfErr result (λ cause. CountsWrites cause self.old.writes self.new.writes) }
     {
@@ -164,7 +157,7 @@ impl<L: Link> Pipe<L> {
         ensures rest { self.new.rest ≡ self.old.rest }
         ensures place { self.new.place ≡ self.old.place }
         ensures reads { self.new.reads ≡ self.old.reads }
-        ensures whose { self.new.whose ≡ self.old.whose }
+        ensures program { self.new.program ≡ self.old.program }
         ensures well { OnOk result (self.new.writes ≡ self.old.writes) }
         ensures why { IfErr result (λ cause. CountsWrites cause self.old.writes self.new.writes) }
     {
@@ -177,33 +170,16 @@ impl<L: Link> Pipe<L> {
 
     /// Ends the program by force, and waits for it: what is left.
     pub fn kill(self) -> Closed<L>
-        ensures took { L.took result.was.value ≡ self.took }
-        ensures gave { L.gave result.was.value ≡ self.gave }
-        ensures left { L.left result.was.value ≡ self.left }
-        ensures reads { L.read_faults result.was.value ≡ self.reads }
-        ensures writes { L.write_faults result.was.value ≡ self.writes }
-        ensures whose { L.whose result.was.value ≡ self.whose }
+        ensures { L.shows result.was.value ≡ killed (shown self) }
     {
         self.into_link().kill()
     }
 
     /// Closes the pipes, and waits for the program, which ends by itself: what is left.
     pub fn close(self) -> Closed<L>
-        ensures took { L.took result.was.value ≡ self.took }
-        ensures gave { L.gave result.was.value ≡ self.gave }
-        ensures left { L.left result.was.value ≡ self.left }
-        ensures reads { L.read_faults result.was.value ≡ self.reads }
-        ensures writes { L.write_faults result.was.value ≡ self.writes }
-        ensures whose { L.whose result.was.value ≡ self.whose }
+        ensures { L.shows result.was.value ≡ closed (shown self) }
     {
         self.into_link().close()
-    }
-
-    /// Ends the program by force, and waits for it. What went through the pipes stays as it is.
-    pub fn end(&mut self)
-        ensures { self.new ≡ self.old }
-    {
-        self.link.end();
     }
 
     // Reads the next frame, or says why there is none.
@@ -212,7 +188,7 @@ impl<L: Link> Pipe<L> {
         ensures spelling { IfOk result (λ f. HasSpelling f) }
         ensures took { self.new.took ≡ self.old.took }
         ensures writes { self.new.writes ≡ self.old.writes }
-        ensures whose { self.new.whose ≡ self.old.whose }
+        ensures program { self.new.program ≡ self.old.program }
         ensures well { OnOk result (self.new.reads ≡ self.old.reads) }
         ensures kept { IfErr result (λ cause. (frames : List Frame) → HasRead self.old frames → Keeps self.new frames cause) }
         ensures why { IfErr result (λ cause. (frames : List Frame) → HasRead self.old frames → ReadsNone self.new frames cause) }
@@ -234,7 +210,7 @@ impl<L: Link> Pipe<L> {
         requires partial { IsPartial self.old.rest }
         ensures took { self.new.took ≡ self.old.took }
         ensures writes { self.new.writes ≡ self.old.writes }
-        ensures whose { self.new.whose ≡ self.old.whose }
+        ensures program { self.new.program ≡ self.old.program }
         ensures grew { OnOk result ((frames : List Frame) → HasRead self.old frames → HasRead self.new frames) }
         ensures more { OnOk result (length self.old.rest < length self.new.rest) }
         ensures within { OnOk result (length self.new.rest ≤ length self.old.rest + 8192) }
@@ -256,7 +232,7 @@ impl<L: Link> Pipe<L> {
         requires piece { (0 < length piece.old) × (length piece.old ≤ 8192) }
         ensures took { self.new.took ≡ self.old.took }
         ensures writes { self.new.writes ≡ self.old.writes }
-        ensures whose { self.new.whose ≡ self.old.whose }
+        ensures program { self.new.program ≡ self.old.program }
         ensures grew { OnOk result ((frames : List Frame) → HasRead self.old frames → HasRead self.new frames) }
         ensures more { OnOk result (length self.old.rest < length self.new.rest) }
         ensures within { OnOk result (length self.new.rest ≤ length self.old.rest + 8192) }

@@ -1,9 +1,10 @@
 -- A server's slot with its starter and its lives (this project's own).
 use Rattle.std.specs.Prelude.{◌≡◌, ◌⊎◌, ℕ, List, Option, Some, None}
 use Rattle.xa_caller.specs.xa_types.declared.ids.Generation.{Generation}
+use Rattle.xa_link.specs.Links.{IsFresh}
 use Rattle.xa_link.specs.Starts.{AsksFor}
-use Rattle.xa_link.specs.Told.{Empty, Rose}
-use Rattle.xa_pipe.specs.Life.{LinkShows}
+pub use Rattle.xa_link.specs.Starts.{StarterShows}
+use Rattle.xa_link.specs.Told.{Rose}
 use Rattle.xa_pipe.specs.Standing.{Standing as Life}
 use Rattle.xa_pipe.specs.Changes.{begun}
 use Rattle.xa_caller.specs.xa_work.Work.{Standing}
@@ -12,14 +13,6 @@ use Rattle.xa_caller.specs.xa_work.declared.work.Halt.TheVariants.{NoMemory}
 use Rattle.xa_server.specs.Noting.{HaltsWith}
 use Rattle.xa_server.specs.declared.slot.ServerSlot.{ServerSlot}
 use Rattle.xa_server.specs.Changes.{Starts, FailsToStart, next_life}
-
--- nothing went through the link of that life, and nothing failed
-pub record IsFresh (name : List ℕ) (generation : Generation) (link : LinkShows) : Type 0 where
-  pub took : Empty link.took
-  pub gave : Empty link.gave
-  pub reads : link.reads ≡ 0
-  pub writes : link.writes ≡ 0
-  pub whose : link.whose ≡ Some (name, generation)
 
 -- the next life was started and has begun
 pub record Begins (name : List ℕ) (tick : ℕ) (life : Life) (slot' slot : ServerSlot) (new old : Standing) : Type 0 where
@@ -36,11 +29,6 @@ Tries name tick None slot' slot new old = FailsToStart tick (next_life slot) slo
 abbrev pub Counts : Option Life → ℕ → ℕ → Type 0
 Counts (Some life) before now = now ≡ before
 Counts None before now = Rose before now
-
--- what a starter shows: the starts that it was asked for, where it tells them, and how often one failed
-pub record StarterShows : Type 0 where
-  pub asked : Option (List (List ℕ × Generation))
-  pub faults : ℕ
 
 -- memory ran out before a start was asked for
 pub record HaltsUnasked (shows' shows : StarterShows) (new old : Standing) (halt : Halt) : Type 0 where

@@ -44,19 +44,19 @@ impl<L: Link, T: Starter<L>> Served<L, T> {
         name: &Name,
         tick: u64,
     ) -> Result<Option<Life<L>>, Halt>
-        requires own { name.now ≡ T.server_name self.old.starter }
+        requires own { name.now ≡ (T.shows self.old.starter).name }
         requires stands { Stands self.old.slot caller.old.work }
         requires idle { caller.old.phase ≡ phases.Idle }
         requires may { MayStart tick self.old.slot caller.old.work }
         ensures tried { IfOk result (λ life. Tries name.now tick life self.new.slot self.old.slot caller.new.work caller.old.work) }
-        ensures counted { IfOk result (λ life. Counts life (T.start_faults self.old.starter) (T.start_faults self.new.starter)) }
-        ensures asked { OnOk result (AsksFor (T.asked self.old.starter) (T.asked self.new.starter) name.now (next_life self.old.slot)) }
-        ensures same { T.server_name self.new.starter ≡ T.server_name self.old.starter }
+        ensures counted { IfOk result (λ life. Counts life (T.shows self.old.starter).faults (T.shows self.new.starter).faults) }
+        ensures asked { OnOk result (AsksFor (T.shows self.old.starter).asked (T.shows self.new.starter).asked name.now (next_life self.old.slot)) }
+        ensures same { (T.shows self.new.starter).name ≡ (T.shows self.old.starter).name }
         ensures stands { Stands self.new.slot caller.new.work }
         ensures rest { caller.new ≡ record caller.old { work = caller.new.work } }
         ensures lives { self.new.lives.items ≡ self.old.lives.items }
         ensures room { OnOk result (vec_len self.new.lives < vec_capacity self.new.lives) }
-        ensures halted { IfErr result (Halts name.now (next_life self.old.slot) (record { asked = T.asked self.new.starter; faults = T.start_faults self.new.starter }) (record { asked = T.asked self.old.starter; faults = T.start_faults self.old.starter }) caller.new.work caller.old.work) }
+        ensures halted { IfErr result (Halts name.now (next_life self.old.slot) (T.shows self.new.starter) (T.shows self.old.starter) caller.new.work caller.old.work) }
         ensures kept { OnErr result (self.new.slot ≡ self.old.slot) }
     {
         if self.lives.reserve(1).is_err() {

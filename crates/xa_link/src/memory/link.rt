@@ -1,8 +1,9 @@
 // A link in memory.
 ghost use Rattle.std.specs.Prelude.{◌≡◌, ◌++◌, [], Some};
+ghost use Rattle.xa_link.specs.declared.link.Fate.TheVariants.{Running};
 
 use super::{MemorySink, MemorySource};
-use crate::{Closed, Failed, Link, Sink, Source};
+use crate::{Closed, Failed, Fate, Link, Sink, Source};
 use xa_types::{Generation, Name};
 
 /// The two pipes of a life in memory. It tells all.
@@ -11,6 +12,7 @@ pub struct MemoryLink {
     source: MemorySource,
     sink: MemorySink,
     whose: Option<(Name, Generation)>,
+    fate: Fate,
 }
 
 impl MemoryLink {
@@ -25,6 +27,7 @@ impl MemoryLink {
             source,
             sink,
             whose: None,
+            fate: Fate::Running,
         }
     }
 
@@ -43,10 +46,12 @@ impl MemoryLink {
         ensures reads { source_faults (link_source self.new) ≡ 0 }
         ensures writes { sink_faults (link_sink self.new) ≡ 0 }
         ensures whose { self.new.whose ≡ Some (server, generation) }
+        ensures runs { self.new.fate ≡ Running }
     {
         self.source.rewind();
         self.sink.rewind();
         self.whose = Some((server, generation));
+        self.fate = Fate::Running;
     }
 }
 
@@ -60,7 +65,7 @@ impl Source for MemoryLink {
 
     ghost read_faults = { λ l. source_faults l.source };
 
-    ghost beside_reads = { λ l. (Some (sink_took l.sink), sink_faults l.sink, l.whose) };
+    ghost beside_reads = { λ l. (Some (sink_took l.sink), sink_faults l.sink, record { whose = l.whose; fate = Some l.fate }) };
 
     fn read(&mut self, into: &mut [u8]) -> Result<usize, Failed> {
         self.source.read(into)
@@ -75,7 +80,7 @@ impl Sink for MemoryLink {
 
     ghost write_faults = { λ l. sink_faults l.sink };
 
-    ghost beside_writes = { λ l. (Some (source_gave l.source), source_faults l.source, l.whose) };
+    ghost beside_writes = { λ l. (Some (source_gave l.source), source_faults l.source, record { whose = l.whose; fate = Some l.fate }) };
 
     fn write(&mut self, from: &[u8]) -> Result<usize, Failed> {
         self.sink.write(from)
@@ -83,22 +88,32 @@ impl Sink for MemoryLink {
 }
 
 impl Link for MemoryLink {
-    ghost use Rattle.std.specs.Prelude.{refl};
+    ghost use Rattle.std.specs.Prelude.{refl, Some};
+    ghost use Rattle.xa_link.specs.Memory.{source_left, source_gave, source_faults, sink_took, sink_faults};
 
-    ghost whose = { λ l. l.whose };
+    ghost shows = { λ l. record {
+      took = Some (sink_took l.sink);
+      gave = Some (source_gave l.source);
+      left = Some (source_left l.source);
+      reads = source_faults l.source;
+      writes = sink_faults l.sink;
+      program = record { whose = l.whose; fate = Some l.fate };
+    } };
+
+    ghost shown = { λ _. refl };
 
     ghost reads_alone = { λ _. refl };
 
     ghost writes_alone = { λ _. refl };
 
     // There is no program to end.
-    fn kill(self) -> Closed<MemoryLink> {
+    fn kill(mut self) -> Closed<MemoryLink> {
+        self.fate = Fate::Killed;
         Closed::of(self)
     }
 
-    fn close(self) -> Closed<MemoryLink> {
+    fn close(mut self) -> Closed<MemoryLink> {
+        self.fate = Fate::Closed;
         Closed::of(self)
     }
-
-    fn end(&mut self) {}
 }

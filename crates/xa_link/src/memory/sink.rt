@@ -58,13 +58,14 @@ impl MemorySink {
 
 impl Sink for MemorySink {
     ghost use Rattle.std.specs.Prelude.{Some, None};
+    ghost use Rattle.xa_link.specs.Links.{no_program};
     ghost use Rattle.xa_link.specs.Memory.{sink_took, sink_faults};
 
     ghost took = { λ s. Some (sink_took s) };
 
     ghost write_faults = { sink_faults };
 
-    ghost beside_writes = { λ _. (None, 0, None) };
+    ghost beside_writes = { λ _. (None, 0, no_program) };
 
     fn write(&mut self, from: &[u8]) -> Result<usize, Failed> {
         self.calls = self.calls.saturating_add(1);

@@ -84,6 +84,7 @@ fn give(octets: &[u8], at: usize, into: &mut [u8], most: usize) -> usize
 
 impl Source for MemorySource {
     ghost use Rattle.std.specs.Prelude.{Some, None};
+    ghost use Rattle.xa_link.specs.Links.{no_program};
     ghost use Rattle.xa_link.specs.Memory.{source_left, source_gave, source_faults};
 
     ghost left = { λ s. Some (source_left s) };
@@ -92,7 +93,7 @@ impl Source for MemorySource {
 
     ghost read_faults = { source_faults };
 
-    ghost beside_reads = { λ _. (None, 0, None) };
+    ghost beside_reads = { λ _. (None, 0, no_program) };
 
     fn read(&mut self, into: &mut [u8]) -> Result<usize, Failed> {
         self.calls = self.calls.saturating_add(1);

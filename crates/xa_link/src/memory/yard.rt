@@ -32,11 +32,7 @@ impl MemoryStarter {
 }
 
 impl Starter<MemoryLink> for MemoryStarter {
-    ghost server_name = { λ s. s.server };
-
-    ghost start_faults = { λ s. s.faults };
-
-    ghost asked = { λ s. Some s.asked.items };
+    ghost shows = { λ s. record { name = s.server; asked = Some s.asked.items; faults = s.faults } };
 
     fn server(&self) -> Name {
         self.server

@@ -15,7 +15,7 @@ invariant_of-result g c =
     let old = c.self.inside.course in
     let sent = c.in-Ok.ensures in
     kept_invoked old _ (invoke_frame c.args.service.now c.args.routine.now old.tag c.args.payload.now) (in_turn old c.args.self AwaitsInvoke c.self.view_is c.requires.turn)
-    (ap (λ (asked : List Frame). record old { pipe = c.send-sent.new.self; asked = asked; turn = Serving }) c.note.ensures) c.self.invariant sent.took sent.gave sent.rest sent.place sent.reads sent.well sent.whose
+    (ap (λ (asked : List Frame). record old { pipe = c.send-sent.new.self; asked = asked; turn = Serving }) c.note.ensures) c.self.invariant sent.took sent.gave sent.rest sent.place sent.reads sent.well sent.program
 
 pub end-requires : goal.end-requires
 end-requires g c =
@@ -25,7 +25,7 @@ end-requires g c =
     rw c.unwritten.ensures
     (unsent_over old _ Serving (old.asked ++ f ∷ []) f c.in-Err.cause (ap (λ (asked : List Frame). record old { pipe = c.send-sent.new.self; asked = asked; turn = Serving }) c.note.ensures) refl refl
     (SaysInvoked (subst (λ (t : Turn). Says old.name (length (finishes_in old.said)) old.said t) (in_turn old c.args.self AwaitsInvoke c.self.view_is c.requires.turn) c.self.invariant.sound.says)) c.self.invariant
-    failed.why (λ is. failed.part (ap Err is)) (λ is. failed.starved (ap Err is)) failed.gave failed.rest failed.place failed.reads failed.whose)
+    failed.why (λ is. failed.part (ap Err is)) (λ is. failed.starved (ap Err is)) failed.gave failed.rest failed.place failed.reads failed.program)
 
 pub returns-in-Ok-clause-sent : goal.returns-in-Ok-clause-sent
 returns-in-Ok-clause-sent g c =
@@ -34,4 +34,4 @@ returns-in-Ok-clause-sent g c =
     let new = record old { pipe = c.send-sent.new.self; asked = c.note.new.self; turn = Serving } in
     subst (λ (s : Standing). Invoked (next_invoke c.args.service.now c.args.routine.now c.args.payload.now s) (standing_of new) s) c.self.view_is
     (invokes old new c.args.service.now c.args.routine.now c.args.payload.now
-    (ap (λ (asked : List Frame). record old { pipe = c.send-sent.new.self; asked = asked; turn = Serving }) c.note.ensures) c.self.invariant sent.took sent.gave sent.reads sent.well sent.whose)
+    (ap (λ (asked : List Frame). record old { pipe = c.send-sent.new.self; asked = asked; turn = Serving }) c.note.ensures) c.self.invariant sent.took sent.gave sent.reads sent.well sent.program)

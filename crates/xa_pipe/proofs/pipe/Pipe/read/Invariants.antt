@@ -8,7 +8,7 @@ invariant-loop g l = record {
   took : l.self.took ≡ l.fn.self.took;
   reads : l.self.reads ≡ l.fn.self.reads;
   writes : l.self.writes ≡ l.fn.self.writes;
-  whose : l.self.whose ≡ l.fn.self.whose;
+  program : l.self.program ≡ l.fn.self.program;
   read : (frames : List Frame) → HasRead l.fn.self frames → HasRead l.self frames;
   counted : l.counter ≤ length l.self.rest;
   few : l.counter ≤ 74_203;
