@@ -1,3 +1,4 @@
+pub mod Resting
 pub mod Going
 pub mod Trying
 pub mod Ending

@@ -6,6 +6,7 @@ use Rattle.std.proofs.lemmas.List.{take_all, take-take}
 use Rattle.std.proofs.lemmas.List.Elements.{All-take, All-more, All-weaker, Contains-get_or}
 use Rattle.std.proofs.lemmas.Option.{slice_get_cases, slice_get_within, get_or_from_slice_get}
 use Rattle.xa_desk.specs.xa_types.declared.call.Ask.{Ask}
+use Rattle.xa_desk.specs.xa_types.declared.data.Data.{Data}
 use Rattle.xa_desk.specs.xa_types.declared.fault.Fault.{Fault}
 use Rattle.xa_desk.specs.xa_types.declared.ids.QueueId.{QueueId}
 use Rattle.xa_desk.specs.xa_types.declared.row.Row.{Row}
@@ -26,6 +27,8 @@ use Rattle.xa_desk.specs.xa_caller.declared.outcomes.Aimed.TheVariants as aims
 use Rattle.xa_desk.specs.xa_caller.declared.outcomes.Step.{Step}
 use Rattle.xa_desk.specs.xa_caller.declared.outcomes.Step.TheVariants as steps
 use Rattle.xa_desk.specs.xa_caller.declared.outcomes.Why.{Why}
+use Rattle.xa_desk.specs.xa_caller.declared.phase.Draft.{Draft}
+use Rattle.xa_desk.specs.xa_caller.declared.phase.Phase.TheVariants.{Idle}
 use Rattle.xa_desk.specs.xa_caller.Caller.{Standing as Caller}
 use Rattle.xa_desk.specs.xa_caller.Changes.{Sends}
 use Rattle.xa_desk.specs.xa_caller.Drafts.{Cargo}
@@ -36,12 +39,15 @@ use Rattle.xa_desk.specs.Whole.{entries_of}
 use Rattle.xa_desk.specs.Desks.{Leads}
 use Rattle.xa_desk.specs.Found.{SawAtQueue, SawItsOwnAt, HasFound, IsAimed, ShowsWhy, queue_in}
 use Rattle.xa_desk.specs.Serving.{Sees}
-use Rattle.xa_desk.specs.Steps.{FitsOn, NoneTakes, IsWhy}
+use Rattle.xa_desk.specs.Steps.{FitsOn, NoneTakes, IsWhy, full_in}
 use Rattle.xa_desk.proofs.Preparing.{weaker_front}
+use Rattle.xa_desk.proofs.Sending.{same_draft}
 use Rattle.xa_desk.proofs.Staying.{queue_stays, itself_stays, found_stays, aimed_stays}
-use Rattle.xa_clients.specs.Going.{IsSame, GoesBy}
+use Rattle.xa_clients.specs.Resting.{RestsOn}
+use Rattle.xa_clients.specs.Going.{IsSame, GoesBy, TriesBy}
 use Rattle.xa_clients.specs.Sending.{IsBy, IsOn, IsTried, NoneTook, full_by, why_of}
 use Rattle.xa_clients.proofs.Going.{goes_trans, sees_on}
+use Rattle.xa_clients.proofs.Resting.{noted_one, noted_weaker, unsent_noted}
 
 -- ---- a request that no queue took
 
@@ -80,11 +86,43 @@ module _ (d : Domain) (ask : Ask) (first : Desk) where
     same = record { id = ap (λ (c : Caller). c.work.id) sends.made; clients = ap (λ (c : Caller). c.work.clients) sends.made };
   })
 
-  pub back_on : (desk new : Desk) → IsOn d ask first desk → Leads d desk new → Sees desk.caller new.caller → IsOn d ask first new
-  back_on desk new on leads sees = record {
+  pub back_on : (desk new : Desk) → IsOn d ask first desk → Leads d desk new → Sees desk.caller new.caller → new.reader ≡ desk.reader → new.board ≡ desk.board → IsOn d ask first new
+  back_on desk new on leads sees reader board = record {
     goes = ends_on desk new on (sees_on d ask (desk.caller.op + 1) desk new leads sees);
     op = ap (λ (c : Caller). c.op) sees.1 ∙ on.op;
+    own = ap (λ (c : Caller). c.work.own) sees.1 ∙ on.own;
+    reader = reader ∙ on.reader;
+    board = board ∙ on.board;
   }
+
+  -- what is noted now is all that the way noted
+  pub tries_on : (Full Full' : QueueId × ℕ → Type 0) (desk end : Desk) → IsOn d ask first desk → ((one : QueueId × ℕ) → Full one → Full' one) → TriesBy Full desk end → TriesBy Full' first end
+  tries_on Full Full' desk end on fills tries = record {
+    board = tries.board ∙ on.board;
+    found = noted_weaker (λ (v : ℕ). v ≡ desk.reader.found.version) (λ (v : ℕ). v ≡ first.reader.found.version) Full Full' (λ v is. is ∙ ap (λ r. r.found.version) on.reader) fills desk.caller.work.own first.caller.work.own end.caller.work.own (sym on.own) tries.found;
+  }
+
+  -- the request was accepted by what was found
+  pub sent_tries : (Full : QueueId × ℕ → Type 0) (entry : Entry Cargo) (event : Event) (stamp : Stamp) (desk new : Desk) → IsOn d ask first desk → IsAimed d desk.reader.found ask.payload entry event desk → Sends stamp new.caller desk.caller → new.board ≡ desk.board → TriesBy Full first new
+  sent_tries Full entry event stamp desk new on aimed sends board =
+      let draft = sends.draft in
+      let said : draft.event.value ≡ event = ap (λ (draft : Draft). draft.event.value) (same_draft draft aimed.draft desk.caller.phase sends.was aimed.prepared) ∙ aimed.drafted in
+      let shown : ℕ → Type 0 = λ v. v ≡ desk.reader.found.version in
+      tries_on Full Full desk new on (λ one is. is) (record {
+        board = board;
+        found = noted_one shown Full desk.caller.work.own new.caller.work.own (record { stamp = stamp; event = draft.event.value }) (ap (λ (c : Caller). c.work.own) sends.made) (subst (RestsOn shown Full) (sym (said ∙ aimed.event_is)) (refl, tt));
+      })
+
+-- no queue took it
+pub unsent_tries : (d : Domain) (payload : Data) (cell : ℕ) (why : Why) (no_block : Bool) (step : Step) (entry : Entry Cargo) (event : Event) (old new : Desk) → IsAimed d old.reader.found payload entry event old → UnsentAs cell why no_block step new.caller old.caller → new ≡ record old { caller = new.caller }
+    → TriesBy (λ one. full_in why ≡ Some one) old new
+unsent_tries d payload cell why no_block step entry event old new aimed unsent rest =
+    let version : unsent.draft.version ≡ old.reader.found.version = ap (λ (draft : Draft). draft.version) (same_draft unsent.draft aimed.draft old.caller.phase unsent.was aimed.prepared) ∙ aimed.version in
+    record {
+      board = ap (λ (desk : Desk). desk.board) rest;
+      found = noted_weaker (λ (v : ℕ). v ≡ unsent.draft.version) (λ (v : ℕ). v ≡ old.reader.found.version) (λ one. full_in why ≡ Some one) (λ one. full_in why ≡ Some one) (λ v is. is ∙ version) (λ one is. is) old.caller.work.own old.caller.work.own new.caller.work.own refl
+          (unsent_noted unsent.draft why no_block step new.caller (record old.caller { seat = unsent.seat; phase = Idle }) unsent.ends);
+    }
 
 aimed_still : (entry : Entry Cargo) (rows : List Row) (attempt : ℕ) (aimed : Aimed) (old new : Desk) → AimsAs entry rows attempt aimed new.caller old.caller → IsStill old new
 aimed_still entry rows attempt (aims.At one event) old new is = let made = is.2.made in record { same = record { id = ap (λ (c : Caller). c.work.id) made; clients = ap (λ (c : Caller). c.work.clients) made }; op = ap (λ (c : Caller). c.op) made; own = ap (λ (c : Caller). c.work.own) made }
@@ -221,7 +259,13 @@ module _ (d : Domain) (ask : Ask) (old new : Desk) (leads : Leads d old new) whe
     pub aimed_on : (first : Desk) → ((op : ℕ) (ask : Ask) → FitsOn d op ask old new) → IsOn d ask first old → IsOn d ask first new
     aimed_on first fits on =
         let still = aimed_still entry old.reader.found.rows attempt aimed old new aims_as in
-        record { goes = ends_on d ask first old new on (record { leads = leads; fits = fits (old.caller.op + 1) ask; same = still.same }); op = still.op ∙ on.op }
+        record {
+          goes = ends_on d ask first old new on (record { leads = leads; fits = fits (old.caller.op + 1) ask; same = still.same });
+          op = still.op ∙ on.op;
+          own = still.own ∙ on.own;
+          reader = ap (λ (desk : Desk). desk.reader) rest ∙ on.reader;
+          board = ap (λ (desk : Desk). desk.board) rest ∙ on.board;
+        }
 
     -- what was tried stands
     pub tried_still : (n : ℕ) (full : Option (QueueId × ℕ)) (event at : Event) (back : Entry Cargo) → ((service : List ℕ) → HasFound d service old.reader.found old → HasFound d service old.reader.found new)

@@ -4,20 +4,27 @@ use Rattle.std.specs.List.{All}
 use Rattle.xa_desk.specs.xa_types.declared.call.Ask.{Ask}
 use Rattle.xa_desk.specs.xa_types.declared.call.Op.{Op}
 use Rattle.xa_desk.specs.xa_types.declared.call.Op.TheVariants.{Call, Priority}
+use Rattle.xa_desk.specs.xa_types.declared.ids.QueueId.{QueueId}
 use Rattle.xa_desk.specs.xa_events.Caller.{is_client}
+use Rattle.xa_desk.specs.xa_lock.Pages.{StartsWith}
+use Rattle.xa_desk.specs.xa_cell.Changes.{looked}
+use Rattle.xa_desk.specs.xa_cell.Known.{known}
 use Rattle.xa_desk.specs.xa_caller.declared.outcomes.Step.{Step}
 use Rattle.xa_desk.specs.xa_caller.declared.outcomes.Step.TheVariants as steps
 use Rattle.xa_desk.specs.xa_caller.declared.outcomes.Stop.{Stop}
 use Rattle.xa_desk.specs.xa_caller.declared.outcomes.Stop.TheVariants as stops
-use Rattle.xa_desk.specs.xa_caller.declared.phase.Phase.TheVariants.{Idle}
+use Rattle.xa_desk.specs.xa_caller.declared.phase.Open.{Open}
+use Rattle.xa_desk.specs.xa_caller.declared.phase.Phase.TheVariants.{Idle, Sent}
 use Rattle.xa_desk.specs.xa_caller.Phases.{IsSent, IsPrepared}
 use Rattle.xa_desk.specs.declared.domain.Domain.{Domain}
 use Rattle.xa_desk.specs.declared.desk.Desk.{Desk}
 use Rattle.xa_desk.specs.declared.stopped.Stopped.{Stopped}
 use Rattle.xa_desk.specs.declared.stopped.Stopped.TheVariants as ends
-use Rattle.xa_desk.specs.Desks.{IsDesk, Leads}
+use Rattle.xa_desk.specs.Desks.{IsDesk, Leads, board_page}
 use Rattle.xa_desk.specs.Halting.{IsStopAt}
-use Rattle.xa_desk.specs.Steps.{FitsOp}
+use Rattle.xa_desk.specs.Looks.{LookShowed}
+use Rattle.xa_desk.specs.Steps.{FitsOn, FitsOp}
+use Rattle.xa_clients.specs.Resting.{NotedOn, SawFull}
 use Rattle.xa_clients.specs.declared.sending.Tried.{Tried}
 use Rattle.xa_clients.specs.declared.sending.Tried.TheVariants as attempts
 
@@ -55,15 +62,32 @@ pub record IsSame (old new : Desk) : Type 0 where
   pub id : new.caller.work.id ≡ old.caller.work.id
   pub clients : new.caller.work.clients ≡ old.caller.work.clients
 
--- the worker went on by its call with that number, of which each event that it noted is one
+-- the worker went on by its tpcall with that number, of which each event that it noted is one
+pub record GoesBy (d : Domain) (number : ℕ) (ask : Ask) (old new : Desk) : Type 0 where
+  pub leads : Leads d old new
+  pub fits : FitsOn d number ask old new
+  pub same : IsSame old new
+
+-- so it did by any call, from its begin: a version of the board that such an event names was shown by a look of this call, and a queue that it names was
+-- full as the pass saw it in this call
 pub record PerformsBy (d : Domain) (number : ℕ) (op : Op) (old new : Desk) : Type 0 where
   pub leads : Leads d old new
   pub fits : FitsOp d number op old new
   pub same : IsSame old new
+  pub board : StartsWith (board_page new).seen (board_page old).seen
+  pub looked : NotedOn (LookShowed old new) (SawFull d old new) old.caller.work.own new.caller.work.own
 
--- so it did by a tpcall
-abbrev pub GoesBy : Domain → ℕ → Ask → Desk → Desk → Type 0
-GoesBy d number ask old new = PerformsBy d number (Call ask) old new
+-- without a look at the board: a version that such an event names is that of what the reader had found, and a queue that it names was full in this way
+pub record TriesBy (Full : QueueId × ℕ → Type 0) (old new : Desk) : Type 0 where
+  pub board : new.board ≡ old.board
+  pub found : NotedOn (λ version. version ≡ old.reader.found.version) Full old.caller.work.own new.caller.work.own
+
+-- a look of this call found the cell of the request pending, and nothing else came of it
+pub record FoundPending (old new : Desk) : Type 0 where
+  pub sent : Open
+  pub phase : old.caller.phase ≡ Sent sent
+  pub looked_at : known new.caller.seat ≡ looked sent.place.cell 1 (known old.caller.seat)
+  pub rest : new ≡ record old { caller = record old.caller { seat = new.caller.seat } }
 
 -- what a look for the answer leaves: it was told, or is still to come
 abbrev pub ToldAs : Domain → ℕ → Result Bool Stopped → Desk → Type 0

@@ -52,7 +52,10 @@ pub record IsTried (d : Domain) (ask : Ask) (tried : ℕ) (full : Option (QueueI
   pub aimed : IsAimed d desk.reader.found ask.payload entry event desk
   pub none : NoneTook d desk.reader.found.rows (take tried desk.reader.found.rows) full desk
 
--- the worker has made the call's request, and noted nothing of it that makes the call
+-- the worker has made the call's request, and noted nothing and looked at the board no more
 pub record IsOn (d : Domain) (ask : Ask) (first desk : Desk) : Type 0 where
   pub goes : GoesBy d (first.caller.op + 1) ask first desk
   pub op : desk.caller.op ≡ first.caller.op
+  pub own : desk.caller.work.own ≡ first.caller.work.own
+  pub reader : desk.reader ≡ first.reader
+  pub board : desk.board ≡ first.board

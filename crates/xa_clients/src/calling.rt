@@ -1,8 +1,8 @@
 // A client makes a call.
-ghost use Rattle.std.specs.Prelude.{◌≡◌, ◌+◌, OnOk, IfErr};
-ghost use Rattle.xa_desk.specs.xa_types.declared.call.Op.TheVariants.{Priority};
+ghost use Rattle.std.specs.Prelude.{◌≡◌, ◌+◌, false, Ok, OnOk, IfErr};
+ghost use Rattle.xa_desk.specs.xa_types.declared.call.Op.TheVariants.{Call, Priority};
 ghost use Rattle.xa_desk.specs.Desks.{IsDomain};
-ghost use Rattle.xa_clients.specs.Going.{IsReady, IsWaiting, IsStopped, PerformsBy, GoesBy, ToldAs, IsCall, told_by};
+ghost use Rattle.xa_clients.specs.Going.{IsReady, IsWaiting, IsStopped, PerformsBy, FoundPending, ToldAs, IsCall, told_by};
 
 use crate::sending::{refused_by, send};
 use std::alloc::Global;
@@ -27,8 +27,9 @@ fn told_by(step: Step) -> Result<bool, Stopped>
 fn is_told(domain: &Domain, desk: &mut Desk, ask: &Ask) -> Result<bool, Stopped>
     requires domain { IsDomain domain.now }
     requires waiting { IsWaiting domain.now desk.old.caller.op desk.old }
-    ensures goes { GoesBy domain.now desk.old.caller.op ask.now desk.old desk.new }
+    ensures goes { PerformsBy domain.now desk.old.caller.op (Call ask.now) desk.old desk.new }
     ensures told { ToldAs domain.now desk.old.caller.op result desk.new }
+    ensures pends { result ≡ Ok false → FoundPending desk.old desk.new }
 {
     told_by(desk.look_for_reply(domain, &ask.expect))
 }
@@ -37,7 +38,7 @@ fn is_told(domain: &Domain, desk: &mut Desk, ask: &Ask) -> Result<bool, Stopped>
 fn await_reply<W: Wait>(rt: &W, domain: &Domain, desk: &mut Desk, ask: &Ask) -> Result<(), Stopped>
     requires domain { IsDomain domain.now }
     requires waiting { IsWaiting domain.now desk.old.caller.op desk.old }
-    ensures goes { GoesBy domain.now desk.old.caller.op ask.now desk.old desk.new }
+    ensures goes { PerformsBy domain.now desk.old.caller.op (Call ask.now) desk.old desk.new }
     ensures told { OnOk result (IsReady domain.now desk.old.caller.op desk.new) }
     ensures stopped { IfErr result (IsStopped desk.new) }
 {
@@ -67,7 +68,7 @@ fn call<W: Wait>(
     requires domain { IsDomain domain.now }
     requires ready { IsReady domain.now desk.old.caller.op desk.old }
     requires turn { op ≡ desk.old.caller.op + 1 }
-    ensures goes { GoesBy domain.now op ask.now desk.old desk.new }
+    ensures goes { PerformsBy domain.now op (Call ask.now) desk.old desk.new }
     ensures made { OnOk result (IsReady domain.now op desk.new) }
     ensures stopped { IfErr result (IsStopped desk.new) }
 {

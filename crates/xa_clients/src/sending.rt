@@ -1,11 +1,13 @@
 // A client sends a request.
-ghost use Rattle.std.specs.Prelude.{◌≡◌, ◌+◌, false};
+ghost use Rattle.std.specs.Prelude.{◌≡◌, ◌+◌, false, Some};
+ghost use Rattle.xa_desk.specs.xa_types.declared.call.Op.TheVariants.{Call};
 ghost use Rattle.xa_desk.specs.xa_events.Calls.{is_invalid_call};
 ghost use Rattle.xa_desk.specs.xa_events.declared.event.Event.{Event as Accepting};
 ghost use Rattle.xa_desk.specs.Desks.{IsDomain, IsDesk};
 ghost use Rattle.xa_desk.specs.Found.{HasFound, IsAimed};
-ghost use Rattle.xa_desk.specs.Steps.{IsWhy};
-ghost use Rattle.xa_clients.specs.Going.{IsClient, IsReady, GoesBy, TriedAs, SentAs, tried_by, refused_by};
+ghost use Rattle.xa_desk.specs.Steps.{IsWhy, full_in};
+ghost use Rattle.xa_clients.specs.Resting.{SawFull};
+ghost use Rattle.xa_clients.specs.Going.{IsClient, IsReady, GoesBy, PerformsBy, TriesBy, TriedAs, SentAs, tried_by, refused_by};
 ghost use Rattle.xa_clients.specs.Sending.{IsBy, why_of, full_by};
 
 use std::alloc::Global;
@@ -87,6 +89,7 @@ fn give_up(
     requires aimed { (event : Accepting) × IsAimed domain.now desk.old.reader.found ask.now.payload entry event desk.old }
     requires why { IsWhy domain.now desk.old.reader.found why desk.old }
     ensures goes { GoesBy domain.now (desk.old.caller.op + 1) ask.now desk.old desk.new }
+    ensures tries { TriesBy (λ one. full_in why ≡ Some one) desk.old desk.new }
     ensures tried { TriedAs domain.now (desk.old.caller.op + 1) result desk.new }
 {
     tried_by(desk.unsent(domain, note, entry, why, ask.flags.no_block))
@@ -109,6 +112,7 @@ fn put_on_one<W: Wait>(
     requires aimed { IsAimed domain.now desk.old.reader.found ask.now.payload first.entry first.event desk.old }
     requires first { IsBy desk.old.reader.found 0 first.event }
     ensures goes { GoesBy domain.now (desk.old.caller.op + 1) ask.now desk.old desk.new }
+    ensures tries { TriesBy (SawFull domain.now desk.old desk.new) desk.old desk.new }
     ensures tried { TriedAs domain.now (desk.old.caller.op + 1) result desk.new }
 {
     let mut prepared = first;
@@ -161,7 +165,7 @@ fn try_to_send<W: Wait>(
     requires turn { op ≡ desk.old.caller.op + 1 }
     requires valid { is_invalid_call domain.now.setup ask.now ≡ false }
     requires named { service.now ≡ ask.now.service }
-    ensures goes { GoesBy domain.now op ask.now desk.old desk.new }
+    ensures goes { PerformsBy domain.now op (Call ask.now) desk.old desk.new }
     ensures tried { TriedAs domain.now op result desk.new }
 {
     desk.look_up(rt, domain, service);
@@ -187,7 +191,7 @@ pub(crate) fn send<W: Wait>(
     requires turn { op ≡ desk.old.caller.op + 1 }
     requires valid { is_invalid_call domain.now.setup ask.now ≡ false }
     requires named { service.now ≡ ask.now.service }
-    ensures goes { GoesBy domain.now op ask.now desk.old desk.new }
+    ensures goes { PerformsBy domain.now op (Call ask.now) desk.old desk.new }
     ensures sent { SentAs domain.now op result desk.new }
 {
     match try_to_send(rt, alloc, domain, desk, op, ask, service)? {

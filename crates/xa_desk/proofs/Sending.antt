@@ -25,6 +25,7 @@ use Rattle.xa_told.specs.xa_events.Homes.Home.{BoardHome, QueueHome}
 use Rattle.xa_told.specs.xa_events.Queue.{is_down, is_closed, waiting}
 use Rattle.xa_told.specs.xa_events.Words.{count}
 use Rattle.xa_told.specs.xa_stamp.declared.home.Stamped.{Stamped}
+use Rattle.xa_told.specs.xa_lock.declared.pass.Page.{Page}
 use Rattle.xa_told.specs.xa_lock.Known.{known as page_of}
 use Rattle.xa_told.specs.xa_crew.Calls.{FitsOwn}
 use Rattle.xa_told.specs.xa_crew.Seen.{past_in, IsBehind, SawFront, IfNew, SawFronts, WasTold}
@@ -33,6 +34,7 @@ use Rattle.xa_told.specs.xa_queue.declared.queue.Refusal.{Refusal}
 use Rattle.xa_told.specs.xa_queue.declared.queue.Refusal.TheVariants as refusals
 use Rattle.xa_told.specs.xa_queue.Changes.{IsEntry, put_refused, next_stamp, larger}
 use Rattle.xa_told.specs.xa_held.Joins.{events_at}
+use Rattle.xa_told.specs.xa_held.declared.kept_queue.QueueNote.{QueueNote}
 use Rattle.xa_told.specs.xa_held.declared.kept_queue.Setting.{Setting}
 use Rattle.xa_told.specs.xa_held.Kept.{Kept, IsRight, Brings}
 use Rattle.xa_told.specs.xa_held.Steps.{PutAs}
@@ -55,12 +57,13 @@ use Rattle.xa_desk.specs.declared.desk.Desk.{Desk}
 use Rattle.xa_desk.specs.Whole.{entries_of}
 use Rattle.xa_desk.specs.Desks.{IsDomain, IsDesk, Leads}
 use Rattle.xa_desk.specs.Found.{SawOnBoard, HasFound, IsAimed, SawItsOwnAt, ShowsWhy, IsAccept, queue_in}
+use Rattle.xa_desk.specs.Looks.{SeesWhy}
 use Rattle.xa_desk.specs.Steps.{FitsOn}
 use Rattle.xa_desk.proofs.Configured.{has_capacity, row_priority, asked_priority}
 use Rattle.xa_desk.proofs.Fitting.{its_events, IsRead, call_over, one_more_fits}
 use Rattle.xa_desk.proofs.Leading.{Grew, grew_one}
 use Rattle.xa_desk.proofs.Showing.{front_there, setting, down_seen, closed_seen, waits, own_seen}
-use Rattle.xa_desk.proofs.Visiting.{QueuePass, HasPass, Step, its_pass, now_has, later, looked_leads, noted_leads, looked_last}
+use Rattle.xa_desk.proofs.Visiting.{QueuePass, HasPass, page_is, Step, its_pass, now_has, later, looked_leads, noted_leads, looked_last}
 
 pub same_draft : (a b : Draft) (phase : Phase) → phase ≡ Prepared a → phase ≡ Prepared b → a ≡ b
 same_draft a b phase is_a is_b = cc (sym is_a ∙ is_b)
@@ -182,3 +185,19 @@ module _ {d : Domain} {queue k : ℕ} {old new : Desk} {p p' : QueuePass} {last 
 
   pub shows_why : ShowsWhy d queue why new
   shows_why = by_why why visits.how.1
+
+  -- and what is full is so as the pass saw it last
+  sees_by : (w : Refusal) → ((put_refused seen visits.old.queue ≡ Some w) ⊎ (w ≡ refusals.NoMemory)) → SeesWhy d queue w new
+  sees_by (refusals.Full n) (inl it) =
+      let q = visits.new.queue in
+      let full = why_of (refusals.Full n) it in
+      subst (λ (p : Page (QueueNote Filling)). IfNew d.setup queue (λ past. length (waiting d.setup queue past) ≡ n) (past_in (events_at p.seen))) (sym (page_is now))
+      (λ news. ap length (sym (waits is now visits news)) ∙ length-map q.waiting (λ (entry : Entry Cargo). entry.request) ∙ sym full.1)
+  sees_by refusals.Down (inl it) = tt
+  sees_by refusals.Closed (inl it) = tt
+  sees_by (refusals.Worn stamp) (inl it) = tt
+  sees_by refusals.NoMemory (inl it) = tt
+  sees_by w (inr it) = subst (λ x. SeesWhy d queue x new) (sym it) tt
+
+  pub sees_why : SeesWhy d queue why new
+  sees_why = sees_by why visits.how.1

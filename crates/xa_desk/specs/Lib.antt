@@ -4,6 +4,7 @@ pub mod Deserted
 pub mod Desks
 pub mod Halting
 pub mod Found
+pub mod Looks
 pub mod Steps
 pub mod Parting
 pub mod Serving

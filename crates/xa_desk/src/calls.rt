@@ -12,6 +12,7 @@ ghost use Rattle.xa_told.specs.xa_caller.Unsent.{ChecksAs, AimsAs, UnsentAs};
 ghost use Rattle.xa_told.specs.xa_work.Work.{seeing};
 ghost use Rattle.xa_desk.specs.Desks.{IsDomain, IsDesk, Leads};
 ghost use Rattle.xa_desk.specs.Found.{HasFound, IsAimed, StillAimed, ShowsWhy, IsAccept, queue_in};
+ghost use Rattle.xa_desk.specs.Looks.{SeesWhy};
 ghost use Rattle.xa_desk.specs.Steps.{FitsOn, IsWhy};
 
 use crate::desk::{Desk, put_back, take_from};
@@ -55,6 +56,7 @@ impl Desk {
         ensures kept { OnOk result (self.new ≡ self.old) }
         ensures leads { Leads domain.now self.old self.new }
         ensures refused { IfErr result (λ stop. ChecksAs op stop self.new.caller self.old.caller) }
+        ensures rest { self.new ≡ record self.old { caller = self.new.caller } }
         ensures fits { FitsOn domain.now op ask.now self.old self.new }
     {
         let _itself = self.caller.id();
@@ -119,6 +121,7 @@ impl Desk {
         ensures shut { IfErr result (λ back. back.queue.0 ≡ queue_in prepared.event) }
         ensures kept { OnErr result ((seen : Stamp) × (self.new.caller ≡ record self.old.caller { work = seeing seen self.old.caller.work })) }
         ensures why { IfErr result (λ back. ShowsWhy domain.now (queue_in prepared.event) back.why self.new) }
+        ensures seen { IfErr result (λ back. SeesWhy domain.now (queue_in prepared.event) back.why self.new) }
     {
         let Prepared { entry, event, note } = prepared;
         let queue = queue_of(&event);

@@ -4,6 +4,7 @@ ghost use Rattle.xa_told.specs.xa_types.declared.stamp.Stamp.{Stamp};
 ghost use Rattle.xa_told.specs.xa_work.Work.{seeing};
 ghost use Rattle.xa_desk.specs.Desks.{IsDomain, IsDesk, Leads};
 ghost use Rattle.xa_desk.specs.Found.{HasFound};
+ghost use Rattle.xa_desk.specs.Looks.{LookShowed};
 
 use crate::domain::Domain;
 use std::mem;
@@ -51,13 +52,14 @@ pub(crate) fn put_back<E>(passes: &mut Vec<Option<LockPass<E>>>, queue: usize, p
 }
 
 impl Desk {
-    /// Looks a service up on the board, for calls that begin no conversation: the reader finds its rows. The worker saw the
-    /// board's stamp.
+    /// Looks a service up on the board, for calls that begin no conversation: the reader finds its rows, by the version that
+    /// the board had at this look. The worker saw the board's stamp.
     pub fn look_up<W: Wait>(&mut self, rt: &W, domain: &Domain, service: &Name)
         requires domain { IsDomain domain.now }
         requires desk { IsDesk domain.now self.old }
         ensures leads { Leads domain.now self.old self.new }
         ensures found { HasFound domain.now service.now self.new.reader.found self.new }
+        ensures looked { LookShowed self.old self.new self.new.reader.found.version }
         ensures caller { (seen : Stamp) × (self.new.caller ≡ record self.old.caller { work = seeing seen self.old.caller.work }) }
         ensures queues { self.new.queues ≡ self.old.queues }
     {
@@ -66,7 +68,15 @@ impl Desk {
             pass,
             last,
             answer: _,
-        } = look_up_at(rt, &domain.board, pass, &mut self.reader, service, false);
+        } = look_up_at(
+            rt,
+            &domain.board,
+            pass,
+            self.caller.id(),
+            &mut self.reader,
+            service,
+            false,
+        );
         self.board = Some(pass);
         self.caller.saw(last);
     }

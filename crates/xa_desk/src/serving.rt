@@ -61,17 +61,17 @@ impl Desk {
         tick: u64,
     ) -> Result<Option<Life<L>>, Halt>
         requires domain { (queue : ℕ) × IsDomain domain.now × IsDesk domain.now self.old × IsServing domain.now queue served.old.slot self.old }
-        requires own { name.now ≡ T.server_name served.old.starter }
+        requires own { name.now ≡ (T.shows served.old.starter).name }
         requires may { MayStart tick served.old.slot self.old.caller.work × (tick ≡ 0) }
         ensures leads { Leads domain.now self.old self.new }
         ensures serving { (queue : ℕ) → IsServing domain.now queue served.old.slot self.old → IsServing domain.now queue served.new.slot self.new }
         ensures tried { IfOk result (λ life. Tries name.now tick life served.new.slot served.old.slot self.new.caller.work self.old.caller.work) }
-        ensures counted { IfOk result (λ life. Counts life (T.start_faults served.old.starter) (T.start_faults served.new.starter)) }
-        ensures asked { OnOk result (AsksFor (T.asked served.old.starter) (T.asked served.new.starter) name.now (next_life served.old.slot)) }
-        ensures same { T.server_name served.new.starter ≡ T.server_name served.old.starter }
+        ensures counted { IfOk result (λ life. Counts life (T.shows served.old.starter).faults (T.shows served.new.starter).faults) }
+        ensures asked { OnOk result (AsksFor (T.shows served.old.starter).asked (T.shows served.new.starter).asked name.now (next_life served.old.slot)) }
+        ensures same { (T.shows served.new.starter).name ≡ (T.shows served.old.starter).name }
         ensures rest { (self.new ≡ record self.old { caller = self.new.caller }) × (served.new.lives.items ≡ served.old.lives.items) × (self.new.caller.seat ≡ self.old.caller.seat) }
         ensures room { OnOk result (vec_len served.new.lives < vec_capacity served.new.lives) }
-        ensures halted { IfErr result (Halts name.now (next_life served.old.slot) (record { asked = T.asked served.new.starter; faults = T.start_faults served.new.starter }) (record { asked = T.asked served.old.starter; faults = T.start_faults served.old.starter }) self.new.caller.work self.old.caller.work) }
+        ensures halted { IfErr result (Halts name.now (next_life served.old.slot) (T.shows served.new.starter) (T.shows served.old.starter) self.new.caller.work self.old.caller.work) }
         ensures kept { OnErr result (served.new.slot ≡ served.old.slot) }
     {
         let _ = domain;

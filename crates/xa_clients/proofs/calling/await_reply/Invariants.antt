@@ -1,9 +1,10 @@
-use Rattle.xa_clients.specs.Going.{IsWaiting, GoesBy}
+use Rattle.xa_desk.specs.xa_types.declared.call.Op.TheVariants.{Call}
+use Rattle.xa_clients.specs.Going.{IsWaiting, PerformsBy}
 use Rattle.xa_clients.proofs.calling.await_reply.Given as goal
 
 -- the answer is still to come
 abbrev pub invariant-loop : goal.invariant-loop
 invariant-loop g l = record {
-  goes : GoesBy l.domain l.fn.desk.caller.op l.ask l.fn.desk l.desk;
+  goes : PerformsBy l.domain l.fn.desk.caller.op (Call l.ask) l.fn.desk l.desk;
   waiting : IsWaiting l.domain l.fn.desk.caller.op l.desk;
 }

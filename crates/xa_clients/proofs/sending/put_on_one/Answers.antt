@@ -3,8 +3,11 @@ use Rattle.std.specs.Prelude.{slice_get}
 use Rattle.xa_desk.specs.xa_types.Found.{FoundRows}
 use Rattle.xa_desk.specs.xa_caller.declared.outcomes.Aimed.TheVariants as aims
 use Rattle.xa_desk.specs.declared.desk.Desk.{Desk}
-use Rattle.xa_desk.specs.Steps.{IsWhy}
-use Rattle.xa_clients.proofs.Trying.{ends_on, sends_on, back_on, past_why, found_back, aimed_back, tried_back, aimed_on, tried_still, aimed_by}
+use Rattle.xa_desk.specs.Looks.{SeesWhy}
+use Rattle.xa_desk.specs.Steps.{IsWhy, full_in}
+use Rattle.xa_clients.specs.Resting.{SawFull}
+use Rattle.xa_clients.proofs.Resting.{full_next, full_stays, full_told, full_later}
+use Rattle.xa_clients.proofs.Trying.{tries_on, sent_tries, ends_on, sends_on, back_on, past_why, found_back, aimed_back, tried_back, aimed_on, tried_still, aimed_by}
 use Rattle.xa_clients.proofs.sending.put_on_one.Goals as goal
 
 no_more : (a n : ℕ) → n ≡ min (a + 1) (2 ^ 32 - 1) → n ≤ a + 1
@@ -12,6 +15,20 @@ no_more a n is = omega (arith, is)
 
 pub returns-in-Ok-clause-goes : goal.returns-in-Ok-clause-goes
 returns-in-Ok-clause-goes g c = let sent = c.in-Ok.ensures in sends_on c.args.domain.now c.args.ask.now c.args.desk.now c.loop.desk c.send.new.self sent.sent.0 c.loop.invariant.on sent.leads (sent.fits c.args.ask.now c.requires.valid c.loop.invariant.tried.found c.loop.invariant.tried.aimed) sent.sent.1
+
+pub returns-in-Ok-clause-tries : goal.returns-in-Ok-clause-tries
+returns-in-Ok-clause-tries g c =
+    let sent = c.in-Ok.ensures in
+    sent_tries c.args.domain.now c.args.ask.now c.args.desk.now (SawFull c.args.domain.now c.args.desk.now c.send.new.self) c.loop.prepared.entry c.loop.prepared.event sent.sent.0 c.loop.desk c.send.new.self c.loop.invariant.on c.loop.invariant.tried.aimed sent.sent.1 sent.board
+
+pub returns-in-Err-full_by-clause-tries : goal.returns-in-Err-full_by-clause-tries
+returns-in-Err-full_by-clause-tries g c =
+    let d = c.args.domain.now in
+    let ask = c.args.ask.now in
+    let sent = c.in-Err.ensures in
+    let i = c.loop.invariant in
+    let back = back_on d ask c.args.desk.now c.loop.desk c.send.new.self i.on sent.leads sent.kept sent.reader sent.board in
+    tries_on d ask c.args.desk.now _ (SawFull d c.args.desk.now c.give_up.new.desk) c.send.new.self c.give_up.new.desk back (λ one never. absurd (cc never)) c.give_up.ensures.tries
 
 pub give_up-requires-clause-found : goal.give_up-requires-clause-found
 give_up-requires-clause-found g c =
@@ -34,7 +51,7 @@ give_up-requires-clause-aimed g c =
     (p.event, aimed_back d ask c.loop.desk c.send.new.self sent.leads sent.kept sent.reader p.entry u.entry p.event sent.back i.tried.aimed)
 
 pub returns-in-Err-full_by-clause-goes : goal.returns-in-Err-full_by-clause-goes
-returns-in-Err-full_by-clause-goes g c = ends_on c.args.domain.now c.args.ask.now c.args.desk.now c.send.new.self c.give_up.new.desk (back_on c.args.domain.now c.args.ask.now c.args.desk.now c.loop.desk c.send.new.self c.loop.invariant.on c.in-Err.ensures.leads c.in-Err.ensures.kept) c.give_up.ensures.goes
+returns-in-Err-full_by-clause-goes g c = ends_on c.args.domain.now c.args.ask.now c.args.desk.now c.send.new.self c.give_up.new.desk (back_on c.args.domain.now c.args.ask.now c.args.desk.now c.loop.desk c.send.new.self c.loop.invariant.on c.in-Err.ensures.leads c.in-Err.ensures.kept c.in-Err.ensures.reader c.in-Err.ensures.board) c.give_up.ensures.goes
 
 pub aim-requires-clause-found : goal.aim-requires-clause-found
 aim-requires-clause-found g c =
@@ -107,8 +124,27 @@ returns-in-Past-clause-goes g c =
     let tried = tried_back d ask c.loop.desk c.send.new.self sent.leads sent.kept sent.reader p.entry u.entry p.event c.loop.attempt c.saturating_add-attempt.result c.loop.full c.in-Ok-full_by.full u.queue u.why sent.board sent.back sent.shut sent.why
     (sym c.full_by.ensures ∙ c.in-Ok-full_by.is) (no_more c.loop.attempt c.saturating_add-attempt.result c.saturating_add-attempt.ensures) i.by i.tried in
     let its = c.in-Past.ensures in
-    let on = aimed_on d ask c.send.new.self c.aim.new.self aim.leads aim.rest c.saturating_add-attempt.result (aims.Past c.in-Past.entry) u.entry its.aims c.args.desk.now aim.fits (back_on d ask c.args.desk.now c.loop.desk c.send.new.self i.on sent.leads sent.kept) in
+    let on = aimed_on d ask c.send.new.self c.aim.new.self aim.leads aim.rest c.saturating_add-attempt.result (aims.Past c.in-Past.entry) u.entry its.aims c.args.desk.now aim.fits (back_on d ask c.args.desk.now c.loop.desk c.send.new.self i.on sent.leads sent.kept sent.reader sent.board) in
     ends_on d ask c.args.desk.now c.aim.new.self c.give_up-in-Past.new.desk on c.give_up-in-Past.ensures.goes
+
+pub returns-in-Past-clause-tries : goal.returns-in-Past-clause-tries
+returns-in-Past-clause-tries g c =
+    let d = c.args.domain.now in
+    let ask = c.args.ask.now in
+    let sent = c.in-Err.ensures in
+    let u = c.in-Err.unsent in
+    let i = c.loop.invariant in
+    let aim = c.aim.ensures in
+    let its = c.in-Past.ensures in
+    let back = back_on d ask c.args.desk.now c.loop.desk c.send.new.self i.on sent.leads sent.kept sent.reader sent.board in
+    let on = aimed_on d ask c.send.new.self c.aim.new.self aim.leads aim.rest c.saturating_add-attempt.result (aims.Past c.in-Past.entry) u.entry its.aims c.args.desk.now aim.fits (back_on d ask c.args.desk.now c.loop.desk c.send.new.self i.on sent.leads sent.kept sent.reader sent.board) in
+    let full = full_next d c.args.desk.now c.loop.desk c.send.new.self sent.leads.pages back.goes.leads.pages u.queue u.why c.loop.full c.in-Ok-full_by.full (sym c.full_by.ensures ∙ c.in-Ok-full_by.is) (subst (λ (k : ℕ). SeesWhy d k u.why c.send.new.self) (sym sent.shut) sent.seen) i.full in
+    let end = c.give_up-in-Past.new.desk in
+    let first = c.args.desk.now in
+    tries_on d ask first _ (SawFull d first end) c.aim.new.self end on
+    (λ one is. full_later d first c.aim.new.self end one c.give_up-in-Past.ensures.goes.leads.pages
+    (full_told c.in-Ok-full_by.full one (ap full_in (sym c.why_of.ensures) ∙ is) (SawFull d first c.aim.new.self) (full_stays d first c.send.new.self c.aim.new.self aim.leads.pages on.goes.leads.pages c.in-Ok-full_by.full full)))
+    c.give_up-in-Past.ensures.tries
 
 pub give_up-requires-in-NoMemory-clause-found : goal.give_up-requires-in-NoMemory-clause-found
 give_up-requires-in-NoMemory-clause-found g c =
@@ -154,8 +190,20 @@ returns-in-NoMemory-clause-goes g c =
     let tried = tried_back d ask c.loop.desk c.send.new.self sent.leads sent.kept sent.reader p.entry u.entry p.event c.loop.attempt c.saturating_add-attempt.result c.loop.full c.in-Ok-full_by.full u.queue u.why sent.board sent.back sent.shut sent.why
     (sym c.full_by.ensures ∙ c.in-Ok-full_by.is) (no_more c.loop.attempt c.saturating_add-attempt.result c.saturating_add-attempt.ensures) i.by i.tried in
     let its = c.in-NoMemory.ensures in
-    let on = aimed_on d ask c.send.new.self c.aim.new.self aim.leads aim.rest c.saturating_add-attempt.result (aims.NoMemory c.in-NoMemory.entry) u.entry its.aims c.args.desk.now aim.fits (back_on d ask c.args.desk.now c.loop.desk c.send.new.self i.on sent.leads sent.kept) in
+    let on = aimed_on d ask c.send.new.self c.aim.new.self aim.leads aim.rest c.saturating_add-attempt.result (aims.NoMemory c.in-NoMemory.entry) u.entry its.aims c.args.desk.now aim.fits (back_on d ask c.args.desk.now c.loop.desk c.send.new.self i.on sent.leads sent.kept sent.reader sent.board) in
     ends_on d ask c.args.desk.now c.aim.new.self c.give_up-in-NoMemory.new.desk on c.give_up-in-NoMemory.ensures.goes
+
+pub returns-in-NoMemory-clause-tries : goal.returns-in-NoMemory-clause-tries
+returns-in-NoMemory-clause-tries g c =
+    let d = c.args.domain.now in
+    let ask = c.args.ask.now in
+    let sent = c.in-Err.ensures in
+    let u = c.in-Err.unsent in
+    let i = c.loop.invariant in
+    let aim = c.aim.ensures in
+    let its = c.in-NoMemory.ensures in
+    let on = aimed_on d ask c.send.new.self c.aim.new.self aim.leads aim.rest c.saturating_add-attempt.result (aims.NoMemory c.in-NoMemory.entry) u.entry its.aims c.args.desk.now aim.fits (back_on d ask c.args.desk.now c.loop.desk c.send.new.self i.on sent.leads sent.kept sent.reader sent.board) in
+    tries_on d ask c.args.desk.now _ (SawFull d c.args.desk.now c.give_up-in-NoMemory.new.desk) c.aim.new.self c.give_up-in-NoMemory.new.desk on (λ one never. absurd (cc never)) c.give_up-in-NoMemory.ensures.tries
 
 pub loop-preserved : goal.loop-preserved
 loop-preserved g c =
@@ -171,8 +219,12 @@ loop-preserved g c =
     let its = c.in-At.ensures in
     let aimed = aims.At c.in-At.entry c.in-At.event in
     let n = c.saturating_add-attempt.result in
+    let back = back_on d ask c.args.desk.now c.loop.desk c.send.new.self i.on sent.leads sent.kept sent.reader sent.board in
+    let full = full_next d c.args.desk.now c.loop.desk c.send.new.self sent.leads.pages back.goes.leads.pages u.queue u.why c.loop.full c.in-Ok-full_by.full (sym c.full_by.ensures ∙ c.in-Ok-full_by.is) (subst (λ (k : ℕ). SeesWhy d k u.why c.send.new.self) (sym sent.shut) sent.seen) i.full in
+    let on = aimed_on d ask c.send.new.self c.aim.new.self aim.leads aim.rest n aimed u.entry its.aims c.args.desk.now aim.fits back in
     record {
-      on = aimed_on d ask c.send.new.self c.aim.new.self aim.leads aim.rest n aimed u.entry its.aims c.args.desk.now aim.fits (back_on d ask c.args.desk.now c.loop.desk c.send.new.self i.on sent.leads sent.kept);
+      on = on;
+      full = full_stays d c.args.desk.now c.send.new.self c.aim.new.self aim.leads.pages on.goes.leads.pages c.in-Ok-full_by.full full;
       tried = tried_still d ask c.send.new.self c.aim.new.self aim.leads aim.rest n aimed u.entry its.aims n c.in-Ok-full_by.full p.event c.in-At.event c.in-At.entry aim.found (its.aimed ask p.event tried.found tried.aimed) tried;
       by = aimed_by u.entry c.in-At.entry c.in-At.event n c.send.new.self c.aim.new.self aim.rest its.aims;
     }

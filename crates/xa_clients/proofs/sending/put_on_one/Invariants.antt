@@ -1,3 +1,5 @@
+use Rattle.std.specs.Prelude.{IfSome}
+use Rattle.xa_clients.specs.Resting.{SawFull}
 use Rattle.xa_clients.specs.Sending.{IsBy, IsOn, IsTried}
 use Rattle.xa_clients.proofs.sending.put_on_one.Given as goal
 
@@ -6,5 +8,6 @@ abbrev pub invariant-loop : goal.invariant-loop
 invariant-loop g l = record {
   on : IsOn l.domain l.ask l.fn.desk l.desk;
   tried : IsTried l.domain l.ask l.attempt l.full l.prepared.entry l.prepared.event l.desk;
+  full : IfSome l.full (SawFull l.domain l.fn.desk l.desk);
   by : IsBy l.desk.reader.found l.attempt l.prepared.event;
 }

@@ -1,9 +1,10 @@
-use Rattle.xa_clients.specs.Going.{IsReady, GoesBy}
+use Rattle.xa_desk.specs.xa_types.declared.call.Op.TheVariants.{Call}
+use Rattle.xa_clients.specs.Going.{IsReady, PerformsBy}
 use Rattle.xa_clients.proofs.sending.send.Given as goal
 
 -- all queues that are up were full
 abbrev pub invariant-loop : goal.invariant-loop
 invariant-loop g l = record {
-  goes : GoesBy l.domain l.op l.ask l.fn.desk l.desk;
+  goes : PerformsBy l.domain l.op (Call l.ask) l.fn.desk l.desk;
   ready : IsReady l.domain l.fn.desk.caller.op l.desk;
 }

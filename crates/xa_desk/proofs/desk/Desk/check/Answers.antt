@@ -1,4 +1,4 @@
-use Rattle.std.proofs.Common.{◌≡◌, false, sym, ◌∙◌, ap, subst}
+use Rattle.std.proofs.Common.{◌≡◌, false, refl, sym, ◌∙◌, ap, subst}
 use Rattle.std.specs.Prelude.{IfOk}
 use Rattle.xa_told.specs.xa_types.declared.setup.Setup.{Setup}
 use Rattle.xa_told.specs.xa_events.Calls.{is_invalid_call}
@@ -15,4 +15,4 @@ returns c =
     let d = c.args.domain.now in
     let desk = c.args.self.now in
     let done = checked_goes d desk c.args.op c.args.ask.now c.requires.desk (is_read d desk c.requires.desk c.id-itself.ensures.sound) (ap just_in c.requires.idle) c.check.new.self c.check.result c.check.ensures.kept c.check.ensures.refused in
-    record { ok = subst (λ (s : Setup). IfOk c.check.result (λ name. (is_invalid_call s c.args.ask.now ≡ false) × (name ≡ c.args.ask.now.service))) c.requires.desk.setup c.check.ensures.ok; kept = done.1; leads = done.0.0; refused = done.2; fits = done.0.1 }
+    record { ok = subst (λ (s : Setup). IfOk c.check.result (λ name. (is_invalid_call s c.args.ask.now ≡ false) × (name ≡ c.args.ask.now.service))) c.requires.desk.setup c.check.ensures.ok; kept = done.1; leads = done.0.0; refused = done.2; rest = refl; fits = done.0.1 }

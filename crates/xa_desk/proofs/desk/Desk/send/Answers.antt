@@ -5,7 +5,7 @@ use Rattle.xa_told.specs.xa_held.Visits.{Visits}
 use Rattle.xa_desk.specs.declared.desk.Desk.{Desk}
 use Rattle.xa_desk.specs.Found.{queue_in}
 use Rattle.xa_desk.proofs.Fitting.{is_read, no_more_fits}
-use Rattle.xa_desk.proofs.Sending.{place_in, is_accept, brings, in_range, put_setting, sent_leads, sent_fits, shows_why, may_have}
+use Rattle.xa_desk.proofs.Sending.{place_in, is_accept, brings, in_range, put_setting, sent_leads, sent_fits, shows_why, sees_why, may_have}
 use Rattle.xa_desk.proofs.Visiting.{has_at, stepped, looked_grew, looked_leads}
 use Rattle.xa_desk.proofs.desk.Desk.send.Goals as goal
 
@@ -41,6 +41,7 @@ returns-in-Ok g c =
       shut = tt;
       kept = tt;
       why = tt;
+      seen = tt;
     }
 
 pub returns-in-Err : goal.returns-in-Err
@@ -61,4 +62,5 @@ returns-in-Err g c =
       shut = c.queue_of-queue.ensures;
       kept = (c.put_at-pass.result.last, c.saw.ensures);
       why = shows_why step c.stamp.result c.in-Err.refused.why put.1 c.saw.ensures c.requires.domain (may_have c.args.self.now c.requires.active) c.stamp.ensures.value;
+      seen = sees_why step c.stamp.result c.in-Err.refused.why put.1 c.saw.ensures c.requires.domain (may_have c.args.self.now c.requires.active) c.stamp.ensures.value;
     }
