@@ -10,7 +10,7 @@ use Rattle.xa_desk.specs.xa_types.declared.reply.Answer.{Answer}
 use Rattle.xa_desk.specs.xa_types.declared.ids.Generation.{Generation}
 use Rattle.xa_desk.specs.xa_types.declared.ids.RequestId.{RequestId}
 use Rattle.xa_desk.specs.xa_events.declared.event.Event.{Event}
-use Rattle.xa_desk.specs.xa_events.declared.event.Event.TheVariants.{Sweep, Start, StartFailed}
+use Rattle.xa_desk.specs.xa_events.declared.event.Event.TheVariants.{Sweep, Start, StartFailed, Stop}
 use Rattle.xa_desk.specs.xa_stamp.declared.home.Stamped.{Stamped}
 use Rattle.xa_desk.specs.xa_stamp.Home.{last_stamp}
 use Rattle.xa_desk.specs.xa_crew.Crew.{no_stamp}
@@ -34,7 +34,7 @@ use Rattle.xa_desk.specs.declared.domain.Domain.{Domain}
 use Rattle.xa_desk.specs.declared.desk.Desk.{Desk}
 use Rattle.xa_desk.specs.Desks.{Leads}
 use Rattle.xa_links.specs.declared.telling.Told.{Told}
-use Rattle.xa_links.specs.Behind.{ends_by, is_ending, SweepsOr, OnlySweeps, IsBehindEnd, FilledBehind, AllBehind, TellsLast, ToldAll, IsCalm, ToldBy}
+use Rattle.xa_links.specs.Behind.{ends_by, is_ending, SweepsOr, OnlySweeps, stops_by_exit, NoExitNext, IsBehindEnd, FilledBehind, AllBehind, TellsLast, ToldAll, ToldBefore, IsCalm, ToldBy}
 use Rattle.xa_links.specs.Steps.{GivenBy, Tells}
 
 -- ---- what comes behind the end of a life
@@ -53,35 +53,50 @@ only_push : (Rest : Type 0) (after : List Stamped) (x : Stamped) → SweepsOr x.
 only_push Rest [] x here is = here
 only_push Rest (y ∷ after) x here is = or_more y.event (only_push Rest after x here) is
 
+-- what ends no life, and what may come behind one that ended, is no Stop by TPEXIT
+ends_none : (e : Event) → ends_by e false ≡ false → stops_by_exit e ≡ false
+ends_none (Stop x) is = absurd (cc is)
+ends_none _ is = refl
+
+sweeps_none : (X : Type 0) (e : Event) → SweepsOr e X → stops_by_exit e ≡ false
+sweeps_none X (Stop x) is = absurd is
+sweeps_none X _ is = refl
+
+next_more : (L M : Type 0) (after rest : List Stamped) → (M → NoExitNext L rest) → NoExitNext M after → NoExitNext L (after ++ rest)
+next_more L M [] rest here is = here is
+next_more L M (x ∷ after) rest here is = is
+
 -- ---- who was told with a stamp
 
-behind_more : {Rest : Type 0} (own rest : List Stamped) (stamp : Stamp) → IsBehindEnd ⊥ own stamp → IsBehindEnd Rest (own ++ rest) stamp
-behind_more {Rest} own rest stamp is = record {
+behind_more : {R L M : Type 0} (own rest : List Stamped) (stamp : Stamp) → (M → NoExitNext L rest) → IsBehindEnd ⊥ M own stamp → IsBehindEnd R L (own ++ rest) stamp
+behind_more {R} {L} {M} own rest stamp next is = record {
   before = is.before;
   after = is.after ++ rest;
   parts = ap (λ (l : List Stamped). l ++ rest) is.parts ∙ append_assoc is.before is.after rest;
   last = is.last;
-  quiet = λ ending. only_more Rest is.after rest (is.quiet ending);
+  quiet = λ ending. only_more R is.after rest (is.quiet ending);
+  stays = next_more L M is.after rest next is.stays;
 }
 
-behind_push : {Rest : Type 0} (own : List Stamped) (x : Stamped) (stamp : Stamp) → SweepsOr x.event Rest → IsBehindEnd ⊤ own stamp → IsBehindEnd Rest (own ++ x ∷ []) stamp
-behind_push {Rest} own x stamp here is = record {
+behind_push : {R L : Type 0} (own : List Stamped) (x : Stamped) (stamp : Stamp) → SweepsOr x.event R → IsBehindEnd ⊤ ⊤ own stamp → IsBehindEnd R L (own ++ x ∷ []) stamp
+behind_push {R} {L} own x stamp here is = record {
   before = is.before;
   after = is.after ++ x ∷ [];
   parts = ap (λ (l : List Stamped). l ++ x ∷ []) is.parts ∙ append_assoc is.before is.after (x ∷ []);
   last = is.last;
-  quiet = λ ending. only_push Rest is.after x here (is.quiet ending);
+  quiet = λ ending. only_push R is.after x here (is.quiet ending);
+  stays = next_more L ⊤ is.after (x ∷ []) (λ any. sweeps_none R x.event here) is.stays;
 }
 
-behind_here : {Rest : Type 0} (own : List Stamped) (stamp : Stamp) → last_stamp no_stamp own ≡ stamp.0 → (is_ending (past_in own) ≡ true → Rest) → IsBehindEnd Rest own stamp
-behind_here own stamp last quiet = record { before = own; after = []; parts = sym (append-nil own); last = last; quiet = quiet }
+behind_here : {R : Type 0} (own : List Stamped) (stamp : Stamp) → last_stamp no_stamp own ≡ stamp.0 → (is_ending (past_in own) ≡ true → R) → IsBehindEnd R ⊤ own stamp
+behind_here own stamp last quiet = record { before = own; after = []; parts = sym (append-nil own); last = last; quiet = quiet; stays = tt }
 
 -- ---- each filling of a seat
 
-all_behind : {R Q : Type 0} (own own' : List Stamped) (view : View Filling) → ((stamp : Stamp) → IsBehindEnd R own stamp → IsBehindEnd Q own' stamp) → AllBehind R own view → AllBehind Q own' view
-all_behind {R} {Q} own own' view more all k = All-weaker (FilledBehind R own) (FilledBehind Q own') (λ fill is. by fill.answer.stamp fill.answer.answer is) (at k view).filled (all k)
+all_behind : {R L Q M : Type 0} (own own' : List Stamped) (view : View Filling) → ((stamp : Stamp) → IsBehindEnd R L own stamp → IsBehindEnd Q M own' stamp) → AllBehind R L own view → AllBehind Q M own' view
+all_behind {R} {L} {Q} {M} own own' view more all k = All-weaker (FilledBehind R L own) (FilledBehind Q M own') (λ fill is. by fill.answer.stamp fill.answer.answer is) (at k view).filled (all k)
   where
-    by : (stamp : Stamp) (o : Option Answer) → IfSome o (λ answer. IsBehindEnd R own stamp) → IfSome o (λ answer. IsBehindEnd Q own' stamp)
+    by : (stamp : Stamp) (o : Option Answer) → IfSome o (λ answer. IsBehindEnd R L own stamp) → IfSome o (λ answer. IsBehindEnd Q M own' stamp)
     by stamp None is = tt
     by stamp (Some answer) is = more stamp is
 
@@ -104,17 +119,17 @@ module _ (P : Fill Filling → Type 0) where
   settled_so k o filling v w (fills.Dropped back) is new each j =
       subst (λ (u : View Filling). each_filled (at j u)) (sym is.1) (set_each each_filled v.parts k (record (at k v) { dropped = (at k v).dropped ++ o.number ∷ [] }) each (each k) j)
 
-given_so : {R : Type 0} (own : List Stamped) (ticket : Option (Ticket Filling)) (answer : Option Answer) (stamp : Stamp) (v w : View Filling) (became : Given) → GivenTo ticket answer stamp v w became → IsBehindEnd R own stamp → AllBehind R own v → AllBehind R own w
-given_so {R} own None answer stamp v w became is new all = subst (AllBehind R own) (sym is.1) all
+given_so : {R : Type 0} (own : List Stamped) (ticket : Option (Ticket Filling)) (answer : Option Answer) (stamp : Stamp) (v w : View Filling) (became : Given) → GivenTo ticket answer stamp v w became → IsBehindEnd R ⊤ own stamp → AllBehind R ⊤ own v → AllBehind R ⊤ own w
+given_so {R} own None answer stamp v w became is new all = subst (AllBehind R ⊤ own) (sym is.1) all
 given_so {R} own (Some ticket) answer stamp v w became spent new all =
-    settled_so (FilledBehind R own) ticket.cell spent.filled.0 spent.filling v w spent.outcome spent.filled.2 (by spent.filling.answer) all
+    settled_so (FilledBehind R ⊤ own) ticket.cell spent.filled.0 spent.filling v w spent.outcome spent.filled.2 (by spent.filling.answer) all
   where
-    by : (o : Option Answer) → IfSome o (λ (a : Answer). IsBehindEnd R own spent.filling.stamp)
+    by : (o : Option Answer) → IfSome o (λ (a : Answer). IsBehindEnd R ⊤ own spent.filling.stamp)
     by None = tt
-    by (Some a) = subst (IsBehindEnd R own) (sym spent.stamped) new
+    by (Some a) = subst (IsBehindEnd R ⊤ own) (sym spent.stamped) new
 
-given_by : {R : Type 0} (told : Option Told) (old : Desk) (after : View Filling) → GivenBy told old after → (is_ending (past_in old.caller.work.own) ≡ true → R) → AllBehind R old.caller.work.own (known old.caller.seat) → AllBehind R old.caller.work.own after
-given_by {R} None old after same quiet all = subst (AllBehind R old.caller.work.own) (sym same) all
+given_by : {R : Type 0} (told : Option Told) (old : Desk) (after : View Filling) → GivenBy told old after → (is_ending (past_in old.caller.work.own) ≡ true → R) → AllBehind R ⊤ old.caller.work.own (known old.caller.seat) → AllBehind R ⊤ old.caller.work.own after
+given_by {R} None old after same quiet all = subst (AllBehind R ⊤ old.caller.work.own) (sym same) all
 given_by {R} (Some told) old after (became, given) quiet all =
     let own : List Stamped = old.caller.work.own in
     given_so own told.closing.ticket told.closing.answer (record { 0 = last_stamp no_stamp own }) (known old.caller.seat) after became given (behind_here own (record { 0 = last_stamp no_stamp own }) refl quiet) all
@@ -128,41 +143,48 @@ module _ (old new : Desk) where
   abbrev own' : List Stamped
   own' = new.caller.work.own
 
-  at_seat : {R Q : Type 0} (more : List Stamped) → own' ≡ more → new.caller.seat ≡ old.caller.seat → ((stamp : Stamp) → IsBehindEnd R own stamp → IsBehindEnd Q more stamp) → AllBehind R own (known old.caller.seat) → AllBehind Q own' (known new.caller.seat)
-  at_seat {R} {Q} more is seat goes all =
-      subst (λ (l : List Stamped). AllBehind Q l (known new.caller.seat)) (sym {A = List Stamped} is)
-      (subst (λ (s : Seat Filling). AllBehind Q more (known s)) (sym seat) (all_behind own more (known old.caller.seat) goes all))
+  at_seat : {R L Q M : Type 0} (more : List Stamped) → own' ≡ more → new.caller.seat ≡ old.caller.seat → ((stamp : Stamp) → IsBehindEnd R L own stamp → IsBehindEnd Q M more stamp) → AllBehind R L own (known old.caller.seat) → AllBehind Q M own' (known new.caller.seat)
+  at_seat {R} {L} {Q} {M} more is seat goes all =
+      subst (λ (l : List Stamped). AllBehind Q M l (known new.caller.seat)) (sym {A = List Stamped} is)
+      (subst (λ (s : Seat Filling). AllBehind Q M more (known s)) (sym seat) (all_behind own more (known old.caller.seat) goes all))
 
   -- nothing was noted, and nobody told
-  pub still_behind : (R : Type 0) → own' ≡ own → new.caller.seat ≡ old.caller.seat → AllBehind R own (known old.caller.seat) → AllBehind R own' (known new.caller.seat)
+  pub still_behind : (R : Type 0) → own' ≡ own → new.caller.seat ≡ old.caller.seat → AllBehind R ⊤ own (known old.caller.seat) → AllBehind R ⊤ own' (known new.caller.seat)
   still_behind R is seat = at_seat own is seat (λ stamp behind. behind)
 
-  -- whatever was noted, where each that was told was told behind a start
-  pub leads_behind : {d : Domain} (R : Type 0) → Leads d old new → new.caller.seat ≡ old.caller.seat → ToldAll old → AllBehind R own' (known new.caller.seat)
-  leads_behind R leads seat = at_seat (own ++ leads.own.0) leads.own.1 seat (λ stamp behind. behind_more own leads.own.0 stamp behind)
+  -- whatever was noted, where each that was told was told behind a start, and before the last event
+  pub leads_behind : {d : Domain} → Leads d old new → new.caller.seat ≡ old.caller.seat → ToldBefore old → ToldBefore new
+  leads_behind leads seat = at_seat (own ++ leads.own.0) leads.own.1 seat (λ stamp behind. behind_more own leads.own.0 stamp (λ none. absurd none) behind)
+
+  -- or what begins with no Stop by TPEXIT
+  pub more_behind : (R L : Type 0) (rest : List Stamped) → own' ≡ own ++ rest → new.caller.seat ≡ old.caller.seat → NoExitNext L rest → ToldAll old → AllBehind R L own' (known new.caller.seat)
+  more_behind R L rest is seat next = at_seat (own ++ rest) is seat (λ stamp behind. behind_more own rest stamp (λ any. next) behind)
 
   -- a start, or a sweep
-  pub push_behind : (R : Type 0) (x : Stamped) → own' ≡ own ++ x ∷ [] → new.caller.seat ≡ old.caller.seat → SweepsOr x.event R → TellsLast old → AllBehind R own' (known new.caller.seat)
-  push_behind R x is seat here = at_seat (own ++ x ∷ []) is seat (λ stamp behind. behind_push own x stamp here behind)
+  pub push_behind : (R L : Type 0) (x : Stamped) → own' ≡ own ++ x ∷ [] → new.caller.seat ≡ old.caller.seat → SweepsOr x.event R → TellsLast old → AllBehind R L own' (known new.caller.seat)
+  push_behind R L x is seat here = at_seat (own ++ x ∷ []) is seat (λ stamp behind. behind_push own x stamp here behind)
 
   ending_push : (x : Stamped) → own' ≡ own ++ x ∷ [] → is_ending (past_in own') ≡ ends_by x.event (is_ending (past_in own))
   ending_push x is = ap (λ (l : List Stamped). is_ending (past_in l)) is ∙ ap is_ending (past_in-append own (x ∷ []))
 
   -- an event that ends no life
-  pub calm_push : {d : Domain} (x : Stamped) → Leads d old new → own' ≡ own ++ x ∷ [] → new.caller.seat ≡ old.caller.seat → ends_by x.event false ≡ false → IsCalm old → IsCalm new
-  calm_push x leads is seat ends calm = (leads_behind ⊥ leads seat calm.0, ending_push x is ∙ ap (ends_by x.event) calm.1 ∙ ends)
+  pub calm_before : (x : Stamped) → own' ≡ own ++ x ∷ [] → new.caller.seat ≡ old.caller.seat → ends_by x.event false ≡ false → IsCalm old → ToldBefore new
+  calm_before x is seat ends calm = more_behind ⊥ ⊥ (x ∷ []) is seat (ends_none x.event ends) calm.0
+
+  pub calm_push : (x : Stamped) → own' ≡ own ++ x ∷ [] → new.caller.seat ≡ old.caller.seat → ends_by x.event false ≡ false → IsCalm old → IsCalm new
+  calm_push x is seat ends calm = (more_behind ⊥ ⊤ (x ∷ []) is seat (ends_none x.event ends) calm.0, ending_push x is ∙ ap (ends_by x.event) calm.1 ∙ ends)
 
   pub still_calm : own' ≡ own → new.caller.seat ≡ old.caller.seat → IsCalm old → IsCalm new
   still_calm is seat calm = (still_behind ⊥ is seat calm.0, ap (λ (l : List Stamped). is_ending (past_in l)) is ∙ calm.1)
 
   -- its server was started
   pub start_calm : (x : Stamped) → own' ≡ own ++ x ∷ [] → new.caller.seat ≡ old.caller.seat → SweepsOr x.event ⊥ → ends_by x.event (is_ending (past_in own)) ≡ false → TellsLast old → IsCalm new
-  start_calm x is seat starts ends told = (push_behind ⊥ x is seat starts told, ending_push x is ∙ ends)
+  start_calm x is seat starts ends told = (push_behind ⊥ ⊤ x is seat starts told, ending_push x is ∙ ends)
 
   -- somebody is told
-  tells_behind : (R : Type 0) {d : Domain} {told : Option Told} → Tells d told old new → (is_ending (past_in own) ≡ true → R) → AllBehind R own (known old.caller.seat) → AllBehind R own' (known new.caller.seat)
+  tells_behind : (R : Type 0) {d : Domain} {told : Option Told} → Tells d told old new → (is_ending (past_in own) ≡ true → R) → AllBehind R ⊤ own (known old.caller.seat) → AllBehind R ⊤ own' (known new.caller.seat)
   tells_behind R {d} {told} tells quiet all =
-      subst (λ (l : List Stamped). AllBehind R l (known new.caller.seat)) (sym {A = List Stamped} (ap (λ (desk : Desk). desk.caller.work.own) tells.rest)) (given_by told old (known new.caller.seat) tells.given quiet all)
+      subst (λ (l : List Stamped). AllBehind R ⊤ l (known new.caller.seat)) (sym {A = List Stamped} (ap (λ (desk : Desk). desk.caller.work.own) tells.rest)) (given_by told old (known new.caller.seat) tells.given quiet all)
 
   pub tells_last : {d : Domain} {told : Option Told} → Tells d told old new → TellsLast old → TellsLast new
   tells_last tells all = tells_behind ⊤ tells (λ ending. tt) all
@@ -172,17 +194,19 @@ module _ (old new : Desk) where
 
 -- ---- where less is asked
 
-pub told_last : (desk : Desk) → ToldAll desk → TellsLast desk
-told_last desk all = all_behind desk.caller.work.own desk.caller.work.own (known desk.caller.seat) (λ stamp behind. subst (λ (l : List Stamped). IsBehindEnd ⊤ l stamp) (append-nil desk.caller.work.own) (behind_more desk.caller.work.own [] stamp behind)) all
+pub told_last : (M : Type 0) (desk : Desk) → AllBehind ⊥ M desk.caller.work.own (known desk.caller.seat) → TellsLast desk
+told_last M desk all =
+    all_behind {R = ⊥} {L = M} {Q = ⊤} {M = ⊤} desk.caller.work.own desk.caller.work.own (known desk.caller.seat)
+    (λ stamp behind. subst (λ (l : List Stamped). IsBehindEnd ⊤ ⊤ l stamp) (append-nil desk.caller.work.own) (behind_more {R = ⊤} {L = ⊤} {M = M} desk.caller.work.own [] stamp (λ any. tt) behind)) all
 
 pub by_told : (going : List Generation) (desk : Desk) → ToldBy going desk → TellsLast desk
 by_told [] desk told = told
-by_told (g ∷ more) desk calm = told_last desk calm.0
+by_told (g ∷ more) desk calm = told_last ⊤ desk calm.0
 
 -- a worker that noted nothing told nobody
 pub first_told : (desk : Desk) → desk.caller.work.own ≡ [] → FilledByEnds desk.caller.work.own (known desk.caller.seat) → TellsLast desk
-first_told desk none filled k = All-weaker (EndedFor desk.caller.work.own) (FilledBehind ⊤ desk.caller.work.own) (λ fill is. by fill.opening.request fill.answer.stamp fill.answer.answer is) (at k (known desk.caller.seat)).filled (filled k)
+first_told desk none filled k = All-weaker (EndedFor desk.caller.work.own) (FilledBehind ⊤ ⊤ desk.caller.work.own) (λ fill is. by fill.opening.request fill.answer.stamp fill.answer.answer is) (at k (known desk.caller.seat)).filled (filled k)
   where
-    by : (request : RequestId) (stamp : Stamp) (o : Option Answer) → IfSome o (IsEnded desk.caller.work.own request stamp) → IfSome o (λ answer. IsBehindEnd ⊤ desk.caller.work.own stamp)
+    by : (request : RequestId) (stamp : Stamp) (o : Option Answer) → IfSome o (IsEnded desk.caller.work.own request stamp) → IfSome o (λ answer. IsBehindEnd ⊤ ⊤ desk.caller.work.own stamp)
     by request stamp None is = tt
     by request stamp (Some answer) is = let empty : Contains [] is.entry = subst (λ (l : List Stamped). Contains l is.entry) none is.stands in absurd (omega (arith, empty.1))

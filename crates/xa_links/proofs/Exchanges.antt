@@ -37,9 +37,10 @@ use Rattle.xa_desk.specs.xa_pipe.declared.hearing.Finish.TheVariants.{Returns, F
 use Rattle.xa_desk.specs.xa_pipe.declared.turn.Turn.{Turn}
 use Rattle.xa_desk.specs.xa_pipe.declared.turn.Turn.TheVariants.{AwaitsReady, AwaitsNext, AwaitsInvoke, Serving, Exited}
 use Rattle.xa_desk.specs.xa_pipe.Frames.{is_of_life, is_take_in, invocation, ready_frame, next_frame, return_frame, forward_frame, finish_frame}
-use Rattle.xa_desk.specs.xa_pipe.Life.{LinkShows, EachCame, EndsAs, IsForwarded, ComesTo, came_in, outcome_of, outcome_by, turn_behind, finishes_in}
+use Rattle.xa_desk.specs.xa_pipe.Life.{stops_life, LinkShows, EachCame, EndsAs, IsForwarded, ComesTo, came_in, turn_behind, finishes_in}
 use Rattle.xa_desk.specs.xa_pipe.Pipe.{invoke_frame}
-use Rattle.xa_desk.specs.xa_pipe.Standing.{Standing as Life, IsSound, Ending, IsOver, returned, tag_of}
+use Rattle.xa_desk.specs.xa_pipe.Standing.{Standing as Life, IsSound, Ending, IsOver, cut_short, returned, tag_of}
+use Rattle.xa_desk.proofs.xa_pipe.Courses.{cut_sound}
 use Rattle.xa_desk.specs.xa_pipe.Changes.{Heard, Fell, Greeted, FellGreeting, Invoked, Unsent, ShutDown, Exits, next_invoke, with_said, turn_after}
 use Rattle.xa_desk.specs.xa_pipe.Following.{is_of, Follows, Settled}
 use Rattle.xa_desk.proofs.xa_pipe.Followed.{follows_greeted, follows_next, follows_take, follows_end, follows_forward, settles_fallen, settles_shut, settles_exited, settles_lost, settles_unsent}
@@ -61,19 +62,19 @@ use Rattle.xa_desk.specs.Found.{SawAtQueue}
 use Rattle.xa_desk.specs.Serving.{IsServing, IsSentFor}
 use Rattle.xa_desk.specs.xa_events.Cases.{IsShut}
 use Rattle.xa_links.specs.declared.working.ServerWorker.{ServerWorker}
-use Rattle.xa_links.specs.Lives.{IsHanded, TookEach, IsCut}
-use Rattle.xa_links.specs.Steps.{Takes, is_exit, stop_by}
+use Rattle.xa_links.specs.Lives.{IsHanded, TookEach, HandsOn, IsCut}
+use Rattle.xa_links.specs.Steps.{Steps, Takes, is_exit, stop_by}
 use Rattle.xa_links.specs.Standing.{SettlesBy, IsLast, IsAtWork, IsOff, IsIn, IsFree, HasTaken, MayDie, HasEnded}
-use Rattle.xa_links.specs.Behind.{is_lost, ends_by}
+use Rattle.xa_links.specs.Behind.{is_lost, ends_by, ToldBefore}
 use Rattle.xa_links.specs.Passing.{IsDoneBy, Passes}
 use Rattle.xa_links.specs.declared.telling.Told.{Told}
 use Rattle.xa_links.proofs.Onward.{ended_done}
-use Rattle.xa_links.proofs.Behind.{calm_push}
+use Rattle.xa_links.proofs.Behind.{calm_before, calm_push, leads_behind, told_last}
 use Rattle.xa_links.proofs.Keeping.{Sendings, OfLife, handed_wider, handed_led, going_on}
 use Rattle.xa_desk.proofs.Staying.{queue_stays}
 use Rattle.xa_desk.specs.xa_events.Server.{was_shut_down}
-use Rattle.xa_links.proofs.Lasting.{at_desk, at_kept, number_of, last_on, work_on, in_took, ends_done}
-use Rattle.xa_links.proofs.Deaths.{is_its, death_in, stops_idle, worn_still}
+use Rattle.xa_links.proofs.Lasting.{at_desk, at_kept, number_of, last_on, work_on, hands_led, in_took, in_hands, in_alive, ends_done}
+use Rattle.xa_links.proofs.Deaths.{is_its, death_in, stops_idle, stop_told, worn_still}
 use Rattle.xa_desk.specs.xa_pipe.Life.{Reasons}
 use Rattle.xa_links.specs.Reasons.{ShowsReason}
 
@@ -87,8 +88,8 @@ pub record Becomes (asked : List Frame) (new old : Life) : Type 0 where
   pub made : new ≡ record old { link = link; asked = asked; said = said; turn = turn }
 
 module _ {new old : Life} (asked : List Frame) (becomes : Becomes asked new old) where
-  pub at_still : {L T : Type 0} {d : Domain} {named : T → List ℕ} {shows : T → StarterShows} {w : ServerWorker L T} → IsAtWork d named shows w (old.generation ∷ []) → IsAtWork d named shows w (new.generation ∷ [])
-  at_still {L} {T} {d} {named} {shows} {w} at = subst (λ (l : Life). IsAtWork d named shows w (l.generation ∷ [])) (sym becomes.made) at
+  pub at_still : {L T : Type 0} {d : Domain} {shows : T → StarterShows} {w : ServerWorker L T} → IsAtWork d shows w (old.generation ∷ []) → IsAtWork d shows w (new.generation ∷ [])
+  at_still {L} {T} {d} {shows} {w} at = subst (λ (l : Life). IsAtWork d shows w (l.generation ∷ [])) (sym becomes.made) at
 
   pub last_still : {name : List ℕ} {slot : ServerSlot} → IsLast name slot old → IsLast name slot new
   last_still last = record { server = ap (λ (l : Life). l.server) becomes.made ∙ last.server; named = ap (λ (l : Life). l.name) becomes.made ∙ last.named; number = ap (λ (l : Life). l.generation.0) becomes.made ∙ last.number }
@@ -99,15 +100,9 @@ module _ {new old : Life} (asked : List Frame) (becomes : Becomes asked new old)
   pub does_still : (doing : Doing) → doing ≡ Idle old.generation → doing ≡ Idle new.generation
   does_still doing is = is ∙ ap (λ (l : Life). Idle l.generation) (sym becomes.made)
 
--- what a RETURN comes to
-pub return_is : (setup : Setup) (conns : List RequestId) (value : Rval) (code : ℤ) (payload : Data) → conns ≡ [] → return_by setup conns value code payload ≡ outcome_by setup value code payload
-return_is setup conns value code payload none = ap (λ (l : List RequestId). return_by setup l value code payload) none ∙ by value (is_sound setup payload)
-  where
-    by : (v : Rval) (b : Bool) → (if b && true then outcome_by_value v code payload else outcomes.BadReturn) ≡ (if b then outcome_of v code payload else outcomes.BadReturn)
-    by rvals.Success true = refl
-    by rvals.Fail true = refl
-    by rvals.Exit true = refl
-    by v false = refl
+-- what a RETURN comes to where no conversation is open
+pub return_is : (setup : Setup) (conns : List RequestId) (value : Rval) (code : ℤ) (payload : Data) → conns ≡ [] → return_by setup conns value code payload ≡ return_by setup [] value code payload
+return_is setup conns value code payload none = ap (λ (l : List RequestId). return_by setup l value code payload) none
 
 -- its server lives on
 keeps_life : (setup : Setup) (conns : List RequestId) (value : Rval) (code : ℤ) (payload : Data) → (is_lost (return_by setup conns value code payload) || false) ≡ false
@@ -191,7 +186,7 @@ return_event outcome _ by = absurd by
 
 -- what a RETURN or a FORWARD comes to is such an event
 finished_event : (setup : Setup) (Why : Reasons) (back : Finish) (e : Event) (before : List Event) → ComesTo setup Why back (record { event = e; before = before }) → IsFinishing e
-finished_event setup Why (Returns back) e before comes = return_event (outcome_by setup back.value back.code back.payload) e comes
+finished_event setup Why (Returns back) e before comes = return_event (return_by setup [] back.value back.code back.payload) e comes
 finished_event setup Why (Forwards forward) e before comes = forward_event Why forward.service forward.payload e before comes
 
 follows_done : (setup : Setup) (Why : Reasons) (old new : Life) (own : List Event) (e : Event) (back : Finish) (tag : ℕ) → is_of old.server.0 old.generation.0 e ≡ true → Heard (finish_frame tag back) new old → ComesTo setup Why back (record { event = e; before = own }) → Follows setup Why old own → Follows setup Why new (e ∷ own)
@@ -217,10 +212,14 @@ pub return_done : {L T : Type 0} {d : Domain} (w : ServerWorker L T) (value : Rv
 return_done {L} {T} {d} w value code payload conns closing slot' desk' leads seat was serving finishes =
     let ended = ended_done (return_by d.setup conns value code payload) closing leads (number_of was) serving seat (plain_idle value code payload (is_sound d.setup payload && is_empty conns)) finishes in (ended.0, ended.1, ended.2)
 
-module _ {L T : Type 0} {d : Domain} {named : T → List ℕ} {shows : T → StarterShows} (w : ServerWorker L T) where
+-- as a life ends by TPEXIT nothing but its link changes
+exits_made : {over : Ending} {life : Life} → Exits over life → over.life ≡ record life { link = over.life.link }
+exits_made {over} {life} exits = exits.life ∙ ap (λ (l : LinkShows). record life { link = l }) (sym (ap (λ (s : Life). s.link) exits.life))
+
+module _ {L T : Type 0} {d : Domain} {shows : T → StarterShows} (w : ServerWorker L T) where
   -- ---- its program says something
 
-  pub greeted_in : (new old : Life) → Greeted new old → IsIn d named shows (Idle old.generation) AwaitsReady 0 old w → IsFree d named shows new w
+  pub greeted_in : (new old : Life) → Greeted new old → IsIn d shows (Idle old.generation) AwaitsReady 0 old w → IsFree d shows new w
   greeted_in new old greeted is =
       let becomes : Becomes old.asked new old = record { link = new.link; said = _; turn = AwaitsInvoke; made = greeted.made } in
       record {
@@ -233,7 +232,7 @@ module _ {L T : Type 0} {d : Domain} {named : T → List ℕ} {shows : T → Sta
         room = is.room;
       }
 
-  pub next_in : (new old : Life) → Heard next_frame new old → IsIn d named shows (Idle old.generation) AwaitsNext 0 old w → IsFree d named shows new w
+  pub next_in : (new old : Life) → Heard next_frame new old → IsIn d shows (Idle old.generation) AwaitsNext 0 old w → IsFree d shows new w
   next_in new old heard is =
       let becomes : Becomes old.asked new old = record { link = new.link; said = _; turn = _; made = heard.made } in
       record {
@@ -247,7 +246,7 @@ module _ {L T : Type 0} {d : Domain} {named : T → List ℕ} {shows : T → Sta
       }
 
   -- it said READY, and may fall behind that
-  pub ready_in : (link : LinkShows) (old : Life) → IsIn d named shows (Idle old.generation) AwaitsReady 0 old w → IsIn d named shows (Idle old.generation) AwaitsNext 0 (with_said (ready_frame old.name) link old) w
+  pub ready_in : (link : LinkShows) (old : Life) → IsIn d shows (Idle old.generation) AwaitsReady 0 old w → IsIn d shows (Idle old.generation) AwaitsNext 0 (with_said (ready_frame old.name) link old) w
   ready_in link old is = record {
     at = is.at;
     last = record { server = is.last.server; named = is.last.named; number = is.last.number };
@@ -267,14 +266,14 @@ module _ {L T : Type 0} {d : Domain} {named : T → List ℕ} {shows : T → Sta
 
   -- ---- a request is taken and sent
 
-  pub taken_in : (slot' : ServerSlot) (desk' : Desk) (life : Life) → Takes d w.queue.0 w.served.slot slot' w.desk desk' → IsFree d named shows life w → HasTaken d named shows life (at_desk w slot' desk')
+  pub taken_in : (slot' : ServerSlot) (desk' : Desk) (life : Life) → Takes d w.queue.0 w.served.slot slot' w.desk desk' → IsFree d shows life w → HasTaken d shows life (at_desk w slot' desk')
   taken_in slot' desk' life takes is =
       let t : Taken = takes.t in
       let g : t.generation ≡ life.generation = takes.generation ∙ ap life_in is.does in
       let number : t.generation.0 ≡ w.served.slot.made = ap (λ h. h.0) g ∙ is.last.number in
       record {
         at = work_on w slot' desk' (Take t ∷ []) life.generation takes.serves (All-cons (OfLife w.served.slot.made) (Take t) [] number (All-nil (OfLife w.served.slot.made)))
-            (calm_push w.desk desk' (record { stamp = takes.stamp; event = Take t }) takes.serves.steps.leads takes.noted takes.seat refl) is.at;
+            (calm_push w.desk desk' (record { stamp = takes.stamp; event = Take t }) takes.noted takes.seat refl) is.at;
         last = last_on w.name w.served.slot slot' life takes.serves.server takes.serves.made is.last;
         t = t;
         before = (own_of w);
@@ -290,7 +289,7 @@ module _ {L T : Type 0} {d : Domain} {named : T → List ℕ} {shows : T → Sta
         room = is.room;
       }
 
-  module _ (life : Life) (has : HasTaken d named shows life w) (what : Invocation) (invokes : Invokes w.served.slot.hand what) where
+  module _ (life : Life) (has : HasTaken d shows life w) (what : Invocation) (invokes : Invokes w.served.slot.hand what) where
     abbrev f : Frame
     f = next_invoke what.service what.routine what.payload life
 
@@ -305,7 +304,7 @@ module _ {L T : Type 0} {d : Domain} {named : T → List ℕ} {shows : T → Sta
           handed_wider life.server.0 life.generation.0 life.asked (f ∷ []) (IsSentFor d w.queue.0 w.desk) (IsSentFor d w.queue.0 w.desk) (λ t what sent. sent) has.before has.going.handed,
         )
 
-    pub sent_in : (new : Life) → Invoked f new life → IsIn d named shows (Busy new.generation has.t.request) Serving 1 new w
+    pub sent_in : (new : Life) → Invoked f new life → IsIn d shows (Busy new.generation has.t.request) Serving 1 new w
     sent_in new invoked =
         let becomes : Becomes (life.asked ++ f ∷ []) new life = record { link = _; said = life.said; turn = Serving; made = invoked.made } in
         record {
@@ -322,7 +321,7 @@ module _ {L T : Type 0} {d : Domain} {named : T → List ℕ} {shows : T → Sta
         }
 
     -- or it wasn't sent
-    pub unsent_dies : (over : Ending) → Unsent f over life → MayDie d named shows over w
+    pub unsent_dies : (over : Ending) → Unsent f over life → MayDie d shows over w
     unsent_dies over unsent =
         let becomes : Becomes (life.asked ++ f ∷ []) over.life life = record { link = over.life.link; said = life.said; turn = Serving; made = unsent.life } in
         let serving : over.life.turn ≡ Serving = ap (λ (l : Life). l.turn) unsent.life in
@@ -341,7 +340,7 @@ module _ {L T : Type 0} {d : Domain} {named : T → List ℕ} {shows : T → Sta
 
   -- ---- its program says nothing more
 
-  pub falls_busy : (old : Life) (over : Ending) (request : RequestId) → Fell over old → IsIn d named shows (Busy old.generation request) Serving 1 old w → MayDie d named shows over w
+  pub falls_busy : (old : Life) (over : Ending) (request : RequestId) → Fell over old → IsIn d shows (Busy old.generation request) Serving 1 old w → MayDie d shows over w
   falls_busy old over request fell is =
       let becomes : Becomes old.asked over.life old = record { link = over.life.link; said = old.said; turn = old.turn; made = fell.life } in
       let serving : over.life.turn ≡ Serving = ap (λ (l : Life). l.turn) fell.life ∙ is.turns in
@@ -355,7 +354,7 @@ module _ {L T : Type 0} {d : Domain} {named : T → List ℕ} {shows : T → Sta
         room = is.room;
       }
 
-  pub falls_idle : (old : Life) (over : Ending) (turn : Turn) → (turn ≡ AwaitsReady) ⊎ (turn ≡ AwaitsNext) → Fell over old → IsIn d named shows (Idle old.generation) turn 0 old w → MayDie d named shows over w
+  pub falls_idle : (old : Life) (over : Ending) (turn : Turn) → (turn ≡ AwaitsReady) ⊎ (turn ≡ AwaitsNext) → Fell over old → IsIn d shows (Idle old.generation) turn 0 old w → MayDie d shows over w
   falls_idle old over turn reads fell is =
       let becomes : Becomes old.asked over.life old = record { link = over.life.link; said = old.said; turn = old.turn; made = fell.life } in
       let same : over.life.turn ≡ turn = ap (λ (l : Life). l.turn) fell.life ∙ is.turns in
@@ -370,12 +369,12 @@ module _ {L T : Type 0} {d : Domain} {named : T → List ℕ} {shows : T → Sta
         room = is.room;
       }
 
-  pub falls_greeting : (old : Life) (over : Ending) → FellGreeting over old → IsIn d named shows (Idle old.generation) AwaitsReady 0 old w → MayDie d named shows over w
+  pub falls_greeting : (old : Life) (over : Ending) → FellGreeting over old → IsIn d shows (Idle old.generation) AwaitsReady 0 old w → MayDie d shows over w
   falls_greeting old over (inl fell) is = falls_idle old over AwaitsReady (inl refl) fell is
   falls_greeting old over (inr fell) is = falls_idle (with_said (ready_frame old.name) over.life.link old) over AwaitsNext (inr refl) fell (ready_in over.life.link old is)
 
   -- or it wasn't told to end
-  pub shut_dies : (old : Life) (over : Ending) → ShutDown over old → (over.cause ≡ causes.Shutdown → ⊥) → SawAtQueue d w.queue.0 w.desk (IsShut d.setup w.queue.0) → IsFree d named shows old w → MayDie d named shows over w
+  pub shut_dies : (old : Life) (over : Ending) → ShutDown over old → (over.cause ≡ causes.Shutdown → ⊥) → SawAtQueue d w.queue.0 w.desk (IsShut d.setup w.queue.0) → IsFree d shows old w → MayDie d shows over w
   shut_dies old over shut unshut saw is =
       let becomes : Becomes old.asked over.life old = record { link = over.life.link; said = old.said; turn = old.turn; made = shut.life } in
       let same : over.life.turn ≡ AwaitsInvoke = ap (λ (l : Life). l.turn) shut.life ∙ is.turns in
@@ -392,9 +391,9 @@ module _ {L T : Type 0} {d : Domain} {named : T → List ℕ} {shows : T → Sta
   -- ---- it returns or forwards
 
   -- the service is done with the request, and the server is idle
-  pub finished_in : (new old : Life) (request : RequestId) (back : Finish) (turn : Turn) (event : Event) (slot' : ServerSlot) (desk' : Desk) → Heard (finish_frame (tag_of old) back) new old → IsIn d named shows (Busy old.generation request) Serving 1 old w
+  pub finished_in : (new old : Life) (request : RequestId) (back : Finish) (turn : Turn) (event : Event) (slot' : ServerSlot) (desk' : Desk) → Heard (finish_frame (tag_of old) back) new old → IsIn d shows (Busy old.generation request) Serving 1 old w
       → turn_after Serving (finish_frame (tag_of old) back).body ≡ turn → ComesTo d.setup (ShowsReason d desk') back (record { event = event; before = own_of w }) → ends_by event false ≡ false → IsDoneBy d w.queue.0 event w.served.slot slot' w.desk desk'
-      → IsIn d named shows (Idle new.generation) turn 0 new (at_desk w slot' desk')
+      → IsIn d shows (Idle new.generation) turn 0 new (at_desk w slot' desk')
   finished_in new old request back turn event slot' desk' heard is turns comes ends done =
       let serves = done.serves in
       let slot : ServerSlot = w.served.slot in
@@ -403,7 +402,7 @@ module _ {L T : Type 0} {d : Domain} {named : T → List ℕ} {shows : T → Sta
       ap (λ (s : ServerId). is_of s.0 old.generation.0 event) is.last.server ∙ ap (λ (g : Generation). is_of slot.server.0 g.0 event) (sym lived) ∙ done.its in
       let becomes : Becomes old.asked new old = record { link = new.link; said = _; turn = _; made = heard.made } in
       let at = work_on w slot' desk' (event ∷ []) old.generation serves (All-cons (OfLife slot.made) event [] (of_number event (finished_event d.setup (ShowsReason d desk') back event (own_of w) comes) ours is.last.number) (All-nil (OfLife slot.made)))
-      (calm_push w.desk desk' (record { stamp = done.stamp; event = event }) serves.steps.leads done.noted done.seat ends) is.at in
+      (calm_push w.desk desk' (record { stamp = done.stamp; event = event }) done.noted done.seat ends) is.at in
       let last = last_on w.name slot slot' old serves.server serves.made is.last in
       record {
         at = at_still old.asked becomes at;
@@ -434,68 +433,80 @@ module _ {L T : Type 0} {d : Domain} {named : T → List ℕ} {shows : T → Sta
       of_number (Forward f) its ours number = its_generation f.server.0 f.generation.0 old.server.0 old.generation.0 ours ∙ number
       of_number _ its ours number = absurd its
 
-  pub returned_in : (new old : Life) (request : RequestId) (value : Rval) (code : ℤ) (payload : Data) (conns : List RequestId) (closing : Closing) (slot' : ServerSlot) (desk' : Desk) → Heard (return_frame (tag_of old) value code payload) new old → IsIn d named shows (Busy old.generation request) Serving 1 old w
+  pub returned_in : (new old : Life) (request : RequestId) (value : Rval) (code : ℤ) (payload : Data) (conns : List RequestId) (closing : Closing) (slot' : ServerSlot) (desk' : Desk) → Heard (return_frame (tag_of old) value code payload) new old → IsIn d shows (Busy old.generation request) Serving 1 old w
       → conns ≡ [] → Leads d w.desk desk' → desk'.caller.seat ≡ w.desk.caller.seat → IsServing d w.queue.0 slot' desk' → Finishes (return_by d.setup conns value code payload) closing slot' w.served.slot desk'.caller.work w.desk.caller.work
-      → IsIn d named shows (Idle new.generation) (turn_behind value) 0 new (at_desk w slot' desk') × (is_exit value ≡ true → slot'.last ≡ lasts.Badly)
+      → IsIn d shows (Idle new.generation) (turn_behind value) 0 new (at_desk w slot' desk') × (is_exit value ≡ true → slot'.last ≡ lasts.Badly) × ToldBefore desk'
   returned_in new old request value code payload conns closing slot' desk' heard is none leads seat serving finishes =
       let ended = return_done w value code payload conns closing slot' desk' leads seat is.at.serving serving finishes in
-      let back : Finish = Returns (record { value = value; code = code; payload = payload }) in (
-        finished_in new old request back (turn_behind value) (End ended.0) slot' desk' heard is refl (ended.2 ∙ return_is d.setup conns value code payload none) (ap (λ (o : Outcome). is_lost o || false) ended.2 ∙ keeps_life d.setup conns value code payload) ended.1,
+      let back : Finish = Returns (record { value = value; code = code; payload = payload }) in
+      let ends : ends_by (End ended.0) false ≡ false = ap (λ (o : Outcome). is_lost o || false) ended.2 ∙ keeps_life d.setup conns value code payload in (
+        finished_in new old request back (turn_behind value) (End ended.0) slot' desk' heard is refl (ended.2 ∙ return_is d.setup conns value code payload none) ends ended.1,
         λ exits. ap (λ (s : ServerSlot). s.last) finishes.left ∙ ap (λ (s : ServerSlot). s.last) finishes.ends.left ∙ exits_badly d.setup conns value code payload exits,
+        calm_before w.desk desk' (record { stamp = ended.1.stamp; event = End ended.0 }) ended.1.noted ended.1.seat ends is.at.told,
       )
 
   -- the request went on, or its forward failed
-  pub forwarded_in : (new old : Life) (request : RequestId) (forward : Onward) (told : Option Told) (slot' : ServerSlot) (desk' : Desk) → Heard (forward_frame (tag_of old) forward.service forward.payload) new old → IsIn d named shows (Busy old.generation request) Serving 1 old w
-      → Passes d w.queue.0 forward.service forward.payload told w.served.slot slot' w.desk desk' → IsIn d named shows (Idle new.generation) AwaitsNext 0 new (at_desk w slot' desk')
+  pub forwarded_in : (new old : Life) (request : RequestId) (forward : Onward) (told : Option Told) (slot' : ServerSlot) (desk' : Desk) → Heard (forward_frame (tag_of old) forward.service forward.payload) new old → IsIn d shows (Busy old.generation request) Serving 1 old w
+      → Passes d w.queue.0 forward.service forward.payload told w.served.slot slot' w.desk desk' → IsIn d shows (Idle new.generation) AwaitsNext 0 new (at_desk w slot' desk')
   forwarded_in new old request forward told slot' desk' heard is passes =
       finished_in new old request (Forwards forward) AwaitsNext passes.event slot' desk' heard is refl passes.by (keeps_on (ShowsReason d desk') forward.service forward.payload passes.event (own_of w) passes.by) passes.done
 
   -- and may have to be cut then
-  pub heard_took : (new old : Life) (f : Frame) {doing : Doing} {turn : Turn} {n : ℕ} (slot' : ServerSlot) (desk' : Desk) → Heard f new old → IsIn d named shows doing turn n old w → theirs desk'.caller.work ≡ own_of w → slot'.server ≡ w.served.slot.server → TookEach slot'.server.0 (theirs desk'.caller.work) new
-  heard_took new old f slot' desk' heard is own server =
-      subst (λ (l : Life). TookEach slot'.server.0 (theirs desk'.caller.work) l) (sym heard.made)
-      (subst (λ (es : List Event). TookEach slot'.server.0 es old) (sym {A = List Event} own) (subst (λ s. TookEach s.0 (own_of w) old) (sym server) (in_took is)))
+  pub heard_hands : (new old : Life) (f : Frame) {doing : Doing} {turn : Turn} {n : ℕ} (slot' : ServerSlot) (desk' : Desk) → Heard f new old → IsIn d shows doing turn n old w → Steps d [] w.desk desk' → slot'.server ≡ w.served.slot.server → HandsOn d w.queue.0 slot'.server.0 desk' new
+  heard_hands new old f slot' desk' heard is steps server =
+      let hands : HandsOn d w.queue.0 slot'.server.0 desk' old = subst (λ s. HandsOn d w.queue.0 s.0 desk' old) (sym server) (hands_led steps (in_hands is)) in
+      subst (HandsOn d w.queue.0 slot'.server.0 desk') (sym heard.made) (record { taken = hands.taken; handed = hands.handed })
 
-  pub heard_cut : (new old : Life) (f : Frame) {doing : Doing} {turn : Turn} {n : ℕ} (slot' : ServerSlot) → Heard f new old → IsIn d named shows doing turn n old w → slot'.server ≡ w.served.slot.server → IsSound new → IsCut w.name slot'.server.0 new
-  heard_cut new old f slot' heard is server sound = record { sound = sound; its = ap (λ (l : Life). l.server.0) heard.made ∙ ap (λ s. s.0) (is.last.server ∙ sym server); named = ap (λ (l : Life). l.name) heard.made ∙ is.last.named }
+  pub heard_cut : (new old : Life) (f : Frame) {doing : Doing} {turn : Turn} {n : ℕ} (slot' : ServerSlot) (desk' : Desk) → Heard f new old → IsIn d shows doing turn n old w → Steps d [] w.desk desk' → slot'.server ≡ w.served.slot.server → IsSound new → IsCut w.name slot'.server.0 (theirs desk'.caller.work) (cut_short new)
+  heard_cut new old f slot' desk' heard is steps server sound = record {
+    cut_off = cut_sound new sound;
+    its = ap (λ (l : Life). l.server.0) heard.made ∙ ap (λ s. s.0) (is.last.server ∙ sym server);
+    named = ap (λ (l : Life). l.name) heard.made ∙ is.last.named;
+    alive = ap (λ (l : Life). count (stops_life slot'.server.0 l.generation.0) (theirs desk'.caller.work)) heard.made ∙ ap (count (stops_life slot'.server.0 old.generation.0)) steps.own ∙ ap (λ s. count (stops_life s.0 old.generation.0) (own_of w)) server ∙ in_alive is;
+  }
 
-  pub in_turn : {doing : Doing} {turn turn' : Turn} {n : ℕ} {life : Life} → turn ≡ turn' → IsIn d named shows doing turn n life w → IsIn d named shows doing turn' n life w
-  in_turn {doing} {turn} {turn'} {n} {life} same is = subst (λ (t : Turn). IsIn d named shows doing t n life w) same is
+  pub in_turn : {doing : Doing} {turn turn' : Turn} {n : ℕ} {life : Life} → turn ≡ turn' → IsIn d shows doing turn n life w → IsIn d shows doing turn' n life w
+  in_turn {doing} {turn} {turn'} {n} {life} same is = subst (λ (t : Turn). IsIn d shows doing t n life w) same is
 
   -- its life ends by that
 
-  pub exits_off : (life : Life) (over : Ending) (kept : Served L T) (slot' : ServerSlot) (desk' : Desk) (stamp : Stamp) → IsIn d named shows (Idle life.generation) Exited 0 life w → Exits over life → IsOver over → kept.lives.items ≡ w.served.lives.items ++ over ∷ [] → kept.starter ≡ w.served.starter
-      → Leads d w.desk desk' → desk'.caller.seat ≡ w.desk.caller.seat → IsServing d w.queue.0 slot' desk' → Stops causes.Exit stamp slot' w.served.slot desk'.caller.work w.desk.caller.work → IsOff d named shows (at_kept w kept slot' desk')
-  exits_off life over kept slot' desk' stamp is exits ended lives starter leads seat serving stopped =
+  pub exits_off : (life : Life) (over : Ending) (kept : Served L T) (slot' : ServerSlot) (desk' : Desk) (stamp : Stamp) → IsIn d shows (Idle life.generation) Exited 0 life w → ToldBefore w.desk → Exits over life → IsOver over → kept.lives.items ≡ w.served.lives.items ++ over ∷ [] → kept.starter ≡ w.served.starter
+      → Leads d w.desk desk' → desk'.caller.seat ≡ w.desk.caller.seat → IsServing d w.queue.0 slot' desk' → Stops causes.Exit stamp slot' w.served.slot desk'.caller.work w.desk.caller.work → IsOff d shows (at_kept w kept slot' desk')
+  exits_off life over kept slot' desk' stamp is untold exits ended lives starter leads seat serving stopped =
       let turn : over.life.turn ≡ Exited = ap (λ (l : Life). l.turn) exits.life ∙ is.turns in
+      let becomes : Becomes life.asked over.life life = record { link = over.life.link; said = life.said; turn = life.turn; made = exits_made exits } in
       record {
-        at = stops_idle w over (subst (λ (l : Life). IsAtWork d named shows w (l.generation ∷ [])) (sym exits.life) is.at) (subst (IsLast w.name w.served.slot) (sym exits.life) is.last) ended
-            (subst (λ (l : Life). AtEach (IsHanded l.server.0 l.generation.0 l.asked (IsSentFor d w.queue.0 w.desk)) (own_of w)) (sym exits.life) is.going.handed) kept lives starter slot' desk' leads seat serving causes.Exit stamp (sym exits.cause) (ap life_in is.does ∙ ap (λ (l : Life). l.generation) (sym exits.life))
-            (settles_exited d.setup life over (own_of w) exits is.turns is.going.follows) (λ idle. cc (idle, turn)) stopped;
+        at = stops_idle w over (at_still life.asked becomes is.at) (last_still life.asked becomes is.last) ended
+            (handed_still life.asked becomes (IsSentFor d w.queue.0 w.desk) (own_of w) is.going.handed) kept lives starter slot' desk' leads seat serving causes.Exit stamp (sym exits.cause) (ap life_in is.does ∙ ap (λ (l : Life). l.generation) (sym exits.life))
+            (settles_exited d.setup life over (own_of w) exits is.turns is.going.follows) (λ idle. cc (idle, turn)) (told_last ⊥ desk' (leads_behind w.desk desk' leads seat untold)) stopped;
         off = ap (λ (s : ServerSlot). s.doing) stopped.left;
         up = ap (λ (s : ServerSlot). s.shut) stopped.left;
       }
 
-  pub exits_worn : (life : Life) (over : Ending) (kept : Served L T) (slot' : ServerSlot) (desk' : Desk) → IsIn d named shows (Idle life.generation) Exited 0 life w → Exits over life → IsOver over → kept.lives.items ≡ w.served.lives.items ++ over ∷ [] → kept.starter ≡ w.served.starter
-      → Leads d w.desk desk' → desk'.caller.seat ≡ w.desk.caller.seat → IsServing d w.queue.0 slot' desk' → (worn : Worn) (stopped : Stopped) → stopped ≡ stop_by worn → IsWorn worn w.desk.caller.work → slot' ≡ w.served.slot → desk'.caller.work ≡ w.desk.caller.work → HasEnded d named shows (Some stopped) (at_kept w kept slot' desk')
+  pub exits_worn : (life : Life) (over : Ending) (kept : Served L T) (slot' : ServerSlot) (desk' : Desk) → IsIn d shows (Idle life.generation) Exited 0 life w → Exits over life → IsOver over → kept.lives.items ≡ w.served.lives.items ++ over ∷ [] → kept.starter ≡ w.served.starter
+      → Leads d w.desk desk' → desk'.caller.seat ≡ w.desk.caller.seat → IsServing d w.queue.0 slot' desk' → (worn : Worn) (stopped : Stopped) → stopped ≡ stop_by worn → IsWorn worn w.desk.caller.work → slot' ≡ w.served.slot → desk'.caller.work ≡ w.desk.caller.work → HasEnded d shows (Some stopped) (at_kept w kept slot' desk')
   exits_worn life over kept slot' desk' is exits ended lives starter leads seat serving worn stopped by full same work =
-      worn_still w over (subst (λ (l : Life). IsAtWork d named shows w (l.generation ∷ [])) (sym exits.life) is.at) (subst (IsLast w.name w.served.slot) (sym exits.life) is.last) ended
-      (subst (λ (l : Life). AtEach (IsHanded l.server.0 l.generation.0 l.asked (IsSentFor d w.queue.0 w.desk)) (own_of w)) (sym exits.life) is.going.handed) kept lives starter slot' desk' leads seat serving worn stopped by full same work (subst (λ (l : Life). TookEach w.served.slot.server.0 (own_of w) l) (sym exits.life) (in_took is))
+      let becomes : Becomes life.asked over.life life = record { link = over.life.link; said = life.said; turn = life.turn; made = exits_made exits } in
+      worn_still w over (at_still life.asked becomes is.at) (last_still life.asked becomes is.last) ended (handed_still life.asked becomes (IsSentFor d w.queue.0 w.desk) (own_of w) is.going.handed) kept lives starter slot' desk' leads seat serving worn stopped by full same work (subst (λ (l : Life). TookEach w.served.slot.server.0 (own_of w) l) (sym exits.life) (in_took is))
 
-  pub shuts_worn : (life : Life) (over : Ending) (kept : Served L T) (slot' : ServerSlot) (desk' : Desk) → IsFree d named shows life w → ShutDown over life → IsOver over → kept.lives.items ≡ w.served.lives.items ++ over ∷ [] → kept.starter ≡ w.served.starter
-      → Leads d w.desk desk' → desk'.caller.seat ≡ w.desk.caller.seat → IsServing d w.queue.0 slot' desk' → (worn : Worn) (stopped : Stopped) → stopped ≡ stop_by worn → IsWorn worn w.desk.caller.work → slot' ≡ w.served.slot → desk'.caller.work ≡ w.desk.caller.work → HasEnded d named shows (Some stopped) (at_kept w kept slot' desk')
+  pub shuts_worn : (life : Life) (over : Ending) (kept : Served L T) (slot' : ServerSlot) (desk' : Desk) → IsFree d shows life w → ShutDown over life → IsOver over → kept.lives.items ≡ w.served.lives.items ++ over ∷ [] → kept.starter ≡ w.served.starter
+      → Leads d w.desk desk' → desk'.caller.seat ≡ w.desk.caller.seat → IsServing d w.queue.0 slot' desk' → (worn : Worn) (stopped : Stopped) → stopped ≡ stop_by worn → IsWorn worn w.desk.caller.work → slot' ≡ w.served.slot → desk'.caller.work ≡ w.desk.caller.work → HasEnded d shows (Some stopped) (at_kept w kept slot' desk')
   shuts_worn life over kept slot' desk' is shut ended lives starter leads seat serving worn stopped by full same work =
       let becomes : Becomes life.asked over.life life = record { link = over.life.link; said = life.said; turn = life.turn; made = shut.life } in
       worn_still w over (at_still life.asked becomes is.at) (last_still life.asked becomes is.last) ended (handed_still life.asked becomes (IsSentFor d w.queue.0 w.desk) (own_of w) is.going.handed) kept lives starter slot' desk' leads seat serving worn stopped by full same work (subst (λ (l : Life). TookEach w.served.slot.server.0 (own_of w) l) (sym shut.life) (in_took is))
 
   -- or it was told to end
 
-  pub shuts_down : (life : Life) (over : Ending) (kept : Served L T) (slot' : ServerSlot) (desk' : Desk) (stamp : Stamp) → IsFree d named shows life w → ShutDown over life → IsOver over → causes.Shutdown ≡ over.cause → kept.lives.items ≡ w.served.lives.items ++ over ∷ [] → kept.starter ≡ w.served.starter
-      → Leads d w.desk desk' → desk'.caller.seat ≡ w.desk.caller.seat → IsServing d w.queue.0 slot' desk' → SawAtQueue d w.queue.0 w.desk (IsShut d.setup w.queue.0) → Stops causes.Shutdown stamp slot' w.served.slot desk'.caller.work w.desk.caller.work → HasEnded d named shows None (at_kept w kept slot' desk')
+  pub shuts_down : (life : Life) (over : Ending) (kept : Served L T) (slot' : ServerSlot) (desk' : Desk) (stamp : Stamp) → IsFree d shows life w → ShutDown over life → IsOver over → causes.Shutdown ≡ over.cause → kept.lives.items ≡ w.served.lives.items ++ over ∷ [] → kept.starter ≡ w.served.starter
+      → Leads d w.desk desk' → desk'.caller.seat ≡ w.desk.caller.seat → IsServing d w.queue.0 slot' desk' → SawAtQueue d w.queue.0 w.desk (IsShut d.setup w.queue.0) → Stops causes.Shutdown stamp slot' w.served.slot desk'.caller.work w.desk.caller.work → HasEnded d shows None (at_kept w kept slot' desk')
   shuts_down life over kept slot' desk' stamp is shut ended why lives starter leads seat serving saw stopped =
       let becomes : Becomes life.asked over.life life = record { link = over.life.link; said = life.said; turn = life.turn; made = shut.life } in
-      let at = stops_idle w over (at_still life.asked becomes is.at) (last_still life.asked becomes is.last) ended (handed_still life.asked becomes (IsSentFor d w.queue.0 w.desk) (own_of w) is.going.handed) kept lives starter slot' desk' leads seat serving causes.Shutdown stamp why
-      (ap life_in is.does ∙ ap (λ (l : Life). l.generation) (sym shut.life)) (settles_shut d.setup life over (own_of w) shut is.turns is.going.follows) (λ idle. saw) stopped in
+      let now = at_still life.asked becomes is.at in
+      let last = last_still life.asked becomes is.last in
+      let handed = handed_still life.asked becomes (IsSentFor d w.queue.0 w.desk) (own_of w) is.going.handed in
+      let told = stop_told w over now last ended handed kept lives starter slot' desk' leads seat serving causes.Shutdown stamp refl stopped in
+      let at = stops_idle w over now last ended handed kept lives starter slot' desk' leads seat serving causes.Shutdown stamp why
+      (ap life_in is.does ∙ ap (λ (l : Life). l.generation) (sym shut.life)) (settles_shut d.setup life over (own_of w) shut is.turns is.going.follows) (λ idle. saw) (told_last ⊥ desk' told) stopped in
       let server = ap (λ (s : ServerSlot). s.server) stopped.left in
       let off : slot'.doing ≡ Off = ap (λ (s : ServerSlot). s.doing) stopped.left in
       ends_done (at_kept w kept slot' desk') at (off_hand slot'.doing off serving.stands.hand) (inl (shut_read serving (ap (λ (s : ServerSlot). s.shut) stopped.left), queue_stays d w.desk desk' leads w.queue.0 (IsShut d.setup w.queue.0) saw))

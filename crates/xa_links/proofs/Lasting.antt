@@ -22,7 +22,7 @@ use Rattle.xa_desk.specs.xa_pipe.declared.turn.Turn.TheVariants.{AwaitsInvoke}
 use Rattle.xa_desk.specs.xa_pipe.declared.turn.Turn.{Turn}
 use Rattle.xa_desk.specs.xa_pipe.Life.{stops_life}
 use Rattle.xa_desk.specs.xa_pipe.Frames.{is_take_in}
-use Rattle.xa_desk.specs.xa_pipe.Standing.{Standing as Life, Ending, IsOver}
+use Rattle.xa_desk.specs.xa_pipe.Standing.{Standing as Life, Ending, IsOver, cut_short}
 use Rattle.xa_desk.specs.xa_pipe.Following.{is_of, HasStopped}
 use Rattle.xa_desk.specs.xa_server.declared.slot.ServerSlot.{ServerSlot}
 use Rattle.xa_desk.specs.xa_server.declared.served.Served.{Served}
@@ -43,15 +43,15 @@ use Rattle.xa_desk.specs.xa_restart.Rule.{IsLast as IsLastTick, may_start_by}
 use Rattle.xa_desk.proofs.Leading.{leads_trans}
 use Rattle.xa_links.specs.declared.telling.Told.{Told}
 use Rattle.xa_links.specs.Behind.{TellsLast, IsCalm}
-use Rattle.xa_links.proofs.Behind.{leads_behind, tells_last, tells_calm, by_told}
+use Rattle.xa_links.proofs.Behind.{tells_last, tells_calm, by_told}
 use Rattle.xa_links.proofs.Stepping.{told_steps, serving_told}
 use Rattle.xa_links.specs.declared.working.ServerWorker.{ServerWorker}
 use Rattle.xa_desk.specs.Halting.{IsStopAt}
-use Rattle.xa_links.specs.Lives.{failed_starts, lives_in, HasStarted, HasStartedSoFar, IsDone, IsHanded, IsLived, EndsShut, TookEach, IsCut, ServerShows}
+use Rattle.xa_links.specs.Lives.{failed_starts, lives_in, HasStarted, HasStartedSoFar, IsDone, IsHanded, IsLived, EndsShut, TookEach, HandsOn, IsCut, ServerShows}
 use Rattle.xa_links.specs.Working.{cut_in}
 use Rattle.xa_links.specs.Steps.{Steps, Serves, Tells}
 use Rattle.xa_links.specs.Standing.{Goes, HasLived, IsLast, IsGoing, IsAtWork, IsOff, IsIn, HasEnded}
-use Rattle.xa_links.proofs.Keeping.{OfLife, ticks_same, failed_same, lives_on, lives_end, lives_off, lived_one, going_on, none_counted, stops_own}
+use Rattle.xa_links.proofs.Keeping.{OfLife, ticks_same, failed_same, handed_led, lives_on, lives_end, lives_off, lived_one, going_on, none_counted, stops_own}
 use Rattle.xa_links.specs.Reasons.{ShowsReason}
 
 -- how a server is done stays, where its worker noted nothing of its own
@@ -97,13 +97,20 @@ started_on {name} {n} {n'} {f} {f'} {shown} {shown'} made failed shows is =
 pub last_on : (name : List ℕ) (slot slot' : ServerSlot) (life : Life) → slot'.server ≡ slot.server → slot'.made ≡ slot.made → IsLast name slot life → IsLast name slot' life
 last_on name slot slot' life server made last = record { server = last.server ∙ sym server; named = last.named; number = last.number ∙ sym made }
 
--- ---- a take for each INVOKE
+-- ---- an INVOKE for each take
 
-pub lives_took : {d : Domain} {name : List ℕ} {queue server : ℕ} {desk : Desk} (lives : List Ending) → All (IsLived d name queue server desk) lives → All (TookEach server (theirs desk.caller.work)) (map (λ (over : Ending). over.life) lives)
-lives_took {d} {name} {queue} {server} {desk} lives each =
-    let own : List Event = theirs desk.caller.work in
-    All-map (TookEach server own) (λ (over : Ending). over.life) lives
-    (All-weaker (IsLived d name queue server desk) (λ (over : Ending). TookEach server own over.life) (λ over is. subst (λ (s : ℕ). count (is_take_in s over.life.generation.0) own ≡ length over.life.asked) is.its is.stopped.taken) lives each)
+pub lives_hand : {d : Domain} {name : List ℕ} {queue server : ℕ} {desk : Desk} (lives : List Ending) → All (IsLived d name queue server desk) lives → All (HandsOn d queue server desk) (map (λ (over : Ending). over.life) lives)
+lives_hand {d} {name} {queue} {server} {desk} lives each =
+    All-map (HandsOn d queue server desk) (λ (over : Ending). over.life) lives
+    (All-weaker (IsLived d name queue server desk) (λ (over : Ending). HandsOn d queue server desk over.life)
+    (λ over is. record { taken = subst (λ (s : ℕ). TookEach s (theirs desk.caller.work) over.life) is.its is.stopped.taken; handed = is.handed }) lives each)
+
+-- so it stays where the worker noted nothing of its own
+pub hands_led : {d : Domain} {queue server : ℕ} {old new : Desk} {life : Life} → Steps d [] old new → HandsOn d queue server old life → HandsOn d queue server new life
+hands_led {d} {queue} {server} {old} {new} {life} steps is = record {
+  taken = subst (λ (own : List Event). TookEach server own life) (sym {A = List Event} steps.own) is.taken;
+  handed = subst (AtEach (IsHanded server life.generation.0 life.asked (IsSentFor d queue new))) (sym {A = List Event} steps.own) (handed_led server life.generation.0 d queue old new life.asked (theirs old.caller.work) steps.leads is.handed);
+}
 
 -- with none that was cut
 pub none_cut : (P : Life → Type 0) (lives : List Life) (cut : Option Life) → cut ≡ None → All P lives → All P (lives ++ cut_in cut)
@@ -120,11 +127,11 @@ at_desk w slot desk = record w { desk = desk; served = record w.served { slot = 
 abbrev pub at_kept : {L T : Type 0} → ServerWorker L T → Served L T → ServerSlot → Desk → ServerWorker L T
 at_kept w kept slot desk = record w { desk = desk; served = record kept { slot = slot } }
 
-module _ {L T : Type 0} {d : Domain} {named : T → List ℕ} {shows : T → StarterShows} where
+module _ {L T : Type 0} {d : Domain} {shows : T → StarterShows} where
   -- ---- in a life
 
-  pub work_on : (w : ServerWorker L T) (slot' : ServerSlot) (desk' : Desk) (more : List Event) (g : Generation) → Serves d w.queue.0 more w.served.slot slot' w.desk desk' → All (OfLife w.served.slot.made) more → (IsCalm w.desk → IsCalm desk') → IsAtWork d named shows w (g ∷ [])
-      → IsAtWork d named shows (at_desk w slot' desk') (g ∷ [])
+  pub work_on : (w : ServerWorker L T) (slot' : ServerSlot) (desk' : Desk) (more : List Event) (g : Generation) → Serves d w.queue.0 more w.served.slot slot' w.desk desk' → All (OfLife w.served.slot.made) more → (IsCalm w.desk → IsCalm desk') → IsAtWork d shows w (g ∷ [])
+      → IsAtWork d shows (at_desk w slot' desk') (g ∷ [])
   work_on w slot' desk' more g serves its calm at = record {
     is = serves.steps.leads.desk;
     serving = serves.serving;
@@ -138,8 +145,8 @@ module _ {L T : Type 0} {d : Domain} {named : T → List ℕ} {shows : T → Sta
   }
 
   -- where nothing was noted it is in it still
-  pub in_on : (w : ServerWorker L T) (slot' : ServerSlot) (desk' : Desk) (doing : Doing) (turn : Turn) (n : ℕ) (life : Life) → Serves d w.queue.0 [] w.served.slot slot' w.desk desk' → slot' ≡ w.served.slot → (IsCalm w.desk → IsCalm desk') → IsIn d named shows doing turn n life w
-      → IsIn d named shows doing turn n life (at_desk w slot' desk')
+  pub in_on : (w : ServerWorker L T) (slot' : ServerSlot) (desk' : Desk) (doing : Doing) (turn : Turn) (n : ℕ) (life : Life) → Serves d w.queue.0 [] w.served.slot slot' w.desk desk' → slot' ≡ w.served.slot → (IsCalm w.desk → IsCalm desk') → IsIn d shows doing turn n life w
+      → IsIn d shows doing turn n life (at_desk w slot' desk')
   in_on w slot' desk' doing turn n life serves same calm is = record {
     at = work_on w slot' desk' [] life.generation serves (All-none w.served.slot.made) calm is.at;
     last = last_on w.name w.served.slot slot' life serves.server serves.made is.last;
@@ -155,8 +162,8 @@ module _ {L T : Type 0} {d : Domain} {named : T → List ℕ} {shows : T → Sta
 
   -- ---- as a life ended, and is kept
 
-  module _ (w : ServerWorker L T) (over : Ending) (at : IsAtWork d named shows w (over.life.generation ∷ [])) (last : IsLast w.name w.served.slot over.life) (ended : IsOver over) (kept : Served L T) (lives : kept.lives.items ≡ w.served.lives.items ++ over ∷ []) (starter : kept.starter ≡ w.served.starter)
-      (slot' : ServerSlot) (desk' : Desk) (more : List Event) (serves : Serves d w.queue.0 more w.served.slot slot' w.desk desk') (seat : desk'.caller.seat ≡ w.desk.caller.seat) (its : All (OfLife w.served.slot.made) more) where
+  module _ (w : ServerWorker L T) (over : Ending) (at : IsAtWork d shows w (over.life.generation ∷ [])) (last : IsLast w.name w.served.slot over.life) (ended : IsOver over) (kept : Served L T) (lives : kept.lives.items ≡ w.served.lives.items ++ over ∷ []) (starter : kept.starter ≡ w.served.starter)
+      (slot' : ServerSlot) (desk' : Desk) (more : List Event) (serves : Serves d w.queue.0 more w.served.slot slot' w.desk desk') (its : All (OfLife w.served.slot.made) more) where
     -- its queue was shut, where its end came behind that
     pub ends_shut : (rest : List Stamped) → desk'.caller.work.own ≡ w.desk.caller.work.own ++ rest → All (λ (x : Stamped). w.desk.caller.work.stamp.0 < x.stamp.0) rest → count (stops_life over.life.server.0 over.life.generation.0) (theirs w.desk.caller.work) ≡ 0
         → SawAtQueue d w.queue.0 w.desk (IsShut d.setup w.queue.0) → EndsShut d w.queue.0 desk' over
@@ -183,11 +190,11 @@ module _ {L T : Type 0} {d : Domain} {named : T → List ℕ} {shows : T → Sta
           handed = subst (λ n. AtEach (IsHanded n over.life.generation.0 over.life.asked (IsSentFor d w.queue.0 desk')) (theirs desk'.caller.work)) server handed;
         }
 
-    pub ends_work : IsLived d w.name w.queue.0 w.served.slot.server.0 desk' over → IsAtWork d named shows (at_kept w kept slot' desk') []
-    ends_work lived = record {
+    pub ends_work : TellsLast desk' → IsLived d w.name w.queue.0 w.served.slot.server.0 desk' over → IsAtWork d shows (at_kept w kept slot' desk') []
+    ends_work told lived = record {
       is = serves.steps.leads.desk;
       serving = serves.serving;
-      named_so = ap named starter ∙ at.named_so;
+      named_so = ap (λ s. (shows s).name) starter ∙ at.named_so;
       started = started_on serves.made (failed_on serves.steps w.served.slot.made w.served.slot slot' serves.server its) (ap shows starter) at.started;
       lived = lives_moved (ap (λ s. s.0) serves.server) serves.made
           (subst (λ (l : List Ending). HasLived d w.name w.queue.0 w.served.slot.server.0 w.served.slot.made desk' l []) (sym {A = List Ending} lives)
@@ -195,18 +202,27 @@ module _ {L T : Type 0} {d : Domain} {named : T → List ℕ} {shows : T → Sta
       floor = floor_on serves.steps w.served.slot.made its ∙ at.floor;
       left = serves.gone ∙ at.left;
       cut = at.cut;
-      told = leads_behind w.desk desk' ⊤ serves.steps.leads seat at.told.0;
+      told = told;
     }
 
-  pub in_took : {w : ServerWorker L T} {doing : Doing} {turn : Turn} {n : ℕ} {life : Life} → IsIn d named shows doing turn n life w → TookEach w.served.slot.server.0 (theirs w.desk.caller.work) life
-  in_took {w} {doing} {turn} {n} {life} is = subst (λ s. count (is_take_in s.0 life.generation.0) (theirs w.desk.caller.work) ≡ length life.asked) is.last.server is.going.follows.taken
+  pub in_took : {w : ServerWorker L T} {doing : Doing} {turn : Turn} {n : ℕ} {life : Life} → IsIn d shows doing turn n life w → TookEach w.served.slot.server.0 (theirs w.desk.caller.work) life
+  in_took {w} {doing} {turn} {n} {life} is = subst (λ s. TookEach s.0 (theirs w.desk.caller.work) life) is.last.server is.going.follows.taken
+
+  pub in_hands : {w : ServerWorker L T} {doing : Doing} {turn : Turn} {n : ℕ} {life : Life} → IsIn d shows doing turn n life w → HandsOn d w.queue.0 w.served.slot.server.0 w.desk life
+  in_hands {w} {doing} {turn} {n} {life} is = record {
+    taken = in_took is;
+    handed = subst (λ s. AtEach (IsHanded s.0 life.generation.0 life.asked (IsSentFor d w.queue.0 w.desk)) (theirs w.desk.caller.work)) is.last.server is.going.handed;
+  }
+
+  pub in_alive : {w : ServerWorker L T} {doing : Doing} {turn : Turn} {n : ℕ} {life : Life} → IsIn d shows doing turn n life w → count (stops_life w.served.slot.server.0 life.generation.0) (theirs w.desk.caller.work) ≡ 0
+  in_alive {w} {doing} {turn} {n} {life} is = subst (λ s. count (stops_life s.0 life.generation.0) (theirs w.desk.caller.work) ≡ 0) is.last.server is.going.follows.alive
 
   -- ---- where the worker's work is over
 
   -- at a halt
-  pub halts : (w : ServerWorker L T) (stopped : Stopped) → IsDesk d w.desk → IsServing d w.queue.0 w.served.slot w.desk → named w.served.starter ≡ w.name → map (λ (over : Ending). over.life.generation) w.served.lives.items ++ map (λ (life : Life). life.generation) (cut_in w.cut) ≡ lives_in w.served.slot.server.0 (theirs w.desk.caller.work)
-      → All (TookEach w.served.slot.server.0 (theirs w.desk.caller.work)) (map (λ (over : Ending). over.life) w.served.lives.items ++ cut_in w.cut) → All (IsCut w.name w.served.slot.server.0) (cut_in w.cut)
-      → HasStartedSoFar w.name w.served.slot.made (failed_starts w.served.slot.server.0 (theirs w.desk.caller.work)) (shows w.served.starter) → TellsLast w.desk → IsStopAt w.desk stopped → HasEnded d named shows (Some stopped) w
+  pub halts : (w : ServerWorker L T) (stopped : Stopped) → IsDesk d w.desk → IsServing d w.queue.0 w.served.slot w.desk → (shows w.served.starter).name ≡ w.name → map (λ (over : Ending). over.life.generation) w.served.lives.items ++ map (λ (life : Life). life.generation) (cut_in w.cut) ≡ lives_in w.served.slot.server.0 (theirs w.desk.caller.work)
+      → All (HandsOn d w.queue.0 w.served.slot.server.0 w.desk) (map (λ (over : Ending). over.life) w.served.lives.items ++ cut_in w.cut) → All (IsCut w.name w.served.slot.server.0 (theirs w.desk.caller.work)) (cut_in w.cut)
+      → HasStartedSoFar w.name w.served.slot.made (failed_starts w.served.slot.server.0 (theirs w.desk.caller.work)) (shows w.served.starter) → TellsLast w.desk → IsStopAt w.desk stopped → HasEnded d shows (Some stopped) w
   halts w stopped is serving named_so are taken off so_far told at_end = record {
     is = is;
     number = number_of serving;
@@ -228,14 +244,14 @@ module _ {L T : Type 0} {d : Domain} {named : T → List ℕ} {shows : T → Sta
   }
 
   -- in a life, which is cut off
-  pub halts_at : (w : ServerWorker L T) (cut : Option Life) (going : List Generation) (stopped : Stopped) → IsAtWork d named shows w going → map (λ (life : Life). life.generation) (cut_in cut) ≡ going → All (TookEach w.served.slot.server.0 (theirs w.desk.caller.work)) (cut_in cut) → All (IsCut w.name w.served.slot.server.0) (cut_in cut)
-      → IsStopAt w.desk stopped → HasEnded d named shows (Some stopped) (record w { cut = cut })
+  pub halts_at : (w : ServerWorker L T) (cut : Option Life) (going : List Generation) (stopped : Stopped) → IsAtWork d shows w going → map (λ (life : Life). life.generation) (cut_in cut) ≡ going → All (HandsOn d w.queue.0 w.served.slot.server.0 w.desk) (cut_in cut) → All (IsCut w.name w.served.slot.server.0 (theirs w.desk.caller.work)) (cut_in cut)
+      → IsStopAt w.desk stopped → HasEnded d shows (Some stopped) (record w { cut = cut })
   halts_at w cut going stopped at is took off at_end =
       halts (record w { cut = cut }) stopped at.is at.serving at.named_so (ap (λ (l : List Generation). map (λ (over : Ending). over.life.generation) w.served.lives.items ++ l) is ∙ at.lived.are)
-      (All-append (TookEach w.served.slot.server.0 (theirs w.desk.caller.work)) (map (λ (over : Ending). over.life) w.served.lives.items) (cut_in cut) (lives_took w.served.lives.items at.lived.each) took) off (inl at.started) (by_told going w.desk at.told) at_end
+      (All-append (HandsOn d w.queue.0 w.served.slot.server.0 w.desk) (map (λ (over : Ending). over.life) w.served.lives.items) (cut_in cut) (lives_hand w.served.lives.items at.lived.each) took) off (inl at.started) (by_told going w.desk at.told) at_end
 
   -- at its end
-  pub ends_done : (w : ServerWorker L T) → IsAtWork d named shows w [] → w.served.slot.hand ≡ None → IsDone d w.queue.0 w.served.slot.server.0 w.desk → HasEnded d named shows None w
+  pub ends_done : (w : ServerWorker L T) → IsAtWork d shows w [] → w.served.slot.hand ≡ None → IsDone d w.queue.0 w.served.slot.server.0 w.desk → HasEnded d shows None w
   ends_done w at hand done =
       let started : HasStarted w.name (length (starts w.served.slot.server.0 (theirs w.desk.caller.work))) (failed_starts w.served.slot.server.0 (theirs w.desk.caller.work)) (shows w.served.starter) =
       started_on (starts_count at.serving) refl refl at.started in
@@ -247,8 +263,8 @@ module _ {L T : Type 0} {d : Domain} {named : T → List ℕ} {shows : T → Sta
         hand = subst (λ h. IfSome h (IsRight d.cells)) (sym hand) tt;
         shown = record {
           lives_are = ap (λ (o : Option Life). map (λ (over : Ending). over.life.generation) w.served.lives.items ++ map (λ (life : Life). life.generation) (cut_in o)) at.cut ∙ at.lived.are;
-          taken = none_cut (TookEach w.served.slot.server.0 (theirs w.desk.caller.work)) (map (λ (over : Ending). over.life) w.served.lives.items) w.cut at.cut (lives_took w.served.lives.items at.lived.each);
-          cut_off = none_off (IsCut w.name w.served.slot.server.0) w.cut at.cut;
+          taken = none_cut (HandsOn d w.queue.0 w.served.slot.server.0 w.desk) (map (λ (over : Ending). over.life) w.served.lives.items) w.cut at.cut (lives_hand w.served.lives.items at.lived.each);
+          cut_off = none_off (IsCut w.name w.served.slot.server.0 (theirs w.desk.caller.work)) w.cut at.cut;
           so_far = inl started;
           told = at.told;
           none_cut = λ whole. ap cut_in at.cut;
@@ -260,15 +276,15 @@ module _ {L T : Type 0} {d : Domain} {named : T → List ℕ} {shows : T → Sta
       }
 
   -- and behind that, as somebody is told, with nothing or no more in hand
-  pub ended_tells : (w : ServerWorker L T) (slot' : ServerSlot) (desk' : Desk) (why : Option Stopped) → slot'.server ≡ w.served.slot.server → (slot'.hand ≡ None) ⊎ (slot' ≡ w.served.slot) → {told : Option Told} → Tells d told w.desk desk' → HasEnded d named shows why w → HasEnded d named shows why (at_desk w slot' desk')
+  pub ended_tells : (w : ServerWorker L T) (slot' : ServerSlot) (desk' : Desk) (why : Option Stopped) → slot'.server ≡ w.served.slot.server → (slot'.hand ≡ None) ⊎ (slot' ≡ w.served.slot) → {told : Option Told} → Tells d told w.desk desk' → HasEnded d shows why w → HasEnded d shows why (at_desk w slot' desk')
   ended_tells w slot' desk' why server hand {told} tells ended =
       let steps = told_steps tells in
       let s : ℕ = w.served.slot.server.0 in
       let shown = ended.shown in
       let shows_same : ServerShows d w.name w.queue.0 s desk' w.served.lives.items (cut_in w.cut) (shows w.served.starter) (why ≡ None) = record {
         lives_are = shown.lives_are ∙ ap (lives_in s) (sym steps.own);
-        taken = subst (λ (own : List Event). All (TookEach s own) (map (λ (over : Ending). over.life) w.served.lives.items ++ cut_in w.cut)) (sym {A = List Event} steps.own) shown.taken;
-        cut_off = shown.cut_off;
+        taken = All-weaker (HandsOn d w.queue.0 s w.desk) (HandsOn d w.queue.0 s desk') (λ life is. hands_led steps is) (map (λ (over : Ending). over.life) w.served.lives.items ++ cut_in w.cut) shown.taken;
+        cut_off = subst (λ (own : List Event). All (IsCut w.name s own) (cut_in w.cut)) (sym {A = List Event} steps.own) shown.cut_off;
         so_far = subst (λ (own : List Event). HasStartedSoFar w.name (length (starts s own)) (failed_starts s own) (shows w.served.starter)) (sym {A = List Event} steps.own) shown.so_far;
         told = tells_last w.desk desk' tells shown.told;
         none_cut = shown.none_cut;
@@ -296,18 +312,19 @@ module _ {L T : Type 0} {d : Domain} {named : T → List ℕ} {shows : T → Sta
       halts_on (Some (Here (Worn stamp))) is = (is.0, ap (λ (desk : Desk). desk.caller.work.stamp.0) tells.rest ∙ is.1)
 
   -- a life that goes on is cut
-  pub cut_ends : (w other : ServerWorker L T) (life : Life) (stopped : Stopped) → IsAtWork d named shows w (life.generation ∷ []) → other ≡ record w { cut = Some life } → TookEach w.served.slot.server.0 (theirs w.desk.caller.work) life → IsCut w.name w.served.slot.server.0 life → IsStopAt w.desk stopped
-      → HasEnded d named shows (Some stopped) other
-  cut_ends w other life stopped at rest took off stop =
-      let Took : Life → Type 0 = TookEach w.served.slot.server.0 (theirs w.desk.caller.work) in
-      let Off : Life → Type 0 = IsCut w.name w.served.slot.server.0 in
-      subst (HasEnded d named shows (Some stopped)) (sym rest) (halts_at w (Some life) (life.generation ∷ []) stopped at refl (All-cons Took life [] took (All-nil Took)) (All-cons Off life [] off (All-nil Off)) stop)
+  pub cut_ends : (w other : ServerWorker L T) (life : Life) (stopped : Stopped) → IsAtWork d shows w (life.generation ∷ []) → other ≡ record w { cut = Some (cut_short life) } → HandsOn d w.queue.0 w.served.slot.server.0 w.desk life → IsCut w.name w.served.slot.server.0 (theirs w.desk.caller.work) (cut_short life) → IsStopAt w.desk stopped
+      → HasEnded d shows (Some stopped) other
+  cut_ends w other life stopped at rest hands off stop =
+      let Hands : Life → Type 0 = HandsOn d w.queue.0 w.served.slot.server.0 w.desk in
+      let still : Hands (cut_short life) = record { taken = hands.taken; handed = hands.handed } in
+      let Off : Life → Type 0 = IsCut w.name w.served.slot.server.0 (theirs w.desk.caller.work) in
+      subst (HasEnded d shows (Some stopped)) (sym rest) (halts_at w (Some (cut_short life)) (life.generation ∷ []) stopped at refl (All-cons Hands (cut_short life) [] still (All-nil Hands)) (All-cons Off (cut_short life) [] off (All-nil Off)) stop)
 
   -- somebody is told
-  pub in_told : (w : ServerWorker L T) (desk' : Desk) (doing : Doing) (turn : Turn) (n : ℕ) (life : Life) {told : Option Told} → Tells d told w.desk desk' → IsIn d named shows doing turn n life w → IsIn d named shows doing turn n life (at_desk w w.served.slot desk')
+  pub in_told : (w : ServerWorker L T) (desk' : Desk) (doing : Doing) (turn : Turn) (n : ℕ) (life : Life) {told : Option Told} → Tells d told w.desk desk' → IsIn d shows doing turn n life w → IsIn d shows doing turn n life (at_desk w w.served.slot desk')
   in_told w desk' doing turn n life {told} tells is = in_on w w.served.slot desk' doing turn n life (record { steps = told_steps tells; serving = serving_told tells is.at.serving; server = refl; made = refl; gone = refl }) refl (tells_calm w.desk desk' tells) is
 
-  pub off_told : (w : ServerWorker L T) (desk' : Desk) {told : Option Told} → Tells d told w.desk desk' → IsOff d named shows w → IsOff d named shows (at_desk w w.served.slot desk')
+  pub off_told : (w : ServerWorker L T) (desk' : Desk) {told : Option Told} → Tells d told w.desk desk' → IsOff d shows w → IsOff d shows (at_desk w w.served.slot desk')
   off_told w desk' {told} tells off =
       let at = off.at in
       let steps = told_steps tells in
@@ -329,12 +346,12 @@ module _ {L T : Type 0} {d : Domain} {named : T → List ℕ} {shows : T → Sta
       }
 
   -- whether it may be started
-  pub may_be : (w : ServerWorker L T) (b : Bool) → IsOff d named shows w → (IsLastTick 0 w.served.slot.restarts.starts → b ≡ may_start_by w.served.slot.restarts 0) → may_start_by w.served.slot.restarts 0 ≡ b
+  pub may_be : (w : ServerWorker L T) (b : Bool) → IsOff d shows w → (IsLastTick 0 w.served.slot.restarts.starts → b ≡ may_start_by w.served.slot.restarts 0) → may_start_by w.served.slot.restarts 0 ≡ b
   may_be w b off tells = let floor = off.at.floor in sym (tells (last_by_floor w.served.slot w.desk.caller.work off.at.serving.stands.tables 0 (omega (arith, floor))))
 
   -- its first start is counted
-  pub in_counted : {doing : Doing} {turn : Turn} {n : ℕ} {life : Life} (w other : ServerWorker L T) → other ≡ record w { counted = other.counted } → IsIn d named shows doing turn n life w → IsIn d named shows doing turn n life other
-  in_counted {doing} {turn} {n} {life} w other rest is = subst (IsIn d named shows doing turn n life) (sym rest) (record {
+  pub in_counted : {doing : Doing} {turn : Turn} {n : ℕ} {life : Life} (w other : ServerWorker L T) → other ≡ record w { counted = other.counted } → IsIn d shows doing turn n life w → IsIn d shows doing turn n life other
+  in_counted {doing} {turn} {n} {life} w other rest is = subst (IsIn d shows doing turn n life) (sym rest) (record {
     at = record { is = is.at.is; serving = is.at.serving; named_so = is.at.named_so; started = is.at.started; lived = is.at.lived; floor = is.at.floor; left = is.at.left; cut = is.at.cut; told = is.at.told };
     last = is.last;
     going = is.going;

@@ -30,16 +30,16 @@ use Rattle.xa_desk.specs.xa_held.Kept.{IsRight}
 use Rattle.xa_desk.specs.Serving.{IsServing, Sees, LeavesAs, OfDomain, Sweeps, IsSwept}
 use Rattle.xa_links.specs.declared.working.ServerWorker.{ServerWorker}
 use Rattle.xa_desk.specs.Halting.{IsStopAt}
-use Rattle.xa_links.specs.Lives.{failed_starts, HasStarted, IsDone, TookEach, IsCut, ServerShows}
+use Rattle.xa_links.specs.Lives.{failed_starts, HasStarted, IsDone, HandsOn, IsCut, ServerShows}
 use Rattle.xa_links.specs.Working.{cut_in}
 use Rattle.xa_links.specs.Steps.{Retires, RetiresAs, OfDomainAt}
 use Rattle.xa_links.specs.Standing.{IsOff, HasEnded, why_of}
 use Rattle.xa_desk.proofs.Leading.{leads_trans}
-use Rattle.xa_links.specs.Behind.{TellsLast, ToldAll}
+use Rattle.xa_links.specs.Behind.{TellsLast, ToldBefore}
 use Rattle.xa_links.proofs.Behind.{still_behind, leads_behind, push_behind, told_last}
 use Rattle.xa_links.proofs.Stepping.{off_steps, seen_steps, steps_trans, domain_steps}
 use Rattle.xa_links.proofs.Keeping.{OfLife, lives_off, failed_same, skip_map}
-use Rattle.xa_links.proofs.Lasting.{at_desk, number_of, starts_count, started_on, lives_took, none_cut, none_off}
+use Rattle.xa_links.proofs.Lasting.{at_desk, number_of, starts_count, started_on, lives_hand, none_cut, none_off}
 
 -- a server's worker isn't the domain
 some_number : (n : ℕ) (servers : List ServerSetup) (P : ServerSetup → Type 0) → IsSomeAnd (numbered n servers) P → 0 < n
@@ -55,7 +55,7 @@ server_some {d} {queue} {slot} {desk} serving =
 -- ---- whoever was told was told behind an end
 
 pub swept_last : {queue : ℕ} {out : SweptOut} {old new : Desk} → Sweeps queue out old new → TellsLast old → TellsLast new
-swept_last {queue} {out} {old} {new} sweeps = push_behind old new ⊤ (record { stamp = sweeps.stamp; event = Sweep (record { request = out.request; queue = record { 0 = queue } }) }) (ap (λ (c : Caller). c.work.own) sweeps.noted) (ap (λ (c : Caller). c.seat) sweeps.noted) tt
+swept_last {queue} {out} {old} {new} sweeps = push_behind old new ⊤ ⊤ (record { stamp = sweeps.stamp; event = Sweep (record { request = out.request; queue = record { 0 = queue } }) }) (ap (λ (c : Caller). c.work.own) sweeps.noted) (ap (λ (c : Caller). c.seat) sweeps.noted) tt
 
 pub seen_last : (old new : Desk) → Sees old.caller new.caller → TellsLast old → TellsLast new
 seen_last old new sees = still_behind old new ⊤ (ap (λ (c : Caller). c.work.own) sees.1) (ap (λ (c : Caller). c.seat) sees.1)
@@ -79,7 +79,7 @@ module _ {d : Domain} {queue : ℕ} {slot slot' : ServerSlot} {old new : Desk} (
     steps = off_steps leaves.1.0 (Gone slot.server) leads (number_of serving) leaves.1.2;
     slot_is = only_gone slot slot' true leaves.0;
     idle = ap (λ (c : Caller). c.phase) leaves.1.2 ∙ serving.idle;
-    told = λ told. leads_behind old new ⊤ leads (left_seat last leaves) told;
+    told = λ told. told_last ⊥ new (leads_behind old new leads (left_seat last leaves) told);
   }
 
   pub worn_retires : (worn : Worn) → LeavesAs d queue (Err worn) slot slot' old new → Retires d slot slot' old new
@@ -89,7 +89,7 @@ module _ {d : Domain} {queue : ℕ} {slot slot' : ServerSlot} {old new : Desk} (
     steps = seen_steps leads leaves.1.caller;
     slot_is = only_gone slot slot' slot.gone leaves.0;
     idle = ap (λ (c : Caller). c.phase) leaves.1.caller.1 ∙ serving.idle;
-    told = λ told. leads_behind old new ⊤ leads (ap (λ (c : Caller). c.seat) leaves.1.caller.1) told;
+    told = λ told. told_last ⊥ new (leads_behind old new leads (ap (λ (c : Caller). c.seat) leaves.1.caller.1) told);
   }
 
   pub left_latest : (last : Bool) → LeavesAs d queue (Ok last) slot slot' old new → HasStamp new.caller.work.own new.caller.work.stamp
@@ -104,15 +104,15 @@ module _ {d : Domain} {queue : ℕ} {slot slot' : ServerSlot} {old new : Desk} (
       ap (is_gone slot.server.0) steps.own ∙ ap (λ (b : Bool). b || is_gone slot.server.0 (theirs old.caller.work)) (eq-eqb slot.server.0 slot.server.0 refl)
 
 -- and what comes behind that
-pub retires_on : {d : Domain} {slot slot' : ServerSlot} {a b c : Desk} → Retires d slot slot' a b → OfDomainAt d b c → (ToldAll a → TellsLast c) → Retires d slot slot' a c
+pub retires_on : {d : Domain} {slot slot' : ServerSlot} {a b c : Desk} → Retires d slot slot' a b → OfDomainAt d b c → (ToldBefore a → TellsLast c) → Retires d slot slot' a c
 retires_on retires goes told = record { more = retires.more; gone = retires.gone; steps = steps_trans retires.more [] retires.steps goes.steps; slot_is = retires.slot_is; idle = goes.idle ∙ retires.idle; told = told }
 
 -- its queue was swept behind that
 pub retires_swept : {d : Domain} {slot slot' : ServerSlot} {a b c : Desk} → Retires d slot slot' a b → b.caller.seat ≡ a.caller.seat → OfDomainAt d b c → (TellsLast b → TellsLast c) → Retires d slot slot' a c
-retires_swept {d} {slot} {slot'} {a} {b} retires seat goes told = retires_on retires goes (λ all. told (told_last b (leads_behind a b ⊥ retires.steps.leads seat all)))
+retires_swept {d} {slot} {slot'} {a} {b} retires seat goes told = retires_on retires goes (λ all. told (told_last ⊥ b (leads_behind a b retires.steps.leads seat all)))
 
 pub retires_domain : {d : Domain} {slot slot' : ServerSlot} {a b c : Desk} → 0 < a.caller.work.id.0 → Retires d slot slot' a b → Leads d b c → OfDomain b c → c.caller.seat ≡ a.caller.seat → Retires d slot slot' a c
-retires_domain {d} {slot} {slot'} {a} {b} {c} some retires leads of seat = let same = ap (λ i. i.0) retires.steps.id in retires_on retires (domain_steps leads (omega (arith, same, some)) of) (λ told. leads_behind a c ⊤ (leads_trans d a b c retires.steps.leads leads) seat told)
+retires_domain {d} {slot} {slot'} {a} {b} {c} some retires leads of seat = let same = ap (λ i. i.0) retires.steps.id in retires_on retires (domain_steps leads (omega (arith, same, some)) of) (λ told. told_last ⊥ c (leads_behind a c (leads_trans d a b c retires.steps.leads leads) seat told))
 
 -- with its queue, which was cleared, taken down and swept
 pub swept_retires : {d : Domain} (queue : ℕ) {slot slot' : ServerSlot} {a b c e f : Desk} → 0 < a.caller.work.id.0 → Retires d slot slot' a b → is_gone slot.server.0 (theirs b.caller.work) ≡ true → Leads d b c → OfDomain b c → Leads d c e → OfDomain c e → OfDomainAt d e f
@@ -137,8 +137,8 @@ no_more_starts : (server : ℕ) (s : ServerSlot) (more own : List Event) → All
 unfolding starts
 no_more_starts server s more own gone = skip_map (start_in server) more own (All-weaker (λ (e : Event). e ≡ Gone s.server) (λ (e : Event). start_in server e ≡ None) (λ e is. ap (start_in server) is) more gone)
 
-module _ {L T : Type 0} {d : Domain} {named : T → List ℕ} {shows : T → StarterShows} where
-  pub retired_ended : (w : ServerWorker L T) (slot' : ServerSlot) (desk' : Desk) (r : Result Unit Stopped) → IsOff d named shows w → ToldAll w.desk → Retires d w.served.slot slot' w.desk desk' → RetiresAs d w.queue.0 r w.served.slot desk' → HasEnded d named shows (why_of r) (at_desk w slot' desk')
+module _ {L T : Type 0} {d : Domain} {shows : T → StarterShows} where
+  pub retired_ended : (w : ServerWorker L T) (slot' : ServerSlot) (desk' : Desk) (r : Result Unit Stopped) → IsOff d shows w → ToldBefore w.desk → Retires d w.served.slot slot' w.desk desk' → RetiresAs d w.queue.0 r w.served.slot desk' → HasEnded d shows (why_of r) (at_desk w slot' desk')
   retired_ended w slot' desk' r off told retires result =
       let slot : ServerSlot = w.served.slot in
       let s : ℕ = slot.server.0 in
@@ -153,8 +153,8 @@ module _ {L T : Type 0} {d : Domain} {named : T → List ℕ} {shows : T → Sta
       let started : HasStarted w.name (length (starts s (theirs desk'.caller.work))) (failed_starts s (theirs desk'.caller.work)) (shows w.served.starter) = started_on count failed refl off.at.started in
       let shown : ServerShows d w.name w.queue.0 s desk' w.served.lives.items (cut_in w.cut) (shows w.served.starter) (why_of r ≡ None) = record {
         lives_are = ap (λ (o : Option Life). map (λ over. over.life.generation) w.served.lives.items ++ map (λ (life : Life). life.generation) (cut_in o)) off.at.cut ∙ lived.are;
-        taken = none_cut (TookEach s (theirs desk'.caller.work)) (map (λ over. over.life) w.served.lives.items) w.cut off.at.cut (lives_took w.served.lives.items lived.each);
-        cut_off = none_off (IsCut w.name s) w.cut off.at.cut;
+        taken = none_cut (HandsOn d w.queue.0 s desk') (map (λ over. over.life) w.served.lives.items) w.cut off.at.cut (lives_hand w.served.lives.items lived.each);
+        cut_off = none_off (IsCut w.name s (theirs desk'.caller.work)) w.cut off.at.cut;
         so_far = inl started;
         told = retires.told told;
         none_cut = λ whole. ap cut_in off.at.cut;

@@ -36,9 +36,9 @@ none_noted clients caller own none = ap (λ (l : List Stamped). worker_events cl
 pub goes_stopped : {L T : Type 0} {d : Domain} (old w : ServerWorker L T) (why : Option Stopped) → Goes d old w → Goes d old (record w { stopped = why })
 goes_stopped old w why goes = record { leads = goes.leads; id = goes.id; clients = goes.clients; server = goes.server; name = goes.name; queue = goes.queue }
 
-module _ {L T : Type 0} {d : Domain} {named : T → List ℕ} {shows : T → StarterShows} where
+module _ {L T : Type 0} {d : Domain} {shows : T → StarterShows} where
   -- a worker that has done nothing may start its server
-  pub begins : (w : ServerWorker L T) → MayServe d named shows w → MayGoOn d named shows w
+  pub begins : (w : ServerWorker L T) → MayServe d shows w → MayGoOn d shows w
   begins w may =
       let own : List Event = theirs w.desk.caller.work in
       let none : own ≡ [] = none_noted w.desk.caller.work.clients w.desk.caller.work.id.0 w.desk.caller.work.own may.own in
@@ -70,8 +70,8 @@ module _ {L T : Type 0} {d : Domain} {named : T → List ℕ} {shows : T → Sta
       }
 
   -- what is left of it shows how the server lived
-  pub served_by : (old w other : ServerWorker L T) → Goes d old w → HasEnded d named shows w.stopped w → w.served.slot.hand ≡ None → other ≡ record w { counted = other.counted } → other.counted ≡ true → HasServed d named shows old other
-  served_by old w other goes ended hand rest counted = subst (HasServed d named shows old) (sym rest) (record {
+  pub served_by : (old w other : ServerWorker L T) → Goes d old w → HasEnded d shows w.stopped w → w.served.slot.hand ≡ None → other ≡ record w { counted = other.counted } → other.counted ≡ true → HasServed d shows old other
+  served_by old w other goes ended hand rest counted = subst (HasServed d shows old) (sym rest) (record {
     leads = goes.leads;
     id = goes.id;
     clients = goes.clients;

@@ -32,15 +32,15 @@ use Rattle.xa_desk.specs.declared.stopped.Stopped.TheVariants.{Here}
 use Rattle.xa_desk.specs.Desks.{Leads}
 use Rattle.xa_desk.specs.Serving.{IsServing, IsSentFor}
 use Rattle.xa_links.specs.declared.working.ServerWorker.{ServerWorker}
-use Rattle.xa_links.specs.Lives.{generation_in, lives_in, failed_starts, starts_of, HasStarted, HasStartedSoFar, IsHanded, IsLived, TookEach, IsCut}
+use Rattle.xa_links.specs.Lives.{generation_in, lives_in, failed_starts, starts_of, HasStarted, HasStartedSoFar, IsHanded, IsLived, HandsOn, IsCut}
 use Rattle.xa_links.specs.Working.{cut_in}
 use Rattle.xa_links.specs.Steps.{Steps}
 use Rattle.xa_links.specs.Standing.{Goes, HasLived, IsAtWork, IsOff, IsIn, HasEnded}
-use Rattle.xa_links.specs.Behind.{ToldAll, ToldBy}
+use Rattle.xa_links.specs.Behind.{ToldBefore, ToldBy}
 use Rattle.xa_links.proofs.Behind.{still_behind, push_behind, start_calm, told_last}
 use Rattle.xa_links.proofs.Stepping.{noted_steps, halted_own, halted_steps, halted_at}
 use Rattle.xa_links.proofs.Keeping.{handed_more, lived_one, stops_none, skip_count}
-use Rattle.xa_links.proofs.Lasting.{number_of, lives_moved, started_on, lives_took, none_cut, none_off, halts, goes_by}
+use Rattle.xa_links.proofs.Lasting.{number_of, lives_moved, started_on, lives_hand, none_cut, none_off, halts, goes_by}
 use Rattle.xa_links.specs.Reasons.{ShowsReason}
 
 -- ---- what the starter shows
@@ -93,8 +93,8 @@ counts_none p own none = sym (ap (count p) (append-nil own)) ∙ skip_count p ow
 abbrev pub served_at : {L T : Type 0} → ServerWorker L T → Served L T → Desk → ServerWorker L T
 served_at w served desk = record w { desk = desk; served = served }
 
-module _ {L T : Type 0} {d : Domain} {named : T → List ℕ} {shows : T → StarterShows} (w : ServerWorker L T) (off : IsOff d named shows w) (served' : Served L T) (desk' : Desk) (leads : Leads d w.desk desk') (seat : desk'.caller.seat ≡ w.desk.caller.seat) (serving : IsServing d w.queue.0 served'.slot desk')
-    (name : named served'.starter ≡ named w.served.starter) (lives : served'.lives.items ≡ w.served.lives.items) where
+module _ {L T : Type 0} {d : Domain} {shows : T → StarterShows} (w : ServerWorker L T) (off : IsOff d shows w) (served' : Served L T) (desk' : Desk) (leads : Leads d w.desk desk') (seat : desk'.caller.seat ≡ w.desk.caller.seat) (serving : IsServing d w.queue.0 served'.slot desk')
+    (name : (shows served'.starter).name ≡ (shows w.served.starter).name) (lives : served'.lives.items ≡ w.served.lives.items) where
   -- lives that ended stay so behind an event that is of none
   ended_still : {more : List Event} → Steps d more w.desk desk' → ((g : ℕ) → All (λ (e : Event). is_of w.served.slot.server.0 g e ≡ false) more) → All (IsLived d w.name w.queue.0 w.served.slot.server.0 desk') served'.lives.items
   ended_still steps none =
@@ -102,7 +102,7 @@ module _ {L T : Type 0} {d : Domain} {named : T → List ℕ} {shows : T → Sta
       (All-weaker (IsLived d w.name w.queue.0 w.served.slot.server.0 w.desk) (IsLived d w.name w.queue.0 w.served.slot.server.0 desk') (λ over is. lived_one steps w.name w.queue.0 w.served.slot.server.0 over (number_of off.at.serving) (none over.life.generation.0) is) w.served.lives.items off.at.lived.each)
 
   work_behind : {more : List Event} {going : List Generation} {n f : ℕ} → Steps d more w.desk desk' → HasStarted w.name n f (shows served'.starter) → served'.slot.made ≡ n → failed_starts w.served.slot.server.0 (theirs desk'.caller.work) ≡ f → HasLived d w.name w.queue.0 w.served.slot.server.0 n desk' served'.lives.items going
-      → tick_floor w.desk.caller.work.clients w.desk.caller.work.id.0 (more ++ (theirs w.desk.caller.work)) ≡ 0 → served'.slot.server ≡ w.served.slot.server → served'.slot.gone ≡ w.served.slot.gone → ToldBy going desk' → IsAtWork d named shows (served_at w served' desk') going
+      → tick_floor w.desk.caller.work.clients w.desk.caller.work.id.0 (more ++ (theirs w.desk.caller.work)) ≡ 0 → served'.slot.server ≡ w.served.slot.server → served'.slot.gone ≡ w.served.slot.gone → ToldBy going desk' → IsAtWork d shows (served_at w served' desk') going
   work_behind steps started made failed lived floor same gone told = record {
     is = leads.desk;
     serving = serving;
@@ -118,7 +118,7 @@ module _ {L T : Type 0} {d : Domain} {named : T → List ℕ} {shows : T → Sta
   -- ---- it starts
 
   pub starts_in : (life : Life) → Begins w.name 0 life served'.slot w.served.slot desk'.caller.work w.desk.caller.work → AsksFor (shows w.served.starter).asked (shows served'.starter).asked w.name (next_life w.served.slot) → (shows served'.starter).faults ≡ (shows w.served.starter).faults
-      → vec_len served'.lives < vec_capacity served'.lives → IsIn d named shows (Idle life.generation) AwaitsReady 0 life (served_at w served' desk')
+      → vec_len served'.lives < vec_capacity served'.lives → IsIn d shows (Idle life.generation) AwaitsReady 0 life (served_at w served' desk')
   starts_in life begins asks faults room =
       let starts = begins.starts in
       let b : Started = record { server = w.served.slot.server; generation = next_life w.served.slot; tick = 0 } in
@@ -172,13 +172,13 @@ module _ {L T : Type 0} {d : Domain} {named : T → List ℕ} {shows : T → Sta
   -- its start fails
 
   pub fails_off : FailsToStart 0 (next_life w.served.slot) served'.slot w.served.slot desk'.caller.work w.desk.caller.work → AsksFor (shows w.served.starter).asked (shows served'.starter).asked w.name (next_life w.served.slot) → Rose (shows w.served.starter).faults (shows served'.starter).faults
-      → IsOff d named shows (served_at w served' desk') × ToldAll desk'
+      → IsOff d shows (served_at w served' desk') × ToldBefore desk'
   fails_off fails asks rose =
       let b : Started = record { server = w.served.slot.server; generation = next_life w.served.slot; tick = 0 } in
       let steps : Steps d (StartFailed b ∷ []) w.desk desk' = noted_steps fails.stamp (StartFailed b) _ leads (number_of off.at.serving) fails.noted in
       let g : ℕ = w.served.slot.made + 1 in
       let here : (b.server.0 == w.served.slot.server.0) ≡ true = eq-eqb w.served.slot.server.0 w.served.slot.server.0 refl in
-      let told : ToldAll desk' = push_behind w.desk desk' ⊥ (record { stamp = fails.stamp; event = StartFailed b }) (ap (λ (v : Working). v.own) fails.noted.made) seat tt off.at.told in (
+      let told : ToldBefore desk' = push_behind w.desk desk' ⊥ ⊥ (record { stamp = fails.stamp; event = StartFailed b }) (ap (λ (v : Working). v.own) fails.noted.made) seat tt off.at.told in (
         record {
           at = work_behind {going = []} steps (failed_more w.name w.served.slot.made (failed_starts w.served.slot.server.0 (theirs w.desk.caller.work)) (shows served'.starter) (shows w.served.starter) asks rose off.at.started) (ap (λ (s : ServerSlot). s.made) fails.left)
               (ap (failed_starts w.served.slot.server.0) steps.own ∙ ap (λ (y : Bool). cond y (failed_starts w.served.slot.server.0 (theirs w.desk.caller.work) + 1) (failed_starts w.served.slot.server.0 (theirs w.desk.caller.work))) here)
@@ -188,7 +188,7 @@ module _ {L T : Type 0} {d : Domain} {named : T → List ℕ} {shows : T → Sta
                 earlier = subst (All (λ (over : Ending). over.life.generation.0 + 0 ≤ g)) (sym {A = List Ending} lives) (All-weaker (λ (over : Ending). over.life.generation.0 + 0 ≤ w.served.slot.made) (λ (over : Ending). over.life.generation.0 + 0 ≤ g) (λ over low. omega (arith, low)) w.served.lives.items off.at.lived.earlier);
                 unborn = λ h above. subst (All (λ (e : Event). is_of w.served.slot.server.0 h e ≡ false)) (sym {A = List Event} steps.own) (All-cons (λ (e : Event). is_of w.served.slot.server.0 h e ≡ false) (StartFailed b) (theirs w.desk.caller.work) refl (off.at.lived.unborn h (omega (arith, above))));
               })
-              (floor_start w.desk.caller.work.clients w.desk.caller.work.id.0 (StartFailed b) (theirs w.desk.caller.work) (either _) off.at.floor) (ap (λ (s : ServerSlot). s.server) fails.left) (ap (λ (s : ServerSlot). s.gone) fails.left) (told_last desk' told);
+              (floor_start w.desk.caller.work.clients w.desk.caller.work.id.0 (StartFailed b) (theirs w.desk.caller.work) (either _) off.at.floor) (ap (λ (s : ServerSlot). s.server) fails.left) (ap (λ (s : ServerSlot). s.gone) fails.left) (told_last ⊥ desk' told);
           off = ap (λ (s : ServerSlot). s.doing) fails.left ∙ off.off;
           up = ap (λ (s : ServerSlot). s.shut) fails.left ∙ off.up;
         },
@@ -197,21 +197,21 @@ module _ {L T : Type 0} {d : Domain} {named : T → List ℕ} {shows : T → Sta
 
   -- or the worker halts
 
-  halts_with : (n : ℕ) (halt : Halt) → served'.slot ≡ w.served.slot → HaltsWith n desk'.caller.work w.desk.caller.work halt → HasStartedSoFar w.name w.served.slot.made (failed_starts w.served.slot.server.0 (theirs w.desk.caller.work)) (shows served'.starter) → HasEnded d named shows (Some (Here halt)) (served_at w served' desk')
+  halts_with : (n : ℕ) (halt : Halt) → served'.slot ≡ w.served.slot → HaltsWith n desk'.caller.work w.desk.caller.work halt → HasStartedSoFar w.name w.served.slot.made (failed_starts w.served.slot.server.0 (theirs w.desk.caller.work)) (shows served'.starter) → HasEnded d shows (Some (Here halt)) (served_at w served' desk')
   halts_with n halt same noted so_far =
-      let own_same : theirs desk'.caller.work ≡ theirs w.desk.caller.work = (halted_steps n halt leads noted).own in
+      let still = halted_steps n halt leads noted in
+      let own_same : theirs desk'.caller.work ≡ theirs w.desk.caller.work = still.own in
       halts (served_at w served' desk') (Here halt) leads.desk serving (name ∙ off.at.named_so)
       (ap (λ (l : List Ending). map (λ (over : Ending). over.life.generation) l ++ map (λ (life : Life). life.generation) (cut_in w.cut)) lives ∙ ap (λ (o : Option Life). map (λ (over : Ending). over.life.generation) w.served.lives.items ++ map (λ (life : Life). life.generation) (cut_in o)) off.at.cut ∙ off.at.lived.are
       ∙ sym (ap (λ (s : ServerSlot). lives_in s.server.0 (theirs desk'.caller.work)) same ∙ ap (lives_in w.served.slot.server.0) own_same))
-      (subst (λ (s : ServerSlot). All (TookEach s.server.0 (theirs desk'.caller.work)) (map (λ (over : Ending). over.life) served'.lives.items ++ cut_in w.cut)) (sym same)
-      (none_cut (TookEach w.served.slot.server.0 (theirs desk'.caller.work)) (map (λ (over : Ending). over.life) served'.lives.items) w.cut off.at.cut
-      (subst (λ (l : List Ending). All (TookEach w.served.slot.server.0 (theirs desk'.caller.work)) (map (λ (over : Ending). over.life) l)) (sym {A = List Ending} lives)
-      (subst (λ (l : List Event). All (TookEach w.served.slot.server.0 l) (map (λ (over : Ending). over.life) w.served.lives.items)) (sym {A = List Event} own_same) (lives_took w.served.lives.items off.at.lived.each)))))
-      (none_off (IsCut w.name served'.slot.server.0) w.cut off.at.cut)
+      (subst (λ (s : ServerSlot). All (HandsOn d w.queue.0 s.server.0 desk') (map (λ (over : Ending). over.life) served'.lives.items ++ cut_in w.cut)) (sym same)
+      (none_cut (HandsOn d w.queue.0 w.served.slot.server.0 desk') (map (λ (over : Ending). over.life) served'.lives.items) w.cut off.at.cut
+      (lives_hand served'.lives.items (ended_still still (λ g. All-nil (λ (e : Event). is_of w.served.slot.server.0 g e ≡ false))))))
+      (none_off (IsCut w.name served'.slot.server.0 (theirs desk'.caller.work)) w.cut off.at.cut)
       (subst (λ (s : ServerSlot). HasStartedSoFar w.name s.made (failed_starts s.server.0 (theirs desk'.caller.work)) (shows served'.starter)) (sym same) (subst (λ (l : List Event). HasStartedSoFar w.name w.served.slot.made (failed_starts w.served.slot.server.0 l) (shows served'.starter)) (sym {A = List Event} own_same) so_far))
       (still_behind w.desk desk' ⊤ (halted_own w.desk desk' n halt noted) seat off.at.told) (halted_at w.desk desk' n halt noted)
 
-  pub start_halts : (halt : Halt) → served'.slot ≡ w.served.slot → Halts w.name (next_life w.served.slot) (shows served'.starter) (shows w.served.starter) desk'.caller.work w.desk.caller.work halt → HasEnded d named shows (Some (Here halt)) (served_at w served' desk')
+  pub start_halts : (halt : Halt) → served'.slot ≡ w.served.slot → Halts w.name (next_life w.served.slot) (shows served'.starter) (shows w.served.starter) desk'.caller.work w.desk.caller.work halt → HasEnded d shows (Some (Here halt)) (served_at w served' desk')
   start_halts halt same (inl unasked) = halts_with 3 halt same (subst (HaltsWith 3 desk'.caller.work w.desk.caller.work) (sym unasked.starved) unasked.noted) (inl (started_on refl refl unasked.starter off.at.started))
   start_halts halt same (inr (inl begun_so)) = halts_with 3 halt same begun_so.halts (inr (inl (started_more w.name w.served.slot.made (failed_starts w.served.slot.server.0 (theirs w.desk.caller.work)) (shows served'.starter) (shows w.served.starter) begun_so.asked begun_so.faults off.at.started)))
   start_halts halt same (inr (inr failed)) = halts_with 1 halt same failed.halts (inr (inr (failed_more w.name w.served.slot.made (failed_starts w.served.slot.server.0 (theirs w.desk.caller.work)) (shows served'.starter) (shows w.served.starter) failed.asked failed.faults off.at.started)))

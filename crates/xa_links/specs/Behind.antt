@@ -8,6 +8,8 @@ use Rattle.xa_desk.specs.xa_events.declared.event.Event.{Event}
 use Rattle.xa_desk.specs.xa_events.declared.event.Event.TheVariants.{Sweep, Start, StartFailed, End, Stop}
 use Rattle.xa_desk.specs.xa_events.declared.event.Outcome.{Outcome}
 use Rattle.xa_desk.specs.xa_events.declared.event.Outcome.TheVariants.{Died, Starved}
+use Rattle.xa_desk.specs.xa_events.declared.event.StopCause.{StopCause}
+use Rattle.xa_desk.specs.xa_events.declared.event.StopCause.TheVariants.{Exit}
 use Rattle.xa_desk.specs.xa_stamp.declared.home.Stamped.{Stamped}
 use Rattle.xa_desk.specs.xa_stamp.Home.{last_stamp}
 use Rattle.xa_desk.specs.xa_crew.Crew.{no_stamp}
@@ -48,30 +50,54 @@ abbrev pub OnlySweeps : Type 0 → List Stamped → Type 0
 OnlySweeps Rest [] = Rest
 OnlySweeps Rest (x ∷ later) = SweepsOr x.event (OnlySweeps Rest later)
 
+abbrev pub is_by_exit : StopCause → Bool
+is_by_exit Exit = true
+is_by_exit cause = false
+
+-- the life ends by TPEXIT, with the request that was returned so
+abbrev pub stops_by_exit : Event → Bool
+stops_by_exit (Stop x) = is_by_exit x.cause
+stops_by_exit e = false
+
+-- such an end comes next
+abbrev pub exits_next : List Stamped → Bool
+exits_next [] = false
+exits_next (x ∷ later) = stops_by_exit x.event
+
+-- what comes next is no such end; where nothing came yet, that Last
+abbrev pub NoExitNext : Type 0 → List Stamped → Type 0
+NoExitNext Last [] = Last
+NoExitNext Last (x ∷ later) = stops_by_exit x.event ≡ false
+
 -- who was told with that stamp was told behind the whole end of a life, if there was one: what the worker noted behind that is of no end, but for
--- requests that it swept
-pub record IsBehindEnd (Rest : Type 0) (own : List Stamped) (stamp : Stamp) : Type 0 where
+-- requests that it swept, and no life ended next by TPEXIT
+pub record IsBehindEnd (Rest Last : Type 0) (own : List Stamped) (stamp : Stamp) : Type 0 where
   pub before : List Stamped
   pub after : List Stamped
   pub parts : own ≡ before ++ after
   pub last : last_stamp no_stamp before ≡ stamp.0
   pub quiet : is_ending (past_in before) ≡ true → OnlySweeps Rest after
+  pub stays : NoExitNext Last after
 
 -- so it is with the filling, if that has an answer
-abbrev pub FilledBehind : Type 0 → List Stamped → Fill Filling → Type 0
-FilledBehind Rest own fill = IfSome fill.answer.answer (λ answer. IsBehindEnd Rest own fill.answer.stamp)
+abbrev pub FilledBehind : Type 0 → Type 0 → List Stamped → Fill Filling → Type 0
+FilledBehind Rest Last own fill = IfSome fill.answer.answer (λ answer. IsBehindEnd Rest Last own fill.answer.stamp)
 
 -- and with each that the worker's seat made
-abbrev pub AllBehind : Type 0 → List Stamped → View Filling → Type 0
-AllBehind Rest own view = (k : ℕ) → All (FilledBehind Rest own) (at k view).filled
+abbrev pub AllBehind : Type 0 → Type 0 → List Stamped → View Filling → Type 0
+AllBehind Rest Last own view = (k : ℕ) → All (FilledBehind Rest Last own) (at k view).filled
 
 -- whoever the worker told it told behind the end of a life
 abbrev pub TellsLast : Desk → Type 0
-TellsLast desk = AllBehind ⊤ desk.caller.work.own (known desk.caller.seat)
+TellsLast desk = AllBehind ⊤ ⊤ desk.caller.work.own (known desk.caller.seat)
 
 -- and a start was tried behind each end of which it told
 abbrev pub ToldAll : Desk → Type 0
-ToldAll desk = AllBehind ⊥ desk.caller.work.own (known desk.caller.seat)
+ToldAll desk = AllBehind ⊥ ⊤ desk.caller.work.own (known desk.caller.seat)
+
+-- and nobody was told since the worker's last event was noted
+abbrev pub ToldBefore : Desk → Type 0
+ToldBefore desk = AllBehind ⊥ ⊥ desk.caller.work.own (known desk.caller.seat)
 
 -- so it is in a life, which isn't at its end
 abbrev pub IsCalm : Desk → Type 0

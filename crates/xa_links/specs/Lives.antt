@@ -19,7 +19,7 @@ use Rattle.xa_desk.specs.xa_pipe.Frames.{is_of_life, is_take_in, invocation}
 use Rattle.xa_desk.specs.xa_pipe.Following.{HasStopped}
 use Rattle.xa_desk.specs.xa_pipe.Life.{stops_life}
 use Rattle.xa_desk.specs.xa_pipe.Pipe.{invoke_frame}
-use Rattle.xa_desk.specs.xa_pipe.Standing.{Standing as Life, IsSound, Ending, IsOver}
+use Rattle.xa_desk.specs.xa_pipe.Standing.{Standing as Life, IsCutOff, Ending, IsOver}
 use Rattle.xa_desk.specs.xa_server.Served.{StarterShows}
 use Rattle.xa_desk.specs.xa_work.Work.{theirs}
 use Rattle.xa_desk.specs.declared.domain.Domain.{Domain}
@@ -70,21 +70,27 @@ HasStartedSoFar name n failed shown = HasStarted name n failed shown ⊎ HasStar
 abbrev pub TookEach : ℕ → List Event → Life → Type 0
 TookEach server own life = count (is_take_in server life.generation.0) own ≡ length life.asked
 
--- a life that went on at a halt, of the server of that name and number, as it stood then: its link took the octets of the INVOKEs that were due, and its
--- program spoke in turn
-pub record IsCut (name : List ℕ) (server : ℕ) (life : Life) : Type 0 where
-  pub sound : IsSound life
-  pub its : life.server.0 ≡ server
-  pub named : life.name ≡ name
-
--- ---- a life
-
 -- a take of the life was handed on by the INVOKE at its place among these, with what its request was sent for
 abbrev pub IsHanded : ℕ → ℕ → List Frame → (Taken → Invocation → Type 0) → Event → List Event → Type 0
 IsHanded server g asked IsSent (Take t) before = is_of_life server g t.server.0 t.generation.0 ≡ true
     → (what : Invocation) × IsSent t what
     × (take 1 (drop (count (is_take_in server g) before) asked) ≡ invoke_frame what.service what.routine (invocation server g (Take t ∷ before)) what.payload ∷ [])
 IsHanded server g asked IsSent e before = Unit {0}
+
+-- each request that the server took in that life was handed on by an INVOKE, with what it was sent for last, and no other INVOKE was due
+pub record HandsOn (d : Domain) (queue server : ℕ) (desk : Desk) (life : Life) : Type 0 where
+  pub taken : TookEach server (theirs desk.caller.work) life
+  pub handed : AtEach (IsHanded server life.generation.0 life.asked (IsSentFor d queue desk)) (theirs desk.caller.work)
+
+-- a life that went on at a halt, of the server of that name and number, as it stood then: its link took the octets of the INVOKEs that were due, its
+-- program spoke in turn and was ended by force, and its end isn't among these events
+pub record IsCut (name : List ℕ) (server : ℕ) (own : List Event) (life : Life) : Type 0 where
+  pub cut_off : IsCutOff life
+  pub its : life.server.0 ≡ server
+  pub named : life.name ≡ name
+  pub alive : count (stops_life server life.generation.0) own ≡ 0
+
+-- ---- a life
 
 -- the queue was seen closed, with nothing that waits, before the end of the life was noted
 abbrev pub EndsShut : Domain → ℕ → Desk → Ending → Type 0
@@ -109,13 +115,13 @@ abbrev pub IsDone : Domain → ℕ → ℕ → Desk → Type 0
 IsDone d queue server desk = ((was_shut_down server (theirs desk.caller.work) ≡ true) × SawAtQueue d queue desk (IsShut d.setup queue))
     ⊎ ((is_gone server (theirs desk.caller.work) ≡ true) × (SawAtQueue d queue desk (LeftOthers d queue server) ⊎ SawAtQueue d queue desk (IsSwept d queue)))
 
--- all that the worker shows of its server in the end: which lives there were, of which the last may have been cut, that it took a request for each INVOKE,
--- how often its starter was asked, and that whoever was told was told behind the end of a life; where it came to its end, also how each life went, and
+-- all that the worker shows of its server in the end: which lives there were, of which the last may have been cut, that in each it handed on the requests
+-- that it took, how often its starter was asked, and that whoever was told was told behind the end of a life; where it came to its end, also how each life went, and
 -- how the server was done
 pub record ServerShows (d : Domain) (name : List ℕ) (queue server : ℕ) (desk : Desk) (lives : List Ending) (cut : List Life) (shown : StarterShows) (Whole : Type 0) : Type 0 where
   pub lives_are : map (λ (over : Ending). over.life.generation) lives ++ map (λ (life : Life). life.generation) cut ≡ lives_in server (theirs desk.caller.work)
-  pub taken : All (TookEach server (theirs desk.caller.work)) (map (λ (over : Ending). over.life) lives ++ cut)
-  pub cut_off : All (IsCut name server) cut
+  pub taken : All (HandsOn d queue server desk) (map (λ (over : Ending). over.life) lives ++ cut)
+  pub cut_off : All (IsCut name server (theirs desk.caller.work)) cut
   pub so_far : HasStartedSoFar name (length (starts server (theirs desk.caller.work))) (failed_starts server (theirs desk.caller.work)) shown
   pub told : TellsLast desk
   pub none_cut : Whole → cut ≡ []

@@ -41,7 +41,7 @@ use Rattle.xa_links.specs.declared.working.ServerWorker.{ServerWorker}
 use Rattle.xa_desk.specs.Halting.{IsStopAt}
 use Rattle.xa_links.specs.Lives.{lives_in, failed_starts, HasStarted, IsHanded, IsLived, ServerShows}
 use Rattle.xa_links.specs.Steps.{IsToldOf}
-use Rattle.xa_links.specs.Behind.{ToldAll, ToldBy}
+use Rattle.xa_links.specs.Behind.{ToldBefore, ToldBy}
 use Rattle.xa_links.specs.Reasons.{ShowsReason}
 use Rattle.xa_links.specs.Working.{cut_in}
 
@@ -86,12 +86,12 @@ pub record Goes {L T : Type 0} (d : Domain) (old new : ServerWorker L T) : Type 
   pub name : new.name ≡ old.name
   pub queue : new.queue ≡ old.queue
 
-module _ {L T : Type 0} (d : Domain) (named : T → List ℕ) (shows : T → StarterShows) where
+module _ {L T : Type 0} (d : Domain) (shows : T → StarterShows) where
   -- at its work, with the life that goes on, if one does: the server wasn't given up, and the clock stands at 0
   pub record IsAtWork (w : ServerWorker L T) (going : List Generation) : Type 0 where
     pub is : IsDesk d w.desk
     pub serving : IsServing d w.queue.0 w.served.slot w.desk
-    pub named_so : named w.served.starter ≡ w.name
+    pub named_so : (shows w.served.starter).name ≡ w.name
     pub started : HasStarted w.name w.served.slot.made (failed_starts w.served.slot.server.0 (theirs w.desk.caller.work)) (shows w.served.starter)
     pub lived : HasLived d w.name w.queue.0 w.served.slot.server.0 w.served.slot.made w.desk w.served.lives.items going
     pub floor : tick_floor w.desk.caller.work.clients w.desk.caller.work.id.0 (theirs w.desk.caller.work) ≡ 0
@@ -155,7 +155,7 @@ module _ {L T : Type 0} (d : Domain) (named : T → List ℕ) (shows : T → Sta
   pub record HasEnded (why : Option Stopped) (w : ServerWorker L T) : Type 0 where
     pub is : IsDesk d w.desk
     pub number : w.desk.caller.work.clients + w.served.slot.server.0 ≡ w.desk.caller.work.id.0
-    pub named_so : named w.served.starter ≡ w.name
+    pub named_so : (shows w.served.starter).name ≡ w.name
     pub idle : w.desk.caller.phase ≡ Idle
     pub hand : IfSome w.served.slot.hand (IsRight d.cells)
     pub shown : ServerShows d w.name w.queue.0 w.served.slot.server.0 w.desk w.served.lives.items (cut_in w.cut) (shows w.served.starter) (why ≡ None)
@@ -165,7 +165,7 @@ module _ {L T : Type 0} (d : Domain) (named : T → List ℕ) (shows : T → Sta
 
   -- the life is over, and somebody may be to be told; nobody was told of its end yet
   abbrev pub OverWith : Option Told → ServerWorker L T → Type 0
-  OverWith told w = IsOff w × IfSome told (IsToldOf d w.desk) × ToldAll w.desk
+  OverWith told w = IsOff w × IfSome told (IsToldOf d w.desk) × ToldBefore w.desk
 
   abbrev pub ExchangedAs : Exchanged L → ServerWorker L T → Type 0
   ExchangedAs (exchanges.Going life) w = IsFree life w

@@ -38,7 +38,7 @@ use Rattle.xa_desk.specs.Found.{SawAtQueue}
 use Rattle.xa_desk.specs.Serving.{IsServing, IsTaken, IsToTell, HasNothing, LeftOthers, IsSwept}
 use Rattle.xa_links.specs.declared.telling.Told.{Told}
 use Rattle.xa_desk.specs.Halting.{IsStopAt}
-use Rattle.xa_links.specs.Behind.{TellsLast, ToldAll}
+use Rattle.xa_links.specs.Behind.{TellsLast, ToldBefore}
 
 -- the worker went on, and noted these events of its own
 pub record Steps (d : Domain) (more : List Event) (old new : Desk) : Type 0 where
@@ -136,7 +136,7 @@ pub record Retires (d : Domain) (slot slot' : ServerSlot) (old new : Desk) : Typ
   pub steps : Steps d more old new
   pub slot_is : slot' ≡ record slot { gone = slot'.gone }
   pub idle : new.caller.phase ≡ Idle
-  pub told : ToldAll old → TellsLast new
+  pub told : ToldBefore old → TellsLast new
 
 abbrev pub RetiresAs : Domain → ℕ → Result Unit Stopped → ServerSlot → Desk → Type 0
 RetiresAs d queue (Ok none) slot new = (is_gone slot.server.0 (theirs new.caller.work) ≡ true) × (SawAtQueue d queue new (LeftOthers d queue slot.server.0) ⊎ SawAtQueue d queue new (IsSwept d queue))

@@ -16,7 +16,7 @@ abbrev pub cut_in : Option Life → List Life
 cut_in None = []
 cut_in (Some life) = life ∷ []
 
-module _ {L T : Type 0} (d : Domain) (named : T → List ℕ) (shows : T → StarterShows) where
+module _ {L T : Type 0} (d : Domain) (shows : T → StarterShows) where
   -- a worker that has done nothing, of a server that was never started
   pub record MayServe (worker : ServerWorker L T) : Type 0 where
     pub is : IsDesk d worker.desk
@@ -28,7 +28,7 @@ module _ {L T : Type 0} (d : Domain) (named : T → List ℕ) (shows : T → Sta
     pub lives : worker.served.lives.items ≡ []
     pub cut : worker.cut ≡ None
     pub stopped : worker.stopped ≡ None
-    pub name_is : named worker.served.starter ≡ worker.name
+    pub name_is : (shows worker.served.starter).name ≡ worker.name
     pub unasked : HasStarted worker.name 0 0 (shows worker.served.starter)
 
   -- behind its work: its desk went on and may be left, nothing is in hand, its first start is counted, and it shows how its server lived
@@ -40,6 +40,6 @@ module _ {L T : Type 0} (d : Domain) (named : T → List ℕ) (shows : T → Sta
     pub hand : new.served.slot.hand ≡ None
     pub counted : new.counted ≡ true
     pub server : new.served.slot.server ≡ old.served.slot.server
-    pub starter : named new.served.starter ≡ old.name
+    pub starter : (shows new.served.starter).name ≡ old.name
     pub shown : ServerShows d old.name old.queue.0 old.served.slot.server.0 new.desk new.served.lives.items (cut_in new.cut) (shows new.served.starter) (new.stopped ≡ None)
     pub halts : IfSome new.stopped (IsStopAt new.desk)

@@ -6,7 +6,7 @@ ghost use Rattle.xa_desk.specs.xa_events.Server.{is_shutdown};
 ghost use Rattle.xa_desk.specs.xa_events.declared.event.Doing.TheVariants as doings;
 ghost use Rattle.xa_desk.specs.xa_pipe.declared.turn.Turn.TheVariants.{AwaitsNext, Serving, Exited};
 ghost use Rattle.xa_desk.specs.xa_pipe.Frames.{return_frame, forward_frame};
-ghost use Rattle.xa_desk.specs.xa_pipe.Standing.{Standing as Lives, IsSound, tag_of};
+ghost use Rattle.xa_desk.specs.xa_pipe.Standing.{Standing as Lives, IsSound, cut_short, tag_of};
 ghost use Rattle.xa_desk.specs.xa_pipe.Changes.{Heard};
 ghost use Rattle.xa_desk.specs.xa_server.declared.slot.Last.TheVariants as lasts;
 ghost use Rattle.xa_desk.specs.xa_types.declared.ids.RequestId.{RequestId as Asked};
@@ -14,6 +14,7 @@ ghost use Rattle.xa_desk.specs.xa_events.declared.event.Taken.{Taken};
 ghost use Rattle.xa_desk.specs.Serving.{IsTaken};
 ghost use Rattle.xa_desk.specs.Desks.{IsDomain};
 ghost use Rattle.xa_desk.specs.Found.{SawAtQueue};
+ghost use Rattle.xa_links.specs.Behind.{ToldBefore};
 ghost use Rattle.xa_links.specs.Steps.{IsToldOf, is_exit};
 ghost use Rattle.xa_links.specs.Standing.{Goes, IsIn, IsFree, HasTaken, MayDie, HasEnded, OverWith, ExchangedAs, OffAs};
 
@@ -56,7 +57,7 @@ fn is_shutdown(cause: StopCause) -> bool
 impl<L: Link, T: Starter<L>> ServerWorker<L, T> {
     // The life isn't gone on with.
     pub(crate) fn cut(&mut self, life: Life<L>)
-        ensures rest { self.new ≡ record self.old { cut = Some life } }
+        ensures rest { self.new ≡ record self.old { cut = Some (cut_short life) } }
         ensures sound { IsSound life }
     {
         let _turn = life.turn();
@@ -70,10 +71,10 @@ impl<L: Link, T: Starter<L>> ServerWorker<L, T> {
         over: EndedLife<L>,
     ) -> Result<Option<Told>, Stopped>
         requires domain { IsDomain domain.now }
-        requires may { MayDie domain.now T.server_name (λ s. record { asked = T.asked s; faults = T.start_faults s }) over self.old }
+        requires may { MayDie domain.now T.shows over self.old }
         ensures goes { Goes domain.now self.old self.new }
-        ensures over { IfOk result (λ told. OverWith domain.now T.server_name (λ s. record { asked = T.asked s; faults = T.start_faults s }) told self.new) }
-        ensures halted { IfErr result (λ stopped. HasEnded domain.now T.server_name (λ s. record { asked = T.asked s; faults = T.start_faults s }) (Some stopped) self.new) }
+        ensures over { IfOk result (λ told. OverWith domain.now T.shows told self.new) }
+        ensures halted { IfErr result (λ stopped. HasEnded domain.now T.shows (Some stopped) self.new) }
     {
         let cause = over.cause();
         self.served.keep(over);
@@ -93,12 +94,13 @@ impl<L: Link, T: Starter<L>> ServerWorker<L, T> {
         told: Option<Told>,
     ) -> Result<Option<Told>, Stopped>
         requires domain { IsDomain domain.now }
-        requires life { IsIn domain.now T.server_name (λ s. record { asked = T.asked s; faults = T.start_faults s }) (doings.Idle life.generation) Exited 0 life self.old }
+        requires life { IsIn domain.now T.shows (doings.Idle life.generation) Exited 0 life self.old }
         requires last { self.old.served.slot.last ≡ lasts.Badly }
+        requires untold { ToldBefore self.old.desk }
         requires told { IfSome told (IsToldOf domain.now self.old.desk) }
         ensures goes { Goes domain.now self.old self.new }
-        ensures over { IfOk result (λ told. OverWith domain.now T.server_name (λ s. record { asked = T.asked s; faults = T.start_faults s }) told self.new) }
-        ensures halted { IfErr result (λ stopped. HasEnded domain.now T.server_name (λ s. record { asked = T.asked s; faults = T.start_faults s }) (Some stopped) self.new) }
+        ensures over { IfOk result (λ told. OverWith domain.now T.shows told self.new) }
+        ensures halted { IfErr result (λ stopped. HasEnded domain.now T.shows (Some stopped) self.new) }
     {
         let over = life.exit();
         let _cause = over.cause();
@@ -128,11 +130,11 @@ impl<L: Link, T: Starter<L>> ServerWorker<L, T> {
         back: Return,
     ) -> Result<Exchanged<L>, Stopped>
         requires domain { IsDomain domain.now }
-        requires before { (old : Lives) × (request : Asked) × IsIn domain.now T.server_name (λ s. record { asked = T.asked s; faults = T.start_faults s }) (doings.Busy old.generation request) Serving 1 old self.old
+        requires before { (old : Lives) × (request : Asked) × IsIn domain.now T.shows (doings.Busy old.generation request) Serving 1 old self.old
             × Heard (return_frame (tag_of old) back.value back.code back.payload) life old }
         ensures goes { Goes domain.now self.old self.new }
-        ensures exchanged { IfOk result (λ exchanged. ExchangedAs domain.now T.server_name (λ s. record { asked = T.asked s; faults = T.start_faults s }) exchanged self.new) }
-        ensures halted { IfErr result (λ stopped. HasEnded domain.now T.server_name (λ s. record { asked = T.asked s; faults = T.start_faults s }) (Some stopped) self.new) }
+        ensures exchanged { IfOk result (λ exchanged. ExchangedAs domain.now T.shows exchanged self.new) }
+        ensures halted { IfErr result (λ stopped. HasEnded domain.now T.shows (Some stopped) self.new) }
     {
         let exits = is_exit(back.value);
         let request = self.served.slot.request();
@@ -162,11 +164,11 @@ impl<L: Link, T: Starter<L>> ServerWorker<L, T> {
         forwards: Forward,
     ) -> Result<Exchanged<L>, Stopped>
         requires domain { IsDomain domain.now }
-        requires before { (old : Lives) × (t : Taken) × IsIn domain.now T.server_name (λ s. record { asked = T.asked s; faults = T.start_faults s }) (doings.Busy old.generation t.request) Serving 1 old self.old
+        requires before { (old : Lives) × (t : Taken) × IsIn domain.now T.shows (doings.Busy old.generation t.request) Serving 1 old self.old
             × Heard (forward_frame (tag_of old) forwards.service forwards.payload) life old × IfSome self.old.served.slot.hand (IsTaken domain.now self.old.queue.0 t self.old.desk) }
         ensures goes { Goes domain.now self.old self.new }
-        ensures exchanged { IfOk result (λ exchanged. ExchangedAs domain.now T.server_name (λ s. record { asked = T.asked s; faults = T.start_faults s }) exchanged self.new) }
-        ensures halted { IfErr result (λ stopped. HasEnded domain.now T.server_name (λ s. record { asked = T.asked s; faults = T.start_faults s }) (Some stopped) self.new) }
+        ensures exchanged { IfOk result (λ exchanged. ExchangedAs domain.now T.shows exchanged self.new) }
+        ensures halted { IfErr result (λ stopped. HasEnded domain.now T.shows (Some stopped) self.new) }
     {
         let slot = &mut self.served.slot;
         match forward(rt, alloc, domain, &mut self.desk, slot, forwards) {
@@ -187,11 +189,11 @@ impl<L: Link, T: Starter<L>> ServerWorker<L, T> {
         told: Option<Told>,
     ) -> Result<Exchanged<L>, Stopped>
         requires domain { IsDomain domain.now }
-        requires life { IsIn domain.now T.server_name (λ s. record { asked = T.asked s; faults = T.start_faults s }) (doings.Idle life.generation) AwaitsNext 0 life self.old }
+        requires life { IsIn domain.now T.shows (doings.Idle life.generation) AwaitsNext 0 life self.old }
         requires told { IfSome told (IsToldOf domain.now self.old.desk) }
         ensures goes { Goes domain.now self.old self.new }
-        ensures exchanged { IfOk result (λ exchanged. ExchangedAs domain.now T.server_name (λ s. record { asked = T.asked s; faults = T.start_faults s }) exchanged self.new) }
-        ensures halted { IfErr result (λ stopped. HasEnded domain.now T.server_name (λ s. record { asked = T.asked s; faults = T.start_faults s }) (Some stopped) self.new) }
+        ensures exchanged { IfOk result (λ exchanged. ExchangedAs domain.now T.shows exchanged self.new) }
+        ensures halted { IfErr result (λ stopped. HasEnded domain.now T.shows (Some stopped) self.new) }
     {
         tell_if(domain, &mut self.desk, gate, told);
         match life.read_next() {
@@ -210,10 +212,10 @@ impl<L: Link, T: Starter<L>> ServerWorker<L, T> {
         life: Life<L>,
     ) -> Result<Exchanged<L>, Stopped>
         requires domain { IsDomain domain.now }
-        requires taken { HasTaken domain.now T.server_name (λ s. record { asked = T.asked s; faults = T.start_faults s }) life self.old }
+        requires taken { HasTaken domain.now T.shows life self.old }
         ensures goes { Goes domain.now self.old self.new }
-        ensures exchanged { IfOk result (λ exchanged. ExchangedAs domain.now T.server_name (λ s. record { asked = T.asked s; faults = T.start_faults s }) exchanged self.new) }
-        ensures halted { IfErr result (λ stopped. HasEnded domain.now T.server_name (λ s. record { asked = T.asked s; faults = T.start_faults s }) (Some stopped) self.new) }
+        ensures exchanged { IfOk result (λ exchanged. ExchangedAs domain.now T.shows exchanged self.new) }
+        ensures halted { IfErr result (λ stopped. HasEnded domain.now T.shows (Some stopped) self.new) }
     {
         let asked = self.served.slot.invocation();
         let sent = life.send(&asked.service, &asked.routine, &asked.payload);
@@ -235,11 +237,11 @@ impl<L: Link, T: Starter<L>> ServerWorker<L, T> {
     // Its program is told to end.
     pub(crate) fn shut_down(&mut self, domain: &Domain, life: Life<L>) -> Result<Off, Stopped>
         requires domain { IsDomain domain.now }
-        requires free { IsFree domain.now T.server_name (λ s. record { asked = T.asked s; faults = T.start_faults s }) life self.old }
+        requires free { IsFree domain.now T.shows life self.old }
         requires shut { SawAtQueue domain.now self.old.queue.0 self.old.desk (IsShut domain.now.setup self.old.queue.0) }
         ensures goes { Goes domain.now self.old self.new }
-        ensures off { IfOk result (λ off. OffAs domain.now T.server_name (λ s. record { asked = T.asked s; faults = T.start_faults s }) off self.new) }
-        ensures halted { IfErr result (λ stopped. HasEnded domain.now T.server_name (λ s. record { asked = T.asked s; faults = T.start_faults s }) (Some stopped) self.new) }
+        ensures off { IfOk result (λ off. OffAs domain.now T.shows off self.new) }
+        ensures halted { IfErr result (λ stopped. HasEnded domain.now T.shows (Some stopped) self.new) }
     {
         let over = life.shut_down();
         if !is_shutdown(over.cause()) {

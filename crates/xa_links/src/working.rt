@@ -40,10 +40,10 @@ impl<L: Link, T: Starter<L>> ServerWorker<L, T> {
         first: Life<L>,
     ) -> Result<Off, Stopped>
         requires domain { IsDomain domain.now }
-        requires free { IsFree domain.now T.server_name (λ s. record { asked = T.asked s; faults = T.start_faults s }) first self.old }
+        requires free { IsFree domain.now T.shows first self.old }
         ensures goes { Goes domain.now self.old self.new }
-        ensures off { IfOk result (λ off. OffAs domain.now T.server_name (λ s. record { asked = T.asked s; faults = T.start_faults s }) off self.new) }
-        ensures halted { IfErr result (λ stopped. HasEnded domain.now T.server_name (λ s. record { asked = T.asked s; faults = T.start_faults s }) (Some stopped) self.new) }
+        ensures off { IfOk result (λ off. OffAs domain.now T.shows off self.new) }
+        ensures halted { IfErr result (λ stopped. HasEnded domain.now T.shows (Some stopped) self.new) }
     {
         let mut life = first;
         for _ in rt.forever() {
@@ -84,10 +84,10 @@ impl<L: Link, T: Starter<L>> ServerWorker<L, T> {
         gate: &G,
     ) -> Result<Off, Stopped>
         requires domain { IsDomain domain.now }
-        requires off { MayGoOn domain.now T.server_name (λ s. record { asked = T.asked s; faults = T.start_faults s }) self.old }
+        requires off { MayGoOn domain.now T.shows self.old }
         ensures goes { Goes domain.now self.old self.new }
-        ensures off { IfOk result (λ off. OffAs domain.now T.server_name (λ s. record { asked = T.asked s; faults = T.start_faults s }) off self.new) }
-        ensures halted { IfErr result (λ stopped. HasEnded domain.now T.server_name (λ s. record { asked = T.asked s; faults = T.start_faults s }) (Some stopped) self.new) }
+        ensures off { IfOk result (λ off. OffAs domain.now T.shows off self.new) }
+        ensures halted { IfErr result (λ stopped. HasEnded domain.now T.shows (Some stopped) self.new) }
     {
         if domain.halt.get().is_some() {
             return Err(Stopped::Elsewhere);
@@ -118,9 +118,9 @@ impl<L: Link, T: Starter<L>> ServerWorker<L, T> {
         gate: &G,
     ) -> Result<(), Stopped>
         requires domain { IsDomain domain.now }
-        requires off { MayGoOn domain.now T.server_name (λ s. record { asked = T.asked s; faults = T.start_faults s }) self.old }
+        requires off { MayGoOn domain.now T.shows self.old }
         ensures goes { Goes domain.now self.old self.new }
-        ensures ended { HasEnded domain.now T.server_name (λ s. record { asked = T.asked s; faults = T.start_faults s }) (why_of result) self.new }
+        ensures ended { HasEnded domain.now T.shows (why_of result) self.new }
     {
         for _ in rt.forever() {
             let told = match self.live(rt, alloc, domain, gate)? {
@@ -143,9 +143,9 @@ impl<L: Link, T: Starter<L>> ServerWorker<L, T> {
     // The request in hand is let go of, if there is one.
     fn let_go<G: Gate>(&mut self, domain: &Domain, gate: &G)
         requires domain { IsDomain domain.now }
-        requires ended { HasEnded domain.now T.server_name (λ s. record { asked = T.asked s; faults = T.start_faults s }) self.old.stopped self.old }
+        requires ended { HasEnded domain.now T.shows self.old.stopped self.old }
         ensures goes { Goes domain.now self.old self.new }
-        ensures ended { HasEnded domain.now T.server_name (λ s. record { asked = T.asked s; faults = T.start_faults s }) self.new.stopped self.new }
+        ensures ended { HasEnded domain.now T.shows self.new.stopped self.new }
         ensures hand { self.new.served.slot.hand ≡ None }
     {
         let request = self.served.slot.request();
@@ -158,8 +158,8 @@ impl<L: Link, T: Starter<L>> ServerWorker<L, T> {
     /// and the request in hand is let go of.
     pub fn work<W: Wait, G: Gate>(&mut self, rt: &W, alloc: Global, domain: &Domain, gate: &G)
         requires domain { IsDomain domain.now }
-        requires may { MayServe domain.now T.server_name (λ s. record { asked = T.asked s; faults = T.start_faults s }) self.old }
-        ensures served { HasServed domain.now T.server_name (λ s. record { asked = T.asked s; faults = T.start_faults s }) self.old self.new }
+        requires may { MayServe domain.now T.shows self.old }
+        ensures served { HasServed domain.now T.shows self.old self.new }
     {
         self.stopped = self.live_all(rt, alloc, domain, gate).err();
         if let Some(Stopped::Here(halt)) = self.stopped {

@@ -17,9 +17,9 @@ returns-in-Ok-clause-over g c =
     let is = c.requires.life in
     let serving = c.stop.ensures.serving w.queue.0 (subst (λ (s : ServerSlot). IsServing d w.queue.0 s w.desk) (sym c.keep.ensures.slot) is.at.serving) in
     let stops = subst (λ (s : ServerSlot). Stops _ c.in-Ok.field-0 c.stop.new.slot s c.stop.new.self.caller.work w.desk.caller.work) c.keep.ensures.slot c.in-Ok.ensures.ok in (
-      exits_off w c.args.life c.exit-over.result kept c.stop.new.slot c.stop.new.self c.in-Ok.field-0 is c.exit-over.ensures c.cause-cause.ensures.over c.keep.ensures.lives c.keep.ensures.starter c.stop.ensures.leads c.stop.ensures.rest.1 serving stops,
+      exits_off w c.args.life c.exit-over.result kept c.stop.new.slot c.stop.new.self c.in-Ok.field-0 is c.requires.untold c.exit-over.ensures c.cause-cause.ensures.over c.keep.ensures.lives c.keep.ensures.starter c.stop.ensures.leads c.stop.ensures.rest.1 serving stops,
       told_on c.stop.ensures.leads c.latest-rises.ensures.rises c.args.told c.requires.told,
-      leads_behind w.desk c.stop.new.self ⊥ c.stop.ensures.leads c.stop.ensures.rest.1 is.at.told.0,
+      leads_behind w.desk c.stop.new.self c.stop.ensures.leads c.stop.ensures.rest.1 c.requires.untold,
     )
 
 pub returns-in-Err-clause-goes : goal.returns-in-Err-clause-goes

@@ -4,7 +4,7 @@ use Rattle.xa_links.specs.Passing.{Passes, Keeps}
 use Rattle.xa_links.proofs.Behind.{still_calm}
 use Rattle.xa_links.proofs.Keeping.{OfLife}
 use Rattle.xa_links.proofs.Lasting.{at_desk, cut_ends, work_on, goes_by, goes_trans}
-use Rattle.xa_links.proofs.Exchanges.{Becomes, at_still, heard_took, heard_cut, forwarded_in}
+use Rattle.xa_links.proofs.Exchanges.{Becomes, at_still, heard_hands, heard_cut, forwarded_in}
 use Rattle.xa_links.proofs.working.ServerWorker.forwarded.Goals as goal
 
 pub go_on-requires-clause-life : goal.go_on-requires-clause-life
@@ -35,4 +35,4 @@ returns-in-Err-clause-halted g c =
     let at = work_on w slot' desk' [] b.0.generation keeps.serves (All-nil (OfLife w.served.slot.made)) (still_calm w.desk desk' keeps.own keeps.seat) b.2.at in
     let server = keeps.serves.server in
     let becomes : Becomes b.0.asked c.args.life b.0 = record { link = c.args.life.link; said = _; turn = _; made = b.3.made } in
-    cut_ends (at_desk w slot' desk') c.cut.new.self c.args.life _ (at_still b.0.asked becomes at) c.cut.ensures.rest (heard_took w c.args.life b.0 _ slot' desk' b.3 b.2 keeps.serves.steps.own server) (heard_cut w c.args.life b.0 _ slot' b.3 b.2 server c.cut.ensures.sound) keeps.halts
+    cut_ends (at_desk w slot' desk') c.cut.new.self c.args.life _ (at_still b.0.asked becomes at) c.cut.ensures.rest (heard_hands w c.args.life b.0 _ slot' desk' b.3 b.2 keeps.serves.steps server) (heard_cut w c.args.life b.0 _ slot' desk' b.3 b.2 keeps.serves.steps server c.cut.ensures.sound) keeps.halts

@@ -6,7 +6,7 @@ use Rattle.xa_links.proofs.Behind.{still_calm}
 use Rattle.xa_links.proofs.Stepping.{halted_own, halted_steps, halted_at, still_serves}
 use Rattle.xa_links.proofs.Keeping.{OfLife}
 use Rattle.xa_links.proofs.Lasting.{at_desk, cut_ends, work_on, goes_by, goes_trans}
-use Rattle.xa_links.proofs.Exchanges.{Becomes, at_still, heard_took, heard_cut, return_done, returned_in, in_turn, exits_turn, stays_turn}
+use Rattle.xa_links.proofs.Exchanges.{Becomes, at_still, heard_hands, heard_cut, return_done, returned_in, in_turn, exits_turn, stays_turn}
 use Rattle.xa_links.proofs.working.ServerWorker.returned.Goals as goal
 
 pub returns-in-Err-clause-halted : goal.returns-in-Err-clause-halted
@@ -22,7 +22,7 @@ returns-in-Err-clause-halted g c =
     let at = work_on w slot' desk' [] b.0.generation (still_serves still serving kept) (All-nil (OfLife w.served.slot.made)) (still_calm w.desk desk' (halted_own w.desk desk' 3 c.in-Err.halt c.in-Err.ensures.halted) c.finish-finished.ensures.rest.1) b.2.at in
     let server = ap (λ (s : ServerSlot). s.server) kept in
     let becomes : Becomes b.0.asked c.args.life b.0 = record { link = c.args.life.link; said = _; turn = _; made = b.3.made } in
-    cut_ends (at_desk w slot' desk') c.cut.new.self c.args.life _ (at_still b.0.asked becomes at) c.cut.ensures.rest (heard_took w c.args.life b.0 _ slot' desk' b.3 b.2 still.own server) (heard_cut w c.args.life b.0 _ slot' b.3 b.2 server c.cut.ensures.sound) (halted_at w.desk desk' 3 c.in-Err.halt c.in-Err.ensures.halted)
+    cut_ends (at_desk w slot' desk') c.cut.new.self c.args.life _ (at_still b.0.asked becomes at) c.cut.ensures.rest (heard_hands w c.args.life b.0 _ slot' desk' b.3 b.2 still server) (heard_cut w c.args.life b.0 _ slot' desk' b.3 b.2 still server c.cut.ensures.sound) (halted_at w.desk desk' 3 c.in-Err.halt c.in-Err.ensures.halted)
 
 pub exit-requires-clause-life : goal.exit-requires-clause-life
 exit-requires-clause-life g c =
@@ -47,6 +47,18 @@ exit-requires-clause-last g c =
     let unconnected = b.2.at.serving.stands.tables.worker.unconnected in
     let is = returned_in w c.args.life b.0 b.1 c.args.back.value c.args.back.code c.args.back.payload _ c.in-Ok.closing slot' desk' b.3 b.2 unconnected leads c.finish-finished.ensures.rest.1 serving c.in-Ok.ensures.ok in
     λ κs within. is.1 (sym c.is_exit-exits.ensures ∙ c.if-exits.true)
+
+pub exit-requires-clause-untold : goal.exit-requires-clause-untold
+exit-requires-clause-untold g c =
+    let w = c.args.self.now in
+    let b = c.requires.before in
+    let slot' = c.finish-finished.new.slot in
+    let desk' = c.finish-finished.new.self in
+    let leads = c.finish-finished.ensures.leads in
+    let serving = c.finish-finished.ensures.serving w.queue.0 b.2.at.serving in
+    let unconnected = b.2.at.serving.stands.tables.worker.unconnected in
+    let is = returned_in w c.args.life b.0 b.1 c.args.back.value c.args.back.code c.args.back.payload _ c.in-Ok.closing slot' desk' b.3 b.2 unconnected leads c.finish-finished.ensures.rest.1 serving c.in-Ok.ensures.ok in
+    λ κs within. is.2
 
 pub returns-in_err-exit-clause-goes : goal.returns-in_err-exit-clause-goes
 returns-in_err-exit-clause-goes g c =

@@ -2,8 +2,9 @@ use Rattle.std.proofs.Common.{[], ◌∷◌, Ok, refl, ap, subst}
 use Rattle.xa_desk.specs.xa_events.declared.event.Event.TheVariants.{Take}
 use Rattle.xa_links.specs.Steps.{NextFrom}
 use Rattle.xa_links.specs.Standing.{ExchangedAs}
+use Rattle.xa_desk.proofs.xa_pipe.Courses.{cut_sound}
 use Rattle.xa_links.proofs.Behind.{still_calm}
-use Rattle.xa_links.proofs.Lasting.{at_desk, in_on, in_took, cut_ends, goes_by, goes_trans, goes_cut}
+use Rattle.xa_links.proofs.Lasting.{at_desk, in_on, in_hands, in_alive, cut_ends, goes_by, goes_trans, goes_cut}
 use Rattle.xa_links.proofs.Exchanges.{taken_in}
 use Rattle.xa_links.proofs.working.ServerWorker.serve.Goals as goal
 
@@ -32,7 +33,7 @@ returns-in-Err-clause-halted g c =
     let l = c.loop.self in
     let waits = c.in-Err.ensures.0 in
     let is = in_on l c.next-in-loop.new.slot c.next-in-loop.new.desk _ _ 0 c.loop.life waits.serves waits.same (still_calm l.desk c.next-in-loop.new.desk waits.noted waits.seat) c.loop.invariant.free in
-    cut_ends (at_desk l c.next-in-loop.new.slot c.next-in-loop.new.desk) c.cut.new.self c.loop.life c.in-Err.stopped is.at c.cut.ensures.rest (in_took is) (record { sound = c.cut.ensures.sound; its = ap (λ s. s.0) is.last.server; named = is.last.named }) c.in-Err.ensures.1
+    cut_ends (at_desk l c.next-in-loop.new.slot c.next-in-loop.new.desk) c.cut.new.self c.loop.life c.in-Err.stopped is.at c.cut.ensures.rest (in_hands is) (record { cut_off = cut_sound c.loop.life c.cut.ensures.sound; its = ap (λ s. s.0) is.last.server; named = is.last.named; alive = in_alive is }) c.in-Err.ensures.1
 
 pub exchange-requires-clause-taken : goal.exchange-requires-clause-taken
 exchange-requires-clause-taken g c κs within =
@@ -54,7 +55,7 @@ loop-preserved g c =
     let taken = at_desk l c.next-in-loop.new.slot c.next-in-loop.new.desk in
     record {
       goes = goes_trans c.args.self.now taken c.exchange.new.self (goes_trans c.args.self.now l taken c.loop.invariant.goes (goes_by l taken (Take took.t ∷ []) took.serves.steps took.serves.server refl refl)) c.in_ok-next.ensures.goes;
-      free = subst (λ e. ExchangedAs c.args.domain.now g.T.Starter.server_name (λ s. record { asked = g.T.Starter.asked s; faults = g.T.Starter.start_faults s }) e c.exchange.new.self) c.in-Going.is c.in_ok-next.ensures.exchanged;
+      free = subst (λ e. ExchangedAs c.args.domain.now g.T.Starter.shows e c.exchange.new.self) c.in-Going.is c.in_ok-next.ensures.exchanged;
     }
 
 pub returns-in-Over-clause-goes : goal.returns-in-Over-clause-goes

@@ -5,5 +5,5 @@ use Rattle.xa_links.proofs.working.ServerWorker.serve.Given as goal
 abbrev pub invariant-loop : goal.invariant-loop
 invariant-loop g l = record {
   goes : Goes l.domain l.fn.self l.self;
-  free : IsFree l.domain g.T.Starter.server_name (λ s. record { asked = g.T.Starter.asked s; faults = g.T.Starter.start_faults s }) l.life l.self;
+  free : IsFree l.domain g.T.Starter.shows l.life l.self;
 }
