@@ -71,10 +71,10 @@ module _ (d : Domain) (domain : IsDomain d) (place : ℕ) (configured : ServerSe
         hand = tt;
       }
 
-  pub new_server : {L T : Type 0} (named : T → List ℕ) (shows : T → StarterShows) (worker : ServerWorker L T) (lives : Restarts) → worker.desk ≡ desk → worker.served.slot ≡ new_slot (record { 0 = place + 1 }) lives → lives ≡ restarts_of configured
-      → named worker.served.starter ≡ configured.name → HasStarted (named worker.served.starter) 0 0 (shows worker.served.starter) → worker.name ≡ configured.name → worker.queue.0 ≡ queue_named d.setup configured.queue
-      → worker.served.lives.items ≡ [] → worker.cut ≡ None → worker.stopped ≡ None → IsNewServer d named shows (place + 1) worker
-  new_server named shows worker lives at slot rule starter unasked name queue none uncut unstopped =
+  pub new_server : {L T : Type 0} (shows : T → StarterShows) (worker : ServerWorker L T) (lives : Restarts) → worker.desk ≡ desk → worker.served.slot ≡ new_slot (record { 0 = place + 1 }) lives → lives ≡ restarts_of configured
+      → (shows worker.served.starter).name ≡ configured.name → HasStarted (shows worker.served.starter).name 0 0 (shows worker.served.starter) → worker.name ≡ configured.name → worker.queue.0 ≡ queue_named d.setup configured.queue
+      → worker.served.lives.items ≡ [] → worker.cut ≡ None → worker.stopped ≡ None → IsNewServer d shows (place + 1) worker
+  new_server shows worker lives at slot rule starter unasked name queue none uncut unstopped =
       let is : worker.served.slot ≡ new_slot (record { 0 = place + 1 }) (restarts_of configured) = slot ∙ ap (new_slot (record { 0 = place + 1 })) rule in
       record {
         may = record {

@@ -23,16 +23,16 @@ slice_get-behind (z ∷ xs) ys x = slice_get-behind xs ys x
 last-at : {X : Type 0} (xs later all : List X) (x : X) → (xs ++ x ∷ []) ++ later ≡ all → slice_get all (length xs) ≡ Some x
 last-at xs later all x is = ap (λ l. slice_get l (length xs)) (sym is ∙ append_assoc xs (x ∷ []) later) ∙ slice_get-behind xs later x
 
-module _ {L T : Type 0} (d : Domain) (named : T → List ℕ) (shows : T → StarterShows) (all : List T) where
+module _ {L T : Type 0} (d : Domain) (shows : T → StarterShows) (all : List T) where
   abbrev starter_of : ServerWorker L T → T
   starter_of w = w.served.starter
 
   -- what stands at each starter's place
-  module _ (names : map named all ≡ map (λ (server : ServerSetup). server.name) d.setup.servers) where
-    pub none_hired : (lives : List Restarts) (servers : List (ServerWorker L T)) → lives ≡ map restarts_of d.setup.servers → servers ≡ [] → AreHired d named shows all all lives servers
+  module _ (names : map (λ s. (shows s).name) all ≡ map (λ (server : ServerSetup). server.name) d.setup.servers) where
+    pub none_hired : (lives : List Restarts) (servers : List (ServerWorker L T)) → lives ≡ map restarts_of d.setup.servers → servers ≡ [] → AreHired d shows all all lives servers
     none_hired lives servers are none =
         let count = ap length names in
-        let starters = length-map all named in
+        let starters = length-map all (λ s. (shows s).name) in
         let servers' = length-map d.setup.servers (λ (server : ServerSetup). server.name) in
         let mapped = length-map d.setup.servers restarts_of in
         let same = ap length are in
@@ -40,12 +40,12 @@ module _ {L T : Type 0} (d : Domain) (named : T → List ℕ) (shows : T → Sta
           lives_are = ([], append-nil lives ∙ are);
           each_lives = omega (arith, count, starters, servers', mapped, same);
           starters_are = ap (λ (l : List (ServerWorker L T)). all ++ map starter_of (reverse l)) none ∙ append-nil all;
-          each = subst (λ (l : List (ServerWorker L T)). EachNumbered (IsNewServer d named shows) (length all + 1) (reverse l)) (sym none) tt;
+          each = subst (λ (l : List (ServerWorker L T)). EachNumbered (IsNewServer d shows) (length all + 1) (reverse l)) (sym none) tt;
         }
 
-    module _ (left : List T) (starter : T) (lives : List Restarts) (its : Restarts) (servers : List (ServerWorker L T)) (now : List T) (now_lives : List Restarts) (was : now ≡ left ++ starter ∷ []) (were : now_lives ≡ lives ++ its ∷ []) (given : AreHired d named shows all now now_lives servers) where
-      hired : AreHired d named shows all (left ++ starter ∷ []) (lives ++ its ∷ []) servers
-      hired = subst (λ l. AreHired d named shows all l (lives ++ its ∷ []) servers) was (subst (λ l. AreHired d named shows all now l servers) were given)
+    module _ (left : List T) (starter : T) (lives : List Restarts) (its : Restarts) (servers : List (ServerWorker L T)) (now : List T) (now_lives : List Restarts) (was : now ≡ left ++ starter ∷ []) (were : now_lives ≡ lives ++ its ∷ []) (given : AreHired d shows all now now_lives servers) where
+      hired : AreHired d shows all (left ++ starter ∷ []) (lives ++ its ∷ []) servers
+      hired = subst (λ l. AreHired d shows all l (lives ++ its ∷ []) servers) was (subst (λ l. AreHired d shows all now l servers) were given)
 
       same_count : length lives ≡ length left
       same_count = let count = hired.each_lives in let a = length-append lives (its ∷ []) in let b = length-append left (starter ∷ []) in omega (arith, count, a, b)
@@ -53,8 +53,8 @@ module _ {L T : Type 0} (d : Domain) (named : T → List ℕ) (shows : T → Sta
       starter_at : slice_get all (length left) ≡ Some starter
       starter_at = last-at left (map starter_of (reverse servers)) all starter hired.starters_are
 
-      pub name_at : slice_get (map (λ (server : ServerSetup). server.name) d.setup.servers) (length left) ≡ Some (named starter)
-      name_at = ap (λ l. slice_get l (length left)) (sym names) ∙ slice_get-map named all (length left) ∙ ap (option_map named) starter_at
+      pub name_at : slice_get (map (λ (server : ServerSetup). server.name) d.setup.servers) (length left) ≡ Some (shows starter).name
+      name_at = ap (λ l. slice_get l (length left)) (sym names) ∙ slice_get-map (λ s. (shows s).name) all (length left) ∙ ap (option_map (λ s. (shows s).name)) starter_at
 
       pub lives_at : slice_get (map restarts_of d.setup.servers) (length left) ≡ Some its
       lives_at = ap (slice_get (map restarts_of d.setup.servers)) (sym same_count) ∙ last-at lives hired.lives_are.0 (map restarts_of d.setup.servers) its hired.lives_are.1
@@ -65,7 +65,7 @@ module _ {L T : Type 0} (d : Domain) (named : T → List ℕ) (shows : T → Sta
       pub fact_at : (P : T → Type 0) → All P all → P starter
       fact_at P each = all-at P all (length left) starter starter_at each
 
-      pub hired_more : (worker : ServerWorker L T) → worker.served.starter ≡ starter → IsNewServer d named shows (length left + 1) worker → AreHired d named shows all left lives (servers ++ worker ∷ [])
+      pub hired_more : (worker : ServerWorker L T) → worker.served.starter ≡ starter → IsNewServer d shows (length left + 1) worker → AreHired d shows all left lives (servers ++ worker ∷ [])
       hired_more worker is new =
           let turned : reverse (servers ++ worker ∷ []) ≡ worker ∷ reverse servers = reverse-append servers (worker ∷ []) in
           let more = length-append left (starter ∷ []) in
@@ -74,16 +74,16 @@ module _ {L T : Type 0} (d : Domain) (named : T → List ℕ) (shows : T → Sta
             lives_are = (its ∷ hired.lives_are.0, sym (append_assoc lives (its ∷ []) hired.lives_are.0) ∙ hired.lives_are.1);
             each_lives = same_count;
             starters_are = ap (λ (l : List (ServerWorker L T)). left ++ map starter_of l) turned ∙ ap (λ s. left ++ s ∷ map starter_of (reverse servers)) is ∙ sym (append_assoc left (starter ∷ []) (map starter_of (reverse servers))) ∙ hired.starters_are;
-            each = subst (EachNumbered (IsNewServer d named shows) (length left + 1)) (sym turned) (new, subst (λ n. EachNumbered (IsNewServer d named shows) n (reverse servers)) next hired.each);
+            each = subst (EachNumbered (IsNewServer d shows) (length left + 1)) (sym turned) (new, subst (λ n. EachNumbered (IsNewServer d shows) n (reverse servers)) next hired.each);
           }
 
-  pub all_hired : (left : List T) (lives : List Restarts) (servers : List (ServerWorker L T)) → left ≡ [] → AreHired d named shows all left lives servers → HasServers d named shows all (reverse servers)
+  pub all_hired : (left : List T) (lives : List Restarts) (servers : List (ServerWorker L T)) → left ≡ [] → AreHired d shows all left lives servers → HasServers d shows all (reverse servers)
   all_hired left lives servers none hired = record {
     starters_are = ap (λ l. l ++ map starter_of (reverse servers)) (sym none) ∙ hired.starters_are;
-    each = subst (λ l. EachNumbered (IsNewServer d named shows) (length l + 1) (reverse servers)) none hired.each;
+    each = subst (λ l. EachNumbered (IsNewServer d shows) (length l + 1) (reverse servers)) none hired.each;
   }
 
 -- each server's worker has its starter's name
-pub names_of : {L T : Type 0} (d : Domain) (named : T → List ℕ) (shows : T → StarterShows) (n : ℕ) (servers : List (ServerWorker L T)) → EachNumbered (IsNewServer d named shows) n servers → map (λ (w : ServerWorker L T). w.name) servers ≡ map named (map (λ (w : ServerWorker L T). w.served.starter) servers)
-names_of d named shows n [] each = refl
-names_of d named shows n (w ∷ servers) each = ap₂ (λ (x : List ℕ) xs. x ∷ xs) (sym each.0.may.name_is) (names_of d named shows (n + 1) servers each.1)
+pub names_of : {L T : Type 0} (d : Domain) (shows : T → StarterShows) (n : ℕ) (servers : List (ServerWorker L T)) → EachNumbered (IsNewServer d shows) n servers → map (λ (w : ServerWorker L T). w.name) servers ≡ map (λ s. (shows s).name) (map (λ (w : ServerWorker L T). w.served.starter) servers)
+names_of d shows n [] each = refl
+names_of d shows n (w ∷ servers) each = ap₂ (λ (x : List ℕ) xs. x ∷ xs) (sym each.0.may.name_is) (names_of d shows (n + 1) servers each.1)

@@ -61,8 +61,8 @@ IsNewClient d client (Ready desk) = IsReady d 0 desk × (desk.caller.work.id.0 �
 IsNewClient d client worker = ⊥
 
 -- the worker of the server with that number
-pub record IsNewServer {L T : Type 0} (d : Domain) (named : T → List ℕ) (shows : T → StarterShows) (server : ℕ) (worker : ServerWorker L T) : Type 0 where
-  pub may : MayServe d named shows worker
+pub record IsNewServer {L T : Type 0} (d : Domain) (shows : T → StarterShows) (server : ℕ) (worker : ServerWorker L T) : Type 0 where
+  pub may : MayServe d shows worker
   pub number : worker.served.slot.server.0 ≡ server
   pub id : worker.desk.caller.work.id.0 ≡ d.clients + server
   pub clients : worker.desk.caller.work.clients ≡ d.clients
@@ -74,7 +74,7 @@ pub record IsDealt (d : Domain) : Type 0 where
   pub cells : callers_of d.cells ≡ workers_of d.setup d.clients
 
 -- the domain was booted by that setup, with so many clients, and each server has its starter
-pub record HasBooted {L T : Type 0} (named : T → List ℕ) (shows : T → StarterShows) (setup : Setup) (clients : ℕ) (starters : List T) (b : Booted L T) : Type 0 where
+pub record HasBooted {L T : Type 0} (shows : T → StarterShows) (setup : Setup) (clients : ℕ) (starters : List T) (b : Booted L T) : Type 0 where
   pub domain : IsDomain b.domain
   pub setup_is : b.domain.setup ≡ setup
   pub clients_are : b.domain.clients ≡ clients
@@ -83,5 +83,5 @@ pub record HasBooted {L T : Type 0} (named : T → List ℕ) (shows : T → Star
   pub each_client : EachNumbered (IsNewClient b.domain) 1 b.clients.items
   pub starters_are : map (λ (w : ServerWorker L T). w.served.starter) b.servers.items ≡ starters
   pub names : map (λ (w : ServerWorker L T). w.name) b.servers.items ≡ map (λ (server : ServerSetup). server.name) setup.servers
-  pub each_server : EachNumbered (IsNewServer b.domain named shows) 1 b.servers.items
+  pub each_server : EachNumbered (IsNewServer b.domain shows) 1 b.servers.items
   pub closer : IsNewCloser b.domain b.closer

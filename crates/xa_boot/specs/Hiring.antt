@@ -23,13 +23,13 @@ pub record HasClients (d : Domain) (clients : List ClientWorker) : Type 0 where
   pub each : EachNumbered (IsNewClient d) 1 clients
 
 -- the servers with these starters have their desks
-pub record HasServers {L T : Type 0} (d : Domain) (named : T → List ℕ) (shows : T → StarterShows) (starters : List T) (servers : List (ServerWorker L T)) : Type 0 where
+pub record HasServers {L T : Type 0} (d : Domain) (shows : T → StarterShows) (starters : List T) (servers : List (ServerWorker L T)) : Type 0 where
   pub starters_are : map (λ (w : ServerWorker L T). w.served.starter) servers ≡ starters
-  pub each : EachNumbered (IsNewServer d named shows) 1 servers
+  pub each : EachNumbered (IsNewServer d shows) 1 servers
 
 -- of all these starters those are left, with the lives of their servers, and the servers behind them have their desks, the last one first
-pub record AreHired {L T : Type 0} (d : Domain) (named : T → List ℕ) (shows : T → StarterShows) (all left : List T) (lives : List Restarts) (servers : List (ServerWorker L T)) : Type 0 where
+pub record AreHired {L T : Type 0} (d : Domain) (shows : T → StarterShows) (all left : List T) (lives : List Restarts) (servers : List (ServerWorker L T)) : Type 0 where
   pub lives_are : (later : List Restarts) × (lives ++ later ≡ map restarts_of d.setup.servers)
   pub each_lives : length lives ≡ length left
   pub starters_are : left ++ map (λ (w : ServerWorker L T). w.served.starter) (reverse servers) ≡ all
-  pub each : EachNumbered (IsNewServer d named shows) (length left + 1) (reverse servers)
+  pub each : EachNumbered (IsNewServer d shows) (length left + 1) (reverse servers)

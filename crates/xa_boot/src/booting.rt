@@ -66,9 +66,9 @@ fn hire<L: Link, T: Starter<L>>(
 ) -> Booted<L, T>
     requires founded { IsFounded founded.domain.setup founded.domain.clients founded }
     requires rooms { AreRooms founded.domain.clients (length starters.items) workers }
-    requires names { map (λ s. T.server_name s) starters.items ≡ map (λ server. server.name) founded.domain.setup.servers }
-    requires unasked { All (λ s. HasStarted (T.server_name s) 0 0 (record { asked = T.asked s; faults = T.start_faults s })) starters.items }
-    ensures { HasBooted T.server_name (λ s. record { asked = T.asked s; faults = T.start_faults s }) founded.domain.setup founded.domain.clients starters.items result }
+    requires names { map (λ s. (T.shows s).name) starters.items ≡ map (λ server. server.name) founded.domain.setup.servers }
+    requires unasked { All (λ s. HasStarted (T.shows s).name 0 0 (T.shows s)) starters.items }
+    ensures { HasBooted T.shows founded.domain.setup founded.domain.clients starters.items result }
 {
     let Founded {
         domain,
@@ -99,9 +99,9 @@ pub fn boot<L: Link, T: Starter<L>>(
 ) -> Result<Booted<L, T>, NotBooted<T>>
     requires configured { is_configured setup ≡ true }
     requires few { clients ≤ 64 }
-    requires names { map (λ s. T.server_name s) starters.items ≡ map (λ server. server.name) setup.servers }
-    requires unasked { All (λ s. HasStarted (T.server_name s) 0 0 (record { asked = T.asked s; faults = T.start_faults s })) starters.items }
-    ensures booted { IfOk result (HasBooted T.server_name (λ s. record { asked = T.asked s; faults = T.start_faults s }) setup clients starters.items) }
+    requires names { map (λ s. (T.shows s).name) starters.items ≡ map (λ server. server.name) setup.servers }
+    requires unasked { All (λ s. HasStarted (T.shows s).name 0 0 (T.shows s)) starters.items }
+    ensures booted { IfOk result (HasBooted T.shows setup clients starters.items) }
     ensures back { IfErr result (λ back. back.starters.items ≡ starters.items) }
 {
     let Ok(workers) = Workers::reserve(alloc, clients, starters.len()) else {

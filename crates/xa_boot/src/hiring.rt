@@ -34,12 +34,12 @@ fn server_worker<L: Link, T: Starter<L>>(
     requires left { AreLeft domain.now (domain.now.clients + place + 2) staff.old }
     requires place { place < length domain.now.setup.servers }
     requires lives { slice_get (map restarts_of domain.now.setup.servers) place ≡ Some lives }
-    requires named { slice_get (map (λ server. server.name) domain.now.setup.servers) place ≡ Some (T.server_name starter) }
-    requires unasked { HasStarted (T.server_name starter) 0 0 (record { asked = T.asked starter; faults = T.start_faults starter }) }
+    requires named { slice_get (map (λ server. server.name) domain.now.setup.servers) place ≡ Some (T.shows starter).name }
+    requires unasked { HasStarted (T.shows starter).name 0 0 (T.shows starter) }
     ensures left { AreLeft domain.now (domain.now.clients + place + 1) staff.new }
     ensures own { staff.new.own ≡ staff.old.own }
     ensures starter { result.served.starter ≡ starter }
-    ensures worker { IsNewServer domain.now T.server_name (λ s. record { asked = T.asked s; faults = T.start_faults s }) (place + 1) result }
+    ensures worker { IsNewServer domain.now T.shows (place + 1) result }
 {
     let configured = &domain.setup.servers.slice()[place];
     let slot = ServerSlot::new(ServerId(place as u16 + 1), lives);
@@ -66,12 +66,12 @@ pub(crate) fn hire_servers<L: Link, T: Starter<L>>(
     requires domain { IsDomain domain.now }
     requires left { AreLeft domain.now (domain.now.clients + length starters.items + 1) staff.old }
     requires lives { lives.items ≡ map restarts_of domain.now.setup.servers }
-    requires named { map (λ s. T.server_name s) starters.items ≡ map (λ server. server.name) domain.now.setup.servers }
-    requires unasked { All (λ s. HasStarted (T.server_name s) 0 0 (record { asked = T.asked s; faults = T.start_faults s })) starters.items }
+    requires named { map (λ s. (T.shows s).name) starters.items ≡ map (λ server. server.name) domain.now.setup.servers }
+    requires unasked { All (λ s. HasStarted (T.shows s).name 0 0 (T.shows s)) starters.items }
     requires room { (servers.old.items ≡ []) × (length starters.items ≤ vec_capacity servers.old) }
     ensures left { AreLeft domain.now (domain.now.clients + 1) staff.new }
     ensures own { staff.new.own ≡ staff.old.own }
-    ensures servers { HasServers domain.now T.server_name (λ s. record { asked = T.asked s; faults = T.start_faults s }) starters.items servers.new.items }
+    ensures servers { HasServers domain.now T.shows starters.items servers.new.items }
 {
     while let Some(starter) = starters.pop() {
         let place = starters.len();

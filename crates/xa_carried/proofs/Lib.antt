@@ -1,8 +1,10 @@
 pub mod Numbered
 pub mod Readings
 pub mod Own
-pub mod SoFar
+pub mod Shown
 pub mod Sent
 pub mod Entries
 pub mod Merged
+pub mod Asked
+pub mod SoFar
 pub mod Lives

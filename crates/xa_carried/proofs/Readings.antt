@@ -81,5 +81,8 @@ module _ (clients server : ℕ) where
     stop_of_life (Stop x) is = is
     stop_of_life _ is = absurd (cc is)
 
+    pub stopped_own : (past : List Event) → count (stops_life server g) (its past) ≡ count (stops_life server g) past
+    stopped_own past = count_part (stops_life server g) is_its (λ e is. of_life e (stop_of_life e is)) past
+
     pub taken_own : (past : List Event) → count (is_take_in server g) (its past) ≡ count (is_take_in server g) past
     taken_own past = count_part (is_take_in server g) is_its (λ e is. of_life e (take_of_life e is)) past

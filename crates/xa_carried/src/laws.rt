@@ -27,11 +27,11 @@ pub fn lives_are_the_runs_so_far()
     ensures lives { (d : Domain) (b : Back) (domain : Working) (desks : List Desk) (servers : List ServerEnd) (homes : List Notes) (events : List Event) → Ends d b domain desks servers homes ⊥ → IsMerged homes events
         → AreLivesSoFar d.setup (reverse events) (map (λ (x : ServerEnd). x.lives) servers) (map (λ (x : ServerEnd). x.cut) servers) }
     ensures starters { (d : Domain) (b : Back) (domain : Working) (desks : List Desk) (servers : List ServerEnd) (homes : List Notes) (events : List Event) → Ends d b domain desks servers homes ⊥ → IsMerged homes events
-        → EachNumbered (λ server (x : ServerEnd). IsStarterSoFar d.setup server x.name x.shown (reverse events)) 1 servers }
+        → EachNumbered (λ server (x : ServerEnd). IsStarterSoFar d.setup server x.shown (reverse events)) 1 servers }
 {}
 
 /// Where each worker came to its end, what went through the pipes is what the events of the merge say.
 pub fn lives_are_the_runs()
     ensures { (d : Domain) (b : Back) (domain : Working) (desks : List Desk) (servers : List ServerEnd) (homes : List Notes) (events : List Event) → Ends d b domain desks servers homes ⊤ → IsMerged homes events
-        → IsCarried (λ (x : ServerEnd). x.name) (λ (x : ServerEnd). x.shown) d.setup d.clients (reverse events) (map (λ (x : ServerEnd). x.lives) servers) servers }
+        → IsCarried (λ (x : ServerEnd). x.shown) d.setup d.clients (reverse events) (map (λ (x : ServerEnd). x.lives) servers) servers }
 {}

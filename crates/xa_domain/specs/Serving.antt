@@ -10,6 +10,7 @@ use Rattle.xa_ending.specs.xa_work.declared.work.Halt.TheVariants.{NoMemory}
 use Rattle.xa_ending.specs.xa_script.declared.script.Client.{Client}
 use Rattle.xa_ending.specs.xa_pipe.Standing.{Standing as Life, Ending}
 use Rattle.xa_ending.specs.xa_server.Served.{StarterShows}
+use Rattle.xa_ending.specs.xa_links.Lives.{HasStarted}
 use Rattle.xa_ending.specs.xa_workers.Working.{IsBuiltClient}
 use Rattle.xa_ending.specs.xa_joined.Served.{IsRecorded, IsServedWhole, IsServedSoFar, IsWorn}
 
@@ -18,24 +19,33 @@ pub record IsBuilt (clients : List Client) : Type 0 where
   pub few : length clients ≤ 64
   pub calls : All IsBuiltClient clients
 
--- what is handed back of the homes; where memory ran out before there was any, there is none
-abbrev pub HasHomes : Option Halt → Setup → ℕ → List Notes → Type 0
-HasHomes (Some NoMemory) setup clients homes = IsRecorded setup clients homes ⊎ (homes ≡ [])
-HasHomes halt setup clients homes = IsRecorded setup clients homes
-
 -- no life was cut
 abbrev pub IsNoneCut : List (List Life) → Type 0
 IsNoneCut cut = All (λ (of_server : List Life). of_server ≡ []) cut
 
-module _ {S : Type 0} (named : S → List ℕ) (shows : S → StarterShows) (setup : Setup) (clients : List Client) where
+module _ {S : Type 0} (shows : S → StarterShows) (setup : Setup) (clients : List Client) where
+  -- every home is handed back, and each server's starter
+  pub record HasAll (homes : List Notes) (starters : List S) : Type 0 where
+    pub recorded : IsRecorded setup (length clients) homes
+    pub started : length starters ≡ length setup.servers
+
+  -- no start was asked of these starters, where they tell it, and none failed
+  abbrev pub AreUnasked : List S → Type 0
+  AreUnasked starters = All (λ s. HasStarted (shows s).name 0 0 (shows s)) starters
+
+  -- what is handed back of homes and starters: where memory ran out before the boot there is no home, and then no start was asked
+  abbrev pub HasHomes : Option Halt → List Notes → List S → Type 0
+  HasHomes (Some NoMemory) homes starters = HasAll homes starters ⊎ ((homes ≡ []) × AreUnasked starters)
+  HasHomes halt homes starters = HasAll homes starters
+
   -- what the merged events are, by whether the run halted; cut are the lives that went on at a halt
   abbrev pub ComesTo : Option Halt → List Event → List (List Ending) → List (List Life) → List S → Type 0
-  ComesTo None events lives cut starters = IsServedWhole named shows setup clients events lives starters × IsNoneCut cut × (length cut ≡ length setup.servers)
-  ComesTo (Some halt) events lives cut starters = IsServedSoFar named shows halt setup (length clients) events lives cut starters
+  ComesTo None events lives cut starters = IsServedWhole shows setup clients events lives starters × IsNoneCut cut × (length cut ≡ length setup.servers)
+  ComesTo (Some halt) events lives cut starters = IsServedSoFar shows halt setup (length clients) events lives cut starters
 
   -- how serving ends: each event stands at its own home, with dense stamps that rise, and the merge of the homes comes to that
   pub record ServeEnds (halt : Option Halt) (homes : List Notes) (lives : List (List Ending)) (cut : List (List Life)) (starters : List S) : Type 0 where
-    pub homed : HasHomes halt setup (length clients) homes
+    pub homed : HasHomes halt homes starters
     pub dense : IsDense (record { 0 = 0 }) homes
     pub worn : IfSome halt (λ why. IsWorn why homes)
     pub comes : (events : List Event) → IsMerged homes events → ComesTo halt events lives cut starters

@@ -63,9 +63,9 @@ fn serve_by<R: Threads + Wait + Sync, L: Link + Send, T: Starter<L> + Send, G: G
     gate: &G,
 ) -> Handed<L, T>
     requires built { IsBuilt clients.now }
-    requires booted { HasBooted T.server_name (λ s. record { asked = T.asked s; faults = T.start_faults s }) booted.domain.setup (length clients.now) (map (λ w. w.served.starter) booted.servers.items) booted }
+    requires booted { HasBooted T.shows booted.domain.setup (length clients.now) (map (λ w. w.served.starter) booted.servers.items) booted }
     requires room { HasRoom (length booted.domain.setup.queues) (length clients.now) (length booted.domain.setup.servers) room }
-    ensures { ServeEnds T.server_name (λ s. record { asked = T.asked s; faults = T.start_faults s }) booted.domain.setup clients.now result.halt result.homes.homes (map (λ v. v.items) result.lives.items) (map cut_in result.cut.items) result.starters.items }
+    ensures { ServeEnds T.shows booted.domain.setup clients.now result.halt result.homes.homes (map (λ v. v.items) result.lives.items) (map cut_in result.cut.items) result.starters.items }
 {
     let done = run_all(rt, alloc, clients, booted, gate);
     hand_back(alloc, done, room)
@@ -83,10 +83,10 @@ fn serve_with<R: Threads + Wait + Sync, L: Link + Send, T: Starter<L> + Send, G:
 ) -> Handed<L, T>
     requires configured { is_configured setup ≡ true }
     requires built { IsBuilt clients.now }
-    requires names { map (λ s. T.server_name s) starters.items ≡ map (λ server. server.name) setup.servers }
-    requires unasked { All (λ s. HasStarted (T.server_name s) 0 0 (record { asked = T.asked s; faults = T.start_faults s })) starters.items }
+    requires names { map (λ s. (T.shows s).name) starters.items ≡ map (λ server. server.name) setup.servers }
+    requires unasked { All (λ s. HasStarted (T.shows s).name 0 0 (T.shows s)) starters.items }
     requires room { HasRoom (length setup.queues) (length clients.now) (length setup.servers) room }
-    ensures { ServeEnds T.server_name (λ s. record { asked = T.asked s; faults = T.start_faults s }) setup clients.now result.halt result.homes.homes (map (λ v. v.items) result.lives.items) (map cut_in result.cut.items) result.starters.items }
+    ensures { ServeEnds T.shows setup clients.now result.halt result.homes.homes (map (λ v. v.items) result.lives.items) (map cut_in result.cut.items) result.starters.items }
 {
     match boot(alloc, setup, clients.len() as u16, starters) {
         Ok(booted) => serve_by(rt, alloc, clients, booted, room, gate),
@@ -108,7 +108,7 @@ fn serve_all<R: Threads + Wait + Sync, Y: Yard, G: Gate>(
 ) -> Handed<Y::Line, Y::Start>
     requires configured { is_configured setup ≡ true }
     requires built { IsBuilt clients.now }
-    ensures ends { ServeEnds Y.Start.server_name (λ s. record { asked = Y.Start.asked s; faults = Y.Start.start_faults s }) setup clients.now result.halt result.homes.homes (map (λ v. v.items) result.lives.items) (map cut_in result.cut.items) result.starters.items }
+    ensures ends { ServeEnds Y.Start.shows setup clients.now result.halt result.homes.homes (map (λ v. v.items) result.lives.items) (map cut_in result.cut.items) result.starters.items }
     ensures asked { AsksStarters (Y.asked yard.old) (Y.asked yard.new) setup ⊎ ((result.halt ≡ Some Halt.NoMemory) × (Y.asked yard.new ≡ Y.asked yard.old)) }
 {
     let queues = setup.queues.slice().len();
@@ -135,7 +135,7 @@ pub fn serve<R: Threads + Wait + Sync, Y: Yard, G: Gate>(
 ) -> Served<Y>
     requires configured { is_configured setup ≡ true }
     requires built { IsBuilt script.now.clients }
-    ensures ends { ServeEnds Y.Start.server_name (λ s. record { asked = Y.Start.asked s; faults = Y.Start.start_faults s }) setup script.now.clients result.halt result.homes.homes (map (λ v. v.items) result.lives.items) (map cut_in result.cut.items) result.starters.items }
+    ensures ends { ServeEnds Y.Start.shows setup script.now.clients result.halt result.homes.homes (map (λ v. v.items) result.lives.items) (map cut_in result.cut.items) result.starters.items }
     ensures asked { AsksStarters (Y.asked yard.old) (Y.asked yard.new) setup ⊎ ((result.halt ≡ Some Halt.NoMemory) × (Y.asked yard.new ≡ Y.asked yard.old)) }
 {
     let Handed {

@@ -70,9 +70,9 @@ each_op : (P : ℕ → List Op → Type 0) (n : ℕ) (scripts : List Client) →
 each_op P n [] each = tt
 each_op P n (c ∷ scripts) each = (each.0, each_op P (n + 1) scripts each.1)
 
-names_map : {L T : Type 0} (named : T → List ℕ) (shows : T → StarterShows) (workers : List (ServerWorker L T)) → map (λ (x : ServerEnd). x.name) (map (end_of named shows) workers) ≡ map (λ (w : ServerWorker L T). named w.served.starter) workers
-names_map named shows [] = refl
-names_map named shows (w ∷ workers) = ap (λ (l : List (List ℕ)). named w.served.starter ∷ l) (names_map named shows workers)
+names_map : {L T : Type 0} (shows : T → StarterShows) (workers : List (ServerWorker L T)) → map (λ (x : ServerEnd). x.shown.name) (map (end_of shows) workers) ≡ map (λ (w : ServerWorker L T). (shows w.served.starter).name) workers
+names_map shows [] = refl
+names_map shows (w ∷ workers) = ap (λ (l : List (List ℕ)). (shows w.served.starter).name ∷ l) (names_map shows workers)
 
 seats_map : (desks : List Desk) → map (λ (l : Leaving). l.seat) (map leaving_of desks) ≡ map (λ (desk : Desk). desk.caller.seat) desks
 seats_map [] = refl
@@ -82,11 +82,11 @@ some_if : (P Q : Desk → Type 0) → ((desk : Desk) → P desk → Q desk) → 
 some_if P Q from None is = absurd is
 some_if P Q from (Some desk) is = from desk is
 
-servers_if : (d : Domain) (desks : List Desk) (V W : Type 0) → (W → V) → (n : ℕ) (servers : List ServerEnd) → EachNumbered (λ k (x : ServerEnd). IsSomeAnd (numbered (d.clients + k) desks) (λ desk. ServerShows d x.name (queue_of d.setup k) k desk x.lives x.cut x.shown V)) n servers
-    → EachNumbered (λ k (x : ServerEnd). IsSomeAnd (numbered (d.clients + k) desks) (λ desk. ServerShows d x.name (queue_of d.setup k) k desk x.lives x.cut x.shown W)) n servers
+servers_if : (d : Domain) (desks : List Desk) (V W : Type 0) → (W → V) → (n : ℕ) (servers : List ServerEnd) → EachNumbered (λ k (x : ServerEnd). IsSomeAnd (numbered (d.clients + k) desks) (λ desk. ServerShows d x.shown.name (queue_of d.setup k) k desk x.lives x.cut x.shown V)) n servers
+    → EachNumbered (λ k (x : ServerEnd). IsSomeAnd (numbered (d.clients + k) desks) (λ desk. ServerShows d x.shown.name (queue_of d.setup k) k desk x.lives x.cut x.shown W)) n servers
 servers_if d desks V W from n [] each = tt
 servers_if d desks V W from n (x ∷ servers) each = (
-  some_if (λ desk. ServerShows d x.name (queue_of d.setup n) n desk x.lives x.cut x.shown V) (λ desk. ServerShows d x.name (queue_of d.setup n) n desk x.lives x.cut x.shown W)
+  some_if (λ desk. ServerShows d x.shown.name (queue_of d.setup n) n desk x.lives x.cut x.shown V) (λ desk. ServerShows d x.shown.name (queue_of d.setup n) n desk x.lives x.cut x.shown W)
       (λ desk shows. record { lives_are = shows.lives_are; taken = shows.taken; cut_off = shows.cut_off; so_far = shows.so_far; told = shows.told; none_cut = λ w. shows.none_cut (from w); lived = λ w. shows.lived (from w); started = λ w. shows.started (from w); done = λ w. shows.done (from w) })
       (numbered (d.clients + n) desks) each.0,
   servers_if d desks V W from (n + 1) servers each.1,
@@ -106,7 +106,7 @@ each_number P n k [] x each is = absurd (cc is)
 each_number P n zero (y ∷ xs) x each is = let same : y ≡ x = cc is in let one : n + 1 ≡ n + suc zero = omega arith in subst (λ m. P m x) one (subst (P (n + 1)) same each.0)
 each_number P n (suc k) (y ∷ xs) x each is = let next : n + 1 + suc k ≡ n + suc (suc k) = omega arith in subst (λ m. P m x) next (each_number P (n + 1) k xs x each.1 is)
 
-module _ {L T : Type 0} (named : T → List ℕ) (shows : T → StarterShows) (scripts : List Client) (booted : Booted L T) (joined : IsJoined named shows scripts booted) where
+module _ {L T : Type 0} (shows : T → StarterShows) (scripts : List Client) (booted : Booted L T) (joined : IsJoined shows scripts booted) where
   abbrev d : Domain
   d = booted.domain
 
@@ -114,14 +114,14 @@ module _ {L T : Type 0} (named : T → List ℕ) (shows : T → StarterShows) (s
   itself = work_of d booted.closer
 
   pub all_servers : length booted.servers.items ≡ length d.setup.servers
-  all_servers = sym (length-map booted.servers.items (λ (w : ServerWorker L T). named w.served.starter)) ∙ ap length joined.names ∙ length-map d.setup.servers (λ (server : ServerSetup). server.name)
+  all_servers = sym (length-map booted.servers.items (λ (w : ServerWorker L T). (shows w.served.starter).name)) ∙ ap length joined.names ∙ length-map d.setup.servers (λ (server : ServerSetup). server.name)
 
   its_own : IsLeaving d (itself_of d booted.closer)
   its_own =
       let is = joined.closed.is in
       record { seat_of = is.seat; shut = record { asked = λ k. ap (λ (p : Part Filling). p.asked) (is.fresh.parts k) }; board_pass = is.board; queue_passes = is.queues }
 
-  module _ (g : Gathered L T) (gathered : HasGathered d named shows scripts booted.clients.items booted.servers.items booted.closer g) where
+  module _ (g : Gathered L T) (gathered : HasGathered d shows scripts booted.clients.items booted.servers.items booted.closer g) where
     abbrev desks : List Desk
     desks = gathered.desks
 
@@ -200,7 +200,7 @@ module _ {L T : Type 0} (named : T → List ℕ) (shows : T → StarterShows) (s
         answered = gives.answered;
       }
 
-      pub hands_back : (h : Handed L T) → h.halt ≡ halt_of g.stopped → h.homes.homes ≡ homes → h.lives ≡ g.lives → h.cut ≡ g.cut → h.starters ≡ g.starters → HandsBack named shows scripts booted h
+      pub hands_back : (h : Handed L T) → h.halt ≡ halt_of g.stopped → h.homes.homes ≡ homes → h.lives ≡ g.lives → h.cut ≡ g.cut → h.starters ≡ g.starters → HandsBack shows scripts booted h
       hands_back h halt homes_are lives cut starters = record {
         b = b;
         domain = itself;
@@ -208,9 +208,9 @@ module _ {L T : Type 0} (named : T → List ℕ) (shows : T → StarterShows) (s
         ends = record {
           left = all_left;
           homes_are = subst (λ (l : List Notes). HoldAll d b l) (sym homes_are) gives.hold;
-          count = length-map booted.servers.items (end_of named shows) ∙ all_servers;
-          names = names_map named shows booted.servers.items ∙ joined.names;
-          each = servers_if d desks (g.stopped ≡ None) (h.halt ≡ None) (λ none. went_on g.stopped (sym halt ∙ none)) 1 (map (end_of named shows) booted.servers.items) gathered.each;
+          count = length-map booted.servers.items (end_of shows) ∙ all_servers;
+          names = names_map shows booted.servers.items ∙ joined.names;
+          each = servers_if d desks (g.stopped ≡ None) (h.halt ≡ None) (λ none. went_on g.stopped (sym halt ∙ none)) 1 (map (end_of shows) booted.servers.items) gathered.each;
         };
         whole = λ none.
             let going = went_on g.stopped (sym halt ∙ none) in

@@ -262,11 +262,11 @@ leaves_same None new old other (inl y) = absurd (cc (other, y.0))
 leaves_same None new old other (inr y) = y.1
 leaves_same (Some halt) new old other leaves = leaves.2
 
-module _ {L T : Type 0} (d : Domain) (named : T → List ℕ) (shows : T → StarterShows) (itself : Leaving) (desks : List Desk) (servers : List (ServerWorker L T)) (old : Gathered L T) (starts : IsBeforeServers d named shows itself desks servers old) where
+module _ {L T : Type 0} (d : Domain) (shows : T → StarterShows) (itself : Leaving) (desks : List Desk) (servers : List (ServerWorker L T)) (old : Gathered L T) (starts : IsBeforeServers d shows itself desks servers old) where
   abbrev DeskOf : ServerWorker L T → Desk
   DeskOf w = w.desk
 
-  pub no_servers : HasServersSo d named shows itself desks servers servers old old
+  pub no_servers : HasServersSo d shows itself desks servers servers old old
   no_servers = record {
     front = [];
     servers_are = refl;
@@ -282,25 +282,25 @@ module _ {L T : Type 0} (d : Domain) (named : T → List ℕ) (shows : T → Sta
     left = starts.over;
   }
 
-  pub next_over : (rest left : List (ServerWorker L T)) (w : ServerWorker L T) (now : Gathered L T) → HasServersSo d named shows itself desks servers rest old now → rest ≡ w ∷ left → (n : ℕ) × IsOver d named shows n w
-  next_over rest left w now so_far is = let n : ℕ = length so_far.front + 1 in (n, (subst (EachNumbered (IsOver d named shows) n) is so_far.left).0)
+  pub next_over : (rest left : List (ServerWorker L T)) (w : ServerWorker L T) (now : Gathered L T) → HasServersSo d shows itself desks servers rest old now → rest ≡ w ∷ left → (n : ℕ) × IsOver d shows n w
+  next_over rest left w now so_far is = let n : ℕ = length so_far.front + 1 in (n, (subst (EachNumbered (IsOver d shows) n) is so_far.left).0)
 
-  pub all_servers : (rest : List (ServerWorker L T)) (now : Gathered L T) → rest ≡ [] → HasServersSo d named shows itself desks servers rest old now → HasServers d named shows itself desks servers old now
+  pub all_servers : (rest : List (ServerWorker L T)) (now : Gathered L T) → rest ≡ [] → HasServersSo d shows itself desks servers rest old now → HasServers d shows itself desks servers old now
   all_servers rest now none so_far =
-      subst (λ ws. HasServers d named shows itself desks ws old now) (sym (append-nil so_far.front) ∙ ap (λ l. so_far.front ++ l) (sym none) ∙ so_far.servers_are) so_far.has
+      subst (λ ws. HasServers d shows itself desks ws old now) (sym (append-nil so_far.front) ∙ ap (λ l. so_far.front ++ l) (sym none) ∙ so_far.servers_are) so_far.has
 
   -- one more, whose caller leaves without an event
   pub servers_more : (rest left : List (ServerWorker L T)) (w : ServerWorker L T) (halt : Option Halt) (work : Working) (seat : Seat Filling) (now new : Gathered L T) (notes : Notes)
-      → HasServersSo d named shows itself desks servers rest old now → rest ≡ w ∷ left → seat ≡ w.desk.caller.seat → IsShut w.desk.caller.seat → LeavesAs halt work w.desk.caller.work
+      → HasServersSo d shows itself desks servers rest old now → rest ≡ w ∷ left → seat ≡ w.desk.caller.seat → IsShut w.desk.caller.seat → LeavesAs halt work w.desk.caller.work
       → new.stopped ≡ first_of now.stopped w.stopped → AddsTokens seat w.desk.board w.desk.queues.items now.tokens new.tokens → new.callers.items ≡ now.callers.items ++ notes ∷ []
       → notes.entries ≡ filter (stands_at work.setup work.clients (CallerHome work.id.0)) work.own → IsSound work
       → new.lives.items ≡ now.lives.items ++ w.served.lives ∷ [] → new.cut.items ≡ now.cut.items ++ w.cut ∷ [] → new.starters.items ≡ now.starters.items ++ w.served.starter ∷ []
-      → HasServersSo d named shows itself desks servers left old new
+      → HasServersSo d shows itself desks servers left old new
   servers_more rest left w halt work seat now new notes so_far is seated shut leaves stopped adds pushed home sound lives cut starters =
       let n : ℕ = length so_far.front + 1 in
       let has = so_far.has in
-      let each : EachNumbered (IsOver d named shows) n (w ∷ left) = subst (EachNumbered (IsOver d named shows) n) is so_far.left in
-      let over : IsOver d named shows n w = each.0 in
+      let each : EachNumbered (IsOver d shows) n (w ∷ left) = subst (EachNumbered (IsOver d shows) n) is so_far.left in
+      let over : IsOver d shows n w = each.0 in
       let id = over.id in
       let clients = over.clients in
       let count = starts.count in
@@ -327,7 +327,7 @@ module _ {L T : Type 0} (d : Domain) (named : T → List ℕ) (shows : T → Sta
           cut_are = ap (map cut_in) cut ∙ map-append cut_in now.cut.items (w.cut ∷ []) ∙ ap (λ l. l ++ cut_in w.cut ∷ []) has.cut_are ∙ sym (map-append (λ (x : ServerWorker L T). cut_in x.cut) so_far.front (w ∷ []));
           starters_are = starters ∙ ap (λ l. l ++ w.served.starter ∷ []) has.starters_are ∙ sym (map-append (λ (x : ServerWorker L T). x.served.starter) so_far.front (w ∷ []));
         };
-        left = let one : n + 1 ≡ length (so_far.front ++ w ∷ []) + 1 = omega (arith, more_front) in subst (λ k. EachNumbered (IsOver d named shows) k left) one each.1;
+        left = let one : n + 1 ≡ length (so_far.front ++ w ∷ []) + 1 = omega (arith, more_front) in subst (λ k. EachNumbered (IsOver d shows) k left) one each.1;
       }
 
 -- ---- all of it
@@ -363,19 +363,19 @@ shows_weaker d name queue server desk lives cut shown Whole Less from is = recor
   done = λ whole. is.done (from whole);
 }
 
-module _ {L T : Type 0} (d : Domain) (named : T → List ℕ) (shows : T → StarterShows) where
-  shows_each : (Whole : Type 0) (front : List Desk) (servers : List (ServerWorker L T)) (n : ℕ) → d.clients + n ≡ length front + 1 → EachNumbered (IsOver d named shows) n servers → (Whole → All (λ (w : ServerWorker L T). w.stopped ≡ None) servers)
-      → EachNumbered (λ k (x : ServerEnd). IsSomeAnd (numbered (d.clients + k) (front ++ map (λ (w : ServerWorker L T). w.desk) servers)) (λ desk. ServerShows d x.name (queue_of d.setup k) k desk x.lives x.cut x.shown Whole)) n (map (end_of named shows) servers)
+module _ {L T : Type 0} (d : Domain) (shows : T → StarterShows) where
+  shows_each : (Whole : Type 0) (front : List Desk) (servers : List (ServerWorker L T)) (n : ℕ) → d.clients + n ≡ length front + 1 → EachNumbered (IsOver d shows) n servers → (Whole → All (λ (w : ServerWorker L T). w.stopped ≡ None) servers)
+      → EachNumbered (λ k (x : ServerEnd). IsSomeAnd (numbered (d.clients + k) (front ++ map (λ (w : ServerWorker L T). w.desk) servers)) (λ desk. ServerShows d x.shown.name (queue_of d.setup k) k desk x.lives x.cut x.shown Whole)) n (map (end_of shows) servers)
   shows_each Whole front [] n is over going = tt
   shows_each Whole front (w ∷ servers) n is over going =
       let DeskOf : ServerWorker L T → Desk = λ (x : ServerWorker L T). x.desk in
-      let end = end_of named shows w in
+      let end = end_of shows w in
       let longer = length-append front (w.desk ∷ []) in
       let next : d.clients + (n + 1) ≡ length (front ++ w.desk ∷ []) + 1 = omega (arith, is, longer) in
       let whole : Whole → w.stopped ≡ None = λ all. All-head (λ (x : ServerWorker L T). x.stopped ≡ None) w servers (going all) in (
-        subst (λ o. IsSomeAnd o (λ desk. ServerShows d end.name (queue_of d.setup n) n desk end.lives end.cut end.shown Whole)) (sym (numbered_last front (map DeskOf servers) w.desk (d.clients + n) is))
-            (shows_weaker d end.name (queue_of d.setup n) n w.desk end.lives end.cut end.shown (w.stopped ≡ None) Whole whole over.0.shown),
-        subst (λ l. EachNumbered (λ k (x : ServerEnd). IsSomeAnd (numbered (d.clients + k) l) (λ desk. ServerShows d x.name (queue_of d.setup k) k desk x.lives x.cut x.shown Whole)) (n + 1) (map (end_of named shows) servers)) (append_assoc front (w.desk ∷ []) (map DeskOf servers))
+        subst (λ o. IsSomeAnd o (λ desk. ServerShows d end.shown.name (queue_of d.setup n) n desk end.lives end.cut end.shown Whole)) (sym (numbered_last front (map DeskOf servers) w.desk (d.clients + n) is))
+            (shows_weaker d end.shown.name (queue_of d.setup n) n w.desk end.lives end.cut end.shown (w.stopped ≡ None) Whole whole over.0.shown),
+        subst (λ l. EachNumbered (λ k (x : ServerEnd). IsSomeAnd (numbered (d.clients + k) l) (λ desk. ServerShows d x.shown.name (queue_of d.setup k) k desk x.lives x.cut x.shown Whole)) (n + 1) (map (end_of shows) servers)) (append_assoc front (w.desk ∷ []) (map DeskOf servers))
             (shows_each Whole (front ++ w.desk ∷ []) servers (n + 1) next over.1 (λ all. All-tail (λ (x : ServerWorker L T). x.stopped ≡ None) w servers (going all))),
       )
 
@@ -389,7 +389,7 @@ module _ {L T : Type 0} (d : Domain) (named : T → List ℕ) (shows : T → Sta
   }
 
   pub before_servers : (queues clients count : ℕ) (itself : Leaving) (scripts : List Client) (workers : List ClientWorker) (servers : List (ServerWorker L T)) (room : Gathered L T) (t : Tokens) (g : Gathered L T) → IsNothing queues clients count room → KeepsServers (record room { tokens = t }) g
-      → length workers ≡ d.clients → (has : HasClients d itself scripts workers (record room { tokens = t }) g) → EachNumbered (IsOver d named shows) 1 servers → IsBeforeServers d named shows itself has.desks servers g
+      → length workers ≡ d.clients → (has : HasClients d itself scripts workers (record room { tokens = t }) g) → EachNumbered (IsOver d shows) 1 servers → IsBeforeServers d shows itself has.desks servers g
   before_servers queues clients count itself scripts workers servers room t g nothing kept all has over = record {
     over = over;
     taken = has.taken;
@@ -399,8 +399,8 @@ module _ {L T : Type 0} (d : Domain) (named : T → List ℕ) (shows : T → Sta
     no_starters = ap (λ (v : Vec T Global). v.items) kept.same_starters ∙ nothing.starters_room.0;
   }
 
-  pub gathered : (scripts : List Client) (clients : List ClientWorker) (servers : List (ServerWorker L T)) (closer : Closer) (g0 g1 g2 : Gathered L T) (why : Option Stopped) → g0.stopped ≡ None → length clients ≡ d.clients → EachNumbered (IsOver d named shows) 1 servers → HasClosed d clients closer
-      → (has : HasClients d (itself_of d closer) scripts clients g0 g1) → HasServers d named shows (itself_of d closer) has.desks servers g1 g2 → why ≡ first_of g2.stopped (here_by closer.halt) → HasGathered d named shows scripts clients servers closer (record g2 { stopped = why })
+  pub gathered : (scripts : List Client) (clients : List ClientWorker) (servers : List (ServerWorker L T)) (closer : Closer) (g0 g1 g2 : Gathered L T) (why : Option Stopped) → g0.stopped ≡ None → length clients ≡ d.clients → EachNumbered (IsOver d shows) 1 servers → HasClosed d clients closer
+      → (has : HasClients d (itself_of d closer) scripts clients g0 g1) → HasServers d shows (itself_of d closer) has.desks servers g1 g2 → why ≡ first_of g2.stopped (here_by closer.halt) → HasGathered d shows scripts clients servers closer (record g2 { stopped = why })
   gathered scripts clients servers closer g0 g1 g2 why going all over closed has more is =
       let DeskOf : ServerWorker L T → Desk = λ (x : ServerWorker L T). x.desk in
       let StopOf : ServerWorker L T → Option Stopped = λ (x : ServerWorker L T). x.stopped in
@@ -412,7 +412,7 @@ module _ {L T : Type 0} (d : Domain) (named : T → List ℕ) (shows : T → Sta
       let none_before : stopped ≡ None → (g2.stopped ≡ None) × (here_by closer.halt ≡ None) = first_none g2.stopped (here_by closer.halt) in
       let P : Stopped → Type 0 = IsStopAmong (work_of d closer) desks in
       let first : d.clients + 1 ≡ length has.desks + 1 = omega (arith, count, all) in
-      subst (λ (s : Option Stopped). HasGathered d named shows scripts clients servers closer (record g2 { stopped = s })) (sym is) (record {
+      subst (λ (s : Option Stopped). HasGathered d shows scripts clients servers closer (record g2 { stopped = s })) (sym is) (record {
         desks = desks;
         tokens_are = more.taken.tokens_are;
         callers_are = more.taken.callers_are;

@@ -58,7 +58,7 @@ abbrev pub IsStopAmong : Working → List Desk → Stopped → Type 0
 IsStopAmong itself desks (Here halt) = IsHaltAmong itself desks halt
 IsStopAmong itself desks Elsewhere = Unit {0}
 
-module _ {L T : Type 0} (d : Domain) (named : T → List ℕ) (shows : T → StarterShows) where
+module _ {L T : Type 0} (d : Domain) (shows : T → StarterShows) where
   -- these are the desks of all workers, of whose tokens that of the domain itself stand first; what they leave beside is by client and by server
   pub record HasGathered (scripts : List Client) (clients : List ClientWorker) (servers : List (ServerWorker L T)) (closer : Closer) (g : Gathered L T) : Type 0 where
     pub desks : List Desk
@@ -68,7 +68,7 @@ module _ {L T : Type 0} (d : Domain) (named : T → List ℕ) (shows : T → Sta
     pub each_desk : EachNumbered (IsLeftDesk d) 1 desks
     pub keep : (whole : Whole) → HoldTheirs d desks whole → All (KeepsItsOwn d whole) clients
     pub made : g.stopped ≡ None → EachNumbered (λ k (c : Client). IsSomeAnd (numbered k desks) (HasMadeAll d c.ops)) 1 scripts
-    pub each : EachServer d desks (map (end_of named shows) servers) (g.stopped ≡ None)
+    pub each : EachServer d desks (map (end_of shows) servers) (g.stopped ≡ None)
     pub why : g.stopped ≡ first_among None (stops_of clients servers closer)
     pub itself : g.stopped ≡ None → closer.halt ≡ None
     pub worn : IfSome g.stopped (IsStopAmong (work_of d closer) desks)

@@ -108,10 +108,10 @@ pub record KeepsServers {L T : Type 0} (old new : Gathered L T) : Type 0 where
   pub same_cut : new.cut ≡ old.cut
   pub same_starters : new.starters ≡ old.starters
 
-module _ {L T : Type 0} (d : Domain) (named : T → List ℕ) (shows : T → StarterShows) where
+module _ {L T : Type 0} (d : Domain) (shows : T → StarterShows) where
   -- all servers are done, and what the clients leave, at these desks, was taken
   pub record IsBeforeServers (itself : Leaving) (desks : List Desk) (servers : List (ServerWorker L T)) (g : Gathered L T) : Type 0 where
-    pub over : EachNumbered (IsOver d named shows) 1 servers
+    pub over : EachNumbered (IsOver d shows) 1 servers
     pub taken : HasTaken d itself desks g
     pub count : length desks ≡ d.clients
     pub no_lives : g.lives.items ≡ []
@@ -133,4 +133,4 @@ module _ {L T : Type 0} (d : Domain) (named : T → List ℕ) (shows : T → Sta
     pub front : List (ServerWorker L T)
     pub servers_are : front ++ rest ≡ servers
     pub has : HasServers itself desks front old new
-    pub left : EachNumbered (IsOver d named shows) (length front + 1) rest
+    pub left : EachNumbered (IsOver d shows) (length front + 1) rest

@@ -30,11 +30,11 @@ halt_of (Some Elsewhere) = Some NoMemory
 
 -- all workers left, and these are all homes, lives and starters; where there was no halt the run came to its end, and else the first halt that a worker came
 -- to itself is told
-pub record HandsBack {L T : Type 0} (named : T → List ℕ) (shows : T → StarterShows) (scripts : List Client) (booted : Booted L T) (h : Handed L T) : Type 0 where
+pub record HandsBack {L T : Type 0} (shows : T → StarterShows) (scripts : List Client) (booted : Booted L T) (h : Handed L T) : Type 0 where
   pub b : Back
   pub domain : Working
   pub desks : List Desk
-  pub ends : Ends booted.domain b domain desks (map (end_of named shows) booted.servers.items) h.homes.homes (h.halt ≡ None)
+  pub ends : Ends booted.domain b domain desks (map (end_of shows) booted.servers.items) h.homes.homes (h.halt ≡ None)
   pub whole : h.halt ≡ None → EndsWhole booted.domain b desks (map (λ (c : Client). c.ops) scripts)
   pub halted : h.halt ≡ halt_of (first_among None (stops_of booted.clients.items booted.servers.items booted.closer))
   pub worn : IfSome h.halt (IsHaltAmong domain desks)

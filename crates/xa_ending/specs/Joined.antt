@@ -13,10 +13,10 @@ use Rattle.xa_workers.specs.xa_boot.Booting.{IsDealt}
 use Rattle.xa_workers.specs.Working.{EachDone, IsOver}
 use Rattle.xa_workers.specs.Closing.{HasClosed}
 
-module _ {L T : Type 0} (named : T → List ℕ) (shows : T → StarterShows) where
+module _ {L T : Type 0} (shows : T → StarterShows) where
   -- what a server's worker leaves of its server
   abbrev pub end_of : ServerWorker L T → ServerEnd
-  end_of w = record { name = named w.served.starter; lives = w.served.lives.items; cut = cut_in w.cut; shown = shows w.served.starter }
+  end_of w = record { lives = w.served.lives.items; cut = cut_in w.cut; shown = shows w.served.starter }
 
   -- each client and each server of the domain is done, by these scripts, and so is the domain itself
   pub record IsJoined (scripts : List Client) (b : Booted L T) : Type 0 where
@@ -24,6 +24,6 @@ module _ {L T : Type 0} (named : T → List ℕ) (shows : T → StarterShows) wh
     pub dealt : IsDealt b.domain
     pub all_clients : length b.clients.items ≡ b.domain.clients
     pub done : EachDone b.domain 1 scripts b.clients.items
-    pub names : map (λ (w : ServerWorker L T). named w.served.starter) b.servers.items ≡ map (λ (server : ServerSetup). server.name) b.domain.setup.servers
-    pub over : EachNumbered (IsOver b.domain named shows) 1 b.servers.items
+    pub names : map (λ (w : ServerWorker L T). (shows w.served.starter).name) b.servers.items ≡ map (λ (server : ServerSetup). server.name) b.domain.setup.servers
+    pub over : EachNumbered (IsOver b.domain shows) 1 b.servers.items
     pub closed : HasClosed b.domain b.clients.items b.closer

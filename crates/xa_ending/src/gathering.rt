@@ -87,10 +87,10 @@ fn add_clients<L: Link, T>(domain: &Domain, all: &mut Gathered<L, T>, clients: V
 }
 
 fn add_servers<L: Link, T: Starter<L>>(all: &mut Gathered<L, T>, servers: Vec<ServerWorker<L, T>>)
-    requires may { (d : Standing) × (itself : Leaving) × (desks : List Place) × IsBeforeServers d T.server_name (λ s. record { asked = T.asked s; faults = T.start_faults s }) itself desks servers.items all.old }
+    requires may { (d : Standing) × (itself : Leaving) × (desks : List Place) × IsBeforeServers d T.shows itself desks servers.items all.old }
     requires space { HasServerSpace (length servers.items) all.old }
-    ensures { (d : Standing) (itself : Leaving) (desks : List Place) → IsBeforeServers d T.server_name (λ s. record { asked = T.asked s; faults = T.start_faults s }) itself desks servers.items all.old
-        → HasServers d T.server_name (λ s. record { asked = T.asked s; faults = T.start_faults s }) itself desks servers.items all.old all.new }
+    ensures { (d : Standing) (itself : Leaving) (desks : List Place) → IsBeforeServers d T.shows itself desks servers.items all.old
+        → HasServers d T.shows itself desks servers.items all.old all.new }
 {
     let mut rest = servers.into_iter();
     while let Some(server) = rest.next() {
@@ -142,11 +142,11 @@ pub(crate) fn gather<L: Link, T: Starter<L>>(
     requires all_clients { length clients.items ≡ domain.now.clients }
     requires all_servers { length servers.items ≡ length domain.now.setup.servers }
     requires done { (scripts : List Client) × EachDone domain.now 1 scripts clients.items }
-    requires over { EachNumbered (IsOver domain.now T.server_name (λ s. record { asked = T.asked s; faults = T.start_faults s })) 1 servers.items }
+    requires over { EachNumbered (IsOver domain.now T.shows) 1 servers.items }
     requires closed { HasClosed domain.now clients.items closer }
     requires room { IsNothing (length domain.now.queues.items) domain.now.clients (length domain.now.setup.servers) room }
     ensures { (scripts : List Client) → EachDone domain.now 1 scripts clients.items
-        → HasGathered domain.now T.server_name (λ s. record { asked = T.asked s; faults = T.start_faults s }) scripts clients.items servers.items closer result }
+        → HasGathered domain.now T.shows scripts clients.items servers.items closer result }
 {
     let mut all = room;
     let Closer {

@@ -45,9 +45,9 @@ pub fn hand_back<L: Link, T: Starter<L>>(
     room: Room<L, T>,
 ) -> Handed<L, T>
     requires room { HasRoom (length booted.domain.setup.queues) booted.domain.clients (length booted.domain.setup.servers) room }
-    requires joined { (scripts : List Client) × IsJoined T.server_name (λ s. record { asked = T.asked s; faults = T.start_faults s }) scripts booted }
-    ensures { (scripts : List Client) → IsJoined T.server_name (λ s. record { asked = T.asked s; faults = T.start_faults s }) scripts booted
-        → HandsBack T.server_name (λ s. record { asked = T.asked s; faults = T.start_faults s }) scripts booted result }
+    requires joined { (scripts : List Client) × IsJoined T.shows scripts booted }
+    ensures { (scripts : List Client) → IsJoined T.shows scripts booted
+        → HandsBack T.shows scripts booted result }
 {
     let Booted {
         domain,

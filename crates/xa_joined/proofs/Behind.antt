@@ -1,4 +1,4 @@
--- Each answer tells what befell its request, behind the end of a life that was lost by that.
+-- Each answer tells what befell its request, behind the end of a life that ended with that.
 use Rattle.std.proofs.Common.{◌≡◌, ℕ, zero, suc, ◌+◌, ◌<◌, ◌≤◌, ◌||◌, Bool, true, false, List, [], ◌∷◌, ◌++◌, map, Option, Some, None, inl, inr, refl, sym, ◌∙◌, ap, subst, append_assoc, append-nil, arith, if◌then◌else◌, eq-eqb}
 use Rattle.std.specs.Prelude.{IfSome, IsSomeAnd, ⊤}
 use Rattle.std.specs.List.{All, Contains, flat_map}
@@ -49,7 +49,7 @@ use Rattle.xa_clients.proofs.xa_told.Standing.{crew_stands}
 use Rattle.xa_clients.specs.xa_desk.Deserted.{ClearsBehind, GaveUpLast as GaveUpThere}
 use Rattle.xa_clients.specs.xa_desk.declared.domain.Domain.{Domain}
 use Rattle.xa_clients.specs.xa_desk.declared.desk.Desk.{Desk}
-use Rattle.xa_links.specs.Behind.{is_lost, ends_by, is_ending, SweepsOr, OnlySweeps, IsBehindEnd, FilledBehind, TellsLast}
+use Rattle.xa_links.specs.Behind.{is_lost, ends_by, is_ending, SweepsOr, OnlySweeps, stops_by_exit, exits_next, NoExitNext, IsBehindEnd, FilledBehind, TellsLast}
 use Rattle.xa_links.specs.Lives.{ServerShows}
 use Rattle.xa_joined.specs.Joined.{Back, kept_of, noted_of, AllLeft}
 use Rattle.xa_joined.specs.Ended.{ServerEnd, Ends}
@@ -135,19 +135,45 @@ stands_in low (z ∷ before) after (y ∷ front) rest x same rises le =
     let is = stands_in y.stamp before after front rest x more rises.1 le in
     (is.0, ap (λ (w : Stamped). w ∷ front) (sym first) ∙ ap (λ (l : List Stamped). z ∷ l) is.1, is.2)
 
+-- an end of a life ends it, whatever came before
+exit_ends : (e : Event) (before : Bool) → stops_by_exit e ≡ true → ends_by e before ≡ true
+exit_ends (Stop x) before is = refl
+exit_ends _ before is = absurd (cc is)
+
+exit_no_start : (e : Event) → stops_by_exit e ≡ true → is_start e ≡ false
+exit_no_start (Stop x) is = refl
+exit_no_start _ is = absurd (cc is)
+
+-- where a life ends by TPEXIT behind a front, that end isn't what comes next behind the stamp
+exit_low : (stamp : Stamp) (front mid rest : List Stamped) → exits_next (mid ++ rest) ≡ true → NoExitNext ⊤ rest → All (λ (x : Stamped). x.stamp.0 < stamp.0) mid → (is_ending (past_in (front ++ mid)) ≡ true → OnlySweeps ⊤ rest)
+    → All (Low stamp) (to_start (mid ++ rest))
+exit_low stamp front [] [] exits stays low quiet = absurd (cc exits)
+exit_low stamp front [] (x ∷ rest) exits stays low quiet = absurd (cc (exits, stays))
+exit_low stamp front (x ∷ mid) rest exits stays low quiet =
+    let P : Stamped → Type 0 = λ z. z.stamp.0 < stamp.0 in
+    let first = All-head P x mid low in
+    let ending : is_ending (past_in (front ++ x ∷ [])) ≡ true = ap is_ending (past_in-append front (x ∷ [])) ∙ exit_ends x.event (is_ending (past_in front)) exits in
+    let same : (front ++ x ∷ []) ++ mid ≡ front ++ x ∷ mid = append_assoc front (x ∷ []) mid in
+    subst (λ b. All (Low stamp) (if b then [] else x ∷ to_start (mid ++ rest))) (sym (exit_no_start x.event exits))
+    (All-cons (Low stamp) x (to_start (mid ++ rest)) (λ plain. first) (end_low stamp (front ++ x ∷ []) mid rest ending (All-tail P x mid low) (λ is. quiet (ap (λ (l : List Stamped). is_ending (past_in l)) (sym same) ∙ is))))
+
 -- an end that was told with a stamp was over by then
-over_by : (own : List Stamped) (stamp later : Stamp) (entry : Stamped) → Rises no_stamp own → IsBehindEnd ⊤ own stamp → entry.stamp.0 ≤ stamp.0 → stamp.0 < later.0 → ((b : Bool) → ends_by entry.event b ≡ true) → IsOverBefore own entry later
-over_by own stamp later entry rises is le less always before after same =
+over_by : (own : List Stamped) (stamp later : Stamp) (entry : Stamped) (lost : Bool) → Rises no_stamp own → IsBehindEnd ⊤ ⊤ own stamp → entry.stamp.0 ≤ stamp.0 → stamp.0 < later.0 → (lost ≡ true → (b : Bool) → ends_by entry.event b ≡ true) → IsOverBefore own entry lost later
+over_by own stamp later entry lost rises is le less always before after same ends =
     let last = is.last in
     let risen : Rises no_stamp (is.before ++ is.after) = subst (Rises no_stamp) is.parts rises in
     let mid = stands_in no_stamp before after is.before is.after entry (sym {A = List Stamped} same ∙ is.parts) risen (omega (arith, le, last)) in
     let front : List Stamped = before ++ entry ∷ [] in
     let whole : is.before ≡ front ++ mid.0 = mid.1 ∙ sym (append_assoc before (entry ∷ []) mid.0) in
-    let ending : is_ending (past_in front) ≡ true = ap is_ending (past_in-append before (entry ∷ [])) ∙ always (is_ending (past_in before)) in
     let P : Stamped → Type 0 = λ x. x.stamp.0 ≤ last_stamp no_stamp is.before in
     let low : All (λ (x : Stamped). x.stamp.0 < later.0) mid.0 =
     All-weaker P (λ (x : Stamped). x.stamp.0 < later.0) (λ x most. omega (arith, most, last, less)) mid.0 (All-part P front mid.0 (subst (All P) whole (all_low no_stamp is.before is.after risen))) in
-    subst (λ (l : List Stamped). All (Low later) (to_start l)) (sym {A = List Stamped} mid.2) (end_low later front mid.0 is.after ending low (λ at_end. is.quiet (ap (λ (l : List Stamped). is_ending (past_in l)) whole ∙ at_end)))
+    let quiet : is_ending (past_in (front ++ mid.0)) ≡ true → OnlySweeps ⊤ is.after = λ at_end. is.quiet (ap (λ (l : List Stamped). is_ending (past_in l)) whole ∙ at_end) in
+    subst (λ (l : List Stamped). All (Low later) (to_start l)) (sym {A = List Stamped} mid.2) (
+    elim (cases_Bool lost) [
+      | inl y ↦ end_low later front mid.0 is.after (ap is_ending (past_in-append before (entry ∷ [])) ∙ always y (is_ending (past_in before))) low quiet
+      | inr n ↦ exit_low later front mid.0 is.after (ap exits_next (sym {A = List Stamped} mid.2) ∙ (ap (λ (b : Bool). b || exits_next after) (sym n) ∙ ends)) is.stays low quiet
+    ])
   where
     All-part : (P : Stamped → Type 0) (xs ys : List Stamped) → All P (xs ++ ys) → All P ys
     All-part P [] ys all = all
@@ -250,7 +276,7 @@ module _ {W : Type 0} (d : Domain) (b : Back) (domain : Working) (desks : List D
 
   -- ---- what seats filled
 
-  -- the filling tells how its request was settled, and whoever takes it later is told behind the end of a life that was lost
+  -- the filling tells how its request was settled, and whoever takes it later is told behind the end of a life that ended with it
   record IsLate (request : RequestId) (stamp : Stamp) (answer : Reply) : Type 0 where
     pub entry : Stamped
     pub stands : Contains (all_noted homes) entry
@@ -274,7 +300,7 @@ module _ {W : Type 0} (d : Domain) (b : Back) (domain : Working) (desks : List D
     -- a server's worker told behind the ends of its server's lives
     server_told : (server : ℕ) → 0 < server → caller_of d.clients server ≡ worker → TellsLast desk
     server_told server some is =
-        let Shows : ServerEnd → ℕ → Desk → Type 0 = λ x k desk. ServerShows d x.name (queue_of d.setup k) k desk x.lives x.cut x.shown W in
+        let Shows : ServerEnd → ℕ → Desk → Type 0 = λ x k desk. ServerShows d x.shown.name (queue_of d.setup k) k desk x.lives x.cut x.shown W in
         let one = each_at (λ k (x : ServerEnd). IsSomeAnd (numbered (d.clients + k) desks) (Shows x k)) 1 servers ends.each server (omega (arith, some)) (let count = ends.count in omega (arith, is, low, count)) in
         let its = is_some (Shows one.0 server) (numbered (d.clients + server) desks) one.1 in
         let same : its.0 ≡ desk = cc (sym its.1 ∙ ap (λ n. numbered n desks) is ∙ there) in
@@ -282,13 +308,13 @@ module _ {W : Type 0} (d : Domain) (b : Back) (domain : Working) (desks : List D
 
     module _ (k : ℕ) (f : Fill Filling) (here : Contains (at k (known desk.caller.seat)).filled f) where
       lost_before : (answer : Reply) → f.answer.answer ≡ Some answer → (ended : IsEnded its_own f.opening.request f.answer.stamp answer) → (later : Stamp) → f.answer.stamp.0 < later.0 → (e : Event) → ended.entry.event ≡ e → LostBefore d.clients noted ended.entry later e
-      lost_before answer says ended later less (End e) is = λ lost some.
+      lost_before answer says ended later less (End e) is = λ some.
           elim (subst (MayNote d.clients worker) is (may_note ended.entry ended.stands)) [
             | inl its ↦
-                let behind : IsBehindEnd ⊤ its_own f.answer.stamp = subst (λ (o : Option Reply). IfSome o (λ a. IsBehindEnd ⊤ its_own f.answer.stamp)) says (All-contains (FilledBehind ⊤ its_own) (at k (known desk.caller.seat)).filled f (server_told e.server.0 some its.1 k) here) in
+                let behind : IsBehindEnd ⊤ ⊤ its_own f.answer.stamp = subst (λ (o : Option Reply). IfSome o (λ a. IsBehindEnd ⊤ ⊤ its_own f.answer.stamp)) says (All-contains (FilledBehind ⊤ ⊤ its_own) (at k (known desk.caller.seat)).filled f (server_told e.server.0 some its.1 k) here) in
                 let rises : Rises no_stamp its_own = subst (Rises no_stamp) its_noted (each_left d b domain desks all worker low).work.rises in
-                subst (λ (l : List Stamped). IsOverBefore l ended.entry later) (sym {A = List Stamped} (ap noted its.1 ∙ its_noted))
-                (over_by its_own f.answer.stamp later ended.entry rises behind ended.settles.by less (λ past. ap (λ (x : Event). ends_by x past) is ∙ ap (λ (c : Bool). c || past) lost))
+                subst (λ (l : List Stamped). IsOverBefore l ended.entry (is_lost e.outcome) later) (sym {A = List Stamped} (ap noted its.1 ∙ its_noted))
+                (over_by its_own f.answer.stamp later ended.entry (is_lost e.outcome) rises behind ended.settles.by less (λ lost past. ap (λ (x : Event). ends_by x past) is ∙ ap (λ (c : Bool). c || past) lost))
             | inr of ↦ absurd of
           ]
       lost_before answer says ended later less _ is = tt

@@ -55,6 +55,7 @@ use Rattle.xa_joined.proofs.Configured.{a_server}
 use Rattle.xa_joined.proofs.Gone.{not_both}
 use Rattle.xa_joined.proofs.Deserting.{in_the_end, swept_in_the_end, not_all_left, LeftOthers as LeftInFront}
 use Rattle.xa_joined.proofs.Recorded.{names, names_are}
+use Rattle.xa_joined.proofs.Lawful.{lawful_run}
 use Rattle.xa_joined.proofs.Merged.{merged_run, merged_made}
 
 -- ---- numbered ones
@@ -200,8 +201,8 @@ module _ (d : Domain) (b : Back) (domain : Working) (desks : List Desk) (servers
 
   done_by : (server : ℕ) → 0 < server → server < length d.setup.servers + 1 → IsDoneBy d b domain desks ends.left server
   done_by server some low =
-      let one = each_at (λ k (x : ServerEnd). IsSomeAnd (numbered (d.clients + k) desks) (λ desk. ServerShows d x.name (queue_of d.setup k) k desk x.lives x.cut x.shown ⊤)) 1 servers ends.each server (omega (arith, some)) (let count = ends.count in omega (arith, low, count)) in
-      let its = is_some (λ desk. ServerShows d one.0.name (queue_of d.setup server) server desk one.0.lives one.0.cut one.0.shown ⊤) (numbered (d.clients + server) desks) one.1 in
+      let one = each_at (λ k (x : ServerEnd). IsSomeAnd (numbered (d.clients + k) desks) (λ desk. ServerShows d x.shown.name (queue_of d.setup k) k desk x.lives x.cut x.shown ⊤)) 1 servers ends.each server (omega (arith, some)) (let count = ends.count in omega (arith, low, count)) in
+      let its = is_some (λ desk. ServerShows d one.0.shown.name (queue_of d.setup server) server desk one.0.lives one.0.cut one.0.shown ⊤) (numbered (d.clients + server) desks) one.1 in
       record { desk = its.0; there = its.1; done = its.2.done tt }
 
   server_over : (server : ℕ) → 0 < server → server < length d.setup.servers + 1 → (was_shut_down server (theirs_of (caller_of d.clients server)) ≡ true) ⊎ (is_gone server (theirs_of (caller_of d.clients server)) ≡ true)
@@ -260,9 +261,11 @@ module _ (d : Domain) (b : Back) (domain : Working) (desks : List Desk) (servers
         let all = ends.left in
         let same : d.clients ≡ length clients = sym whole.clients ∙ (ap (λ (l : List (List Op)). length l) are ∙ length-map clients (λ (c : Client). c.ops)) in
         let made = each_weaker (λ k ops. IsSomeAnd (numbered k desks) (HasMadeAll d ops)) (λ k ops. MadeCalls d.setup d.clients k ops past) 1 calls made_its_calls whole.made in
+        let run = subst (λ n. Run (opening d.setup n) events (record { setup = d.setup; clients = n; past = past })) same (merged_run d b domain desks homes events all ends.homes_are merged) in
         record {
-          run = subst (λ n. Run (opening d.setup n) events (record { setup = d.setup; clients = n; past = past })) same (merged_run d b domain desks homes events all ends.homes_are merged);
+          run = run;
           final = subst (λ n. IsFinal (record { setup = d.setup; clients = n; past = past })) same is_final;
+          lawful = lawful_run d.setup (length clients) events (record { setup = d.setup; clients = length clients; past = past }) run;
           ordered =
               takes_in_order d.setup d.clients (workers_of d.setup d.clients) (kept_of b) noted_by (desks_are_crew d b domain desks all) (names d b domain desks all) homes events (names_are d b domain desks all homes ends.homes_are) merged
               (homes_met d b domain desks all) (takes_next d b domain desks all);

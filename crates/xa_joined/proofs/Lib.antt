@@ -12,6 +12,7 @@ pub mod Configured
 pub mod Gone
 pub mod Deserting
 pub mod History
+pub mod Lawful
 pub mod Behind
 -- what crates above cite of the lemmas of those below
 pub use Rattle.xa_clients.proofs.xa_events

@@ -19,9 +19,8 @@ use Rattle.xa_clients.specs.Ending.{HasMade}
 use Rattle.xa_links.specs.Lives.{ServerShows}
 use Rattle.xa_joined.specs.Joined.{Back, AllLeft}
 
--- what a server's worker hands back: its server's name, its lives that ended, that which went on at a halt, and what its starter shows
+-- what a server's worker hands back: its lives that ended, that which went on at a halt, and what its starter shows
 pub record ServerEnd : Type 0 where
-  pub name : List ℕ
   pub lives : List Ending
   pub cut : List Life
   pub shown : StarterShows
@@ -33,14 +32,14 @@ pub record HasMadeAll (d : Domain) (ops : List Op) (desk : Desk) : Type 0 where
 
 -- each server's worker shows how its server lived; to its end, where the run came to its own
 abbrev pub EachServer : Domain → List Desk → List ServerEnd → Type 0 → Type 0
-EachServer d desks servers Whole = EachNumbered (λ k (x : ServerEnd). IsSomeAnd (numbered (d.clients + k) desks) (λ desk. ServerShows d x.name (queue_of d.setup k) k desk x.lives x.cut x.shown Whole)) 1 servers
+EachServer d desks servers Whole = EachNumbered (λ k (x : ServerEnd). IsSomeAnd (numbered (d.clients + k) desks) (λ desk. ServerShows d x.shown.name (queue_of d.setup k) k desk x.lives x.cut x.shown Whole)) 1 servers
 
 -- all of it: the workers left, these are all homes, in their order, and each server shows its lives
 pub record Ends (d : Domain) (b : Back) (domain : Working) (desks : List Desk) (servers : List ServerEnd) (homes : List Notes) (Whole : Type 0) : Type 0 where
   pub left : AllLeft d b domain desks
   pub homes_are : AreAll d.setup d.clients (made_in b.board.notes) [] (map (λ (kept : Kept Filling). kept.queue.entries) b.queues) b.own homes
   pub count : length servers ≡ length d.setup.servers
-  pub names : map (λ (x : ServerEnd). x.name) servers ≡ map (λ (server : ServerSetup). server.name) d.setup.servers
+  pub names : map (λ (x : ServerEnd). x.shown.name) servers ≡ map (λ (server : ServerSetup). server.name) d.setup.servers
   pub each : EachServer d desks servers Whole
 
 -- the run came to its end: each client made its calls and left, and each queue was closed

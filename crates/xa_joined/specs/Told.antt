@@ -1,6 +1,6 @@
 -- When callers are told, beside the end of a server's life (XATMI, tpgetrply; the order at an end is this project's own). Lists of entries have the
 -- oldest first.
-use Rattle.std.specs.Prelude.{◌≡◌, ℕ, ◌+◌, ◌<◌, ◌≤◌, Bool, true, false, List, [], ◌∷◌, ◌++◌, length, IsSomeAnd, ⊤, if◌then◌else◌}
+use Rattle.std.specs.Prelude.{◌≡◌, ℕ, ◌+◌, ◌<◌, ◌≤◌, ◌||◌, Bool, true, false, List, [], ◌∷◌, ◌++◌, length, IsSomeAnd, ⊤, if◌then◌else◌}
 use Rattle.std.specs.List.{All, Contains, flat_map}
 use Rattle.xa_clients.specs.xa_types.declared.ids.ServerId.{ServerId}
 use Rattle.xa_clients.specs.xa_types.declared.setup.Setup.{Setup}
@@ -15,7 +15,7 @@ use Rattle.xa_clients.specs.xa_events.Request.{settlement_in}
 use Rattle.xa_clients.specs.xa_events.State.{caller_of}
 use Rattle.xa_clients.specs.xa_stamp.declared.home.Stamped.{Stamped}
 use Rattle.xa_clients.specs.xa_stamp.Home.{Notes, Rises}
-use Rattle.xa_links.specs.Behind.{is_lost}
+use Rattle.xa_links.specs.Behind.{is_lost, exits_next}
 
 -- the entries of all homes
 abbrev pub all_noted : List Notes → List Stamped
@@ -35,17 +35,18 @@ abbrev pub to_start : List Stamped → List Stamped
 to_start [] = []
 to_start (x ∷ later) = if is_start x.event then [] else x ∷ to_start later
 
--- what a worker noted behind that entry, up to the next start of its server that was tried, has smaller stamps than that one; but for requests that it swept
-abbrev pub IsOverBefore : List Stamped → Stamped → Stamp → Type 0
-IsOverBefore own entry stamp = (before after : List Stamped) → own ≡ before ++ entry ∷ after → All (λ (x : Stamped). is_sweep x.event ≡ false → x.stamp.0 < stamp.0) (to_start after)
+-- if a life ends with that entry, as it was lost or by a Stop by TPEXIT right behind it, what a worker noted behind the entry, up to the next start of its
+-- server that was tried, has smaller stamps than that one; but for requests that it swept
+abbrev pub IsOverBefore : List Stamped → Stamped → Bool → Stamp → Type 0
+IsOverBefore own entry lost stamp = (before after : List Stamped) → own ≡ before ++ entry ∷ after → (lost || exits_next after) ≡ true → All (λ (x : Stamped). is_sweep x.event ≡ false → x.stamp.0 < stamp.0) (to_start after)
 
--- where the event ends a request whose server's life is lost with it, the life's end is over before that stamp: its Stop, and if the server is given up its
--- Gone, and the Withdraw of rows and the Down of its queue that its worker noted behind that. Servers are counted from 1
+-- where the event ends a request with which the life of its server ends, lost or by TPEXIT, the life's end is over before that stamp: its Stop, and if the
+-- server is given up its Gone, and the Withdraw of rows and the Down of its queue that its worker noted behind that. Servers are counted from 1
 abbrev pub LostBefore : ℕ → (ℕ → List Stamped) → Stamped → Stamp → Event → Type 0
-LostBefore clients noted entry stamp (End e) = is_lost e.outcome ≡ true → 0 < e.server.0 → IsOverBefore (noted (caller_of clients e.server.0)) entry stamp
+LostBefore clients noted entry stamp (End e) = 0 < e.server.0 → IsOverBefore (noted (caller_of clients e.server.0)) entry (is_lost e.outcome) stamp
 LostBefore clients noted entry stamp e = ⊤
 
--- the answer with that stamp tells how its request was settled, by an entry with a smaller one; if a life was lost by that, its end was over before
+-- the answer with that stamp tells how its request was settled, by an entry with a smaller one; if a life ended with that, its end was over before
 pub record TellsAfter (clients : ℕ) (homes : List Notes) (noted : ℕ → List Stamped) (stamp : Stamp) (a : Replied) : Type 0 where
   pub entry : Stamped
   pub stands : Contains (all_noted homes) entry

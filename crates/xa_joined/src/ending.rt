@@ -17,7 +17,7 @@ ghost use Rattle.xa_joined.specs.Ended.{ServerEnd, Ends, EndsWhole};
 ghost use Rattle.xa_joined.specs.Served.{HoldAll, IsRecorded, IsHistory};
 
 /// Each event stands at its own home, stamps rise there and leave none out, and each answer tells what befell its request,
-/// behind the end of a life that was lost by that.
+/// behind the end of a life that ended with that.
 pub fn all_is_recorded()
     ensures recorded { (d : Domain) (b : Back) (domain : Working) (desks : List Desk) (servers : List ServerEnd) (homes : List Notes) → Ends d b domain desks servers homes ⊥ → IsRecorded d.setup d.clients homes }
     ensures dense { (d : Domain) (b : Back) (domain : Working) (desks : List Desk) (homes : List Notes) → AllLeft d b domain desks → HoldAll d b homes → IsDense (record { 0 = 0 }) homes }

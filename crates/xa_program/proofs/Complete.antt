@@ -5,6 +5,7 @@ use Rattle.std.proofs.lemmas.List.{append_cancel_left}
 use Rattle.xa_domain.specs.xa_types.declared.setup.Setup.{Setup}
 use Rattle.xa_domain.specs.xa_link.Told.{Rose, Grew}
 use Rattle.xa_domain.specs.xa_link.Reads.{Holds, HoldsMore}
+use Rattle.xa_domain.specs.xa_server.Served.{StarterShows}
 use Rattle.xa_domain.specs.xa_script.declared.script.Script.{Script}
 use Rattle.xa_domain.specs.xa_script.Script.{IsScript, IsFirstFault}
 use Rattle.xa_domain.proofs.xa_script.ReadLines.{no_fault}
@@ -17,7 +18,7 @@ use Rattle.xa_program.specs.declared.status.Status.{Status}
 use Rattle.xa_program.specs.declared.status.Status.TheVariants.{Done, ConfigRead, ConfigFault, ScriptRead, TooLong, BadLine, WriteFault, NoMemory, Worn}
 use Rattle.xa_program.specs.declared.status.Input.TheVariants as inputs
 use Rattle.xa_program.specs.Configuration.{ShelfTells, HasFault, LacksSetup, IsSetup, TellsSetup, longest_configuration}
-use Rattle.xa_program.specs.Headline.{Streams, StarterTells, Handed, ScriptEnds, RunEnds, EndsWithoutFault, longest_script, most_clients}
+use Rattle.xa_program.specs.Headline.{Streams, Handed, ScriptEnds, RunEnds, EndsWithoutFault, longest_script, most_clients}
 use Rattle.xa_program.specs.Input.{InputTells, CameWhole, CameOver, Tells}
 
 -- ---- the script
@@ -40,22 +41,22 @@ same_octets input octets came whole (inr (before, gave, gave_after)) =
     let both : Some (before ++ octets) ≡ Some (before ++ came) = sym gave_after ∙ grew in
     append_cancel_left before octets came (cc both)
 
-script_comes : {S : Type 0} (tells : StarterTells S) (streams : Streams) (setup : Setup) (most : ℕ) (status : Status) (handed : Handed S)
-    (octets : List ℕ) (script : Script) → ScriptEnds tells streams setup most status handed
+script_comes : {S : Type 0} (shows : S → StarterShows) (streams : Streams) (setup : Setup) (most : ℕ) (status : Status) (handed : Handed S)
+    (octets : List ℕ) (script : Script) → ScriptEnds shows streams setup most status handed
     → Tells streams.input octets → length octets ≤ longest_script → IsScript setup most octets script
     → (Rose streams.reads_before streams.reads_after → ⊥) → (Rose streams.writes_before streams.writes_after → ⊥) → EndsWithoutFault status
-script_comes tells streams setup most Done handed octets script ends told short is_script reads writes = tt
-script_comes tells streams setup most NoMemory handed octets script ends told short is_script reads writes = tt
-script_comes tells streams setup most (Worn stamp) handed octets script ends told short is_script reads writes = tt
-script_comes tells streams setup most WriteFault handed octets script ends told short is_script reads writes = absurd (writes ends.3)
-script_comes tells streams setup most ScriptRead handed octets script ends told short is_script reads writes = absurd (reads ends.0)
-script_comes tells streams setup most (TooLong inputs.Script) handed octets script ends told short is_script reads writes =
+script_comes shows streams setup most Done handed octets script ends told short is_script reads writes = tt
+script_comes shows streams setup most NoMemory handed octets script ends told short is_script reads writes = tt
+script_comes shows streams setup most (Worn stamp) handed octets script ends told short is_script reads writes = tt
+script_comes shows streams setup most WriteFault handed octets script ends told short is_script reads writes = absurd (writes ends.3)
+script_comes shows streams setup most ScriptRead handed octets script ends told short is_script reads writes = absurd (reads ends.0)
+script_comes shows streams setup most (TooLong inputs.Script) handed octets script ends told short is_script reads writes =
     absurd (not_over streams.input octets ends.0 told short)
-script_comes tells streams setup most (BadLine line cause) handed octets script ends told short is_script reads writes =
+script_comes shows streams setup most (BadLine line cause) handed octets script ends told short is_script reads writes =
     let fault = ends.0 in
     let same = same_octets streams.input octets fault.0 fault.1 told in
     absurd (no_fault setup most octets line cause script.clients is_script (subst (λ (o : List ℕ). IsFirstFault setup most o line cause) (sym same) fault.3))
-script_comes tells streams setup most status handed octets script ends told short is_script reads writes = absurd ends
+script_comes shows streams setup most status handed octets script ends told short is_script reads writes = absurd ends
 
 -- ---- the configuration
 
@@ -93,17 +94,17 @@ same_setup file (Server name) setup other tells is = absurd is
 
 -- ---- the run
 
-pub nothing_else : {S : Type 0} (tells : StarterTells S) (shelf : ShelfTells) (streams : Streams) (command : Command) (status : Status) (handed : Handed S)
-    (setup : Setup) (octets : List ℕ) (script : Script) → RunEnds tells shelf streams command status handed → TellsSetup shelf.file command setup
+pub nothing_else : {S : Type 0} (shows : S → StarterShows) (shelf : ShelfTells) (streams : Streams) (command : Command) (status : Status) (handed : Handed S)
+    (setup : Setup) (octets : List ℕ) (script : Script) → RunEnds shows shelf streams command status handed → TellsSetup shelf.file command setup
     → Tells streams.input octets → length octets ≤ longest_script → IsScript setup (most_clients command) octets script
     → (Rose shelf.faults shelf.faults_after → ⊥) → (Rose streams.reads_before streams.reads_after → ⊥) → (Rose streams.writes_before streams.writes_after → ⊥) → EndsWithoutFault status
-nothing_else tells shelf streams command NoMemory handed setup octets script ends configured told short is_script files reads writes = tt
-nothing_else tells shelf streams command ConfigRead handed setup octets script ends configured told short is_script files reads writes =
+nothing_else shows shelf streams command NoMemory handed setup octets script ends configured told short is_script files reads writes = tt
+nothing_else shows shelf streams command ConfigRead handed setup octets script ends configured told short is_script files reads writes =
     absurd (no_lack shelf command setup ConfigRead configured ends.0 files)
-nothing_else tells shelf streams command (TooLong inputs.Configuration) handed setup octets script ends configured told short is_script files reads writes =
+nothing_else shows shelf streams command (TooLong inputs.Configuration) handed setup octets script ends configured told short is_script files reads writes =
     absurd (no_lack shelf command setup (TooLong inputs.Configuration) configured ends.0 files)
-nothing_else tells shelf streams command (ConfigFault number key) handed setup octets script ends configured told short is_script files reads writes =
+nothing_else shows shelf streams command (ConfigFault number key) handed setup octets script ends configured told short is_script files reads writes =
     absurd (no_lack shelf command setup (ConfigFault number key) configured ends.0 files)
-nothing_else tells shelf streams command status handed setup octets script ends configured told short is_script files reads writes =
+nothing_else shows shelf streams command status handed setup octets script ends configured told short is_script files reads writes =
     let same = same_setup shelf.file command setup ends.0 configured ends.1 in
-    script_comes tells streams ends.0 (most_clients command) status handed octets script ends.2 told short (subst (λ (s : Setup). IsScript s (most_clients command) octets script) same is_script) reads writes
+    script_comes shows streams ends.0 (most_clients command) status handed octets script ends.2 told short (subst (λ (s : Setup). IsScript s (most_clients command) octets script) same is_script) reads writes

@@ -3,6 +3,7 @@ use Rattle.std.proofs.Common.{◌≡◌, ℕ, List, length, reverse, Option, Som
 use Rattle.xa_domain.specs.xa_types.declared.setup.Setup.{Setup}
 use Rattle.xa_domain.specs.xa_events.declared.event.Event.{Event}
 use Rattle.xa_domain.specs.xa_stamp.Merge.{IsMerged, IsDense}
+use Rattle.xa_domain.specs.xa_server.Served.{StarterShows}
 use Rattle.xa_domain.specs.xa_script.declared.script.Client.{Client}
 use Rattle.xa_text.specs.InTurn.{AllInTurn}
 use Rattle.xa_text.proofs.InTurn.{run_in_turn}
@@ -16,15 +17,15 @@ use Rattle.xa_program.specs.declared.status.Status.{Status}
 use Rattle.xa_program.specs.declared.status.Status.TheVariants.{Done, ConfigRead, ScriptRead, TooLong, BadLine, WriteFault, NoMemory, Worn}
 use Rattle.xa_program.specs.declared.status.Input.TheVariants as inputs
 use Rattle.xa_program.specs.Configuration.{ShelfTells, IsSetup, CountsShelf, AsksFiles, AsksShelf, KeepsShelf}
-use Rattle.xa_program.specs.Headline.{Streams, StarterTells, Handed, ReadsWell, IsTheScript, IsServedRun, IsHaltedRun, ScriptEnds, RunEnds, most_clients}
+use Rattle.xa_program.specs.Headline.{Streams, Handed, ReadsWell, IsTheScript, IsServedRun, IsHaltedRun, ScriptEnds, RunEnds, most_clients}
 use Rattle.xa_program.specs.Progress.{IsUntold, TellingEnds}
 use Rattle.xa_program.proofs.SoFar.{whole_so_far}
 
 -- ---- the parts
 
-module _ {S : Type 0} (tells : StarterTells S) (setup : Setup) (clients : List Client) (handed : Handed S) where
+module _ {S : Type 0} (shows : S → StarterShows) (setup : Setup) (clients : List Client) (handed : Handed S) where
   abbrev Serves : Option Halt → Type 0
-  Serves halt = ServeEnds tells.named tells.shows setup clients halt handed.homes handed.lives handed.cut handed.starters
+  Serves halt = ServeEnds shows setup clients halt handed.homes handed.lives handed.cut handed.starters
 
   -- the calls of a run that came to its end are in turn
   pub turns : (halt : Option Halt) → Serves halt → halt ≡ None → (events : List Event) → IsMerged handed.homes events → AllInTurn (length clients) (reverse events)
@@ -32,10 +33,10 @@ module _ {S : Type 0} (tells : StarterTells S) (setup : Setup) (clients : List C
   turns (Some halt) ends over events merged = absurd (cc over)
 
   module _ (streams : Streams) (most : ℕ) (script : IsTheScript setup most streams.input clients) (reads : ReadsWell streams) where
-    halted : (halt : Halt) → HasHomes (Some halt) setup (length clients) handed.homes → IsDense (record { 0 = 0 }) handed.homes
+    halted : (halt : Halt) → HasHomes shows setup clients (Some halt) handed.homes handed.starters → IsDense (record { 0 = 0 }) handed.homes
         → IsUntold handed.homes streams.took_before streams.took_after streams.writes_before streams.writes_after handed.history
-        → ((events : List Event) → IsMerged handed.homes events → IsServedSoFar tells.named tells.shows halt setup (length clients) events handed.lives handed.cut handed.starters)
-        → IsHaltedRun tells streams halt setup most clients handed
+        → ((events : List Event) → IsMerged handed.homes events → IsServedSoFar shows halt setup (length clients) events handed.lives handed.cut handed.starters)
+        → IsHaltedRun shows streams halt setup most clients handed
     halted halt homed dense untold sound = record {
       script = script;
       reads = reads;
@@ -46,36 +47,36 @@ module _ {S : Type 0} (tells : StarterTells S) (setup : Setup) (clients : List C
       so_far = sound;
     }
 
-    whole : Serves None → IsMerged handed.homes handed.history → IsServedRun tells streams setup most clients handed
+    whole : Serves None → IsMerged handed.homes handed.history → IsServedRun shows streams setup most clients handed
     whole ends merged =
         let comes = ends.comes handed.history merged in
-        record { script = script; reads = reads; merged = merged; recorded = ends.homed; dense = ends.dense; whole = comes.0; none_cut = comes.1 }
+        record { script = script; reads = reads; merged = merged; recorded = let all = ends.homed in all.recorded; dense = ends.dense; whole = comes.0; none_cut = comes.1 }
 
     -- how serving a script and telling it end
     pub served_ends : (halt : Option Halt) (status : Status) → Serves halt
         → TellingEnds halt handed.homes clients streams.took_before streams.took_after streams.writes_before streams.writes_after status handed.history
-        → ScriptEnds tells streams setup most status handed
+        → ScriptEnds shows streams setup most status handed
     served_ends None Done ends told = (clients, whole ends told.0, told.1, told.2)
     served_ends None WriteFault ends told = (clients, whole ends told.0, told.1, told.2)
     served_ends None NoMemory ends told =
-        inr (clients, halted halts.NoMemory (inl ends.homed) ends.dense told (λ events merged. whole_so_far tells.named tells.shows setup clients events handed.lives handed.cut handed.starters (ends.comes events merged)))
+        inr (clients, halted halts.NoMemory (inl ends.homed) ends.dense told (λ events merged. whole_so_far shows setup clients events handed.lives handed.cut handed.starters (ends.comes events merged)))
     served_ends (Some halts.NoMemory) NoMemory ends told = inr (clients, halted halts.NoMemory ends.homed ends.dense told ends.comes)
     served_ends (Some (halts.Worn stamp)) (Worn last) ends told =
-        subst (λ s. (clients : List Client) × IsHaltedRun tells streams (halts.Worn s) setup most clients handed × IsWorn (halts.Worn s) handed.homes) (sym told.0)
+        subst (λ s. (clients : List Client) × IsHaltedRun shows streams (halts.Worn s) setup most clients handed × IsWorn (halts.Worn s) handed.homes) (sym told.0)
         (clients, halted (halts.Worn stamp) ends.homed ends.dense told.1 ends.comes, ends.worn)
     served_ends halt status ends told = absurd told
 
 -- how serving a script ends, at that status
-pub ends_as : {S : Type 0} (tells : StarterTells S) (streams : Streams) (setup : Setup) (most : ℕ) (status other : Status) (handed : Handed S)
-    → ScriptEnds tells streams setup most status handed → status ≡ other → ScriptEnds tells streams setup most other handed
-ends_as tells streams setup most status other handed ends is = subst (λ s. ScriptEnds tells streams setup most s handed) is ends
+pub ends_as : {S : Type 0} (shows : S → StarterShows) (streams : Streams) (setup : Setup) (most : ℕ) (status other : Status) (handed : Handed S)
+    → ScriptEnds shows streams setup most status handed → status ≡ other → ScriptEnds shows streams setup most other handed
+ends_as shows streams setup most status other handed ends is = subst (λ s. ScriptEnds shows streams setup most s handed) is ends
 
 -- ---- the run
 
-module _ {S : Type 0} (tells : StarterTells S) (shelf : ShelfTells) (streams : Streams) (handed : Handed S) where
+module _ {S : Type 0} (shows : S → StarterShows) (shelf : ShelfTells) (streams : Streams) (handed : Handed S) where
   -- a run with a setup
   run_ends : (command : Command) (setup : Setup) (status : Status) → IsSetup shelf.file command setup
-      → ScriptEnds tells streams setup (most_clients command) status handed → RunEnds tells shelf streams command status handed
+      → ScriptEnds shows streams setup (most_clients command) status handed → RunEnds shows shelf streams command status handed
   run_ends command setup Done is ends = (setup, is, ends)
   run_ends command setup WriteFault is ends = (setup, is, ends)
   run_ends command setup ScriptRead is ends = (setup, is, ends)
@@ -86,8 +87,8 @@ module _ {S : Type 0} (tells : StarterTells S) (shelf : ShelfTells) (streams : S
   run_ends command setup status is ends = absurd ends
 
   pub run_so : (command : Command) (setup : Setup) (most : ℕ) (status : Status) → IsSetup shelf.file command setup → most ≡ most_clients command
-      → ScriptEnds tells streams setup most status handed → RunEnds tells shelf streams command status handed
-  run_so command setup most status is few ends = run_ends command setup status is (subst (λ (n : ℕ). ScriptEnds tells streams setup n status handed) few ends)
+      → ScriptEnds shows streams setup most status handed → RunEnds shows shelf streams command status handed
+  run_so command setup most status is few ends = run_ends command setup status is (subst (λ (n : ℕ). ScriptEnds shows streams setup n status handed) few ends)
 
 -- ---- the shelf
 

@@ -14,8 +14,8 @@ use Rattle.xa_domain.specs.xa_work.declared.work.Halt.TheVariants as halts
 use Rattle.xa_domain.specs.xa_script.declared.script.Client.{Client}
 use Rattle.xa_domain.specs.xa_pipe.Standing.{Standing as Life, Ending}
 use Rattle.xa_domain.specs.xa_server.Served.{StarterShows}
-use Rattle.xa_domain.specs.xa_links.Lives.{lives_in, TookEach, IsCut}
-use Rattle.xa_domain.specs.xa_joined.Served.{IsServedSoFar, AreLives, AreLivesOf, AreLivesSoFar, IsStarterOf, IsStarterSoFar, generations_of, lives_of, name_of}
+use Rattle.xa_domain.specs.xa_links.Lives.{lives_in, IsCut}
+use Rattle.xa_domain.specs.xa_joined.Served.{IsServedSoFar, AreLives, AreLivesOf, AreLivesSoFar, IsAsked, IsStarterOf, IsStarterSoFar, generations_of, lives_of, name_of}
 use Rattle.xa_domain.proofs.xa_carried.Numbered.{each_at, numbered_there}
 use Rattle.xa_domain.specs.Serving.{IsNoneCut, ComesTo}
 
@@ -37,29 +37,30 @@ lives_so_far setup past lives cut are count none = record {
       let all = are.all in
       let there = numbered_there server lives low (omega (arith, high, all)) in
       let its = each_at (λ (n : ℕ) (its : List Ending). generations_of its ≡ lives_in n past) server lives there.0 are.each there.1 in
-      let took = each_at (λ (n : ℕ) (its : List Ending). All (TookEach n past) (lives_of its)) server lives there.0 are.taken there.1 in
+      let asked = each_at (λ (n : ℕ) (its : List Ending). All (IsAsked n past) (lives_of its)) server lives there.0 are.asked there.1 in
       let Are : List Ending → List Life → Type 0 = AreLivesOf setup past server in
       subst (λ (o : Option (List Ending)). Are (list_in o) (list_in (numbered server cut))) (sym there.1) (subst (Are there.0) (sym (none_cut cut none server)) (record {
         are = append-nil (generations_of there.0) ∙ its;
-        taken = subst (All (TookEach server past)) (sym (append-nil (lives_of there.0))) took;
-        cut_off = All-nil (IsCut (name_of setup server) server);
+        asked = subst (All (IsAsked server past)) (sym (append-nil (lives_of there.0))) asked;
+        cut_off = All-nil (IsCut (name_of setup server) server past);
       }));
 }
 
-starters_so_far : {S : Type 0} (named : S → List ℕ) (shows : S → StarterShows) (setup : Setup) (past : List Event) (n : ℕ) (starters : List S)
-    → EachNumbered (λ server starter. IsStarterOf setup server (named starter) (shows starter) past) n starters → EachNumbered (λ server starter. IsStarterSoFar setup server (named starter) (shows starter) past) n starters
-starters_so_far named shows setup past n [] each = tt
-starters_so_far named shows setup past n (starter ∷ starters) each =
-    (record { its = let first = each.0 in first.its; started = let first = each.0 in inl first.started }, starters_so_far named shows setup past (n + 1) starters each.1)
+starters_so_far : {S : Type 0} (shows : S → StarterShows) (setup : Setup) (past : List Event) (n : ℕ) (starters : List S)
+    → EachNumbered (λ server starter. IsStarterOf setup server (shows starter) past) n starters → EachNumbered (λ server starter. IsStarterSoFar setup server (shows starter) past) n starters
+starters_so_far shows setup past n [] each = tt
+starters_so_far shows setup past n (starter ∷ starters) each =
+    (record { its = let first = each.0 in first.its; started = let first = each.0 in inl first.started }, starters_so_far shows setup past (n + 1) starters each.1)
 
-pub whole_so_far : {S : Type 0} (named : S → List ℕ) (shows : S → StarterShows) (setup : Setup) (clients : List Client) (events : List Event) (lives : List (List Ending)) (cut : List (List Life)) (starters : List S)
-    → ComesTo named shows setup clients None events lives cut starters → IsServedSoFar named shows halts.NoMemory setup (length clients) events lives cut starters
-whole_so_far named shows setup clients events lives cut starters comes =
+pub whole_so_far : {S : Type 0} (shows : S → StarterShows) (setup : Setup) (clients : List Client) (events : List Event) (lives : List (List Ending)) (cut : List (List Life)) (starters : List S)
+    → ComesTo shows setup clients None events lives cut starters → IsServedSoFar shows halts.NoMemory setup (length clients) events lives cut starters
+whole_so_far shows setup clients events lives cut starters comes =
     let whole = comes.0 in
     record {
       run = whole.machine.run;
+      lawful = whole.machine.lawful;
       made = whole.machine.made;
       all = inl whole.carried.all;
       lives_are = lives_so_far setup (reverse events) lives cut whole.carried.lives_are comes.2 comes.1;
-      each = starters_so_far named shows setup (reverse events) 1 starters whole.carried.each;
+      each = starters_so_far shows setup (reverse events) 1 starters whole.carried.each;
     }

@@ -23,6 +23,10 @@ pub record ShelfTells : Type 0 where
   pub faults : ℕ
   pub faults_after : ℕ
 
+-- what it tells, by its files and its count
+abbrev pub shelf_by : {S : Type 0} → (S → List ℕ → Option (Option (List ℕ))) → (S → ℕ) → S → S → ShelfTells
+shelf_by file faults shelf shelf_after = record { file = file shelf; faults = faults shelf; faults_after = faults shelf_after }
+
 -- the setup of the command: that of a configuration that the file holds and that isn't too long, or that of the service
 abbrev pub IsSetup : (List ℕ → Option (Option (List ℕ))) → Command → Setup → Type 0
 IsSetup file (Run name) setup = (octets : List ℕ) × Holds (file name) octets × (length octets ≤ longest_configuration) × IsConfiguration octets setup

@@ -1,5 +1,7 @@
 -- What a run of `run` or `play` comes to (this project's own).
 use Rattle.std.specs.Prelude.{◌≡◌, ◌⊎◌, ◌≤◌, ℕ, List, [], length, reverse, map, Option, Some, ⊤}
+use Rattle.std.specs.declared.vec.Vec.{Vec}
+use Rattle.std.specs.declared.alloc.Global.{Global}
 use Rattle.xa_domain.specs.xa_types.declared.setup.Setup.{Setup}
 use Rattle.xa_domain.specs.xa_link.Told.{Rose, Grew, GrewByPart}
 use Rattle.xa_domain.specs.xa_events.declared.event.Event.{Event}
@@ -14,12 +16,14 @@ use Rattle.xa_domain.specs.xa_pipe.Standing.{Standing as Life, Ending}
 use Rattle.xa_domain.specs.xa_server.Served.{StarterShows}
 use Rattle.xa_domain.specs.xa_joined.Served.{IsRecorded, IsServedWhole, IsServedSoFar, IsWorn}
 use Rattle.xa_domain.specs.Serving.{HasHomes, IsNoneCut}
+use Rattle.xa_domain.specs.xa_links.Working.{cut_in}
+use Rattle.xa_program.specs.declared.outcome.Outcome.{Outcome}
 use Rattle.xa_program.specs.declared.words.Command.{Command}
 use Rattle.xa_program.specs.declared.words.Command.TheVariants.{Play, Server}
 use Rattle.xa_program.specs.declared.status.Status.{Status}
 use Rattle.xa_program.specs.declared.status.Status.TheVariants.{Done, Usage, ConfigRead, ConfigFault, ScriptRead, TooLong, BadLine, WriteFault, NoMemory, Worn}
 use Rattle.xa_program.specs.declared.status.Input.TheVariants as inputs
-use Rattle.xa_program.specs.Input.{InputTells, CameWhole, CameOver}
+use Rattle.xa_program.specs.Input.{InputTells, CameWhole, CameOver, input_by}
 use Rattle.xa_program.specs.Configuration.{ShelfTells, IsSetup, LacksSetup}
 
 -- ---- what comes in and what goes out
@@ -52,6 +56,18 @@ pub record Streams : Type 0 where
   pub writes_before : ℕ
   pub writes_after : ℕ
 
+-- what they show, by what they tell and count
+abbrev pub streams_by : {I O : Type 0} → (I → Option (List ℕ)) → (I → Option (List ℕ)) → (I → ℕ) → (O → Option (List ℕ)) → (O → ℕ) → I → I → O → O → Streams
+streams_by left gave reads took writes input input_after out out_after = record {
+  input = input_by left gave input input_after;
+  reads_before = reads input;
+  reads_after = reads input_after;
+  took_before = took out;
+  took_after = took out_after;
+  writes_before = writes out;
+  writes_after = writes out_after;
+}
+
 -- no failed read of the input was counted
 abbrev pub ReadsWell : Streams → Type 0
 ReadsWell streams = streams.reads_after ≡ streams.reads_before
@@ -82,10 +98,15 @@ pub record Handed (S : Type 0) : Type 0 where
   pub cut : List (List Life)
   pub starters : List S
 
--- the name of a starter's server, and what the starter shows of its starts
-pub record StarterTells (S : Type 0) : Type 0 where
-  pub named : S → List ℕ
-  pub shows : S → StarterShows
+-- what the outcome hands back
+abbrev pub handed_by : {Y L S : Type 0} → Outcome Y L S → Handed S
+handed_by outcome = record {
+  homes = outcome.homes.homes;
+  history = outcome.history.items;
+  lives = map (λ (v : Vec Ending Global). v.items) outcome.lives.items;
+  cut = map cut_in outcome.cut.items;
+  starters = outcome.starters.items;
+}
 
 -- nothing
 pub record HandsNothing {S : Type 0} (handed : Handed S) : Type 0 where
@@ -100,43 +121,43 @@ names_of clients = map (λ client. client.name) clients
 
 -- what came from the input, to its end, is the script of these clients; the history is the merge of the homes, each event of which stands at its own, with
 -- dense stamps that rise, and is the whole run of the setup with these clients, and the pipes are its; no life was cut
-pub record IsServedRun {S : Type 0} (tells : StarterTells S) (streams : Streams) (setup : Setup) (most : ℕ) (clients : List Client) (handed : Handed S) : Type 0 where
+pub record IsServedRun {S : Type 0} (shows : S → StarterShows) (streams : Streams) (setup : Setup) (most : ℕ) (clients : List Client) (handed : Handed S) : Type 0 where
   pub script : IsTheScript setup most streams.input clients
   pub reads : ReadsWell streams
   pub merged : IsMerged handed.homes handed.history
   pub recorded : IsRecorded setup (length clients) handed.homes
   pub dense : IsDense (record { 0 = 0 }) handed.homes
-  pub whole : IsServedWhole tells.named tells.shows setup clients handed.history handed.lives handed.starters
+  pub whole : IsServedWhole shows setup clients handed.history handed.lives handed.starters
   pub none_cut : IsNoneCut handed.cut
 
 -- what came from the input, to its end, is the script of these clients, and nothing was written; the merge of the homes, each event of which
 -- stands at its own, with dense stamps that rise, is the beginning of a run of the setup with so many clients, and the lives and the starters' starts are those of these events; the history is that
 -- merge, or there is none
-pub record IsHaltedRun {S : Type 0} (tells : StarterTells S) (streams : Streams) (halt : Halt) (setup : Setup) (most : ℕ) (clients : List Client) (handed : Handed S) : Type 0 where
+pub record IsHaltedRun {S : Type 0} (shows : S → StarterShows) (streams : Streams) (halt : Halt) (setup : Setup) (most : ℕ) (clients : List Client) (handed : Handed S) : Type 0 where
   pub script : IsTheScript setup most streams.input clients
   pub reads : ReadsWell streams
   pub silent : IsSilent streams
   pub merged : (handed.history ≡ []) ⊎ IsMerged handed.homes handed.history
-  pub recorded : HasHomes (Some halt) setup (length clients) handed.homes
+  pub recorded : HasHomes shows setup clients (Some halt) handed.homes handed.starters
   pub dense : IsDense (record { 0 = 0 }) handed.homes
-  pub so_far : (events : List Event) → IsMerged handed.homes events → IsServedSoFar tells.named tells.shows halt setup (length clients) events handed.lives handed.cut handed.starters
+  pub so_far : (events : List Event) → IsMerged handed.homes events → IsServedSoFar shows halt setup (length clients) events handed.lives handed.cut handed.starters
 
 -- ---- how a run ends
 
 -- how serving the script ends, and what that shows, where that is the setup and so many clients may be
-abbrev pub ScriptEnds : {S : Type 0} → StarterTells S → Streams → Setup → ℕ → Status → Handed S → Type 0
-ScriptEnds tells streams setup most Done handed =
-    (clients : List Client) × IsServedRun tells streams setup most clients handed × Grew streams.took_before streams.took_after (transcript (names_of clients) (reverse handed.history)) × WritesWell streams
-ScriptEnds tells streams setup most WriteFault handed =
-    (clients : List Client) × IsServedRun tells streams setup most clients handed
+abbrev pub ScriptEnds : {S : Type 0} → (S → StarterShows) → Streams → Setup → ℕ → Status → Handed S → Type 0
+ScriptEnds shows streams setup most Done handed =
+    (clients : List Client) × IsServedRun shows streams setup most clients handed × Grew streams.took_before streams.took_after (transcript (names_of clients) (reverse handed.history)) × WritesWell streams
+ScriptEnds shows streams setup most WriteFault handed =
+    (clients : List Client) × IsServedRun shows streams setup most clients handed
     × GrewByPart streams.took_before streams.took_after (transcript (names_of clients) (reverse handed.history)) × Rose streams.writes_before streams.writes_after
-ScriptEnds tells streams setup most ScriptRead handed = Rose streams.reads_before streams.reads_after × IsSilent streams
-ScriptEnds tells streams setup most (TooLong inputs.Script) handed = CameOver streams.input longest_script × ReadsWell streams × IsSilent streams
-ScriptEnds tells streams setup most (BadLine line cause) handed = HasFirstFault setup most streams.input line cause × ReadsWell streams × IsSilent streams
-ScriptEnds tells streams setup most (Worn stamp) handed = (clients : List Client) × IsHaltedRun tells streams (halts.Worn stamp) setup most clients handed × IsWorn (halts.Worn stamp) handed.homes
-ScriptEnds tells streams setup most NoMemory handed =
-    (ReadsWell streams × IsSilent streams × HandsNothing handed) ⊎ ((clients : List Client) × IsHaltedRun tells streams halts.NoMemory setup most clients handed)
-ScriptEnds tells streams setup most status handed = ⊥
+ScriptEnds shows streams setup most ScriptRead handed = Rose streams.reads_before streams.reads_after × IsSilent streams
+ScriptEnds shows streams setup most (TooLong inputs.Script) handed = CameOver streams.input longest_script × ReadsWell streams × IsSilent streams
+ScriptEnds shows streams setup most (BadLine line cause) handed = HasFirstFault setup most streams.input line cause × ReadsWell streams × IsSilent streams
+ScriptEnds shows streams setup most (Worn stamp) handed = (clients : List Client) × IsHaltedRun shows streams (halts.Worn stamp) setup most clients handed × IsWorn (halts.Worn stamp) handed.homes
+ScriptEnds shows streams setup most NoMemory handed =
+    (ReadsWell streams × IsSilent streams × HandsNothing handed) ⊎ ((clients : List Client) × IsHaltedRun shows streams halts.NoMemory setup most clients handed)
+ScriptEnds shows streams setup most status handed = ⊥
 
 -- whether the command serves a script
 abbrev pub Serves : Command → Type 0
@@ -144,13 +165,13 @@ Serves (Server name) = ⊥
 Serves command = ⊤
 
 -- how `run CONFIG` and `play SERVICE` end, and what that shows: without a setup, or as serving the script by their setup does
-abbrev pub RunEnds : {S : Type 0} → StarterTells S → ShelfTells → Streams → Command → Status → Handed S → Type 0
-RunEnds tells shelf streams command ConfigRead handed = LacksSetup shelf command ConfigRead × IsIdle streams
-RunEnds tells shelf streams command (TooLong inputs.Configuration) handed = LacksSetup shelf command (TooLong inputs.Configuration) × IsIdle streams
-RunEnds tells shelf streams command (ConfigFault number key) handed = LacksSetup shelf command (ConfigFault number key) × IsIdle streams
-RunEnds tells shelf streams command NoMemory handed =
-    (IsIdle streams × HandsNothing handed) ⊎ ((setup : Setup) × IsSetup shelf.file command setup × ScriptEnds tells streams setup (most_clients command) NoMemory handed)
-RunEnds tells shelf streams command status handed = (setup : Setup) × IsSetup shelf.file command setup × ScriptEnds tells streams setup (most_clients command) status handed
+abbrev pub RunEnds : {S : Type 0} → (S → StarterShows) → ShelfTells → Streams → Command → Status → Handed S → Type 0
+RunEnds shows shelf streams command ConfigRead handed = LacksSetup shelf command ConfigRead × IsIdle streams
+RunEnds shows shelf streams command (TooLong inputs.Configuration) handed = LacksSetup shelf command (TooLong inputs.Configuration) × IsIdle streams
+RunEnds shows shelf streams command (ConfigFault number key) handed = LacksSetup shelf command (ConfigFault number key) × IsIdle streams
+RunEnds shows shelf streams command NoMemory handed =
+    (IsIdle streams × HandsNothing handed) ⊎ ((setup : Setup) × IsSetup shelf.file command setup × ScriptEnds shows streams setup (most_clients command) NoMemory handed)
+RunEnds shows shelf streams command status handed = (setup : Setup) × IsSetup shelf.file command setup × ScriptEnds shows streams setup (most_clients command) status handed
 
 -- where the words, the configuration, the input or the script were refused, nothing is handed back
 abbrev pub EndsEarly : {S : Type 0} → Status → Handed S → Type 0

@@ -10,6 +10,10 @@ pub record InputTells : Type 0 where
   pub gave : Option (List ℕ)
   pub gave_after : Option (List ℕ)
 
+-- what it tells, by what it holds and gave
+abbrev pub input_by : {I : Type 0} → (I → Option (List ℕ)) → (I → Option (List ℕ)) → I → I → InputTells
+input_by left gave input input_after = record { left = left input; left_after = left input_after; gave = gave input; gave_after = gave input_after }
+
 -- these octets came from it, to its end: where it tells what it holds, that was these, and now is nothing; where it tells what it gave,
 -- that grew by these
 pub record CameWhole (input : InputTells) (octets : List ℕ) : Type 0 where

@@ -3,6 +3,7 @@ ghost use Rattle.std.specs.Prelude.{◌≡◌, ◌≤◌, true, IfOk, IfErr, OnO
 ghost use Rattle.xa_domain.specs.xa_types.Configured.{is_configured};
 ghost use Rattle.xa_domain.specs.Serving.{IsBuilt};
 ghost use Rattle.xa_program.specs.Headline.{IsTheScript};
+ghost use Rattle.xa_program.specs.Input.{input_by};
 ghost use Rattle.xa_program.specs.Progress.{ScriptRefusedAs};
 
 use crate::status::{Input, Status};
@@ -25,10 +26,10 @@ pub fn read_script<I: Source>(
 ) -> Result<Script, Status>
     requires configured { is_configured setup.now ≡ true }
     requires most { (1 ≤ most) × (most ≤ 64) }
-    ensures script { IfOk result (λ script. IsTheScript setup.now most (record { left = I.left input.old; left_after = I.left input.new; gave = I.gave input.old; gave_after = I.gave input.new }) script.clients) }
+    ensures script { IfOk result (λ script. IsTheScript setup.now most (input_by I.left I.gave input.old input.new) script.clients) }
     ensures built { IfOk result (λ script. IsBuilt script.clients) }
     ensures quiet { OnOk result (I.read_faults input.new ≡ I.read_faults input.old) }
-    ensures refused { IfErr result (ScriptRefusedAs setup.now most (record { left = I.left input.old; left_after = I.left input.new; gave = I.gave input.old; gave_after = I.gave input.new }) (I.read_faults input.old) (I.read_faults input.new)) }
+    ensures refused { IfErr result (ScriptRefusedAs setup.now most (input_by I.left I.gave input.old input.new) (I.read_faults input.old) (I.read_faults input.new)) }
 {
     let octets = match read_all(alloc, input, LONGEST_SCRIPT) {
         Ok(octets) => octets,

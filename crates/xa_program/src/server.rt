@@ -1,4 +1,5 @@
 // The command `server`: the work of a server's program, and the status that it ends with.
+ghost use Rattle.xa_program.specs.Headline.{streams_by};
 ghost use Rattle.xa_program.specs.Server.{ServerEnds};
 
 use crate::status::Status;
@@ -15,15 +16,7 @@ pub fn child_work<I: Source, O: Sink>(
     input: &mut I,
     out: &mut O,
 ) -> Status
-    ensures { ServerEnds name.now (record {
-      input = record { left = I.left input.old; left_after = I.left input.new; gave = I.gave input.old; gave_after = I.gave input.new };
-      reads_before = I.read_faults input.old;
-      reads_after = I.read_faults input.new;
-      took_before = O.took out.old;
-      took_after = O.took out.new;
-      writes_before = O.write_faults out.old;
-      writes_after = O.write_faults out.new;
-    }) result }
+    ensures { ServerEnds name.now (streams_by I.left I.gave I.read_faults O.took O.write_faults input.old input.new out.old out.new) result }
 {
     match work(alloc, name, input, out) {
         Ok(()) => Status::Done,

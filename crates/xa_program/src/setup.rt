@@ -5,7 +5,7 @@ ghost use Rattle.xa_domain.specs.xa_types.Name.{IsName};
 ghost use Rattle.xa_domain.specs.xa_link.Starts.{AsksFile};
 ghost use Rattle.xa_program.specs.declared.words.Command.TheVariants.{Run};
 ghost use Rattle.xa_program.specs.PlaySetup.{play_setup};
-ghost use Rattle.xa_program.specs.Configuration.{IsSetup, AsksShelf};
+ghost use Rattle.xa_program.specs.Configuration.{shelf_by, IsSetup, AsksShelf};
 ghost use Rattle.xa_program.specs.Progress.{SetupRefusedAs};
 
 use crate::status::{Input, Status};
@@ -22,7 +22,7 @@ pub fn read_setup<S: Shelf>(alloc: Global, name: &[u8], shelf: &mut S) -> Result
     ensures found { IfOk result (IsSetup (S.file shelf.old) (Run name.now)) }
     ensures configured { IfOk result (λ setup. is_configured setup ≡ true) }
     ensures quiet { OnOk result (S.shelf_faults shelf.new ≡ S.shelf_faults shelf.old) }
-    ensures refused { IfErr result (SetupRefusedAs (record { file = S.file shelf.old; faults = S.shelf_faults shelf.old; faults_after = S.shelf_faults shelf.new }) name.now) }
+    ensures refused { IfErr result (SetupRefusedAs (shelf_by S.file S.shelf_faults shelf.old shelf.new) name.now) }
     ensures asks { OnOk result (AsksFile (S.asked shelf.old) (S.asked shelf.new) name.now) }
     ensures asked { IfErr result (λ status. AsksShelf (Some (Run name.now)) status (S.asked shelf.old) (S.asked shelf.new)) }
 {

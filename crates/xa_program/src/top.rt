@@ -1,18 +1,17 @@
 // The top call.
 ghost use Rattle.std.specs.Prelude.{◌≡◌, ◌≤◌, ◌↔◌, true, ℕ, List, map, string_bytes, None, Some, IfOk, IfErr, OnOk, length};
 ghost use Rattle.xa_domain.specs.xa_link.Told.{Rose};
-ghost use Rattle.xa_domain.specs.xa_links.Working.{cut_in};
 ghost use Rattle.xa_domain.specs.xa_types.Configured.{is_configured};
 ghost use Rattle.xa_domain.specs.xa_types.declared.setup.Setup.{Setup};
 ghost use Rattle.xa_domain.specs.xa_script.declared.script.Script.{Script};
 ghost use Rattle.xa_domain.specs.xa_script.Script.{IsScript};
 ghost use Rattle.xa_program.specs.declared.words.Command.{Command};
 ghost use Rattle.xa_program.specs.declared.words.Command.TheVariants.{Server};
-ghost use Rattle.xa_program.specs.Configuration.{IsSetup, TellsSetup, KeepsShelf, AsksFiles, AsksShelf};
-ghost use Rattle.xa_program.specs.Headline.{RunEnds, ScriptEnds, Serves, EndsEarly, EndsWithoutFault, HandsNothing, longest_script, most_clients};
+ghost use Rattle.xa_program.specs.Configuration.{shelf_by, IsSetup, TellsSetup, KeepsShelf, AsksFiles, AsksShelf};
+ghost use Rattle.xa_program.specs.Headline.{streams_by, handed_by, IsIdle, RunEnds, ScriptEnds, Serves, EndsEarly, EndsWithoutFault, HandsNothing, longest_script, most_clients};
 ghost use Rattle.xa_program.specs.Progress.{CommandRefusedAs, AsksBy};
 ghost use Rattle.xa_program.specs.Server.{ServerEnds};
-ghost use Rattle.xa_program.specs.Input.{Tells};
+ghost use Rattle.xa_program.specs.Input.{input_by, Tells};
 ghost use Rattle.xa_program.specs.Words.{command_in};
 ghost use Rattle.xa_program.specs.Yard.{AsksYard};
 
@@ -54,33 +53,22 @@ pub fn run<R: Threads + Wait + Sync, S: Shelf, I: Source, O: Sink, Y: Yard, G: G
     ensures usage { (result.status ≡ Status.Usage) ↔ (command_in (map string_bytes words.now) ≡ None) }
 
     // Then what the input tells that it holds and gave, and what the output tells that it took, stay, and so do their counts.
-    ensures untouched { command_in (map string_bytes words.now) ≡ None → (I.left input.new ≡ I.left input.old) × (I.gave input.new ≡ I.gave input.old) × (I.read_faults input.new ≡ I.read_faults input.old)
-        × (O.took out.new ≡ O.took out.old) × (O.write_faults out.new ≡ O.write_faults out.old) }
+    ensures untouched { command_in (map string_bytes words.now) ≡ None → IsIdle (streams_by I.left I.gave I.read_faults O.took O.write_faults input.old input.new out.old out.new) }
 
     // How often a read of a file of the shelf failed, and which files were asked for.
     ensures shelf { KeepsShelf (command_in (map string_bytes words.now)) result.status (S.shelf_faults shelf.old) (S.shelf_faults shelf.new) (S.asked shelf.old) (S.asked shelf.new) }
 
     // What `run` and `play` come to.
     ensures ends { (command : Command) → command_in (map string_bytes words.now) ≡ Some command → Serves command
-        → RunEnds (record { named = Y.Start.server_name; shows = λ s. record { asked = Y.Start.asked s; faults = Y.Start.start_faults s } })
-        (record { file = S.file shelf.old; faults = S.shelf_faults shelf.old; faults_after = S.shelf_faults shelf.new })
-        (record {
-          input = record { left = I.left input.old; left_after = I.left input.new; gave = I.gave input.old; gave_after = I.gave input.new };
-          reads_before = I.read_faults input.old;
-          reads_after = I.read_faults input.new;
-          took_before = O.took out.old;
-          took_after = O.took out.new;
-          writes_before = O.write_faults out.old;
-          writes_after = O.write_faults out.new;
-        })
-        command result.status (record { homes = result.homes.homes; history = result.history.items; lives = map (λ v. v.items) result.lives.items; cut = map cut_in result.cut.items; starters = result.starters.items }) }
+        → RunEnds Y.Start.shows (shelf_by S.file S.shelf_faults shelf.old shelf.new) (streams_by I.left I.gave I.read_faults O.took O.write_faults input.old input.new out.old out.new) command
+        result.status (handed_by result) }
 
     // Where the shelf tells a configuration that is not too long, or none is wanted, and the input tells octets that are a script for it and not
     // too long, and none of the shelf, the input and the output fails, the run ends with Done, Worn or NoMemory. That they don't fail is
     // that their counts don't rise: where a count stands at 2^64 - 1 this says nothing.
     ensures complete { (command : Command) (setup : Setup) (octets : List ℕ) (script : Script) → command_in (map string_bytes words.now) ≡ Some command → Serves command
         → TellsSetup (S.file shelf.old) command setup
-        → Tells (record { left = I.left input.old; left_after = I.left input.new; gave = I.gave input.old; gave_after = I.gave input.new }) octets → length octets ≤ longest_script → IsScript setup (most_clients command) octets script
+        → Tells (input_by I.left I.gave input.old input.new) octets → length octets ≤ longest_script → IsScript setup (most_clients command) octets script
         → (Rose (S.shelf_faults shelf.old) (S.shelf_faults shelf.new) → ⊥) → (Rose (I.read_faults input.old) (I.read_faults input.new) → ⊥) → (Rose (O.write_faults out.old) (O.write_faults out.new) → ⊥)
         → EndsWithoutFault result.status }
 
@@ -89,19 +77,11 @@ pub fn run<R: Threads + Wait + Sync, S: Shelf, I: Source, O: Sink, Y: Yard, G: G
 
     // What the program of a server comes to; nothing is handed back.
     ensures server { (name : List ℕ) → command_in (map string_bytes words.now) ≡ Some (Server name)
-        → ServerEnds name (record {
-          input = record { left = I.left input.old; left_after = I.left input.new; gave = I.gave input.old; gave_after = I.gave input.new };
-          reads_before = I.read_faults input.old;
-          reads_after = I.read_faults input.new;
-          took_before = O.took out.old;
-          took_after = O.took out.new;
-          writes_before = O.write_faults out.old;
-          writes_after = O.write_faults out.new;
-        }) result.status
-        × HandsNothing (record { homes = result.homes.homes; history = result.history.items; lives = map (λ v. v.items) result.lives.items; cut = map cut_in result.cut.items; starters = result.starters.items }) }
+        → ServerEnds name (streams_by I.left I.gave I.read_faults O.took O.write_faults input.old input.new out.old out.new) result.status
+        × HandsNothing (handed_by result) }
 
     // Where the words, the configuration, the input or the script are refused, nothing is handed back.
-    ensures early { EndsEarly result.status (record { homes = result.homes.homes; history = result.history.items; lives = map (λ v. v.items) result.lives.items; cut = map cut_in result.cut.items; starters = result.starters.items }) }
+    ensures early { EndsEarly result.status (handed_by result) }
 {
     match read_words(alloc, words) {
         Ok(Some(command)) => obey(rt, alloc, &command, shelf, input, out, yard, gate),
@@ -123,31 +103,13 @@ fn obey<R: Threads + Wait + Sync, S: Shelf, I: Source, O: Sink, Y: Yard, G: Gate
     ensures known { result.status ≡ Status.Usage → ⊥ }
     ensures shelf { KeepsShelf (Some command.now) result.status (S.shelf_faults shelf.old) (S.shelf_faults shelf.new) (S.asked shelf.old) (S.asked shelf.new) }
     ensures ends { Serves command.now
-        → RunEnds (record { named = Y.Start.server_name; shows = λ s. record { asked = Y.Start.asked s; faults = Y.Start.start_faults s } })
-        (record { file = S.file shelf.old; faults = S.shelf_faults shelf.old; faults_after = S.shelf_faults shelf.new })
-        (record {
-          input = record { left = I.left input.old; left_after = I.left input.new; gave = I.gave input.old; gave_after = I.gave input.new };
-          reads_before = I.read_faults input.old;
-          reads_after = I.read_faults input.new;
-          took_before = O.took out.old;
-          took_after = O.took out.new;
-          writes_before = O.write_faults out.old;
-          writes_after = O.write_faults out.new;
-        })
-        command.now result.status (record { homes = result.homes.homes; history = result.history.items; lives = map (λ v. v.items) result.lives.items; cut = map cut_in result.cut.items; starters = result.starters.items }) }
+        → RunEnds Y.Start.shows (shelf_by S.file S.shelf_faults shelf.old shelf.new) (streams_by I.left I.gave I.read_faults O.took O.write_faults input.old input.new out.old out.new)
+        command.now result.status (handed_by result) }
     ensures yard { AsksYard (S.file shelf.old) (Some command.now) result.status (Y.asked yard.old) (Y.asked yard.new) }
     ensures server { (name : List ℕ) → command.now ≡ Server name
-        → ServerEnds name (record {
-          input = record { left = I.left input.old; left_after = I.left input.new; gave = I.gave input.old; gave_after = I.gave input.new };
-          reads_before = I.read_faults input.old;
-          reads_after = I.read_faults input.new;
-          took_before = O.took out.old;
-          took_after = O.took out.new;
-          writes_before = O.write_faults out.old;
-          writes_after = O.write_faults out.new;
-        }) result.status
-        × HandsNothing (record { homes = result.homes.homes; history = result.history.items; lives = map (λ v. v.items) result.lives.items; cut = map cut_in result.cut.items; starters = result.starters.items }) }
-    ensures early { EndsEarly result.status (record { homes = result.homes.homes; history = result.history.items; lives = map (λ v. v.items) result.lives.items; cut = map cut_in result.cut.items; starters = result.starters.items }) }
+        → ServerEnds name (streams_by I.left I.gave I.read_faults O.took O.write_faults input.old input.new out.old out.new) result.status
+        × HandsNothing (handed_by result) }
+    ensures early { EndsEarly result.status (handed_by result) }
 {
     if let Command::Server(name) = command {
         return nothing(alloc, child_work(alloc, name, input, out));
@@ -160,7 +122,7 @@ fn obey<R: Threads + Wait + Sync, S: Shelf, I: Source, O: Sink, Y: Yard, G: Gate
 
 fn nothing<Y: Yard>(alloc: Global, status: Status) -> Outcome<Y>
     ensures status { result.status ≡ status }
-    ensures none { HandsNothing (record { homes = result.homes.homes; history = result.history.items; lives = map (λ v. v.items) result.lives.items; cut = map cut_in result.cut.items; starters = result.starters.items }) }
+    ensures none { HandsNothing (handed_by result) }
 {
     let homes = Record {
         homes: Sequence::from_vec(Vec::new(alloc)),
@@ -186,7 +148,7 @@ fn setup_of<S: Shelf>(
     ensures most { IfOk result (λ found. found.1 ≡ most_clients command.now) }
     ensures configured { IfOk result (λ found. is_configured found.0 ≡ true) }
     ensures quiet { OnOk result (S.shelf_faults shelf.new ≡ S.shelf_faults shelf.old) }
-    ensures refused { IfErr result (CommandRefusedAs (record { file = S.file shelf.old; faults = S.shelf_faults shelf.old; faults_after = S.shelf_faults shelf.new }) command.now) }
+    ensures refused { IfErr result (CommandRefusedAs (shelf_by S.file S.shelf_faults shelf.old shelf.new) command.now) }
     ensures asks { OnOk result (AsksFiles command.now (S.asked shelf.old) (S.asked shelf.new)) }
     ensures asked { IfErr result (λ status. AsksShelf (Some command.now) status (S.asked shelf.old) (S.asked shelf.new)) }
 {
@@ -210,19 +172,11 @@ fn serve_script<R: Threads + Wait + Sync, I: Source, O: Sink, Y: Yard, G: Gate>(
 ) -> Outcome<Y>
     requires configured { is_configured setup ≡ true }
     requires most { (1 ≤ most) × (most ≤ 64) }
-    ensures ends { ScriptEnds (record { named = Y.Start.server_name; shows = λ s. record { asked = Y.Start.asked s; faults = Y.Start.start_faults s } })
-        (record {
-          input = record { left = I.left input.old; left_after = I.left input.new; gave = I.gave input.old; gave_after = I.gave input.new };
-          reads_before = I.read_faults input.old;
-          reads_after = I.read_faults input.new;
-          took_before = O.took out.old;
-          took_after = O.took out.new;
-          writes_before = O.write_faults out.old;
-          writes_after = O.write_faults out.new;
-        })
-        setup most result.status (record { homes = result.homes.homes; history = result.history.items; lives = map (λ v. v.items) result.lives.items; cut = map cut_in result.cut.items; starters = result.starters.items }) }
+    ensures ends { ScriptEnds Y.Start.shows
+        (streams_by I.left I.gave I.read_faults O.took O.write_faults input.old input.new out.old out.new)
+        setup most result.status (handed_by result) }
     ensures yard { AsksBy setup result.status (Y.asked yard.old) (Y.asked yard.new) }
-    ensures early { EndsEarly result.status (record { homes = result.homes.homes; history = result.history.items; lives = map (λ v. v.items) result.lives.items; cut = map cut_in result.cut.items; starters = result.starters.items }) }
+    ensures early { EndsEarly result.status (handed_by result) }
 {
     let mut octets = Vec::new(alloc);
     let script = match read_script(alloc, &setup, most, input, &mut octets) {

@@ -112,8 +112,8 @@ module _ (d : Domain) where
 
 -- ---- a server
 
-module _ {L T : Type 0} (d : Domain) (named : T → List ℕ) (shows : T → StarterShows) where
-  pub is_over : (server : ℕ) (old new : ServerWorker L T) → IsNewServer d named shows server old → HasServed d named shows old new → IsOver d named shows server new
+module _ {L T : Type 0} (d : Domain) (shows : T → StarterShows) where
+  pub is_over : (server : ℕ) (old new : ServerWorker L T) → IsNewServer d shows server old → HasServed d shows old new → IsOver d shows server new
   is_over server old new is served =
       let leads = served.leads in
       let may = is.may in
@@ -125,8 +125,8 @@ module _ {L T : Type 0} (d : Domain) (named : T → List ℕ) (shows : T → Sta
         clients = served.clients ∙ is.clients;
         idle = served.idle;
         hand = served.hand;
-        shown = subst (λ n. Shown (named new.served.starter) (queue_of d.setup n) n) is.number
-            (subst (λ q. Shown (named new.served.starter) q old.served.slot.server.0) (sym serving.its)
+        shown = subst (λ n. Shown ((shows new.served.starter).name) (queue_of d.setup n) n) is.number
+            (subst (λ q. Shown ((shows new.served.starter).name) q old.served.slot.server.0) (sym serving.its)
             (subst (λ name. Shown name old.queue.0 old.served.slot.server.0) (sym served.starter) served.shown));
         halts = served.halts;
       }

@@ -45,11 +45,11 @@ EachDone d n (script ∷ scripts) (worker ∷ workers) = IsDone d n script.ops w
 EachDone d n scripts workers = ⊥
 
 -- the worker of the server with that number behind its work: its desk may be left, nothing is in hand, and it shows how its server lived
-pub record IsOver {L T : Type 0} (d : Domain) (named : T → List ℕ) (shows : T → StarterShows) (server : ℕ) (worker : ServerWorker L T) : Type 0 where
+pub record IsOver {L T : Type 0} (d : Domain) (shows : T → StarterShows) (server : ℕ) (worker : ServerWorker L T) : Type 0 where
   pub is : IsDesk d worker.desk
   pub id : worker.desk.caller.work.id.0 ≡ d.clients + server
   pub clients : worker.desk.caller.work.clients ≡ d.clients
   pub idle : worker.desk.caller.phase ≡ Idle
   pub hand : worker.served.slot.hand ≡ None
-  pub shown : ServerShows d (named worker.served.starter) (queue_of d.setup server) server worker.desk worker.served.lives.items (cut_in worker.cut) (shows worker.served.starter) (worker.stopped ≡ None)
+  pub shown : ServerShows d ((shows worker.served.starter).name) (queue_of d.setup server) server worker.desk worker.served.lives.items (cut_in worker.cut) (shows worker.served.starter) (worker.stopped ≡ None)
   pub halts : IfSome worker.stopped (IsStopAt worker.desk)

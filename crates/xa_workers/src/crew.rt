@@ -73,13 +73,13 @@ fn servers_at_work<R: Threads + Wait + Sync, L: Link + Send, T: Starter<L> + Sen
     servers: &mut [ServerWorker<L, T>],
 )
     requires domain { IsDomain shared.now.domain.now }
-    requires new { EachNumbered (IsNewServer shared.now.domain.now T.server_name (λ s. record { asked = T.asked s; faults = T.start_faults s })) 1 servers.old }
-    ensures over { EachNumbered (IsOver shared.now.domain.now T.server_name (λ s. record { asked = T.asked s; faults = T.start_faults s })) 1 servers.new }
-    ensures names { map (λ w. T.server_name w.served.starter) servers.new ≡ map (λ w. w.name) servers.old }
+    requires new { EachNumbered (IsNewServer shared.now.domain.now T.shows) 1 servers.old }
+    ensures over { EachNumbered (IsOver shared.now.domain.now T.shows) 1 servers.new }
+    ensures names { map (λ w. (T.shows w.served.starter).name) servers.new ≡ map (λ w. w.name) servers.old }
 {
     let work = |shared: &Shared<'_, R, G>, _: usize, server: &mut ServerWorker<L, T>|
-        requires { IsDomain shared.now.domain.now × MayServe shared.now.domain.now T.server_name (λ s. record { asked = T.asked s; faults = T.start_faults s }) server.old }
-        ensures { HasServed shared.now.domain.now T.server_name (λ s. record { asked = T.asked s; faults = T.start_faults s }) server.old server.new }
+        requires { IsDomain shared.now.domain.now × MayServe shared.now.domain.now T.shows server.old }
+        ensures { HasServed shared.now.domain.now T.shows server.old server.new }
     { server.work(shared.rt, shared.alloc, shared.domain, shared.gate) };
     all_at_work(shared.rt, shared, servers, &work);
 }
@@ -122,12 +122,12 @@ pub fn run_all<R: Threads + Wait + Sync, L: Link + Send, T: Starter<L> + Send, G
     requires scripts { length scripts.now ≡ booted.domain.clients }
     requires count { length booted.clients.items ≡ booted.domain.clients }
     requires new_clients { EachNumbered (IsNewClient booted.domain) 1 booted.clients.items }
-    requires new_servers { EachNumbered (IsNewServer booted.domain T.server_name (λ s. record { asked = T.asked s; faults = T.start_faults s })) 1 booted.servers.items }
+    requires new_servers { EachNumbered (IsNewServer booted.domain T.shows) 1 booted.servers.items }
     requires closer { IsNewCloser booted.domain booted.closer }
     ensures domain { result.domain ≡ booted.domain }
     ensures clients { EachDone booted.domain 1 scripts.now result.clients.items }
-    ensures servers { EachNumbered (IsOver booted.domain T.server_name (λ s. record { asked = T.asked s; faults = T.start_faults s })) 1 result.servers.items }
-    ensures names { map (λ w. T.server_name w.served.starter) result.servers.items ≡ map (λ w. w.name) booted.servers.items }
+    ensures servers { EachNumbered (IsOver booted.domain T.shows) 1 result.servers.items }
+    ensures names { map (λ w. (T.shows w.served.starter).name) result.servers.items ≡ map (λ w. w.name) booted.servers.items }
     ensures closer { HasClosed booted.domain result.clients.items result.closer }
 {
     let Booted {
@@ -151,9 +151,9 @@ pub fn run_all<R: Threads + Wait + Sync, L: Link + Send, T: Starter<L> + Send, G
         ensures { EachDone shared.now.domain.now 1 shared.now.scripts.now side.new.clients.items × HasClosed shared.now.domain.now side.new.clients.items side.new.closer }
     { clients_then_closing(shared, side) };
     let servers_work = |shared: &Shared<'_, R, G>, _: usize, servers: &mut Vec<ServerWorker<L, T>>|
-        requires { IsDomain shared.now.domain.now × EachNumbered (IsNewServer shared.now.domain.now T.server_name (λ s. record { asked = T.asked s; faults = T.start_faults s })) 1 servers.old.items }
-        ensures { EachNumbered (IsOver shared.now.domain.now T.server_name (λ s. record { asked = T.asked s; faults = T.start_faults s })) 1 servers.new.items
-            × (map (λ w. T.server_name w.served.starter) servers.new.items ≡ map (λ w. w.name) servers.old.items) }
+        requires { IsDomain shared.now.domain.now × EachNumbered (IsNewServer shared.now.domain.now T.shows) 1 servers.old.items }
+        ensures { EachNumbered (IsOver shared.now.domain.now T.shows) 1 servers.new.items
+            × (map (λ w. (T.shows w.served.starter).name) servers.new.items ≡ map (λ w. w.name) servers.old.items) }
     { servers_at_work(shared, servers.as_mut_slice()) };
     both_at_work(
         rt,

@@ -10,7 +10,7 @@ pub hire_servers-requires-clause-left : goal.hire_servers-requires-clause-left
 hire_servers-requires-clause-left g c =
     let d = c.args.founded.domain in
     let names = ap length c.requires.names in
-    let starters = length-map c.args.starters.items g.T.Starter.server_name in
+    let starters = length-map c.args.starters.items (λ s. (g.T.Starter.shows s).name) in
     let servers = length-map d.setup.servers (λ (server : ServerSetup). server.name) in
     let number : d.clients + length d.setup.servers + 1 ≡ d.clients + length c.args.starters.items + 1 = omega (arith, names, starters, servers) in
     subst (λ n. AreLeft d n c.args.founded.staff) number c.requires.founded.left
@@ -18,8 +18,7 @@ hire_servers-requires-clause-left g c =
 pub returns : goal.returns
 returns g c =
     let d = c.args.founded.domain in
-    let named : g.row.T.Denot → List ℕ = g.T.Starter.server_name in
-    let shows : g.row.T.Denot → StarterShows = λ s. record { asked = g.T.Starter.asked s; faults = g.T.Starter.start_faults s } in
+    let shows : g.row.T.Denot → StarterShows = g.T.Starter.shows in
     let servers = c.hire_servers.ensures.servers in
     let clients = c.hire_clients.ensures.clients in
     record {
@@ -30,7 +29,7 @@ returns g c =
       all_clients = clients.count;
       each_client = clients.each;
       starters_are = servers.starters_are;
-      names = names_of d named shows 1 c.hire_servers.new.servers.items servers.each ∙ ap (map named) servers.starters_are ∙ c.requires.names;
+      names = names_of d shows 1 c.hire_servers.new.servers.items servers.each ∙ ap (map (λ s. (shows s).name)) servers.starters_are ∙ c.requires.names;
       each_server = servers.each;
       closer = c.hire_closer-closer.ensures;
     }

@@ -20,8 +20,7 @@ last_of-its-requires g c =
 pub server_worker-requires : goal.server_worker-requires
 server_worker-requires g c =
     let d = c.args.domain.now in
-    let named : g.row.T.Denot → List ℕ = g.T.Starter.server_name in
-    let shows : g.row.T.Denot → StarterShows = λ s. record { asked = g.T.Starter.asked s; faults = g.T.Starter.start_faults s } in
+    let shows : g.row.T.Denot → StarterShows = g.T.Starter.shows in
     let all : List g.row.T.Denot = c.args.starters.items in
     let left : List g.row.T.Denot = c.pop.new.self.items in
     let place : length left ≡ c.len-place.result = sym (c.len-place.ensures ∙ c.pop.new.self.ok.0) in
@@ -33,10 +32,10 @@ server_worker-requires g c =
     record {
       domain = c.requires.domain;
       left = subst (λ n. AreLeft d n c.loop-starter.staff) number c.loop-starter.invariant.left;
-      place = subst (λ n. n < length d.setup.servers) place (within d named shows all c.requires.named left c.in-Some.starter c.last_of-its.new.items.items c.last_of-its.result c.loop-starter.servers.items c.loop-starter.starters.items c.loop-starter.lives.items was c.last_of-its.ensures hired);
-      lives = ap (slice_get (map restarts_of d.setup.servers)) (sym place) ∙ lives_at d named shows all c.requires.named left c.in-Some.starter c.last_of-its.new.items.items c.last_of-its.result c.loop-starter.servers.items c.loop-starter.starters.items c.loop-starter.lives.items was c.last_of-its.ensures hired;
-      named = ap (slice_get (map (λ (server : ServerSetup). server.name) d.setup.servers)) (sym place) ∙ name_at d named shows all c.requires.named left c.in-Some.starter c.last_of-its.new.items.items c.last_of-its.result c.loop-starter.servers.items c.loop-starter.starters.items c.loop-starter.lives.items was c.last_of-its.ensures hired;
-      unasked = fact_at d named shows all c.requires.named left c.in-Some.starter c.last_of-its.new.items.items c.last_of-its.result c.loop-starter.servers.items c.loop-starter.starters.items c.loop-starter.lives.items was c.last_of-its.ensures hired (λ s. HasStarted (named s) 0 0 (shows s)) c.requires.unasked;
+      place = subst (λ n. n < length d.setup.servers) place (within d shows all c.requires.named left c.in-Some.starter c.last_of-its.new.items.items c.last_of-its.result c.loop-starter.servers.items c.loop-starter.starters.items c.loop-starter.lives.items was c.last_of-its.ensures hired);
+      lives = ap (slice_get (map restarts_of d.setup.servers)) (sym place) ∙ lives_at d shows all c.requires.named left c.in-Some.starter c.last_of-its.new.items.items c.last_of-its.result c.loop-starter.servers.items c.loop-starter.starters.items c.loop-starter.lives.items was c.last_of-its.ensures hired;
+      named = ap (slice_get (map (λ (server : ServerSetup). server.name) d.setup.servers)) (sym place) ∙ name_at d shows all c.requires.named left c.in-Some.starter c.last_of-its.new.items.items c.last_of-its.result c.loop-starter.servers.items c.loop-starter.starters.items c.loop-starter.lives.items was c.last_of-its.ensures hired;
+      unasked = fact_at d shows all c.requires.named left c.in-Some.starter c.last_of-its.new.items.items c.last_of-its.result c.loop-starter.servers.items c.loop-starter.starters.items c.loop-starter.lives.items was c.last_of-its.ensures hired (λ s. HasStarted (shows s).name 0 0 (shows s)) c.requires.unasked;
     }
 
 pub loop-starter-init : goal.loop-starter-init
@@ -46,15 +45,14 @@ loop-starter-init g c =
     record {
       left = c.requires.left;
       own = refl;
-      hired = none_hired c.args.domain.now g.T.Starter.server_name (λ s. record { asked = g.T.Starter.asked s; faults = g.T.Starter.start_faults s }) c.args.starters.items c.requires.named c.args.lives.items c.args.servers.now.items c.requires.lives c.requires.room.0;
+      hired = none_hired c.args.domain.now g.T.Starter.shows c.args.starters.items c.requires.named c.args.lives.items c.args.servers.now.items c.requires.lives c.requires.room.0;
       room = omega (arith, none, room);
     }
 
 pub loop-starter-preserved : goal.loop-starter-preserved
 loop-starter-preserved g c =
     let d = c.args.domain.now in
-    let named : g.row.T.Denot → List ℕ = g.T.Starter.server_name in
-    let shows : g.row.T.Denot → StarterShows = λ s. record { asked = g.T.Starter.asked s; faults = g.T.Starter.start_faults s } in
+    let shows : g.row.T.Denot → StarterShows = g.T.Starter.shows in
     let all : List g.row.T.Denot = c.args.starters.items in
     let left : List g.row.T.Denot = c.pop.new.self.items in
     let place : c.len-place.result ≡ length left = c.len-place.ensures ∙ c.pop.new.self.ok.0 in
@@ -71,17 +69,16 @@ loop-starter-preserved g c =
     record {
       left = subst (λ n. AreLeft d (d.clients + n + 1) c.server_worker.new.staff) place worker.left;
       own = own ∙ c.loop-starter.invariant.own;
-      hired = subst (AreHired d named shows all left c.last_of-its.new.items.items) (sym items)
-          (hired_more d named shows all c.requires.named left c.in-Some.starter c.last_of-its.new.items.items c.last_of-its.result c.loop-starter.servers.items c.loop-starter.starters.items c.loop-starter.lives.items was c.last_of-its.ensures c.loop-starter.invariant.hired
-          c.server_worker.result worker.starter (subst (λ n. IsNewServer d named shows (n + 1) c.server_worker.result) place worker.worker));
+      hired = subst (AreHired d shows all left c.last_of-its.new.items.items) (sym items)
+          (hired_more d shows all c.requires.named left c.in-Some.starter c.last_of-its.new.items.items c.last_of-its.result c.loop-starter.servers.items c.loop-starter.starters.items c.loop-starter.lives.items was c.last_of-its.ensures c.loop-starter.invariant.hired
+          c.server_worker.result worker.starter (subst (λ n. IsNewServer d shows (n + 1) c.server_worker.result) place worker.worker));
       room = omega (arith, now, pushed, room, same, more, capacity);
     }
 
 pub returns : goal.returns
 returns g c =
     let d = c.args.domain.now in
-    let named : g.row.T.Denot → List ℕ = g.T.Starter.server_name in
-    let shows : g.row.T.Denot → StarterShows = λ s. record { asked = g.T.Starter.asked s; faults = g.T.Starter.start_faults s } in
+    let shows : g.row.T.Denot → StarterShows = g.T.Starter.shows in
     let none : c.loop-starter.starters.items ≡ [] = nil_from_length c.loop-starter.starters.items (sym c.loop-starter.starters.ok.0 ∙ c.in_default.ensures.cases.0) in
     let empty = ap length none in
     let number : d.clients + length c.loop-starter.starters.items + 1 ≡ d.clients + 1 = omega (arith, empty) in
@@ -89,5 +86,5 @@ returns g c =
     record {
       left = subst (λ n. AreLeft d n c.loop-starter.staff) number c.loop-starter.invariant.left;
       own = c.loop-starter.invariant.own;
-      servers = subst (HasServers d named shows c.args.starters.items) (sym items) (all_hired d named shows c.args.starters.items c.loop-starter.starters.items c.loop-starter.lives.items c.loop-starter.servers.items none c.loop-starter.invariant.hired);
+      servers = subst (HasServers d shows c.args.starters.items) (sym items) (all_hired d shows c.args.starters.items c.loop-starter.starters.items c.loop-starter.lives.items c.loop-starter.servers.items none c.loop-starter.invariant.hired);
     }

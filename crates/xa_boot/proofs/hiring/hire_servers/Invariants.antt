@@ -6,7 +6,7 @@ abbrev pub invariant-loop-starter : goal.invariant-loop-starter
 invariant-loop-starter g l = record {
   left : AreLeft l.domain (l.domain.clients + length l.starters.items + 1) l.staff;
   own : l.staff.own ≡ l.initial.staff.own;
-  hired : AreHired l.domain g.T.Starter.server_name (λ s. record { asked = g.T.Starter.asked s; faults = g.T.Starter.start_faults s }) l.initial.starters.items l.starters.items l.lives.items l.servers.items;
+  hired : AreHired l.domain g.T.Starter.shows l.initial.starters.items l.starters.items l.lives.items l.servers.items;
   room : length l.servers.items + length l.starters.items ≤ vec_capacity l.servers;
 }
 

@@ -21,7 +21,7 @@ returns-clause-worker g c =
     let desk : IsNewDesk d (d.clients + place + 1) c.desk.result = subst (λ n. IsNewDesk d n c.desk.result) mine c.desk.ensures.desk_is in
     let lives : c.args.lives ≡ restarts_of configured = same_Some c.args.lives (restarts_of configured) (sym c.requires.lives ∙ slice_get-map restarts_of servers place ∙ ap (option_map restarts_of) at) in
     let name : ServerSetup → List ℕ = λ (s : ServerSetup). s.name in
-    let named : g.T.Starter.server_name c.args.starter ≡ configured.name = same_Some (g.T.Starter.server_name c.args.starter) configured.name (sym c.requires.named ∙ slice_get-map name servers place ∙ ap (option_map name) at) in
-    new_server d c.requires.domain place configured at c.desk.result desk g.T.Starter.server_name (λ s. record { asked = g.T.Starter.asked s; faults = g.T.Starter.start_faults s }) _ c.args.lives refl (c.new.ensures.slot ∙ c.new-slot.ensures) lives
-    (ap g.T.Starter.server_name c.new.ensures.starter ∙ named)
-    (subst (λ s. HasStarted (g.T.Starter.server_name s) 0 0 (record { asked = g.T.Starter.asked s; faults = g.T.Starter.start_faults s })) (sym c.new.ensures.starter) c.requires.unasked) refl c.queue_named.ensures c.new.ensures.lives refl refl
+    let named : (g.T.Starter.shows c.args.starter).name ≡ configured.name = same_Some (g.T.Starter.shows c.args.starter).name configured.name (sym c.requires.named ∙ slice_get-map name servers place ∙ ap (option_map name) at) in
+    new_server d c.requires.domain place configured at c.desk.result desk g.T.Starter.shows _ c.args.lives refl (c.new.ensures.slot ∙ c.new-slot.ensures) lives
+    (ap (λ s. (g.T.Starter.shows s).name) c.new.ensures.starter ∙ named)
+    (subst (λ s. HasStarted (g.T.Starter.shows s).name 0 0 (g.T.Starter.shows s)) (sym c.new.ensures.starter) c.requires.unasked) refl c.queue_named.ensures c.new.ensures.lives refl refl

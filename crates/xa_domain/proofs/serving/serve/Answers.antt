@@ -6,5 +6,5 @@ use Rattle.xa_domain.proofs.serving.serve.Goals as goal
 pub returns-clause-ends : goal.returns-clause-ends
 returns-clause-ends g c =
     let r = c.serve_all-halt.result in
-    subst (λ clients. ServeEnds g.Y.Start.Starter.server_name (λ s. record { asked = g.Y.Start.Starter.asked s; faults = g.Y.Start.Starter.start_faults s }) c.args.setup clients r.halt r.homes.homes (map (λ v. v.items) r.lives.items) (map cut_in r.cut.items) r.starters.items)
+    subst (λ clients. ServeEnds g.Y.Start.Starter.shows c.args.setup clients r.halt r.homes.homes (map (λ v. v.items) r.lives.items) (map cut_in r.cut.items) r.starters.items)
     c.slice.ensures c.serve_all-halt.ensures.ends

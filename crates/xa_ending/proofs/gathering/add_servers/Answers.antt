@@ -10,35 +10,31 @@ use Rattle.xa_ending.proofs.gathering.add_servers.Goals as goal
 
 pub loop-server-init : goal.loop-server-init
 loop-server-init g c =
-    let named : g.row.T.Denot → List ℕ = g.T.Starter.server_name in
-    let shows : g.row.T.Denot → StarterShows = λ s. record { asked = g.T.Starter.asked s; faults = g.T.Starter.start_faults s } in
+    let shows : g.row.T.Denot → StarterShows = g.T.Starter.shows in
     let same : c.into_iter-rest.result.rest.items ≡ c.args.servers.items = c.into_iter-rest.ensures.rest in
     record {
-      so_far = λ d itself desks before. subst (λ r. HasServersSo d named shows itself desks c.args.servers.items r c.args.all.now c.args.all.now) (sym same) (no_servers d named shows itself desks c.args.servers.items c.args.all.now before);
+      so_far = λ d itself desks before. subst (λ r. HasServersSo d shows itself desks c.args.servers.items r c.args.all.now c.args.all.now) (sym same) (no_servers d shows itself desks c.args.servers.items c.args.all.now before);
       space = subst (λ (r : List (ServerWorker g.row.L.Denot g.row.T.Denot)). HasServerSpace (length r) c.args.all.now) (sym same) c.requires.space;
     }
 
 pub end-requires : goal.end-requires
 end-requires g c =
-    let named : g.row.T.Denot → List ℕ = g.T.Starter.server_name in
-    let shows : g.row.T.Denot → StarterShows = λ s. record { asked = g.T.Starter.asked s; faults = g.T.Starter.start_faults s } in
+    let shows : g.row.T.Denot → StarterShows = g.T.Starter.shows in
     let may = c.requires.may in
-    (next_over may.0 named shows may.1 may.2 c.args.servers.items c.args.all.now may.3 c.loop-server.rest.rest.items c.next.new.self.rest.items c.in-Some.server c.loop-server.all (c.loop-server.invariant.so_far may.0 may.1 may.2 may.3) c.in-Some.ensures.items).1.hand
+    (next_over may.0 shows may.1 may.2 c.args.servers.items c.args.all.now may.3 c.loop-server.rest.rest.items c.next.new.self.rest.items c.in-Some.server c.loop-server.all (c.loop-server.invariant.so_far may.0 may.1 may.2 may.3) c.in-Some.ensures.items).1.hand
 
 pub leave-work-requires : goal.leave-work-requires
 leave-work-requires g c =
-    let named : g.row.T.Denot → List ℕ = g.T.Starter.server_name in
-    let shows : g.row.T.Denot → StarterShows = λ s. record { asked = g.T.Starter.asked s; faults = g.T.Starter.start_faults s } in
+    let shows : g.row.T.Denot → StarterShows = g.T.Starter.shows in
     let may = c.requires.may in
-    (next_over may.0 named shows may.1 may.2 c.args.servers.items c.args.all.now may.3 c.loop-server.rest.rest.items c.next.new.self.rest.items c.in-Some.server c.loop-server.all (c.loop-server.invariant.so_far may.0 may.1 may.2 may.3) c.in-Some.ensures.items).1.idle
+    (next_over may.0 shows may.1 may.2 c.args.servers.items c.args.all.now may.3 c.loop-server.rest.rest.items c.next.new.self.rest.items c.in-Some.server c.loop-server.all (c.loop-server.invariant.so_far may.0 may.1 may.2 may.3) c.in-Some.ensures.items).1.idle
 
 pub add-requires : goal.add-requires
 add-requires g c =
-    let named : g.row.T.Denot → List ℕ = g.T.Starter.server_name in
-    let shows : g.row.T.Denot → StarterShows = λ s. record { asked = g.T.Starter.asked s; faults = g.T.Starter.start_faults s } in
+    let shows : g.row.T.Denot → StarterShows = g.T.Starter.shows in
     let may = c.requires.may in
     let so_far = c.loop-server.invariant.so_far may.0 may.1 may.2 may.3 in
-    let over = next_over may.0 named shows may.1 may.2 c.args.servers.items c.args.all.now may.3 c.loop-server.rest.rest.items c.next.new.self.rest.items c.in-Some.server c.loop-server.all so_far c.in-Some.ensures.items in
+    let over = next_over may.0 shows may.1 may.2 c.args.servers.items c.args.all.now may.3 c.loop-server.rest.rest.items c.next.new.self.rest.items c.in-Some.server c.loop-server.all so_far c.in-Some.ensures.items in
     let its = may_add may.0 c.in-Some.server.desk c.loop-server.all.tokens (may.1 ∷ map leaving_of (may.2 ++ map (λ (w : ServerWorker g.row.L.Denot g.row.T.Denot). w.desk) so_far.front)) over.1.is so_far.has.taken.tokens_are in
     let some = ap length c.in-Some.ensures.items in
     let one : 1 ≤ length c.loop-server.rest.rest.items = omega (arith, some) in
@@ -58,8 +54,7 @@ push_reserved-requires-in-Some-3 g c = let some = ap length c.in-Some.ensures.it
 
 pub loop-server-preserved : goal.loop-server-preserved
 loop-server-preserved g c =
-    let named : g.row.T.Denot → List ℕ = g.T.Starter.server_name in
-    let shows : g.row.T.Denot → StarterShows = λ s. record { asked = g.T.Starter.asked s; faults = g.T.Starter.start_faults s } in
+    let shows : g.row.T.Denot → StarterShows = g.T.Starter.shows in
     let w : ServerWorker g.row.L.Denot g.row.T.Denot = c.in-Some.server in
     let rest : List (ServerWorker g.row.L.Denot g.row.T.Denot) = c.loop-server.rest.rest.items in
     let left : List (ServerWorker g.row.L.Denot g.row.T.Denot) = c.next.new.self.rest.items in
@@ -70,7 +65,7 @@ loop-server-preserved g c =
     let space = c.loop-server.invariant.space in
     record {
       so_far = λ d itself desks before.
-          servers_more d named shows itself desks c.args.servers.items c.args.all.now before rest left w c.leave-work.result.halt c.leave-work.result.work c.leave-work.result.seat now new c.home.result (c.loop-server.invariant.so_far d itself desks before) c.in-Some.ensures.items
+          servers_more d shows itself desks c.args.servers.items c.args.all.now before rest left w c.leave-work.result.halt c.leave-work.result.work c.leave-work.result.seat now new c.home.result (c.loop-server.invariant.so_far d itself desks before) c.in-Some.ensures.items
           c.leave-work.ensures.seat.0 c.leave-work.ensures.seat.1 c.leave-work.ensures.work c.first_of-all.ensures c.add.ensures c.push_reserved.ensures.items c.home.ensures.entries c.home.ensures.sound
           c.push_reserved-in-Some.ensures.items c.push_reserved-in-Some-2.ensures.items c.push_reserved-in-Some-3.ensures.items;
       space = record {
@@ -86,8 +81,7 @@ loop-server-smaller g c = omega (arith, ap length c.in-Some.ensures.items)
 
 pub returns : goal.returns
 returns g c = λ d itself desks before.
-    let named : g.row.T.Denot → List ℕ = g.T.Starter.server_name in
-    let shows : g.row.T.Denot → StarterShows = λ s. record { asked = g.T.Starter.asked s; faults = g.T.Starter.start_faults s } in
+    let shows : g.row.T.Denot → StarterShows = g.T.Starter.shows in
     let rest : List (ServerWorker g.row.L.Denot g.row.T.Denot) = c.loop-server.rest.rest.items in
     let none : rest ≡ [] = nil_from_length rest (sym c.loop-server.rest.rest.ok.0 ∙ c.in_default.ensures.cases.0) in
-    all_servers d named shows itself desks c.args.servers.items c.args.all.now before rest c.loop-server.all none (c.loop-server.invariant.so_far d itself desks before)
+    all_servers d shows itself desks c.args.servers.items c.args.all.now before rest c.loop-server.all none (c.loop-server.invariant.so_far d itself desks before)

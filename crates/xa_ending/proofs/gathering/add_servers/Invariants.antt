@@ -7,8 +7,8 @@ use Rattle.xa_ending.proofs.gathering.add_servers.Given as goal
 
 abbrev pub invariant-loop-server : goal.invariant-loop-server
 invariant-loop-server g l = record {
-  so_far : (d : Domain) (itself : Leaving) (desks : List Desk) → IsBeforeServers d g.T.Starter.server_name (λ s. record { asked = g.T.Starter.asked s; faults = g.T.Starter.start_faults s }) itself desks l.fn.servers.items l.initial.all
-      → HasServersSo d g.T.Starter.server_name (λ s. record { asked = g.T.Starter.asked s; faults = g.T.Starter.start_faults s }) itself desks l.fn.servers.items l.rest.rest.items l.initial.all l.all;
+  so_far : (d : Domain) (itself : Leaving) (desks : List Desk) → IsBeforeServers d g.T.Starter.shows itself desks l.fn.servers.items l.initial.all
+      → HasServersSo d g.T.Starter.shows itself desks l.fn.servers.items l.rest.rest.items l.initial.all l.all;
   space : HasServerSpace (length l.rest.rest.items) l.all;
 }
 

@@ -26,14 +26,13 @@ pub add_clients-requires : goal.add_clients-requires
 add_clients-requires g c =
     let d = c.args.domain.now in
     let closer = c.args.closer in
-    let named : g.row.T.Denot → List ℕ = g.T.Starter.server_name in
-    let shows : g.row.T.Denot → StarterShows = λ s. record { asked = g.T.Starter.asked s; faults = g.T.Starter.start_faults s } in
+    let shows : g.row.T.Denot → StarterShows = g.T.Starter.shows in
     let servers : ℕ = length d.setup.servers in
     let room : Gathered g.row.L.Denot g.row.T.Denot = c.args.room in
     let many = c.requires.all_clients in
     record {
       domain = c.requires.domain;
-      may = (itself_of d closer, c.requires.done.0, record { done = c.requires.done.1; taken = nothing_taken d named shows (length d.queues.items) d.clients servers closer room c.add.new.self c.requires.room refl c.add.ensures });
+      may = (itself_of d closer, c.requires.done.0, record { done = c.requires.done.1; taken = nothing_taken d shows (length d.queues.items) d.clients servers closer room c.add.new.self c.requires.room refl c.add.ensures });
       space = less_workers (length c.args.clients.items) (d.clients + servers) (record room { tokens = c.add.new.self }) (omega (arith, many)) (room_after (length d.queues.items) d.clients servers closer.seat closer.board closer.queues.items room c.add.new.self c.requires.room c.add.ensures);
     }
 
@@ -41,19 +40,18 @@ pub add_servers-requires : goal.add_servers-requires
 add_servers-requires g c =
     let d = c.args.domain.now in
     let closer = c.args.closer in
-    let named : g.row.T.Denot → List ℕ = g.T.Starter.server_name in
-    let shows : g.row.T.Denot → StarterShows = λ s. record { asked = g.T.Starter.asked s; faults = g.T.Starter.start_faults s } in
+    let shows : g.row.T.Denot → StarterShows = g.T.Starter.shows in
     let servers : ℕ = length d.setup.servers in
     let queues : ℕ = length d.queues.items in
     let room : Gathered g.row.L.Denot g.row.T.Denot = c.args.room in
     let g0 : Gathered g.row.L.Denot g.row.T.Denot = record room { tokens = c.add.new.self } in
     let g1 : Gathered g.row.L.Denot g.row.T.Denot = c.add_clients.new.all in
     let many = c.requires.all_clients in
-    let before : IsBeforeClients d (itself_of d closer) c.requires.done.0 c.args.clients.items g0 = record { done = c.requires.done.1; taken = nothing_taken d named shows queues d.clients servers closer room c.add.new.self c.requires.room refl c.add.ensures } in
+    let before : IsBeforeClients d (itself_of d closer) c.requires.done.0 c.args.clients.items g0 = record { done = c.requires.done.1; taken = nothing_taken d shows queues d.clients servers closer room c.add.new.self c.requires.room refl c.add.ensures } in
     let has = c.add_clients.ensures.taken (itself_of d closer) c.requires.done.0 before in
     let space = c.add_clients.ensures.space servers (less_workers (length c.args.clients.items + servers) (d.clients + servers) g0 (omega (arith, many)) (room_after queues d.clients servers closer.seat closer.board closer.queues.items room c.add.new.self c.requires.room c.add.ensures)) in
     record {
-      may = (d, itself_of d closer, has.desks, before_servers d named shows queues d.clients servers (itself_of d closer) c.requires.done.0 c.args.clients.items c.args.servers.items room c.add.new.self g1 c.requires.room c.add_clients.ensures.kept many has c.requires.over);
+      may = (d, itself_of d closer, has.desks, before_servers d shows queues d.clients servers (itself_of d closer) c.requires.done.0 c.args.clients.items c.args.servers.items room c.add.new.self g1 c.requires.room c.add_clients.ensures.kept many has c.requires.over);
       space = subst (λ n. HasServerSpace n g1) (sym c.requires.all_servers) (server_room queues d.clients servers room c.add.new.self g1 c.requires.room c.add_clients.ensures.kept space);
     }
 
@@ -61,8 +59,7 @@ pub returns : goal.returns
 returns g c = λ scripts done.
     let d = c.args.domain.now in
     let closer = c.args.closer in
-    let named : g.row.T.Denot → List ℕ = g.T.Starter.server_name in
-    let shows : g.row.T.Denot → StarterShows = λ s. record { asked = g.T.Starter.asked s; faults = g.T.Starter.start_faults s } in
+    let shows : g.row.T.Denot → StarterShows = g.T.Starter.shows in
     let servers : ℕ = length d.setup.servers in
     let queues : ℕ = length d.queues.items in
     let room : Gathered g.row.L.Denot g.row.T.Denot = c.args.room in
@@ -70,7 +67,7 @@ returns g c = λ scripts done.
     let g1 : Gathered g.row.L.Denot g.row.T.Denot = c.add_clients.new.all in
     let g2 : Gathered g.row.L.Denot g.row.T.Denot = c.add_servers.new.all in
     let many = c.requires.all_clients in
-    let before : IsBeforeClients d (itself_of d closer) scripts c.args.clients.items g0 = record { done = done; taken = nothing_taken d named shows queues d.clients servers closer room c.add.new.self c.requires.room refl c.add.ensures } in
+    let before : IsBeforeClients d (itself_of d closer) scripts c.args.clients.items g0 = record { done = done; taken = nothing_taken d shows queues d.clients servers closer room c.add.new.self c.requires.room refl c.add.ensures } in
     let has = c.add_clients.ensures.taken (itself_of d closer) scripts before in
-    let more = c.add_servers.ensures d (itself_of d closer) has.desks (before_servers d named shows queues d.clients servers (itself_of d closer) scripts c.args.clients.items c.args.servers.items room c.add.new.self g1 c.requires.room c.add_clients.ensures.kept many has c.requires.over) in
-    gathered d named shows scripts c.args.clients.items c.args.servers.items closer g0 g1 g2 c.with_halt-all.result c.requires.room.going many c.requires.over c.requires.closed has more c.with_halt-all.ensures
+    let more = c.add_servers.ensures d (itself_of d closer) has.desks (before_servers d shows queues d.clients servers (itself_of d closer) scripts c.args.clients.items c.args.servers.items room c.add.new.self g1 c.requires.room c.add_clients.ensures.kept many has c.requires.over) in
+    gathered d shows scripts c.args.clients.items c.args.servers.items closer g0 g1 g2 c.with_halt-all.result c.requires.room.going many c.requires.over c.requires.closed has more c.with_halt-all.ensures

@@ -7,13 +7,13 @@ use Rattle.xa_program.proofs.top.serve_script.Goals as goal
 
 pub tell-status-requires : goal.tell-status-requires
 tell-status-requires g c =
-    rw c.slice.ensures (turns (record { named = g.Y.Start.Starter.server_name; shows = λ s. record { asked = g.Y.Start.Starter.asked s; faults = g.Y.Start.Starter.start_faults s } }) c.args.setup c.in-Ok.script.clients
+    rw c.slice.ensures (turns g.Y.Start.Starter.shows c.args.setup c.in-Ok.script.clients
     (record { homes = c.serve-halt.result.homes.homes; history = []; lives = map (λ v. v.items) c.serve-halt.result.lives.items; cut = map cut_in c.serve-halt.result.cut.items; starters = c.serve-halt.result.starters.items })
     c.serve-halt.result.halt c.serve-halt.ensures.ends)
 
 pub returns-clause-ends : goal.returns-clause-ends
 returns-clause-ends g c =
-    served_ends (record { named = g.Y.Start.Starter.server_name; shows = λ s. record { asked = g.Y.Start.Starter.asked s; faults = g.Y.Start.Starter.start_faults s } }) c.args.setup c.in-Ok.script.clients
+    served_ends g.Y.Start.Starter.shows c.args.setup c.in-Ok.script.clients
     (record { homes = c.serve-halt.result.homes.homes; history = c.tell-status.result.1.items; lives = map (λ v. v.items) c.serve-halt.result.lives.items; cut = map cut_in c.serve-halt.result.cut.items; starters = c.serve-halt.result.starters.items })
     _ c.args.most c.in-Ok.ensures.script c.in-Ok.ensures.quiet c.serve-halt.result.halt c.tell-status.result.0 c.serve-halt.ensures.ends
     (subst (λ (clients : List Client). TellingEnds c.serve-halt.result.halt c.serve-halt.result.homes.homes clients (g.O.Sink.took c.args.out.now) (g.O.Sink.took c.tell-status.new.out) (g.O.Sink.write_faults c.args.out.now) (g.O.Sink.write_faults c.tell-status.new.out)

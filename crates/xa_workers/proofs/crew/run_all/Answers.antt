@@ -28,10 +28,9 @@ both_at_work-requires-clause-first g c κs inside shared lent is its =
 
 pub both_at_work-requires-clause-second : goal.both_at_work-requires-clause-second
 both_at_work-requires-clause-second g c κs inside shared lent is its =
-    let named = g.T.Starter.server_name in
-    let shows : g.row.T.Denot → StarterShows = λ s. record { asked = g.T.Starter.asked s; faults = g.T.Starter.start_faults s } in (
-      subst (λ x. IsDomain x.domain.now × EachNumbered (IsNewServer x.domain.now named shows) 1 lent.now.items) (sym is)
-          (c.requires.domain, subst (λ l. EachNumbered (IsNewServer c.args.booted.domain named shows) 1 l.items) (sym its) c.requires.new_servers),
+    let shows : g.row.T.Denot → StarterShows = g.T.Starter.shows in (
+      subst (λ x. IsDomain x.domain.now × EachNumbered (IsNewServer x.domain.now shows) 1 lent.now.items) (sym is)
+          (c.requires.domain, subst (λ l. EachNumbered (IsNewServer c.args.booted.domain shows) 1 l.items) (sym its) c.requires.new_servers),
       (
         search (sendable, c.type_bounds.send-L.owned, c.type_bounds.send-L.leaving),
         search (sendable, c.type_bounds.send-T.owned, c.type_bounds.send-T.leaving),
@@ -42,14 +41,13 @@ both_at_work-requires-clause-second g c κs inside shared lent is its =
 
 pub returns-clause-servers : goal.returns-clause-servers
 returns-clause-servers g c =
-    let named = g.T.Starter.server_name in
-    let shows : g.row.T.Denot → StarterShows = λ s. record { asked = g.T.Starter.asked s; faults = g.T.Starter.start_faults s } in
+    let shows : g.row.T.Denot → StarterShows = g.T.Starter.shows in
     let at = c.both_at_work.ensures.second in
-    subst (λ l. EachNumbered (IsOver c.args.booted.domain named shows) 1 l.items) at.after (subst (λ x. EachNumbered (IsOver x.domain.now named shows) 1 at.left.now.items) at.shows.0 at.called.0)
+    subst (λ l. EachNumbered (IsOver c.args.booted.domain shows) 1 l.items) at.after (subst (λ x. EachNumbered (IsOver x.domain.now shows) 1 at.left.now.items) at.shows.0 at.called.0)
 
 pub returns-clause-names : goal.returns-clause-names
 returns-clause-names g c =
-    let named = g.T.Starter.server_name in
+    let shows : g.row.T.Denot → StarterShows = g.T.Starter.shows in
     let at = c.both_at_work.ensures.second in
-    subst (λ l. map (λ w. named w.served.starter) l.items ≡ map (λ w. w.name) c.args.booted.servers.items) at.after
-    (subst (λ l. map (λ w. named w.served.starter) at.left.now.items ≡ map (λ w. w.name) l.items) at.shows.1 at.called.1)
+    subst (λ l. map (λ w. (shows w.served.starter).name) l.items ≡ map (λ w. w.name) c.args.booted.servers.items) at.after
+    (subst (λ l. map (λ w. (shows w.served.starter).name) at.left.now.items ≡ map (λ w. w.name) l.items) at.shows.1 at.called.1)
