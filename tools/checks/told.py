@@ -109,7 +109,7 @@ def rules(report, program, room):
 
 # What is typed, and what the completion offers.
 TYPED = [
-    ("./xatmi t", ["told", "trial"]),
+    ("./xatmi t", ["test", "told", "trial"]),
     ("./xatmi run examples/b", ["examples/bank.toml"]),
     ("./xatmi check examples/bank.toml examples/a", ["examples/again.script"]),
     ("./xatmi watch --", ["--help", "--json", "--log"]),
