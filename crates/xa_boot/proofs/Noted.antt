@@ -8,17 +8,16 @@ use Rattle.xa_clients.specs.xa_types.declared.stamp.Stamp.{Stamp}
 use Rattle.xa_clients.specs.xa_events.declared.event.Event.{Event}
 use Rattle.xa_clients.specs.xa_events.declared.event.Event.TheVariants.{Advertise}
 use Rattle.xa_clients.specs.xa_events.Cases.{HomePart, WorkerPart}
-use Rattle.xa_clients.specs.xa_events.Homes.{Home, home_of, same_home, of_worker}
+use Rattle.xa_clients.specs.xa_events.Homes.{home_of, same_home, of_worker}
 use Rattle.xa_clients.specs.xa_events.Homes.Home.{BoardHome, QueueHome}
-use Rattle.xa_clients.specs.xa_events.Local.{worker_events}
 use Rattle.xa_clients.specs.xa_events.Words.{AtEach}
 use Rattle.xa_clients.specs.xa_stamp.declared.home.Stamped.{Stamped}
 use Rattle.xa_clients.specs.xa_stamp.Home.{Rises, last_stamp}
 use Rattle.xa_clients.proofs.xa_stamp.Stamps.{last_stamp-push, Rises-push}
 use Rattle.xa_clients.specs.xa_lock.Makers.{made_by, noted_in}
 use Rattle.xa_clients.specs.xa_lock.Pages.{StartsWith}
-use Rattle.xa_clients.specs.xa_crew.Crew.{IsOfDomain, MayNote, MetAmong, TellsEach, no_stamp, stands_at}
-use Rattle.xa_clients.specs.xa_crew.Seen.{past_in, IsBehind, SawFronts, WasTold}
+use Rattle.xa_clients.specs.xa_crew.Crew.{IsOfDomain, MayNote, no_stamp, stands_at}
+use Rattle.xa_clients.specs.xa_crew.Seen.{past_in, IsBehind}
 use Rattle.xa_clients.proofs.xa_crew.Lists.{filter-yes, filter-none, past_in-filter, map-reverse, AtEach-later, AtEach-cut}
 use Rattle.xa_clients.proofs.xa_crew.Before.{All-on}
 use Rattle.xa_clients.proofs.xa_crew.Workers.{AtEach-from, All-at}
@@ -28,8 +27,8 @@ use Rattle.xa_clients.specs.xa_held.Joins.{changes_at}
 use Rattle.xa_clients.proofs.xa_held.Fronts.{changes_front}
 use Rattle.xa_clients.specs.xa_work.Work.{IsWorkOf}
 use Rattle.xa_clients.specs.xa_server.Told.{HasStamp}
-use Rattle.xa_clients.specs.xa_desk.Deserted.{ClearsBehind}
-use Rattle.xa_clients.specs.xa_desk.Desks.{IsGrounded}
+use Rattle.xa_clients.specs.xa_desk.declared.domain.Domain.{Domain}
+use Rattle.xa_clients.specs.xa_desk.Desks.{HasGrounds, IsGrounded, IsShown}
 use Rattle.xa_clients.specs.xa_desk.Whole.{Whole, entries_of, IsKnown}
 use Rattle.xa_boot.specs.Booting.{IsBoots}
 use Rattle.xa_boot.specs.Opening.{IsNextNote, opening, IsBoot}
@@ -49,21 +48,10 @@ on_board : (setup : Setup) (clients : ℕ) (e : Event) → IsBoots e → home_of
 on_board setup clients (Advertise a) b = refl
 on_board setup clients _ b = absurd b
 
-is_behind : (last stamp : Stamp) (e : Event) → IsBoots e → IsBehind last stamp e
-is_behind last stamp (Advertise a) b = tt
-is_behind last stamp _ b = absurd b
-
-saw_fronts : (setup : Setup) (clients : ℕ) (entries : Home → List Stamped) (stamp : Stamp) (e : Event) (older : List Event) → IsBoots e → SawFronts setup clients entries stamp e older
-saw_fronts setup clients entries stamp (Advertise a) older b = tt
-saw_fronts setup clients entries stamp _ older b = absurd b
-
-was_told : (setup : Setup) (clients : ℕ) (entries : Home → List Stamped) (stamp : Stamp) (own : List Event) (e : Event) → IsBoots e → WasTold setup clients entries stamp own e
-was_told setup clients entries stamp own (Advertise a) b = tt
-was_told setup clients entries stamp own _ b = absurd b
-
-clears_behind : (setup : Setup) (entries : Home → List Stamped) (own : List Stamped) (stamp : Stamp) (e : Event) → IsBoots e → ClearsBehind setup entries own stamp e
-clears_behind setup entries own stamp (Advertise a) b = tt
-clears_behind setup entries own stamp _ b = absurd b
+-- it rests on nothing
+has_grounds : (d : Domain) (whole : Whole) (worker : ℕ) (own : List Stamped) (stamp : Stamp) (e : Event) → IsBoots e → IsBehind d.booted stamp e × HasGrounds d whole worker own stamp e
+has_grounds d whole worker own stamp (Advertise a) b = (tt, record { saw = tt; told = tt; clears = tt })
+has_grounds d whole worker own stamp _ b = absurd b
 
 -- ---- the board's home
 
@@ -82,10 +70,6 @@ pub opening_grounded : (setup : Setup) (own others : List Stamped) → All (IsGr
 opening_grounded setup own others = All-cons (IsGrounded others) (Opened setup) (map By (made_by domain own)) tt (by_grounded own others)
 
 -- ---- lists
-
-each-weaker : {X : Type 0} (P Q : X → List X → Type 0) → ((x : X) (older : List X) → P x older → Q x older) → (past : List X) → AtEach P past → AtEach Q past
-each-weaker P Q from [] each = tt
-each-weaker P Q from (x ∷ past) each = (from x past each.0, each-weaker P Q from past each.1)
 
 pub filter-all : {X : Type 0} (p : X → Bool) (xs : List X) → All (λ x. p x ≡ true) xs → filter p xs ≡ xs
 filter-all p [] all = refl
@@ -172,28 +156,29 @@ module _ (setup : Setup) where
       pub last_known : IsKnown whole (record { 0 = length own })
       last_known = known_in own [] (sym (append-nil own))
 
-      pub all_met : All (MetAmong setup (entries_of whole BoardHome)) own
-      all_met = each_note (MetAmong setup (entries_of whole BoardHome)) (λ before after x at note. record {
-        before = before;
-        after = after ++ stands.0;
-        stands = stands.1 ∙ ap (λ (l : List Stamped). l ++ stands.0) at ∙ append_assoc before (x ∷ after) stands.0;
-        shows = subst (HomePart setup x.event) (map-reverse (λ (y : Stamped). y.event) before) note.met;
-      })
+-- ---- what the domain shows of it
 
-      pub all_next : All (λ (x : Stamped). (before : Stamp) × (x.stamp.0 ≡ before.0 + 1) × IsKnown whole before) own
-      all_next = each_note (λ (x : Stamped). (before : Stamp) × (x.stamp.0 ≡ before.0 + 1) × IsKnown whole before) (λ before after x at note.
-          (record { 0 = length before }, note.next ∙ ap (λ n. n + 1) (length-reverse before), known_in before (x ∷ after) at))
+module _ (d : Domain) (own : List Stamped) (is : IsBoot d.setup own) (whole : Whole) (begins : StartsWith whole.board.notes (opening d.setup own)) where
+  shows_from : (older after : List Stamped) → own ≡ reverse older ++ after → AtEach (IsNextNote d.setup) older → AtEach (λ (x : Stamped) past. IsShown d whole 0 (reverse past) x) older
+  shows_from [] after at each = tt
+  shows_from (x ∷ older) after at each =
+      let split : own ≡ reverse older ++ x ∷ after = at ∙ ap (λ (l : List Stamped). l ++ after) (reverse-append (x ∷ []) older) ∙ append_assoc (reverse older) (x ∷ []) after in
+      let on_board = stands d.setup own is whole begins in
+      let note : IsNextNote d.setup x older = each.0 in
+      let shown : IsShown d whole 0 (reverse older) x = record {
+        grounds = (has_grounds d whole 0 (reverse older) x.stamp x.event note.boots).1;
+        behind = (has_grounds d whole 0 (reverse older) x.stamp x.event note.boots).0;
+        met = λ board. record {
+          before = reverse older;
+          after = after ++ on_board.0;
+          stands = on_board.1 ∙ ap (λ (l : List Stamped). l ++ on_board.0) split ∙ append_assoc (reverse older) (x ∷ after) on_board.0;
+          shows = subst (HomePart d.setup x.event) (sym (ap (map (λ (y : Stamped). y.event)) (reverse-reverse older)) ∙ map-reverse (λ (y : Stamped). y.event) (reverse older)) note.met;
+        };
+        before = record { 0 = length (reverse older) };
+        next = note.next ∙ ap (λ n. n + 1) (sym (length-reverse older));
+        known_before = known_in d.setup own is whole begins (reverse older) (x ∷ after) split;
+      } in
+      (shown, shows_from older (x ∷ after) split each.1)
 
-    pub all_behind : (last : Stamp) → All (λ (x : Stamped). IsBehind last x.stamp x.event) own
-    all_behind last = All-weaker (λ (x : Stamped). IsBoots x.event) (λ (x : Stamped). IsBehind last x.stamp x.event) (λ x b. is_behind last x.stamp x.event b) own all_boots
-
-    pub all_clears : (entries : Home → List Stamped) → All (λ (x : Stamped). ClearsBehind setup entries own x.stamp x.event) own
-    all_clears entries = All-weaker (λ (x : Stamped). IsBoots x.event) (λ (x : Stamped). ClearsBehind setup entries own x.stamp x.event) (λ x b. clears_behind setup entries own x.stamp x.event b) own all_boots
-
-    pub all_saw : (clients : ℕ) (entries : Home → List Stamped) → AtEach (λ (x : Stamped) older. SawFronts setup clients entries x.stamp x.event (map (λ (y : Stamped). y.event) older)) (reverse own)
-    all_saw clients entries = each-weaker (IsNextNote setup) (λ (x : Stamped) older. SawFronts setup clients entries x.stamp x.event (map (λ (y : Stamped). y.event) older)) (λ x older note. saw_fronts setup clients entries x.stamp x.event (map (λ (y : Stamped). y.event) older) note.boots) (reverse own) is.boots
-
-    pub all_told : (clients : ℕ) (entries : Home → List Stamped) (worker : ℕ) → TellsEach setup clients entries worker own
-    all_told clients entries worker =
-        each-weaker (IsNextNote setup) (λ (x : Stamped) older. WasTold setup clients entries x.stamp (worker_events clients worker (map (λ (y : Stamped). y.event) older)) x.event)
-        (λ x older note. was_told setup clients entries x.stamp (worker_events clients worker (map (λ (y : Stamped). y.event) older)) x.event note.boots) (reverse own) is.boots
+  pub all_shown : AtEach (λ (x : Stamped) older. IsShown d whole 0 (reverse older) x) (reverse own)
+  all_shown = shows_from (reverse own) [] (sym (append-nil (reverse (reverse own)) ∙ reverse-reverse own)) is.boots

@@ -12,7 +12,7 @@ use Rattle.xa_clients.specs.xa_lock.declared.pass.Page.{Page}
 use Rattle.xa_clients.specs.xa_lock.Known.{known as page_of}
 use Rattle.xa_clients.specs.xa_lock.Makers.{noted_in}
 use Rattle.xa_clients.specs.xa_lock.Pages.{StartsWith, first_own, first_page}
-use Rattle.xa_clients.specs.xa_crew.Crew.{MetAmong, stands_at}
+use Rattle.xa_clients.specs.xa_crew.Crew.{stands_at}
 use Rattle.xa_clients.specs.xa_crew.Seen.{past_in}
 use Rattle.xa_clients.specs.xa_cell.declared.tokens.Seat.{Seat}
 use Rattle.xa_clients.specs.xa_cell.Known.{known}
@@ -33,8 +33,8 @@ use Rattle.xa_clients.specs.xa_told.Told.{WasTaken}
 use Rattle.xa_clients.specs.xa_desk.declared.domain.Domain.{Domain}
 use Rattle.xa_clients.specs.xa_desk.declared.desk.Desk.{Desk}
 use Rattle.xa_clients.specs.xa_desk.Made.{IsMade}
-use Rattle.xa_clients.specs.xa_desk.Whole.{Whole, entries_of, IsKnown}
-use Rattle.xa_clients.specs.xa_desk.Desks.{IsDesk, IsBoardPass, IsQueuePass, IsGrounded, IsThere, IsAmong, Shows, page_in, queue_page}
+use Rattle.xa_clients.specs.xa_desk.Whole.{Whole, IsKnown}
+use Rattle.xa_clients.specs.xa_desk.Desks.{IsDesk, IsBoardPass, IsQueuePass, IsGrounded, IsThere, IsAmong, page_in, queue_page}
 use Rattle.xa_boot.specs.declared.closer.Closer.{Closer}
 use Rattle.xa_boot.specs.declared.staff.Post.{Post}
 use Rattle.xa_boot.specs.Booting.{IsNewCloser, work_of}
@@ -42,7 +42,7 @@ use Rattle.xa_boot.specs.Opening.{IsBoot, opening}
 use Rattle.xa_boot.specs.Supplies.{IsBoardFor, QueuePass}
 use Rattle.xa_boot.specs.Staffing.{IsQueueFor, IsPost, IsNewDesk}
 use Rattle.xa_boot.proofs.Dealt.{there-weaker}
-use Rattle.xa_boot.proofs.Noted.{opening-changes, opening_grounded, all_reached, all_on_board, none_on_queue, is_work, all_boots, all_behind, all_saw, all_told, all_met, all_next, all_clears, last_known}
+use Rattle.xa_boot.proofs.Noted.{opening-changes, opening_grounded, all_reached, all_on_board, none_on_queue, is_work, all_boots, all_shown, last_known}
 
 -- ---- passes
 
@@ -114,9 +114,6 @@ module _ (d : Domain) (own : List Stamped) (k : ℕ) (post : Post) (least : ℕ)
   none_filled : (n : ℕ) → All (EndedFor []) (at n (known post.seat)).filled
   none_filled n = subst (All (EndedFor [])) (sym (ap (λ p. p.filled) (its.seat.fresh.parts n))) (All-nil (EndedFor []))
 
-  shows_none : (whole : Whole) → Shows d whole new.caller.work
-  shows_none whole = record { behind = All-nil _; saw = tt; told = tt; met = All-nil _; next = All-nil _; clears = All-nil _ }
-
   queue_none : (n : ℕ) → n < length d.queues.items → (page_in (slice_index_or post.queues.items n None)).own ≡ []
   queue_none n within = own_none (slice_index_or post.queues.items n None) (its.queues n within) where
     own_none : (o : QueuePass) → IsThere (IsQueueFor d n (suc k)) o → (page_in o).own ≡ []
@@ -145,7 +142,7 @@ module _ (d : Domain) (own : List Stamped) (k : ℕ) (post : Post) (least : ℕ)
             let stamp : d.booted ≡ record { 0 = length own } = ap (λ n. record { 0 = n }) reached in
             let begins = subst (λ l. StartsWith whole.board.notes l) (ap (λ (p : Page BoardNote). p.seen) its.board.page) on.board in
             subst (IsKnown whole) (sym stamp) (last_known d.setup own is whole begins);
-        shows = λ whole on. shows_none whole;
+        shows = λ whole on. tt;
       }
 
   is_new : IsNewDesk d (suc k) new
@@ -180,13 +177,6 @@ new_closer d own post is its reached =
       known = λ whole sound begins.
           let stamp : d.booted ≡ record { 0 = length own } = ap (λ n. record { 0 = n }) reached in
           subst (IsKnown whole) (sym stamp) (last_known d.setup own is whole (on whole begins));
-      shows = λ whole sound begins. record {
-        behind = all_behind d.setup own is d.booted;
-        saw = all_saw d.setup own is d.clients (entries_of whole);
-        told = all_told d.setup own is d.clients (entries_of whole) 0;
-        met = subst (All (MetAmong d.setup (entries_of whole BoardHome))) (sym (all_on_board d.setup own is d.clients)) (all_met d.setup own is whole (on whole begins));
-        next = all_next d.setup own is whole (on whole begins);
-        clears = all_clears d.setup own is (entries_of whole);
-      };
+      shows = λ whole sound begins. all_shown d own is whole (on whole begins);
       halt = refl;
     }

@@ -12,7 +12,6 @@ use Rattle.xa_told.specs.xa_types.declared.stamp.Stamp.{Stamp}
 use Rattle.xa_told.specs.xa_events.declared.event.Event.{Event}
 use Rattle.xa_told.specs.xa_events.Homes.{home_of}
 use Rattle.xa_told.specs.xa_events.Homes.Home.{BoardHome}
-use Rattle.xa_told.specs.xa_events.Local.{worker_events}
 use Rattle.xa_told.specs.xa_events.Server.{AllGone}
 use Rattle.xa_told.specs.xa_stamp.declared.home.Stamped.{Stamped}
 use Rattle.xa_told.specs.xa_stamp.declared.told.Noted.{Noted}
@@ -20,7 +19,7 @@ use Rattle.xa_told.specs.xa_stamp.Home.{last_stamp}
 use Rattle.xa_told.specs.xa_lock.declared.pass.LockPass.{LockPass}
 use Rattle.xa_told.specs.xa_lock.Known.{known as page_of}
 use Rattle.xa_told.specs.xa_lock.Pages.{StartsWith}
-use Rattle.xa_told.specs.xa_crew.Seen.{past_in, IsBehind, SawFront, SawFronts, WasTold}
+use Rattle.xa_told.specs.xa_crew.Seen.{SawFront}
 use Rattle.xa_board.specs.Board.{version_of}
 use Rattle.xa_told.specs.xa_types.Rows.{row_of}
 use Rattle.xa_board.specs.declared.board.BoardRefused.{BoardRefused}
@@ -49,15 +48,14 @@ use Rattle.xa_told.specs.xa_caller.Caller.{Standing as Caller}
 use Rattle.xa_told.specs.xa_caller.Serving.{noted_off}
 use Rattle.xa_desk.specs.declared.domain.Domain.{Domain}
 use Rattle.xa_desk.specs.declared.desk.Desk.{Desk}
-use Rattle.xa_desk.specs.Whole.{Whole, entries_of, IsKnown}
+use Rattle.xa_desk.specs.Whole.{Whole, IsKnown}
 use Rattle.xa_told.specs.xa_server.Told.{HasStamp}
 use Rattle.xa_desk.specs.Made.{IsMade}
-use Rattle.xa_desk.specs.Deserted.{ClearsBehind}
-use Rattle.xa_desk.specs.Desks.{IsGrounded, GoesOn, Leads, page_at, queue_page}
+use Rattle.xa_desk.specs.Desks.{IsGrounded, GoesOn, HasGrounds, IsShown, Leads, page_at, queue_page}
 use Rattle.xa_desk.specs.Serving.{IsDeserted, IsCleared, OfDomain, IsHaltNear, halt_by, seen_by}
 use Rattle.xa_told.proofs.xa_held.Changed.{withdrawal_met}
 use Rattle.xa_desk.proofs.Boarding.{BoardStep, board_front, board_before, stamp_known, reach_known, board_moves, board_seen_leads}
-use Rattle.xa_desk.proofs.Leading.{Grew, grew_one, IsShown, one_leads, starts_trans}
+use Rattle.xa_desk.proofs.Leading.{Grew, grew_one, is_behind, one_leads, starts_trans}
 use Rattle.xa_desk.proofs.Falling.{gave_on, of_domain, of_none}
 use Rattle.xa_desk.proofs.Visiting.{stamp_is, larger_known}
 
@@ -142,16 +140,19 @@ module _ {d : Domain} {desk new : Desk} {p p' : LockPass BoardNote} (step : Boar
     old_front : (whole : Whole) → GoesOn d whole new → StartsWith whole.board.notes withdrew.old.notes
     old_front whole on = starts_trans whole.board.notes withdrew.new.notes withdrew.old.notes (subst (StartsWith whole.board.notes) withdrew.saw (board_front step whole on)) (change maker out, withdrew.grew)
 
-    shown : (whole : Whole) → GoesOn d whole new → GoesOn d whole desk → IsShown d whole w its
+    shown : (whole : Whole) → GoesOn d whole new → GoesOn d whole desk → IsShown d whole w.id.0 w.own its
     shown whole on back =
         let booted = step.is.booted in
         let behind : last_stamp withdrew.old.board.first withdrew.old.board.entries ≤ withdrew.old.last.0 = withdrew.was.behind in
         record {
-          behind = subst (IsBehind d.booted out.stamp) (sym withdrawn_is) (omega (arith, rises, booted));
-          saw = subst (λ (e : Event). SawFronts d.setup d.clients (entries_of whole) out.stamp e (past_in w.own)) (sym withdrawn_is)
-              (λ ours. subst (λ (l : List Stamped). SawFront l out.stamp (AllGone d.setup queue.0)) (events_kept (whole.queues queue.0))
-              (gone_front d.setup queue.0 w.stamp out.stamp (queue_page desk queue.0) (notes_of (whole.queues queue.0)) left.left (back.queues queue.0) rises));
-          told = subst (WasTold d.setup d.clients (entries_of whole) out.stamp (worker_events d.clients w.id.0 (past_in w.own))) (sym withdrawn_is) tt;
+          behind = is_behind d.booted out.stamp out.event.value (omega (arith, rises, booted));
+          grounds = subst (HasGrounds d whole w.id.0 w.own out.stamp) (sym withdrawn_is) (record {
+            saw = λ ours. subst (λ (l : List Stamped). SawFront l out.stamp (AllGone d.setup queue.0)) (events_kept (whole.queues queue.0))
+                (gone_front d.setup queue.0 w.stamp out.stamp (queue_page desk queue.0) (notes_of (whole.queues queue.0)) left.left (back.queues queue.0) rises);
+            told = tt;
+            clears = left.last whole back out.stamp rises;
+          });
+          met = λ board. withdrawal_met d.setup (page_of p) (page_of p') maker whole.board (board_front step whole on) seen queue out withdrew;
           before = record { 0 = max w.stamp.0 withdrew.old.last.0 };
           next = omega (arith, higher, same_stamp, behind);
           known_before = larger_known whole w.stamp withdrew.old.last (step.is.known_stamp whole back) (stamp_known whole withdrew.old.notes (old_front whole on) withdrew.old.last (stamped queue.0 withdrew.old withdrew.was withdrew.read row withdrew.how.1));
@@ -163,9 +164,7 @@ module _ {d : Domain} {desk new : Desk} {p p' : LockPass BoardNote} (step : Boar
         one_leads its step.is
         (board_moves step withdrew grew (All-cons (λ (x : Stamped). home_of d.setup d.clients x.event ≡ BoardHome) its [] (ap (home_of d.setup d.clients) withdrawn_is) (All-nil (λ (x : Stamped). home_of d.setup d.clients x.event ≡ BoardHome))) (ap (λ (c : Caller). c.seat) caller)
         (All-cons (IsGrounded new.caller.work.own) _ [] tt (All-nil (IsGrounded new.caller.work.own))) (ap (λ (c : Caller). c.least) caller)
-        (reached_last (page_of p').seen withdrew.new withdrew.saw withdrew.sound new.caller.work.stamp (withdrew.how.2.last ∙ sym stamp))) stamp
-        (λ whole on there_. withdrawal_met d.setup (page_of p) (page_of p') maker whole.board (board_front step whole on) seen queue out withdrew)
-        (λ whole on. subst (ClearsBehind d.setup (entries_of whole) w.own out.stamp) (sym withdrawn_is) (left.last whole on out.stamp rises)) shown
+        (reached_last (page_of p').seen withdrew.new withdrew.saw withdrew.sound new.caller.work.stamp (withdrew.how.2.last ∙ sym stamp))) stamp shown
 
     pub withdrew_clears : new.queues.items ≡ desk.queues.items → Leads d desk new × IsDeserted d queue.0 new × OfDomain desk new × HasStamp new.caller.work.own new.caller.work.stamp
     withdrew_clears same = (

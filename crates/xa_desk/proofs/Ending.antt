@@ -42,7 +42,7 @@ use Rattle.xa_desk.specs.declared.desk.Desk.{Desk}
 use Rattle.xa_desk.specs.Desks.{IsDesk, Leads, board_page}
 use Rattle.xa_desk.specs.Found.{SawOnBoard}
 use Rattle.xa_desk.specs.Serving.{IsServing, IsToTell}
-use Rattle.xa_desk.proofs.Leading.{grew_one, grew_none, own_leads, calm_leads}
+use Rattle.xa_desk.proofs.Leading.{grew_one, grew_none, next_leads, calm_leads}
 use Rattle.xa_desk.proofs.Seating.{TakesOn, takes_same}
 use Rattle.xa_desk.proofs.Stopping.{same_leads}
 
@@ -85,13 +85,12 @@ end_leads d queue desk slot slot' outcome stamp room new is serving seen ends re
     let x : Stamped = record { stamp = stamp; event = End (record { request = ends.entry.request; server = slot.server; generation = life_in slot.doing; outcome = outcome }) } in
     let version : ℕ = published (past_in (changes_at (board_page desk).seen)) in
     let number = serving.stands.tables.worker.number in
-    let booted = is.booted in
     let next = ends.noted.next in
     let made = ends.noted.made in
-    own_leads d desk new x (grew_one desk.caller.work new.work (room - 1) x made (omega (arith, next)) tt) (ap (λ (w : Working). w.stamp) made) (ap CallerHome (ap (λ n. caller_of n slot.server.0) (sym is.clients) ∙ number))
+    next_leads d desk new x (grew_one desk.caller.work new.work (room - 1) x made (omega (arith, next)) tt) (ap (λ (w : Working). w.stamp) made) (ap CallerHome (ap (λ n. caller_of n slot.server.0) (sym is.clients) ∙ number))
     (subst (λ (c : Caller). IsSeatOf d.cells c.seat) (sym rest) is.seat) (subst (λ (c : Caller). TakesOn (known desk.caller.seat) (known c.seat)) (sym rest) (takes_same (known desk.caller.seat))) tt
-    (subst (λ (c : Caller). c.least ≤ version) (sym rest) (raised_low (version_of outcome) desk.caller.least version is.least (λ v some. (seen v some).0))) is
-    (λ whole on back. record { behind = omega (arith, booted, next); saw = λ v some. (seen v some).1 whole back stamp (omega (arith, next)); told = tt; before = desk.caller.work.stamp; next = next; known_before = is.known_stamp whole back })
+    (subst (λ (c : Caller). c.least ≤ version) (sym rest) (raised_low (version_of outcome) desk.caller.least version is.least (λ v some. (seen v some).0))) is next
+    (λ whole on. record { saw = λ v some. (seen v some).1 whole on stamp (omega (arith, next)); told = tt; clears = tt })
 
 -- it names none
 abbrev pub IsPlain : Outcome → Type 0

@@ -153,12 +153,13 @@ module _ {d : Domain} {queue k : ℕ} {desk new : Desk} {p p' : QueuePass} {last
         let its : Event = Down did.old.queue.id in
         let next = did.how.1.notes.next ∙ ap (λ s. next_stamp s did.old.queue) saw in
         let rises = later step maker noted.stamp noted.event.value did next in
-        let booted = step.is.booted in
         let id = (setting_found step did).id in
         let leads : Leads d desk new =
-        event_leads step maker noted.stamp noted.event.value did next caller its did.how.1.event_is (ap QueueHome id) tt (omega (arith, rises, booted)) (λ whole on. tt)
-        (λ whole on. subst (λ n. SawDeserted d.setup n (entries_of whole BoardHome) (entries_of whole (QueueHome n)) noted.stamp) (sym id) (clear whole on noted.stamp rises))
-        (λ whole on. subst (λ n. GaveUpLast d.setup n (entries_of whole (QueueHome n)) desk.caller.work.own noted.stamp) (sym id) (gave whole on noted.stamp rises)) in (
+        event_leads step maker noted.stamp noted.event.value did next caller its did.how.1.event_is (ap QueueHome id) tt (λ whole on. record {
+          saw = tt;
+          told = subst (λ n. SawDeserted d.setup n (entries_of whole BoardHome) (entries_of whole (QueueHome n)) noted.stamp) (sym id) (clear whole on noted.stamp rises);
+          clears = subst (λ n. GaveUpLast d.setup n (entries_of whole (QueueHome n)) desk.caller.work.own noted.stamp) (sym id) (gave whole on noted.stamp rises);
+        }) in (
           leads,
           of_domain desk new noted.stamp its tt (caller ∙ ap (λ (e : Event). noted_off noted.stamp e desk.caller) did.how.1.event_is),
           falls step did leads gave (ap (λ q. q.down) did.how.1.notes.made),
@@ -171,11 +172,13 @@ module _ {d : Domain} {queue k : ℕ} {desk new : Desk} {p p' : QueuePass} {last
         let its : Event = Sweep (record { request = out.entry.request; queue = did.old.queue.id }) in
         let next = did.how.0.noted.notes.next ∙ ap (λ s. next_stamp s did.old.queue) saw in
         let rises = later step maker out.noted.stamp out.noted.event.value did next in
-        let booted = step.is.booted in
         let found = setting_found step did in
         let said = caller ∙ ap (λ (e : Event). noted_off out.noted.stamp e desk.caller) did.how.0.noted.event_is in (
-          event_leads step maker out.noted.stamp out.noted.event.value did next caller its did.how.0.noted.event_is (ap QueueHome found.id) tt (omega (arith, rises, booted)) (λ whole on. tt) (λ whole on. tt)
-              (λ whole on. subst (λ n. GaveUpLast d.setup n (entries_of whole (QueueHome n)) desk.caller.work.own out.noted.stamp) (sym found.id) (gave whole on out.noted.stamp rises)),
+          event_leads step maker out.noted.stamp out.noted.event.value did next caller its did.how.0.noted.event_is (ap QueueHome found.id) tt (λ whole on. record {
+            saw = tt;
+            told = tt;
+            clears = subst (λ n. GaveUpLast d.setup n (entries_of whole (QueueHome n)) desk.caller.work.own out.noted.stamp) (sym found.id) (gave whole on out.noted.stamp rises);
+          }),
           of_domain desk new out.noted.stamp its tt said,
           to_tell d desk new out.entry did.old.queue.id out.noted.stamp (subst (λ cells. IsRight cells out.entry) found.cells did.how.1) said closing is,
           subst (λ (c : Closing). IsSome c.ticket) (sym is) refl,

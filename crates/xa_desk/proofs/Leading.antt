@@ -1,23 +1,22 @@
 -- What a desk knows and shows goes on, as its worker notes an event, or nothing.
-use Rattle.std.proofs.Common.{◌≡◌, ◌≤◌, ◌<◌, ℕ, ◌+◌, Bool, true, false, cond, length, List, [], ◌∷◌, ◌++◌, map, reverse, Option, Some, None, inl, inr, refl, sym, ◌∙◌, ap, subst, append-nil, arith}
+use Rattle.std.proofs.Common.{◌≡◌, ◌≤◌, ◌<◌, ℕ, ◌+◌, true, false, length, List, [], ◌∷◌, ◌++◌, reverse, Option, Some, None, inl, inr, refl, sym, ◌∙◌, ap, subst, append-nil, arith}
 use Rattle.std.specs.Prelude.{slice_index_or}
-use Rattle.std.proofs.lemmas.List.{append_assoc}
+use Rattle.std.proofs.lemmas.List.{append_assoc, reverse-append, reverse-reverse}
 use Rattle.std.specs.List.{All, Contains, filter}
-use Rattle.std.proofs.lemmas.List.Elements.{All-nil, All-cons, All-push, All-append, All-weaker, filter-append, Contains-push, Contains-append_left}
+use Rattle.std.proofs.lemmas.List.Elements.{All-nil, All-cons, All-append, All-weaker, Contains-push, Contains-append_left}
 use Rattle.xa_told.specs.xa_types.declared.stamp.Stamp.{Stamp}
 use Rattle.xa_told.specs.xa_types.declared.setup.Setup.{Setup}
-use Rattle.xa_told.specs.xa_events.declared.event.Event.{Event}
-use Rattle.xa_told.specs.xa_events.declared.event.Event.TheVariants.{Withdraw, Sweep, Down}
 use Rattle.xa_told.specs.xa_types.declared.ids.CallerId.{CallerId}
+use Rattle.xa_told.specs.xa_events.declared.event.Event.{Event}
+use Rattle.xa_told.specs.xa_events.declared.event.Event.TheVariants.{Advertise}
 use Rattle.xa_told.specs.xa_events.Words.{AtEach}
 use Rattle.xa_told.specs.xa_events.Homes.{Home, home_of, same_home}
 use Rattle.xa_told.specs.xa_events.Homes.Home.{BoardHome, QueueHome, CallerHome}
-use Rattle.xa_told.specs.xa_events.Local.{worker_events}
 use Rattle.xa_told.specs.xa_events.Board.{published}
 use Rattle.xa_told.specs.xa_stamp.declared.home.Stamped.{Stamped}
 use Rattle.xa_told.specs.xa_lock.declared.pass.LockPass.{LockPass}
-use Rattle.xa_told.specs.xa_crew.Seen.{past_in, IsBehind, SawFronts, WasTold}
-use Rattle.xa_told.specs.xa_crew.Crew.{MetAmong, stands_at, TellsEach}
+use Rattle.xa_told.specs.xa_crew.Seen.{past_in, IsBehind}
+use Rattle.xa_told.specs.xa_crew.Crew.{stands_at}
 use Rattle.xa_told.proofs.xa_crew.Growing.{page_stays}
 use Rattle.xa_told.specs.xa_cell.declared.view.View.{View}
 use Rattle.xa_told.specs.xa_cell.Known.{known, IsSeatOf}
@@ -29,17 +28,16 @@ use Rattle.xa_told.specs.xa_held.Kept.{notes_of}
 use Rattle.xa_told.specs.xa_lock.Known.{known as page_of}
 use Rattle.xa_told.specs.xa_lock.Pages.{StartsWith}
 use Rattle.xa_told.specs.xa_work.Work.{Standing as Working}
-use Rattle.xa_told.proofs.xa_work.Noting.{each-more}
 use Rattle.xa_told.specs.xa_caller.declared.cargo.Filling.{Filling}
 use Rattle.xa_told.specs.xa_caller.Caller.{Standing as Caller}
 use Rattle.xa_told.specs.xa_server.Told.{HasStamp, FilledByEnds}
 use Rattle.xa_told.proofs.xa_server.Telling.{fillings_stay}
 use Rattle.xa_desk.specs.declared.domain.Domain.{Domain}
 use Rattle.xa_desk.specs.declared.desk.Desk.{Desk}
-use Rattle.xa_desk.specs.Whole.{Whole, entries_of, IsKnown}
+use Rattle.xa_desk.specs.Whole.{Whole, IsKnown}
 use Rattle.xa_desk.specs.Made.{IsMade}
-use Rattle.xa_desk.specs.Deserted.{GaveUpLast, ClearsBehind}
-use Rattle.xa_desk.specs.Desks.{IsAmong, IsGrounded, IsBoardPass, IsQueuePass, IsThere, GoesOn, Shows, IsDesk, Leads, board_page, queue_page}
+use Rattle.xa_desk.specs.Deserted.{GaveUpLast}
+use Rattle.xa_desk.specs.Desks.{IsAmong, IsGrounded, IsBoardPass, IsQueuePass, IsThere, GoesOn, HasGrounds, IsShown, Shows, IsDesk, Leads, board_page, queue_page}
 use Rattle.xa_told.specs.Told.{WasTaken, AnswersTaken}
 use Rattle.xa_desk.proofs.Seating.{TakesAll, TakesOn, taken_before, took_on, filled_on}
 
@@ -103,8 +101,7 @@ grounded_one w w' more grew (Looked look) is = elim is [ inl left ↦ inl left |
 pub grounded_stay : (w w' : Working) (more : List Stamped) → Grew w w' more → (notes : List BoardNote) → All (IsGrounded w.own) notes → All (IsGrounded w'.own) notes
 grounded_stay w w' more grew notes all = All-weaker (IsGrounded w.own) (IsGrounded w'.own) (grounded_one w w' more grew) notes all
 
--- ---- what clears a queue came behind the last server there
-
+-- the worker gave up the queue's last server still
 pub gave_more : {setup : Setup} {queue : ℕ} {entries : List Stamped} {stamp : Stamp} (own more : List Stamped) → GaveUpLast setup queue entries own stamp → GaveUpLast setup queue entries (own ++ more) stamp
 gave_more own more gave = record {
   server = gave.server;
@@ -118,27 +115,10 @@ gave_more own more gave = record {
   all = gave.all;
 }
 
-clears_more : (setup : Setup) (entries : Home → List Stamped) (own more : List Stamped) (stamp : Stamp) (e : Event) → ClearsBehind setup entries own stamp e → ClearsBehind setup entries (own ++ more) stamp e
-clears_more setup entries own more stamp (Withdraw w) clears = gave_more own more clears
-clears_more setup entries own more stamp (Sweep x) clears = gave_more own more clears
-clears_more setup entries own more stamp (Down queue) clears = gave_more own more clears
-clears_more setup entries own more stamp _ clears = tt
-
--- an event at a caller's own home clears nothing
-clears_none : (setup : Setup) (clients caller : ℕ) (entries : Home → List Stamped) (own : List Stamped) (stamp : Stamp) (e : Event) → home_of setup clients e ≡ CallerHome caller → ClearsBehind setup entries own stamp e
-clears_none setup clients caller entries own stamp (Withdraw w) home = absurd (cc home)
-clears_none setup clients caller entries own stamp (Sweep x) home = absurd (cc home)
-clears_none setup clients caller entries own stamp (Down queue) home = absurd (cc home)
-clears_none setup clients caller entries own stamp _ home = tt
-
--- what a worker shows of its next event
-pub record IsShown (d : Domain) (whole : Whole) (w : Working) (x : Stamped) : Type 0 where
-  pub behind : IsBehind d.booted x.stamp x.event
-  pub saw : SawFronts d.setup d.clients (entries_of whole) x.stamp x.event (past_in w.own)
-  pub told : WasTold d.setup d.clients (entries_of whole) x.stamp (worker_events d.clients w.id.0 (past_in w.own)) x.event
-  pub before : Stamp
-  pub next : x.stamp.0 ≡ before.0 + 1
-  pub known_before : IsKnown whole before
+-- what has a greater stamp than the boot came behind it
+pub is_behind : (last stamp : Stamp) (e : Event) → last.0 < stamp.0 → IsBehind last stamp e
+is_behind last stamp (Advertise a) less = tt
+is_behind last stamp _ less = less
 
 module _ (d : Domain) where
   -- ---- passes of homes at which nothing was noted
@@ -172,53 +152,17 @@ module _ (d : Domain) where
 
   -- ---- what is shown
 
-  abbrev Saw : Whole → List Stamped → Type 0
-  Saw whole own = AtEach (λ (y : Stamped) older. SawFronts d.setup d.clients (entries_of whole) y.stamp y.event (map (λ (z : Stamped). z.event) older)) (reverse own)
-
-  abbrev MetAt : Whole → List Stamped → Type 0
-  MetAt whole own = All (MetAmong d.setup (entries_of whole BoardHome)) (filter (stands_at d.setup d.clients BoardHome) own)
-
-  abbrev IsNextOf : Whole → Stamped → Type 0
-  IsNextOf whole y = (before : Stamp) × (y.stamp.0 ≡ before.0 + 1) × IsKnown whole before
-
-  pub met_one_more : (whole : Whole) (own : List Stamped) (x : Stamped) (b : Bool) → stands_at d.setup d.clients BoardHome x ≡ b → (b ≡ true → MetAmong d.setup (entries_of whole BoardHome) x) → MetAt whole own → MetAt whole (own ++ x ∷ [])
-  met_one_more whole own x b is met old =
-      let P : Stamped → Type 0 = MetAmong d.setup (entries_of whole BoardHome) in
-      let p : Stamped → Bool = stands_at d.setup d.clients BoardHome in
-      subst (All P) (sym (filter-append p own (x ∷ []) ∙ ap (λ (c : Bool). filter p own ++ cond c (x ∷ []) []) is)) (All-append P (filter p own) (cond b (x ∷ []) []) old (by P x b met))
-    where
-      by : (P : Stamped → Type 0) (x : Stamped) (b : Bool) → (b ≡ true → P x) → All P (cond b (x ∷ []) [])
-      by P x true met = All-cons P x [] (met refl) (All-nil P)
-      by P x false met = All-nil P
-
-  -- what stands at the board met what is asked there
-  abbrev Clears : Whole → List Stamped → Stamped → Type 0
-  Clears whole own y = ClearsBehind d.setup (entries_of whole) own y.stamp y.event
-
-  pub shows_one_more : (whole : Whole) (w w' : Working) (x : Stamped) → Grew w w' (x ∷ []) → (stands_at d.setup d.clients BoardHome x ≡ true → MetAmong d.setup (entries_of whole BoardHome) x) → ClearsBehind d.setup (entries_of whole) w.own x.stamp x.event → Shows d whole w → IsShown d whole w x → Shows d whole w'
-  shows_one_more whole w w' x grew met clears shows shown = record {
-    behind = subst (All (λ (y : Stamped). IsBehind d.booted y.stamp y.event)) (sym {A = List Stamped} grew.own) (All-push (λ (y : Stamped). IsBehind d.booted y.stamp y.event) w.own x shows.behind shown.behind);
-    saw = subst (Saw whole) (sym {A = List Stamped} grew.own) (each-more (λ (y : Stamped) (past : List Event). SawFronts d.setup d.clients (entries_of whole) y.stamp y.event past) w.own x shows.saw shown.saw);
-    told = subst (λ (own : List Stamped). TellsEach d.setup d.clients (entries_of whole) w'.id.0 own) (sym {A = List Stamped} grew.own) (subst (λ (id : CallerId). TellsEach d.setup d.clients (entries_of whole) id.0 (w.own ++ x ∷ [])) (sym grew.id)
-        (each-more (λ (y : Stamped) (past : List Event). WasTold d.setup d.clients (entries_of whole) y.stamp (worker_events d.clients w.id.0 past) y.event) w.own x shows.told shown.told));
-    met = subst (MetAt whole) (sym {A = List Stamped} grew.own) (met_one_more whole w.own x (stands_at d.setup d.clients BoardHome x) refl met shows.met);
-    next = subst (All (IsNextOf whole)) (sym {A = List Stamped} grew.own) (All-push (IsNextOf whole) w.own x shows.next (shown.before, shown.next, shown.known_before));
-    clears = let on : (y : Stamped) → Clears whole w.own y → Clears whole (w.own ++ x ∷ []) y = λ y. clears_more d.setup (entries_of whole) w.own (x ∷ []) y.stamp y.event in
-        subst (λ (own : List Stamped). All (Clears whole own) own) (sym {A = List Stamped} grew.own)
-        (All-push (Clears whole (w.own ++ x ∷ [])) w.own x (All-weaker (Clears whole w.own) (Clears whole (w.own ++ x ∷ [])) on w.own shows.clears) (on x clears));
-  }
+  pub shows_more : (whole : Whole) (w w' : Working) (x : Stamped) → Grew w w' (x ∷ []) → Shows d whole w → IsShown d whole w.id.0 w.own x → Shows d whole w'
+  shows_more whole w w' x grew shows shown =
+      let EachShown : CallerId → List Stamped → Type 0 = λ id newest. AtEach (λ (y : Stamped) older. IsShown d whole id.0 (reverse older) y) newest in
+      subst (λ (l : List Stamped). EachShown w'.id (reverse l)) (sym {A = List Stamped} grew.own)
+      (subst (EachShown w'.id) (sym (reverse-append w.own (x ∷ [])))
+      (subst (λ (id : CallerId). EachShown id (x ∷ reverse w.own)) (sym grew.id) (subst (λ (own : List Stamped). IsShown d whole w.id.0 own x) (sym (reverse-reverse w.own)) shown, shows)))
 
   pub shows_still : (whole : Whole) (w w' : Working) → Grew w w' [] → Shows d whole w → Shows d whole w'
   shows_still whole w w' grew shows =
-      let own : w'.own ≡ w.own = grew.own ∙ append-nil w.own in
-      record {
-        behind = subst (All (λ (y : Stamped). IsBehind d.booted y.stamp y.event)) (sym {A = List Stamped} own) shows.behind;
-        saw = subst (Saw whole) (sym {A = List Stamped} own) shows.saw;
-        told = subst (λ (l : List Stamped). TellsEach d.setup d.clients (entries_of whole) w'.id.0 l) (sym {A = List Stamped} own) (subst (λ (id : CallerId). TellsEach d.setup d.clients (entries_of whole) id.0 w.own) (sym grew.id) shows.told);
-        met = subst (MetAt whole) (sym {A = List Stamped} own) shows.met;
-        next = subst (All (IsNextOf whole)) (sym {A = List Stamped} own) shows.next;
-        clears = subst (λ (l : List Stamped). All (Clears whole l) l) (sym {A = List Stamped} own) shows.clears;
-      }
+      let EachShown : CallerId → List Stamped → Type 0 = λ id newest. AtEach (λ (y : Stamped) older. IsShown d whole id.0 (reverse older) y) newest in
+      subst (λ (id : CallerId). EachShown id (reverse w'.own)) (sym grew.id) (subst (λ (l : List Stamped). EachShown w.id (reverse l)) (sym {A = List Stamped} (grew.own ∙ append-nil w.own)) shows)
 
   pub off_home : (home other : Home) (more : List Stamped) → All (λ (x : Stamped). home_of d.setup d.clients x.event ≡ home) more → same_home home other ≡ false → All (λ (x : Stamped). stands_at d.setup d.clients other x ≡ false) more
   off_home home other more at apart = All-weaker (λ (x : Stamped). home_of d.setup d.clients x.event ≡ home) (λ (x : Stamped). stands_at d.setup d.clients other x ≡ false) (λ x is. ap (λ h. same_home h other) is ∙ apart) more at
@@ -304,12 +248,11 @@ module _ {d : Domain} {old new : Desk} where
   none_leads is moves is_known = moves_lead is moves is_known (λ whole on back. shows_still d whole old.caller.work new.caller.work moves.grew (is.shows whole back))
 
   -- an event was
-  pub one_leads : (x : Stamped) → IsDesk d old → Moves d old new (x ∷ []) → new.caller.work.stamp ≡ x.stamp → ((whole : Whole) → GoesOn d whole new → stands_at d.setup d.clients BoardHome x ≡ true → MetAmong d.setup (entries_of whole BoardHome) x)
-      → ((whole : Whole) → GoesOn d whole old → ClearsBehind d.setup (entries_of whole) old.caller.work.own x.stamp x.event) → ((whole : Whole) → GoesOn d whole new → GoesOn d whole old → IsShown d whole old.caller.work x) → Leads d old new
-  one_leads x is moves now met clears shown =
+  pub one_leads : (x : Stamped) → IsDesk d old → Moves d old new (x ∷ []) → new.caller.work.stamp ≡ x.stamp → ((whole : Whole) → GoesOn d whole new → GoesOn d whole old → IsShown d whole old.caller.work.id.0 old.caller.work.own x) → Leads d old new
+  one_leads x is moves now shown =
       moves_lead is moves
       (λ whole on back. inr (inl (home_of d.setup d.clients x.event, (x, on.stand x (subst (λ (l : List Stamped). Contains l x) (sym {A = List Stamped} moves.grew.own) (Contains-push old.caller.work.own x)), sym now))))
-      (λ whole on back. shows_one_more d whole old.caller.work new.caller.work x moves.grew (met whole on) (clears whole back) (is.shows whole back) (shown whole on back))
+      (λ whole on back. shows_more d whole old.caller.work new.caller.work x moves.grew (is.shows whole back) (shown whole on back))
 
 -- ---- a desk whose caller alone goes on
 
@@ -344,12 +287,27 @@ pub record IsQuiet (d : Domain) (desk : Desk) (new : Caller) : Type 0 where
 module _ (d : Domain) (desk : Desk) (new : Caller) where
   -- the caller noted an event at its own home
   pub own_leads : (x : Stamped) → Grew desk.caller.work new.work (x ∷ []) → new.work.stamp ≡ x.stamp → home_of d.setup d.clients x.event ≡ CallerHome desk.caller.work.id.0 → IsSeatOf d.cells new.seat → TakesOn (known desk.caller.seat) (known new.seat)
-      → WasTaken (known new.seat) x.stamp x.event → new.least ≤ published (past_in (changes_at (board_page desk).seen)) → IsDesk d desk → ((whole : Whole) → GoesOn d whole (record desk { caller = new }) → GoesOn d whole desk → IsShown d whole desk.caller.work x) → Leads d desk (record desk { caller = new })
+      → WasTaken (known new.seat) x.stamp x.event → new.least ≤ published (past_in (changes_at (board_page desk).seen)) → IsDesk d desk → ((whole : Whole) → GoesOn d whole (record desk { caller = new }) → GoesOn d whole desk → IsShown d whole desk.caller.work.id.0 desk.caller.work.own x) → Leads d desk (record desk { caller = new })
   own_leads x grew now home seat takes took least is shown =
       one_leads x is
       (own_moves is grew (All-cons (λ (y : Stamped). home_of d.setup d.clients y.event ≡ CallerHome desk.caller.work.id.0) x [] home (All-nil (λ (y : Stamped). home_of d.setup d.clients y.event ≡ CallerHome desk.caller.work.id.0))) seat takes.taken
       (filled_more desk.caller.work new.work (x ∷ []) (known desk.caller.seat) (known new.seat) grew takes is.filled) (All-cons (λ (y : Stamped). WasTaken (known new.seat) y.stamp y.event) x [] took (All-nil (λ (y : Stamped). WasTaken (known new.seat) y.stamp y.event))) least)
-      now (λ whole on there_. absurd (cc (ap (λ h. same_home h BoardHome) home, there_))) (λ whole back. clears_none d.setup d.clients desk.caller.work.id.0 (entries_of whole) desk.caller.work.own x.stamp x.event home) shown
+      now shown
+
+  -- with the stamp behind its own
+  pub next_leads : (x : Stamped) → Grew desk.caller.work new.work (x ∷ []) → new.work.stamp ≡ x.stamp → home_of d.setup d.clients x.event ≡ CallerHome desk.caller.work.id.0 → IsSeatOf d.cells new.seat → TakesOn (known desk.caller.seat) (known new.seat)
+      → WasTaken (known new.seat) x.stamp x.event → new.least ≤ published (past_in (changes_at (board_page desk).seen)) → IsDesk d desk → x.stamp.0 ≡ desk.caller.work.stamp.0 + 1
+      → ((whole : Whole) → GoesOn d whole desk → HasGrounds d whole desk.caller.work.id.0 desk.caller.work.own x.stamp x.event) → Leads d desk (record desk { caller = new })
+  next_leads x grew now home seat takes took least is next grounds =
+      let booted = is.booted in
+      own_leads x grew now home seat takes took least is (λ whole on back. record {
+        grounds = grounds whole back;
+        behind = is_behind d.booted x.stamp x.event (omega (arith, booted, next));
+        met = λ board. absurd (cc (ap (λ h. same_home h BoardHome) home, board));
+        before = desk.caller.work.stamp;
+        next = next;
+        known_before = is.known_stamp whole back;
+      })
 
   pub quiet_leads : IsQuiet d desk new → IsDesk d desk → ((whole : Whole) → GoesOn d whole (record desk { caller = new }) → GoesOn d whole desk → IsKnown whole new.work.stamp) → Leads d desk (record desk { caller = new })
   quiet_leads quiet is is_known =

@@ -44,10 +44,7 @@ module _ {d : Domain} {queue k : ℕ} {desk new : Desk} {p p' : QueuePass} {last
   event = left.how.0.event_is ∙ ap Gone serves
 
   left_leads : Leads d desk new
-  left_leads =
-      let rises = later step maker done.noted.stamp done.noted.event.value left next in
-      let booted = step.is.booted in
-      event_leads step maker done.noted.stamp done.noted.event.value left next caller (Gone slot.server) event (ap QueueHome serving.its) tt (omega (arith, rises, booted)) (λ whole on. tt) (λ whole on. tt) (λ whole on. tt)
+  left_leads = event_leads step maker done.noted.stamp done.noted.event.value left next caller (Gone slot.server) event (ap QueueHome serving.its) tt (λ whole on. record { saw = tt; told = tt; clears = tt })
 
   left_serves : (slot' : ServerSlot) → Stands slot' new.caller.work → slot' ≡ record slot { gone = true } → IsServing d queue slot' new
   left_serves slot' stands slot_is =

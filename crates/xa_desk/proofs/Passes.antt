@@ -33,7 +33,7 @@ use Rattle.xa_told.specs.xa_events.Words.{latest}
 use Rattle.xa_told.specs.xa_stamp.declared.home.Stamped.{Stamped}
 use Rattle.xa_told.specs.xa_lock.declared.makers.Made.{Made}
 use Rattle.xa_told.specs.xa_lock.Known.{known as page_of}
-use Rattle.xa_told.specs.xa_crew.Seen.{past_in, IsBehind, SawFront, SawSince, SawFronts, WasTold}
+use Rattle.xa_told.specs.xa_crew.Seen.{past_in, SawFront, SawSince}
 use Rattle.xa_told.specs.xa_queue.declared.entry.Entry.{Entry}
 use Rattle.xa_told.specs.xa_queue.Changes.{IsEntry, next_stamp}
 use Rattle.xa_told.proofs.xa_cell.Lists.{decided}
@@ -67,18 +67,16 @@ use Rattle.xa_told.specs.xa_server.Forwarding.{way_of, row_or, hop_in, forwarded
 use Rattle.xa_told.specs.xa_server.Noting.{HaltsWith}
 use Rattle.xa_told.specs.xa_server.Slot.{Tables, Stands}
 use Rattle.xa_desk.specs.Made.{IsMade}
-use Rattle.xa_desk.specs.Deserted.{ClearsBehind}
 use Rattle.xa_desk.specs.declared.domain.Domain.{Domain}
 use Rattle.xa_desk.specs.declared.desk.Desk.{Desk}
 use Rattle.xa_desk.specs.Whole.{entries_of}
-use Rattle.xa_desk.specs.Desks.{IsDomain, IsDesk, Leads, board_page, queue_page, page_in}
+use Rattle.xa_desk.specs.Desks.{HasGrounds, IsDomain, IsDesk, Leads, board_page, queue_page, page_in}
 use Rattle.xa_desk.specs.Found.{SawOnBoard, SawItsOwnAt, HasFound}
 use Rattle.xa_desk.specs.Serving.{IsTaken, IsServing, IsToTell}
 use Rattle.xa_desk.specs.Passing.{IsPassing, Leaves, StillPassing, forwarded_to, holding}
 use Rattle.xa_desk.proofs.Configured.{row_priority, asked_priority}
 use Rattle.xa_desk.proofs.Dying.{serving_on, hand_on}
 use Rattle.xa_desk.proofs.Ending.{WasSeen, end_leads, ended_told, halted_leads}
-use Rattle.xa_desk.proofs.Fitting.{its_events}
 use Rattle.xa_desk.proofs.Leading.{Grew, grew_one}
 use Rattle.xa_desk.proofs.Preparing.{passes_found, weaker_front}
 use Rattle.xa_desk.proofs.Staying.{found_stays, itself_stays}
@@ -305,7 +303,6 @@ module _ {d : Domain} {queue : ℕ} {entry : Entry Cargo} {event : Event} {slot 
           let its = step.is in
           let found = passing.found in
           let payload : Data = entry.cargo.invocation.payload in
-          let booted = its.booted in
           let above = more in
           let low = found.seen in
           let least = ap (λ (c : Caller). c.least) goes.noted in
@@ -313,15 +310,16 @@ module _ {d : Domain} {queue : ℕ} {entry : Entry Cargo} {event : Event} {slot 
           let grew : Grew old.caller.work new.caller.work (x ∷ []) = grew_one old.caller.work new.caller.work old.caller.work.room x (ap (λ (c : Caller). c.work) goes.noted) above (subst IsMade (sym passing.event_is) tt) in
           let number : caller_of d.clients slot.server.0 ≡ old.caller.work.id.0 = ap (λ n. caller_of n slot.server.0) (sym its.clients) ∙ passing.serving.stands.tables.worker.number in
           noted_leads step maker stamp event put next grew (ap (home_of d.setup d.clients) passing.event_is ∙ ap QueueHome (sym to_is)) (ap (λ (c : Caller). c.seat) goes.noted) (ap (λ (c : Caller). c.work.stamp) goes.noted) (omega (arith, least, low))
-          (subst (IsBehind d.booted stamp) (sym passing.event_is) (omega (arith, booted, above)))
-          (λ whole on. subst (λ (e : Event). SawFronts d.setup d.clients (entries_of whole) stamp e (past_in old.caller.work.own)) (sym passing.event_is) (record {
-            row = subst (λ (name : List ℕ). SawFront (entries_of whole BoardHome) stamp (RowStands d.setup Version name Its.queue.0 (RowAdmits d.setup false Its.routine payload))) (sym (row-service d.setup passing.service Its its_row))
-                (All-contains (λ (row : Row). is_accepted d.setup row.accepts (kind_of payload) ≡ true → SawOnBoard d old (RowStands d.setup Version passing.service row.queue.0 (RowAdmits d.setup false row.routine payload))) old.reader.found.rows Its (found.stand payload) passing.among passing.accepts whole on stamp above);
-            sent = subst (λ n. SawSince d.setup d.clients (entries_of whole) stamp n (queue_of d.setup slot.server.0) May (past_in old.caller.work.own)) (sym number)
-                (subst (λ n. SawSince d.setup d.clients (entries_of whole) stamp old.caller.work.id.0 n May (past_in old.caller.work.own)) (sym passing.serving.its) (passing.sent whole on stamp above));
+          (λ whole on. subst (HasGrounds d whole old.caller.work.id.0 old.caller.work.own stamp) (sym passing.event_is) (record {
+            saw = record {
+              row = subst (λ (name : List ℕ). SawFront (entries_of whole BoardHome) stamp (RowStands d.setup Version name Its.queue.0 (RowAdmits d.setup false Its.routine payload))) (sym (row-service d.setup passing.service Its its_row))
+                  (All-contains (λ (row : Row). is_accepted d.setup row.accepts (kind_of payload) ≡ true → SawOnBoard d old (RowStands d.setup Version passing.service row.queue.0 (RowAdmits d.setup false row.routine payload))) old.reader.found.rows Its (found.stand payload) passing.among passing.accepts whole on stamp above);
+              sent = subst (λ n. SawSince d.setup d.clients (entries_of whole) stamp n (queue_of d.setup slot.server.0) May (past_in old.caller.work.own)) (sym number)
+                  (subst (λ n. SawSince d.setup d.clients (entries_of whole) stamp old.caller.work.id.0 n May (past_in old.caller.work.own)) (sym passing.serving.its) (passing.sent whole on stamp above));
+            };
+            told = tt;
+            clears = tt;
           }))
-          (λ whole on. subst (WasTold d.setup d.clients (entries_of whole) stamp (its_events d old)) (sym passing.event_is) tt)
-          (λ whole on. subst (ClearsBehind d.setup (entries_of whole) old.caller.work.own stamp) (sym passing.event_is) tt)
         where
           May : List Event → Type 0
           May past = IsSomeAnd (latest (is_entry_of entry.request) past) (Forwardable entry.cargo.invocation.hop)

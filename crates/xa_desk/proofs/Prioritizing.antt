@@ -18,7 +18,7 @@ use Rattle.xa_desk.specs.declared.desk.Desk.{Desk}
 use Rattle.xa_desk.specs.Desks.{IsDesk, Leads, board_page}
 use Rattle.xa_desk.specs.Steps.{FitsOp}
 use Rattle.xa_desk.proofs.Fitting.{IsRead, call_over, one_more_fits}
-use Rattle.xa_desk.proofs.Leading.{Grew, grew_one, own_leads}
+use Rattle.xa_desk.proofs.Leading.{Grew, grew_one, next_leads}
 use Rattle.xa_desk.proofs.Seating.{TakesOn, takes_same}
 use Rattle.xa_desk.proofs.Stopping.{same_leads}
 
@@ -35,12 +35,10 @@ module _ (d : Domain) (desk : Desk) (op : ℕ) (absolute : Bool) (amount : ℤ) 
 
     set_leads : Leads d desk Next
     set_leads =
-        let next = sets.next in
-        let booted = is.booted in
         let made = sets.made in
-        own_leads d desk new One grew (ap (λ (c : Caller). c.work.stamp) made) refl (subst (λ (c : Caller). IsSeatOf d.cells c.seat) (sym made) is.seat) (subst (λ (c : Caller). TakesOn (known desk.caller.seat) (known c.seat)) (sym made) (takes_same (known desk.caller.seat))) tt
-        (subst (λ (c : Caller). c.least ≤ published (past_in (changes_at (board_page desk).seen))) (sym made) is.least) is
-        (λ whole on back. record { behind = omega (arith, next, booted); saw = tt; told = tt; before = desk.caller.work.stamp; next = next; known_before = is.known_stamp whole back })
+        next_leads d desk new One grew (ap (λ (c : Caller). c.work.stamp) made) refl (subst (λ (c : Caller). IsSeatOf d.cells c.seat) (sym made) is.seat) (subst (λ (c : Caller). TakesOn (known desk.caller.seat) (known c.seat)) (sym made) (takes_same (known desk.caller.seat))) tt
+        (subst (λ (c : Caller). c.least ≤ published (past_in (changes_at (board_page desk).seen))) (sym made) is.least) is sets.next
+        (λ whole on. record { saw = tt; told = tt; clears = tt })
 
     set_fits : FitsOp d op (PriorityOp absolute amount) desk Next
     set_fits = one_more_fits d desk Next One set_leads grew op (PriorityOp absolute amount) refl (λ ops turn. call_over d desk reads none ops) (λ whole on. (refl, refl))

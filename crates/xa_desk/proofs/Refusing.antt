@@ -26,7 +26,7 @@ use Rattle.xa_desk.specs.Whole.{Whole, entries_of}
 use Rattle.xa_desk.specs.Desks.{GoesOn, IsDesk, Leads, board_page}
 use Rattle.xa_desk.specs.Steps.{FitsOn}
 use Rattle.xa_desk.proofs.Fitting.{its_events, IsRead, call_over, one_more_fits}
-use Rattle.xa_desk.proofs.Leading.{Grew, grew_one, own_leads}
+use Rattle.xa_desk.proofs.Leading.{Grew, grew_one, next_leads}
 use Rattle.xa_desk.proofs.Seating.{TakesOn, takes_same}
 
 least_low : (version : Option ℕ) (least seen : ℕ) → least ≤ seen → IfSome version (λ v. v ≤ seen) → least_by version least ≤ seen
@@ -62,13 +62,12 @@ module _ (d : Domain) (desk : Desk) (left new : Caller) (op : ℕ) (fault : Faul
     refuse_leads : Leads d desk (record desk { caller = new })
     refuse_leads =
         let made = refuses.made in
-        let booted = is.booted in
         let low = is.least in
         let stays = same.least in
         let shows_least : least_by (version_in evidence) left.least ≤ published (past_in (changes_at (board_page desk).seen)) = least_low (version_in evidence) left.least (published (past_in (changes_at (board_page desk).seen))) (omega (arith, low, stays)) shown in
-        own_leads d desk new One grew (ap (λ (c : Caller). c.work.stamp) made) (ap (λ (w : Working). CallerHome w.id.0) same.work) (subst (λ (c : Caller). IsSeatOf d.cells c.seat) (sym made) same.seat) (subst (λ (c : Caller). TakesOn (known desk.caller.seat) (known c.seat)) (sym made) same.takes) tt
-        (subst (λ (c : Caller). c.least ≤ published (past_in (changes_at (board_page desk).seen))) (sym made) shows_least) is
-        (λ whole on back. record { behind = omega (arith, next, booted); saw = saw whole back; told = told whole back; before = desk.caller.work.stamp; next = next; known_before = is.known_stamp whole back })
+        next_leads d desk new One grew (ap (λ (c : Caller). c.work.stamp) made) (ap (λ (w : Working). CallerHome w.id.0) same.work) (subst (λ (c : Caller). IsSeatOf d.cells c.seat) (sym made) same.seat) (subst (λ (c : Caller). TakesOn (known desk.caller.seat) (known c.seat)) (sym made) same.takes) tt
+        (subst (λ (c : Caller). c.least ≤ published (past_in (changes_at (board_page desk).seen))) (sym made) shows_least) is next
+        (λ whole on. record { saw = saw whole on; told = told whole on; clears = tt })
 
     -- and that fits a call that may be refused so
     pub refuse_goes : IsRead d desk → just_in desk.caller.phase ≡ None → Leads d desk (record desk { caller = new })

@@ -121,9 +121,13 @@ module _ (d : Domain) (desk : Desk) (new : Caller) (is : IsDesk d desk) (its : I
         let least = ap (λ (c : Caller). c.least) made in
         own_leads d desk new One grew (ap (λ (c : Caller). c.work.stamp) made) refl its (takes answers.sent.place.cell answers.filling answers.took) was_taken (omega (arith, low, least)) is (λ whole on back.
         record {
+          grounds = record {
+            saw = tt;
+            told = told_so (λ e. IsSomeAnd (settlement_in answers.sent.request e) (IsAnswerTo (answer_to expect answers.reply))) (λ end tells. shown (settlement_in answers.sent.request end.event) (answer_to expect answers.reply) expect answers.reply refl tells) whole on;
+            clears = tt;
+          };
           behind = omega (arith, next, booted);
-          saw = tt;
-          told = told_so (λ e. IsSomeAnd (settlement_in answers.sent.request e) (IsAnswerTo (answer_to expect answers.reply))) (λ end tells. shown (settlement_in answers.sent.request end.event) (answer_to expect answers.reply) expect answers.reply refl tells) whole on;
+          met = λ board. absurd (cc board);
           before = record { 0 = max desk.caller.work.stamp.0 answers.filling.stamp.0 };
           next = next;
           known_before = larger_known whole desk.caller.work.stamp answers.filling.stamp (is.known_stamp whole back) (stamp_known answers.sent.place.cell answers.filling answers.took answers.reply answers.says whole on);

@@ -88,10 +88,7 @@ module _ {d : Domain} {queue k : ℕ} {desk new : Desk} {p p' : QueuePass} {last
   rises = later step maker out.noted.stamp out.noted.event.value took next
 
   took_leads : Leads d desk new
-  took_leads =
-      let booted = step.is.booted in
-      let more = rises in
-      event_leads step maker out.noted.stamp out.noted.event.value took next caller (Take Its) event (ap QueueHome serving.its) tt (omega (arith, more, booted)) (λ whole on. tt) (λ whole on. tt) (λ whole on. tt)
+  took_leads = event_leads step maker out.noted.stamp out.noted.event.value took next caller (Take Its) event (ap QueueHome serving.its) tt (λ whole on. record { saw = tt; told = tt; clears = tt })
 
   -- the take stands behind that
   stands_at_end : events_at (page_of p').seen ≡ Front ++ record { stamp = out.noted.stamp; event = Take Its } ∷ []

@@ -28,7 +28,7 @@ use Rattle.xa_told.specs.xa_stamp.declared.home.Stamped.{Stamped}
 use Rattle.xa_told.specs.xa_lock.declared.pass.Page.{Page}
 use Rattle.xa_told.specs.xa_lock.Known.{known as page_of}
 use Rattle.xa_told.specs.xa_crew.Calls.{FitsOwn}
-use Rattle.xa_told.specs.xa_crew.Seen.{past_in, IsBehind, SawFront, IfNew, SawFronts, WasTold}
+use Rattle.xa_told.specs.xa_crew.Seen.{past_in, SawFront, IfNew}
 use Rattle.xa_told.specs.xa_queue.declared.entry.Entry.{Entry}
 use Rattle.xa_told.specs.xa_queue.declared.queue.Refusal.{Refusal}
 use Rattle.xa_told.specs.xa_queue.declared.queue.Refusal.TheVariants as refusals
@@ -51,11 +51,10 @@ use Rattle.xa_told.specs.xa_caller.Drafts.{Cargo, entry_by}
 use Rattle.xa_told.specs.xa_caller.Phases.{just_in}
 use Rattle.xa_told.proofs.xa_caller.Next.{row-service}
 use Rattle.xa_desk.specs.Made.{IsMade}
-use Rattle.xa_desk.specs.Deserted.{ClearsBehind}
 use Rattle.xa_desk.specs.declared.domain.Domain.{Domain}
 use Rattle.xa_desk.specs.declared.desk.Desk.{Desk}
 use Rattle.xa_desk.specs.Whole.{entries_of}
-use Rattle.xa_desk.specs.Desks.{IsDomain, IsDesk, Leads}
+use Rattle.xa_desk.specs.Desks.{HasGrounds, IsDomain, IsDesk, Leads}
 use Rattle.xa_desk.specs.Found.{SawOnBoard, HasFound, IsAimed, SawItsOwnAt, ShowsWhy, IsAccept, queue_in}
 use Rattle.xa_desk.specs.Looks.{SeesWhy}
 use Rattle.xa_desk.specs.Steps.{FitsOn}
@@ -124,15 +123,14 @@ module _ {d : Domain} {found : FoundRows} (ask : Ask) {old : Desk} {entry : Entr
       sent_leads =
           let least = ap (λ (c : Caller). c.least) sends.made ∙ ap (λ (draft : Draft). draft.version) same ∙ aimed.version in
           let seen = has.seen in
-          let booted = step.is.booted in
           let more = later step maker stamp event put next in
           noted_leads step maker stamp event put next grew (ap (home_of d.setup d.clients) aimed.event_is ∙ ap QueueHome (sym queue_is)) (ap (λ (c : Caller). c.seat) sends.made) (ap (λ (c : Caller). c.work.stamp) sends.made) (omega (arith, least, seen))
-          (subst (IsBehind d.booted stamp) (sym aimed.event_is) (omega (arith, booted, more)))
-          (λ whole on. subst (λ (e : Event). SawFronts d.setup d.clients (entries_of whole) stamp e (past_in old.caller.work.own)) (sym aimed.event_is)
-          (subst (λ (name : List ℕ). SawFront (entries_of whole BoardHome) stamp (RowStands d.setup found.version name aimed.row.queue.0 (RowAdmits d.setup false aimed.row.routine ask.payload))) (sym (row-service d.setup ask.service aimed.row its))
-          (All-contains (λ (row : Row). is_accepted d.setup row.accepts (kind_of ask.payload) ≡ true → SawOnBoard d old (RowStands d.setup found.version ask.service row.queue.0 (RowAdmits d.setup false row.routine ask.payload))) found.rows aimed.row (has.stand ask.payload) aimed.among aimed.accepts whole on stamp more)))
-          (λ whole on. subst (WasTold d.setup d.clients (entries_of whole) stamp (its_events d old)) (sym aimed.event_is) tt)
-          (λ whole on. subst (ClearsBehind d.setup (entries_of whole) old.caller.work.own stamp) (sym aimed.event_is) tt)
+          (λ whole on. subst (HasGrounds d whole old.caller.work.id.0 old.caller.work.own stamp) (sym aimed.event_is) (record {
+            saw = subst (λ (name : List ℕ). SawFront (entries_of whole BoardHome) stamp (RowStands d.setup found.version name aimed.row.queue.0 (RowAdmits d.setup false aimed.row.routine ask.payload))) (sym (row-service d.setup ask.service aimed.row its))
+                (All-contains (λ (row : Row). is_accepted d.setup row.accepts (kind_of ask.payload) ≡ true → SawOnBoard d old (RowStands d.setup found.version ask.service row.queue.0 (RowAdmits d.setup false row.routine ask.payload))) found.rows aimed.row (has.stand ask.payload) aimed.among aimed.accepts whole on stamp more);
+            told = tt;
+            clears = tt;
+          }))
 
       pub sent_fits : IsRead d old → is_invalid_call d.setup ask ≡ false → FitsOn d (old.caller.op + 1) ask old new
       sent_fits reads valid =

@@ -1,5 +1,5 @@
 -- A start, or a failed one, that its server's worker noted.
-use Rattle.std.proofs.Common.{◌-◌, ◌≡◌, ◌<◌, ℕ, max, true, List, [], Result, Ok, Err, Option, Some, None, inl, inr, refl, sym, ◌∙◌, ap, subst, arith}
+use Rattle.std.proofs.Common.{◌-◌, ◌≡◌, ◌<◌, ℕ, max, true, List, [], Result, Ok, Err, Option, Some, None, inl, inr, refl, sym, ◌∙◌, ap, subst}
 use Rattle.std.specs.Prelude.{IfOk, IfErr}
 use Rattle.std.proofs.lemmas.List.Elements.{All-nil}
 use Rattle.xa_told.specs.xa_types.declared.stamp.Stamp.{Stamp}
@@ -34,16 +34,14 @@ pub start_leads : (d : Domain) (queue : ℕ) (desk : Desk) (slot slot' : ServerS
     → IfOk r (λ life. Tries name tick life slot' slot new desk.caller.work) → IfErr r (Halts name (next_life slot) shows' shows new desk.caller.work) → Leads d desk (reworked desk new)
 start_leads d queue desk slot slot' name tick shows' shows new (Ok (Some life)) is serving zero tries halts =
     let noted = tries.starts.noted in
-    let booted = is.booted in
     let next = noted.next in
     event_leads d desk tries.starts.stamp (Start (record { server = slot.server; generation = next_life slot; tick = tick })) (max desk.caller.work.room 3 - 1) new next noted.made is
-    (ap CallerHome (ap (λ n. caller_of n slot.server.0) (sym is.clients) ∙ serving.stands.tables.worker.number)) tt tt (omega (arith, booted, next)) (λ whole on. shown_at_first whole tries.starts.stamp tick zero) (λ whole on. tt)
+    (ap CallerHome (ap (λ n. caller_of n slot.server.0) (sym is.clients) ∙ serving.stands.tables.worker.number)) tt tt (λ whole on. record { saw = shown_at_first whole tries.starts.stamp tick zero; told = tt; clears = tt })
 start_leads d queue desk slot slot' name tick shows' shows new (Ok None) is serving zero tries halts =
     let noted = tries.noted in
-    let booted = is.booted in
     let next = noted.next in
     event_leads d desk tries.stamp (StartFailed (record { server = slot.server; generation = next_life slot; tick = tick })) (max desk.caller.work.room 1 - 1) new next noted.made is
-    (ap CallerHome (ap (λ n. caller_of n slot.server.0) (sym is.clients) ∙ serving.stands.tables.worker.number)) tt tt (omega (arith, booted, next)) (λ whole on. shown_at_first whole tries.stamp tick zero) (λ whole on. tt)
+    (ap CallerHome (ap (λ n. caller_of n slot.server.0) (sym is.clients) ∙ serving.stands.tables.worker.number)) tt tt (λ whole on. record { saw = shown_at_first whole tries.stamp tick zero; told = tt; clears = tt })
 start_leads d queue desk slot slot' name tick shows' shows new (Err halt) is serving zero tries (inl unasked) = halted_leads d desk 3 new halt is (subst (HaltsWith 3 new desk.caller.work) (sym unasked.starved) unasked.noted)
 start_leads d queue desk slot slot' name tick shows' shows new (Err halt) is serving zero tries (inr (inl begun)) = halted_leads d desk 3 new halt is begun.halts
 start_leads d queue desk slot slot' name tick shows' shows new (Err halt) is serving zero tries (inr (inr failed)) = halted_leads d desk 1 new halt is failed.halts

@@ -12,10 +12,9 @@ use Rattle.xa_told.specs.xa_events.declared.event.StopCause.TheVariants.{Shutdow
 use Rattle.xa_told.specs.xa_events.Cases.{IsShut}
 use Rattle.xa_told.specs.xa_events.Homes.{home_of}
 use Rattle.xa_told.specs.xa_events.Homes.Home.{CallerHome, QueueHome}
-use Rattle.xa_told.specs.xa_events.Local.{worker_events}
 use Rattle.xa_told.specs.xa_events.State.{caller_of}
 use Rattle.xa_told.specs.xa_stamp.declared.home.Stamped.{Stamped}
-use Rattle.xa_told.specs.xa_crew.Seen.{past_in, SawQueue, SawFronts, WasTold, IsBehind}
+use Rattle.xa_told.specs.xa_crew.Seen.{SawQueue}
 use Rattle.xa_told.specs.xa_work.Work.{Standing as Working}
 use Rattle.xa_told.specs.xa_server.declared.slot.ServerSlot.{ServerSlot}
 use Rattle.xa_told.specs.xa_server.Changes.{Stops}
@@ -26,9 +25,9 @@ use Rattle.xa_desk.specs.declared.desk.Desk.{Desk}
 use Rattle.xa_desk.specs.Whole.{Whole, entries_of}
 use Rattle.xa_desk.specs.Found.{SawAtQueue}
 use Rattle.xa_desk.specs.Serving.{IsServing}
-use Rattle.xa_desk.specs.Desks.{GoesOn, IsDesk, Leads, queue_page}
+use Rattle.xa_desk.specs.Desks.{GoesOn, HasGrounds, IsDesk, Leads, queue_page}
 use Rattle.xa_told.specs.Told.{WasTaken}
-use Rattle.xa_desk.proofs.Leading.{starts_same, grew_one, own_leads}
+use Rattle.xa_desk.proofs.Leading.{starts_same, grew_one, next_leads}
 use Rattle.xa_desk.proofs.Seating.{takes_same}
 
 -- nothing changed
@@ -37,28 +36,23 @@ same_leads d desk is = record { desk = is; own = ([], sym (append-nil desk.calle
 
 -- the event was noted, the caller is else as it was, and in the end the worker shows it
 pub event_leads : (d : Domain) (desk : Desk) (stamp : Stamp) (e : Event) (room : ℕ) (new : Working) → stamp.0 ≡ desk.caller.work.stamp.0 + 1 → new ≡ record desk.caller.work { stamp = stamp; own = desk.caller.work.own ++ record { stamp = stamp; event = e } ∷ []; room = room } → IsDesk d desk
-    → home_of d.setup d.clients e ≡ CallerHome desk.caller.work.id.0 → IsMade e → WasTaken (known desk.caller.seat) stamp e → IsBehind d.booted stamp e → ((whole : Whole) → GoesOn d whole desk → SawFronts d.setup d.clients (entries_of whole) stamp e (past_in desk.caller.work.own))
-    → ((whole : Whole) → GoesOn d whole desk → WasTold d.setup d.clients (entries_of whole) stamp (worker_events d.clients desk.caller.work.id.0 (past_in desk.caller.work.own)) e) → Leads d desk (record desk { caller = record desk.caller { work = new } })
-event_leads d desk stamp e room new next made is home kind took behind saw told =
+    → home_of d.setup d.clients e ≡ CallerHome desk.caller.work.id.0 → IsMade e → WasTaken (known desk.caller.seat) stamp e
+    → ((whole : Whole) → GoesOn d whole desk → HasGrounds d whole desk.caller.work.id.0 desk.caller.work.own stamp e) → Leads d desk (record desk { caller = record desk.caller { work = new } })
+event_leads d desk stamp e room new next made is home kind took grounds =
     let x : Stamped = record { stamp = stamp; event = e } in
-    own_leads d desk (record desk.caller { work = new }) x (grew_one desk.caller.work new room x made (omega (arith, next)) kind) (ap (λ (w : Working). w.stamp) made) home is.seat (takes_same (known desk.caller.seat)) took is.least is (λ whole on back. record {
-      behind = behind;
-      saw = saw whole back;
-      told = told whole back;
-      before = desk.caller.work.stamp;
-      next = next;
-      known_before = is.known_stamp whole back;
-    })
+    next_leads d desk (record desk.caller { work = new }) x (grew_one desk.caller.work new room x made (omega (arith, next)) kind) (ap (λ (w : Working). w.stamp) made) home is.seat (takes_same (known desk.caller.seat)) took is.least is next grounds
 
 -- ---- Stop
 
 pub stop_leads : (d : Domain) (queue : ℕ) (desk : Desk) (slot slot' : ServerSlot) (cause : StopCause) (stamp : Stamp) (new : Working) → IsDesk d desk → caller_of desk.caller.work.clients slot.server.0 ≡ desk.caller.work.id.0
     → queue_of d.setup slot.server.0 ≡ queue → (cause ≡ Shutdown → SawAtQueue d queue desk (IsShut d.setup queue)) → Stops cause stamp slot' slot new desk.caller.work → Leads d desk (record desk { caller = record desk.caller { work = new } })
 stop_leads d queue desk slot slot' cause stamp new is number its shut stops =
-    let booted = is.booted in
     let next = stops.noted.next in
-    event_leads d desk stamp (Stop (record { server = slot.server; generation = life_in slot.doing; cause = cause })) (desk.caller.work.room - 1) new next stops.noted.made is (ap CallerHome (ap (λ n. caller_of n slot.server.0) (sym is.clients) ∙ number)) tt tt (omega (arith, booted, next))
-    (λ whole on shutdown. subst (λ q. SawQueue d.setup q (entries_of whole (QueueHome q)) stamp (IsShut d.setup q)) (sym its) (shut shutdown whole on stamp (omega (arith, next)))) (λ whole on. tt)
+    event_leads d desk stamp (Stop (record { server = slot.server; generation = life_in slot.doing; cause = cause })) (desk.caller.work.room - 1) new next stops.noted.made is (ap CallerHome (ap (λ n. caller_of n slot.server.0) (sym is.clients) ∙ number)) tt tt (λ whole on. record {
+      saw = λ shutdown. subst (λ q. SawQueue d.setup q (entries_of whole (QueueHome q)) stamp (IsShut d.setup q)) (sym its) (shut shutdown whole on stamp (omega (arith, next)));
+      told = tt;
+      clears = tt;
+    })
 
 pub stopped_leads : (d : Domain) (queue : ℕ) (desk : Desk) (slot slot' : ServerSlot) (cause : StopCause) (new : Working) (r : Result Stamp Worn) → IsDesk d desk → IsServing d queue slot desk
     → (cause ≡ Shutdown → SawAtQueue d queue desk (IsShut d.setup queue)) → IfOk r (λ stamp. Stops cause stamp slot' slot new desk.caller.work) → OnErr r ((slot' ≡ slot) × (new ≡ desk.caller.work))

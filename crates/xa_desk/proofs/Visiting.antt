@@ -12,7 +12,6 @@ use Rattle.xa_told.specs.xa_types.declared.ids.CallerId.{CallerId}
 use Rattle.xa_told.specs.xa_events.declared.event.Event.{Event}
 use Rattle.xa_told.specs.xa_events.Homes.{Home, home_of, same_home}
 use Rattle.xa_told.specs.xa_events.Homes.Home.{BoardHome, QueueHome}
-use Rattle.xa_told.specs.xa_events.Local.{worker_events}
 use Rattle.xa_told.specs.xa_events.Board.{published}
 use Rattle.xa_told.specs.xa_stamp.declared.home.Stamped.{Stamped}
 use Rattle.xa_told.specs.xa_stamp.Home.{last_stamp, larger_of}
@@ -24,7 +23,7 @@ use Rattle.xa_told.specs.xa_lock.Known.{known as page_of, IsPassOf}
 use Rattle.xa_told.specs.xa_lock.Makers.{noted_in}
 use Rattle.xa_told.specs.xa_lock.Pages.{StartsWith}
 use Rattle.xa_told.specs.xa_crew.Crew.{no_stamp, stands_at}
-use Rattle.xa_told.specs.xa_crew.Seen.{past_in, IsBehind, SawFronts, WasTold}
+use Rattle.xa_told.specs.xa_crew.Seen.{past_in}
 use Rattle.xa_told.specs.xa_cell.declared.tokens.Seat.{Seat}
 use Rattle.xa_told.specs.xa_cell.Known.{known, IsSeatOf}
 use Rattle.xa_told.specs.xa_cell.Views.{at}
@@ -49,9 +48,8 @@ use Rattle.xa_desk.specs.declared.domain.Domain.{Domain}
 use Rattle.xa_desk.specs.declared.desk.Desk.{Desk}
 use Rattle.xa_desk.specs.Whole.{Whole, entries_of, IsKnown}
 use Rattle.xa_desk.specs.Made.{IsMade}
-use Rattle.xa_desk.specs.Deserted.{ClearsBehind}
-use Rattle.xa_desk.specs.Desks.{IsBoardPass, IsQueuePass, IsSettingOf, IsThere, GoesOn, IsDesk, Leads, page_in, page_at, board_page, queue_page}
-use Rattle.xa_desk.proofs.Leading.{Grew, grew_one, grew_none, Moves, none_leads, one_leads, starts_same, starts_trans, there, filled_more, among_at, on_home, off_home, board_pass_stays, queue_pass_stays}
+use Rattle.xa_desk.specs.Desks.{IsBoardPass, IsQueuePass, IsSettingOf, IsThere, GoesOn, HasGrounds, IsDesk, Leads, page_in, page_at, board_page, queue_page}
+use Rattle.xa_desk.proofs.Leading.{Grew, grew_one, grew_none, Moves, none_leads, one_leads, starts_same, starts_trans, there, filled_more, among_at, on_home, off_home, board_pass_stays, queue_pass_stays, is_behind}
 use Rattle.xa_desk.proofs.Seating.{TakesOn, takes_same, none_taken}
 use Rattle.xa_desk.proofs.Telling.{latest_has}
 
@@ -242,39 +240,32 @@ module _ {d : Domain} {queue k : ℕ} {old new : Desk} {p p' : QueuePass} {last 
     pub later : old.caller.work.stamp.0 < stamp.0
     later = let is_next = ap (λ (s : Stamp). s.0) next in omega (arith, is_next)
 
-    pub noted_leads : Grew old.caller.work new.caller.work (Its ∷ []) → home_of d.setup d.clients event ≡ QueueHome queue → new.caller.seat ≡ old.caller.seat → new.caller.work.stamp ≡ stamp → new.caller.least ≤ published (past_in (changes_at (board_page old).seen)) → IsBehind d.booted stamp event
-        → ((whole : Whole) → GoesOn d whole old → SawFronts d.setup d.clients (entries_of whole) stamp event (past_in old.caller.work.own))
-        → ((whole : Whole) → GoesOn d whole old → WasTold d.setup d.clients (entries_of whole) stamp (worker_events d.clients old.caller.work.id.0 (past_in old.caller.work.own)) event)
-        → ((whole : Whole) → GoesOn d whole old → ClearsBehind d.setup (entries_of whole) old.caller.work.own stamp event) → Leads d old new
-    noted_leads grew home seat now least behind saw told clears =
+    pub noted_leads : Grew old.caller.work new.caller.work (Its ∷ []) → home_of d.setup d.clients event ≡ QueueHome queue → new.caller.seat ≡ old.caller.seat → new.caller.work.stamp ≡ stamp → new.caller.least ≤ published (past_in (changes_at (board_page old).seen))
+        → ((whole : Whole) → GoesOn d whole old → HasGrounds d whole old.caller.work.id.0 old.caller.work.own stamp event) → Leads d old new
+    noted_leads grew home seat now least grounds =
         let is = step.is in
+        let booted = is.booted in
         let w : Working = old.caller.work in
         let entries : List Stamped = noted_in visits.old.queue.entries in
-        let low_first : visits.old.queue.first.0 ≤ w.stamp.0 = let behind_boot = (setting_found visits).first in let booted = is.booted in omega (arith, behind_boot, booted) in
+        let low_first : visits.old.queue.first.0 ≤ w.stamp.0 = let behind_boot = (setting_found visits).first in omega (arith, behind_boot, booted) in
         let lasts : last.0 ≡ stamp.0 = step.reaches.is ∙ ap (last_stamp no_stamp) (events_more visits) ∙ last_stamp-push no_stamp entries Its in
         let higher = ap (λ (s : Stamp). s.0) now in
         one_leads Its is (visit_moves visits grew (All-cons (λ (x : Stamped). home_of d.setup d.clients x.event ≡ QueueHome queue) Its [] home (All-nil (λ (x : Stamped). home_of d.setup d.clients x.event ≡ QueueHome queue))) seat least (omega (arith, lasts, higher))) now
-        (λ whole on there_. absurd (cc (ap (λ h. same_home h BoardHome) home, there_))) clears
         (λ whole on back. record {
-          behind = behind;
-          saw = saw whole back;
-          told = told whole back;
+          grounds = grounds whole back;
+          behind = is_behind d.booted stamp event (omega (arith, booted, later));
+          met = λ board. absurd (cc (ap (λ h. same_home h BoardHome) home, board));
           before = record { 0 = larger_of w.stamp visits.old.queue.first entries };
           next = ap (λ (s : Stamp). s.0) next;
           known_before = behind_known whole (QueueHome queue) w.stamp visits.old.queue.first entries (starts_trans _ (events_at (page_of p').seen) entries (seen_front now_has whole on) (Its ∷ [], events_more visits)) low_first (is.known_stamp whole back);
         })
 
     -- its caller is else as it was
-    pub event_leads : new.caller ≡ noted_off stamp event old.caller → (e : Event) → event ≡ e → home_of d.setup d.clients e ≡ QueueHome queue → IsMade e → IsBehind d.booted stamp e
-        → ((whole : Whole) → GoesOn d whole old → SawFronts d.setup d.clients (entries_of whole) stamp e (past_in old.caller.work.own))
-        → ((whole : Whole) → GoesOn d whole old → WasTold d.setup d.clients (entries_of whole) stamp (worker_events d.clients old.caller.work.id.0 (past_in old.caller.work.own)) e)
-        → ((whole : Whole) → GoesOn d whole old → ClearsBehind d.setup (entries_of whole) old.caller.work.own stamp e) → Leads d old new
-    event_leads caller e is home kind behind saw told clears =
+    pub event_leads : new.caller ≡ noted_off stamp event old.caller → (e : Event) → event ≡ e → home_of d.setup d.clients e ≡ QueueHome queue → IsMade e
+        → ((whole : Whole) → GoesOn d whole old → HasGrounds d whole old.caller.work.id.0 old.caller.work.own stamp e) → Leads d old new
+    event_leads caller e is home kind grounds =
         let least = step.is.least in
         let same_least = ap (λ (c : Caller). c.least) caller in
         noted_leads (grew_one old.caller.work new.caller.work old.caller.work.room Its (ap (λ (c : Caller). c.work) caller) later (subst IsMade (sym is) kind))
         (ap (home_of d.setup d.clients) is ∙ home) (ap (λ (c : Caller). c.seat) caller) (ap (λ (c : Caller). c.work.stamp) caller) (omega (arith, least, same_least))
-        (subst (IsBehind d.booted stamp) (sym is) behind)
-        (λ whole on. subst (λ (x : Event). SawFronts d.setup d.clients (entries_of whole) stamp x (past_in old.caller.work.own)) (sym is) (saw whole on))
-        (λ whole on. subst (WasTold d.setup d.clients (entries_of whole) stamp (worker_events d.clients old.caller.work.id.0 (past_in old.caller.work.own))) (sym is) (told whole on))
-        (λ whole on. subst (ClearsBehind d.setup (entries_of whole) old.caller.work.own stamp) (sym is) (clears whole on))
+        (λ whole on. subst (HasGrounds d whole old.caller.work.id.0 old.caller.work.own stamp) (sym is) (grounds whole on))

@@ -1,13 +1,15 @@
 -- A worker's desk: what its passes know of the homes, and what it has shown of all that it noted (this project's own).
-use Rattle.std.specs.Prelude.{◌≡◌, ◌⊎◌, ℕ, zero, suc, ◌+◌, ◌<◌, ◌≤◌, true, List, [], map, reverse, length, Option, Some, None, slice_index_or}
+use Rattle.std.specs.Prelude.{◌≡◌, ◌⊎◌, ℕ, zero, suc, ◌+◌, ◌<◌, ◌≤◌, true, List, [], reverse, length, Option, Some, None, slice_index_or}
 use Rattle.std.specs.List.{All, filter}
 use Rattle.xa_told.specs.xa_types.Configured.{is_configured}
 use Rattle.xa_told.specs.xa_types.Setup.{capacity_of}
 use Rattle.xa_told.specs.xa_types.declared.call.Op.{Op}
 use Rattle.xa_told.specs.xa_types.declared.stamp.Stamp.{Stamp}
+use Rattle.xa_told.specs.xa_events.declared.event.Event.{Event}
 use Rattle.xa_told.specs.xa_events.Board.{boot, published}
 use Rattle.xa_told.specs.xa_events.Homes.{Home, home_of}
 use Rattle.xa_told.specs.xa_events.Homes.Home.{BoardHome, QueueHome}
+use Rattle.xa_told.specs.xa_events.Local.{worker_events}
 use Rattle.xa_told.specs.xa_events.Words.{AtEach}
 use Rattle.xa_told.specs.xa_stamp.declared.home.Stamped.{Stamped}
 use Rattle.xa_told.specs.xa_lock.declared.makers.Made.{Made}
@@ -17,8 +19,8 @@ use Rattle.xa_told.specs.xa_lock.declared.pass.Page.{Page}
 use Rattle.xa_told.specs.xa_lock.Known.{known as page_of, IsPassOf}
 use Rattle.xa_told.specs.xa_lock.Pages.{StartsWith, page}
 use Rattle.xa_told.specs.xa_lock.Makers.{noted_in}
-use Rattle.xa_told.specs.xa_crew.Crew.{MayNote, MetAmong, TellsEach, stands_at}
-use Rattle.xa_told.specs.xa_crew.Seen.{past_in, IsBehind, SawFronts}
+use Rattle.xa_told.specs.xa_crew.Crew.{MayNote, MetAmong, stands_at}
+use Rattle.xa_told.specs.xa_crew.Seen.{past_in, IsBehind, SawFronts, WasTold}
 use Rattle.xa_told.specs.xa_cell.Known.{known, IsSeatOf}
 use Rattle.xa_told.specs.xa_cell.Views.{at}
 use Rattle.xa_told.specs.xa_held.declared.kept_board.BoardNote.{BoardNote}
@@ -116,15 +118,26 @@ pub record GoesOn (d : Domain) (whole : Whole) (desk : Desk) : Type 0 where
   pub stand : StandAt d.setup d.clients (entries_of whole) desk.caller.work.own
   pub ended : (k : ℕ) → All (HasEnd (entries_of whole)) (at k (known desk.caller.seat)).taken
 
--- each event that the worker noted came behind the boot, the fronts that it rests on were seen, it was told what it rests on, a change of the board met
--- what is asked of the changes before it, its stamp is one more than one that is known, and what clears a queue came behind the last server there
-pub record Shows (d : Domain) (whole : Whole) (w : Working) : Type 0 where
-  pub behind : All (λ (x : Stamped). IsBehind d.booted x.stamp x.event) w.own
-  pub saw : AtEach (λ (x : Stamped) older. SawFronts d.setup d.clients (entries_of whole) x.stamp x.event (map (λ (y : Stamped). y.event) older)) (reverse w.own)
-  pub told : TellsEach d.setup d.clients (entries_of whole) w.id.0 w.own
-  pub met : All (MetAmong d.setup (entries_of whole BoardHome)) (filter (stands_at d.setup d.clients BoardHome) w.own)
-  pub next : All (λ (x : Stamped). (before : Stamp) × (x.stamp.0 ≡ before.0 + 1) × IsKnown whole before) w.own
-  pub clears : All (λ (x : Stamped). ClearsBehind d.setup (entries_of whole) w.own x.stamp x.event) w.own
+-- what an event rests on, where its worker had noted these: the fronts that it asks for were seen, the worker was told what it asks for, and what clears a
+-- queue came behind the last server there
+pub record HasGrounds (d : Domain) (whole : Whole) (worker : ℕ) (own : List Stamped) (stamp : Stamp) (e : Event) : Type 0 where
+  pub saw : SawFronts d.setup d.clients (entries_of whole) stamp e (past_in own)
+  pub told : WasTold d.setup d.clients (entries_of whole) stamp (worker_events d.clients worker (past_in own)) e
+  pub clears : ClearsBehind d.setup (entries_of whole) own stamp e
+
+-- what a worker that had noted these shows of its next event: what that rests on, that it came behind the boot, that a change of the board met what is asked
+-- of the changes before it, and that its stamp is one more than one that is known
+pub record IsShown (d : Domain) (whole : Whole) (worker : ℕ) (own : List Stamped) (x : Stamped) : Type 0 where
+  pub grounds : HasGrounds d whole worker own x.stamp x.event
+  pub behind : IsBehind d.booted x.stamp x.event
+  pub met : stands_at d.setup d.clients BoardHome x ≡ true → MetAmong d.setup (entries_of whole BoardHome) x
+  pub before : Stamp
+  pub next : x.stamp.0 ≡ before.0 + 1
+  pub known_before : IsKnown whole before
+
+-- the worker shows each event that it noted, by what it had noted before
+abbrev pub Shows : Domain → Whole → Working → Type 0
+Shows d whole w = AtEach (λ (x : Stamped) older. IsShown d whole w.id.0 (reverse older) x) (reverse w.own)
 
 -- ---- the desk
 

@@ -32,6 +32,7 @@ use Rattle.xa_clients.specs.xa_lock.Makers.{maker_of, noted_in}
 use Rattle.xa_clients.specs.xa_crew.Crew.{MayNote, no_stamp}
 use Rattle.xa_clients.specs.xa_crew.Ending.{workers_of}
 use Rattle.xa_clients.specs.xa_crew.Seen.{past_in}
+use Rattle.xa_clients.proofs.xa_crew.Before.{All-on}
 use Rattle.xa_clients.proofs.xa_crew.Lists.{past_in-append, same_home-is, AtEach-cut}
 use Rattle.xa_clients.specs.xa_cell.declared.tokens.Seat.{Seat}
 use Rattle.xa_clients.specs.xa_cell.declared.view.Fill.{Fill}
@@ -62,7 +63,7 @@ use Rattle.xa_joined.proofs.History.{each_at, is_some}
 use Rattle.xa_joined.proofs.Left.{each_worker, has_left, each_left}
 use Rattle.xa_joined.proofs.Standing.{at_makers}
 use Rattle.xa_joined.proofs.Deserting.{gone_longer}
-use Rattle.xa_joined.proofs.Crew.{each_shown, desks_are_crew}
+use Rattle.xa_joined.proofs.Crew.{whole_is, each_shown, desks_are_crew}
 use Rattle.xa_joined.proofs.Homes.{homes_met}
 use Rattle.xa_joined.proofs.Recorded.{held, names, names_are, recorded}
 
@@ -390,13 +391,14 @@ module _ {W : Type 0} (d : Domain) (b : Back) (domain : Working) (desks : List D
 
   -- ---- what clears a queue
 
-  gave_last : (worker : ℕ) → worker < workers → (queue : ℕ) (stamp : Stamp) → GaveUpThere d.setup queue (at_homes (QueueHome queue)) (noted worker) stamp → GaveUpLast d.setup d.clients homes worker (noted worker) queue stamp
-  gave_last worker low queue stamp gave = record {
+  gave_last : (worker : ℕ) → worker < workers → (own : List Stamped) → ((x : Stamped) → Contains own x → Contains (noted worker) x) → (queue : ℕ) (stamp : Stamp)
+      → GaveUpThere d.setup queue (at_homes (QueueHome queue)) own stamp → GaveUpLast d.setup d.clients homes worker (noted worker) queue stamp
+  gave_last worker low own within queue stamp gave = record {
     server = gave.server;
     its = gave.its;
-    by = elim (All-contains (λ (x : Stamped). MayNote d.clients worker x.event) (noted worker) (record { stamp = gave.reach; event = Gone gave.server }) (each_left d b domain desks all worker low).work.may gave.stands) [ inl its ↦ its.1 | inr of ↦ absurd of ];
+    by = elim (All-contains (λ (x : Stamped). MayNote d.clients worker x.event) (noted worker) (record { stamp = gave.reach; event = Gone gave.server }) (each_left d b domain desks all worker low).work.may (within _ gave.stands)) [ inl its ↦ its.1 | inr of ↦ absurd of ];
     reach = gave.reach;
-    stands = gave.stands;
+    stands = within _ gave.stands;
     before = gave.before;
     last = λ x other here is of.
         let maker = maker_in x here in
@@ -409,11 +411,11 @@ module _ {W : Type 0} (d : Domain) (b : Back) (domain : Working) (desks : List D
         ];
   }
 
-  clears_last : (worker : ℕ) → worker < workers → (stamp : Stamp) (e : Event) → ClearsBehind d.setup at_homes (noted worker) stamp e → ClearsLast d.setup d.clients homes worker (noted worker) stamp e
-  clears_last worker low stamp (Withdraw w) clears = gave_last worker low w.queue.0 stamp clears
-  clears_last worker low stamp (Sweep x) clears = gave_last worker low x.queue.0 stamp clears
-  clears_last worker low stamp (Down queue) clears = gave_last worker low queue.0 stamp clears
-  clears_last worker low stamp _ clears = tt
+  clears_last : (worker : ℕ) → worker < workers → (own : List Stamped) → ((x : Stamped) → Contains own x → Contains (noted worker) x) → (stamp : Stamp) (e : Event) → ClearsBehind d.setup at_homes own stamp e → ClearsLast d.setup d.clients homes worker (noted worker) stamp e
+  clears_last worker low own within stamp (Withdraw w) clears = gave_last worker low own within w.queue.0 stamp clears
+  clears_last worker low own within stamp (Sweep x) clears = gave_last worker low own within x.queue.0 stamp clears
+  clears_last worker low own within stamp (Down queue) clears = gave_last worker low own within queue.0 stamp clears
+  clears_last worker low own within stamp _ clears = tt
 
   are_told : AreTold d.setup d.clients homes
   are_told = record {
@@ -422,7 +424,10 @@ module _ {W : Type 0} (d : Domain) (b : Back) (domain : Working) (desks : List D
     stand = λ worker low. All-weaker (Contains (noted worker)) (Contains (all_noted homes)) (λ x here. stands_all worker low x here) (noted worker) (All-contains_itself (noted worker));
     all = λ x here. let maker = maker_in x here in (maker.0, maker.1.0, maker.1.1);
     own = its_worker;
-    clears = λ worker low. All-weaker (λ (x : Stamped). ClearsBehind d.setup at_homes (noted worker) x.stamp x.event) (λ (x : Stamped). ClearsLast d.setup d.clients homes worker (noted worker) x.stamp x.event) (λ x. clears_last worker low x.stamp x.event) (noted worker) (each_shown d b domain desks all worker low).clears;
+    clears = λ worker low. All-on (λ (x : Stamped). ClearsLast d.setup d.clients homes worker (noted worker) x.stamp x.event) [] (noted worker) (λ before after x at.
+        let shown = each_shown d b domain desks all worker low before after x at in
+        clears_last worker low before (λ y here. subst (λ (l : List Stamped). Contains l y) (sym {A = List Stamped} at) (Contains-append_left before (x ∷ after) y here)) x.stamp x.event
+        (subst (λ (entries : Home → List Stamped). ClearsBehind d.setup entries before x.stamp x.event) (whole_is d b domain desks all) shown.grounds.clears));
     told = told_after;
   }
 

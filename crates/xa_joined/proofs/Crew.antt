@@ -1,23 +1,27 @@
 -- Workers that have left are a crew.
-use Rattle.std.proofs.Common.{◌≡◌, ℕ, ◌<◌, ◌≤◌, ◌^◌, Bool, List, [], ◌∷◌, map, reverse, Option, Some, None, inl, inr, refl, sym, subst, arith}
+use Rattle.std.proofs.Common.{◌≡◌, ℕ, ◌<◌, ◌≤◌, ◌^◌, Bool, List, [], ◌∷◌, ◌++◌, map, reverse, Option, Some, None, inl, inr, refl, sym, ◌∙◌, ap, subst, arith}
 use Rattle.std.specs.Prelude.{option_map}
 use Rattle.std.specs.List.{All, filter}
 use Rattle.std.proofs.lemmas.Bool.{cases_Bool, cases_lt}
+use Rattle.std.proofs.lemmas.List.{reverse-reverse}
 use mathlib.Core.Path.{fun_ext}
 use Rattle.xa_clients.specs.xa_types.declared.stamp.Stamp.{Stamp}
 use Rattle.xa_clients.specs.xa_types.Setup.{numbered}
+use Rattle.xa_clients.specs.xa_events.declared.event.Event.{Event}
 use Rattle.xa_clients.specs.xa_events.Homes.{Home}
 use Rattle.xa_clients.specs.xa_events.Homes.Home.{BoardHome, QueueHome, ClockHome, CallerHome}
+use Rattle.xa_clients.specs.xa_events.Local.{worker_events}
 use Rattle.xa_clients.specs.xa_events.Words.{AtEach}
 use Rattle.xa_clients.specs.xa_stamp.declared.home.Stamped.{Stamped}
 use Rattle.xa_clients.specs.xa_stamp.Home.{Rises}
 use Rattle.xa_clients.specs.xa_lock.declared.makers.Made.{Made}
 use Rattle.xa_clients.specs.xa_lock.Makers.{noted_in}
-use Rattle.xa_clients.specs.xa_crew.Crew.{IsCrew, TellsEach, no_stamp, stands_at, MetAmong}
+use Rattle.xa_clients.specs.xa_crew.Crew.{IsCrew, TellsEach, no_stamp, stands_at}
 use Rattle.xa_clients.specs.xa_crew.Ending.{list_in, workers_of}
-use Rattle.xa_clients.specs.xa_crew.Seen.{IsBehind, SawFronts}
+use Rattle.xa_clients.specs.xa_crew.Seen.{past_in, IsBehind, SawFronts, WasTold}
 use Rattle.xa_clients.proofs.xa_crew.Growing.{noted_made}
-use Rattle.xa_clients.proofs.xa_crew.Lists.{filter-yes, filter-no}
+use Rattle.xa_clients.proofs.xa_crew.Before.{All-on}
+use Rattle.xa_clients.proofs.xa_crew.Lists.{filter-yes, filter-no, map-reverse, AtEach-cut}
 use Rattle.xa_clients.specs.xa_held.declared.kept_board.BoardNote.{BoardNote}
 use Rattle.xa_clients.specs.xa_held.declared.kept_board.BoardNote.TheVariants.{Opened, By, Looked}
 use Rattle.xa_clients.specs.xa_held.Board.{Climbs, top, made_in}
@@ -27,8 +31,7 @@ use Rattle.xa_clients.specs.xa_caller.declared.cargo.Filling.{Filling}
 use Rattle.xa_clients.specs.xa_desk.declared.domain.Domain.{Domain}
 use Rattle.xa_clients.specs.xa_desk.declared.desk.Desk.{Desk}
 use Rattle.xa_clients.specs.xa_desk.Whole.{entries_of}
-use Rattle.xa_clients.specs.xa_desk.Deserted.{ClearsBehind}
-use Rattle.xa_clients.specs.xa_desk.Desks.{Shows}
+use Rattle.xa_clients.specs.xa_desk.Desks.{IsShown}
 use Rattle.xa_joined.specs.Joined.{Back, whole_of, kept_of, noted_of, AllLeft}
 use Rattle.xa_joined.proofs.Listed.{numbered_map, nothing_past}
 use Rattle.xa_joined.proofs.Left.{same_homes, each_worker, has_left, each_left}
@@ -58,22 +61,14 @@ changes_rise least (Opened setup ∷ notes) climbs bound = changes_rise least no
 changes_rise least (By made ∷ notes) climbs bound = (climbs.0, changes_rise made.noted.stamp notes climbs.1 bound)
 changes_rise least (Looked look ∷ notes) climbs bound = rises-lower least look.stamp (noted_in (made_in notes)) climbs.0 (changes_rise look.stamp notes climbs.1 bound)
 
--- what a worker shows of all that it noted, where the homes have these entries
-pub record IsShown (d : Domain) (entries : Home → List Stamped) (worker : ℕ) (own : List Stamped) : Type 0 where
-  pub behind : All (λ (x : Stamped). IsBehind d.booted x.stamp x.event) own
-  pub saw : AtEach (λ (x : Stamped) older. SawFronts d.setup d.clients entries x.stamp x.event (map (λ (y : Stamped). y.event) older)) (reverse own)
-  pub told : TellsEach d.setup d.clients entries worker own
-  pub met : All (MetAmong d.setup (entries BoardHome)) (filter (stands_at d.setup d.clients BoardHome) own)
-  pub clears : All (λ (x : Stamped). ClearsBehind d.setup entries own x.stamp x.event) own
+-- ---- what workers show
 
-by_shows : (d : Domain) (b : Back) (w : Working) (worker : ℕ) → w.id.0 ≡ worker → Shows d (whole_of d b) w → IsShown d (entries_of (whole_of d b)) worker w.own
-by_shows d b w worker id shows = record {
-  behind = shows.behind;
-  saw = shows.saw;
-  told = subst (λ (n : ℕ). TellsEach d.setup d.clients (entries_of (whole_of d b)) n w.own) id shows.told;
-  met = shows.met;
-  clears = shows.clears;
-}
+each-weaker : {X : Type 0} (P Q : X → List X → Type 0) → ((x : X) (older : List X) → P x older → Q x older) → (past : List X) → AtEach P past → AtEach Q past
+each-weaker P Q from [] each = tt
+each-weaker P Q from (x ∷ past) each = (from x past each.0, each-weaker P Q from past each.1)
+
+past_of : (older : List Stamped) → past_in (reverse older) ≡ map (λ (y : Stamped). y.event) older
+past_of older = sym (map-reverse (λ (y : Stamped). y.event) (reverse older)) ∙ ap (map (λ (y : Stamped). y.event)) (reverse-reverse older)
 
 module _ (d : Domain) (b : Back) (domain : Working) (desks : List Desk) (all : AllLeft d b domain desks) where
   abbrev pub workers : ℕ
@@ -82,17 +77,31 @@ module _ (d : Domain) (b : Back) (domain : Working) (desks : List Desk) (all : A
   abbrev pub held : Home → List Stamped
   held home = noted_in (kept_of b home)
 
-  whole_is : entries_of (whole_of d b) ≡ held
+  pub whole_is : entries_of (whole_of d b) ≡ held
   whole_is = fun_ext (same_homes d b)
 
-  pub desk_shows : (worker : ℕ) (desk : Desk) → numbered worker desks ≡ Some desk → Shows d (whole_of d b) desk.caller.work
-  desk_shows worker desk there = (has_left d b domain desks all worker desk there).is.shows (whole_of d b) (one_goes_on d b domain desks all worker desk there)
+  -- what a worker shows of an event, behind these older ones
+  abbrev Shown : ℕ → Stamped → List Stamped → Type 0
+  Shown worker x older = IsShown d (whole_of d b) worker (reverse older) x
 
-  pub each_shown : (worker : ℕ) → worker < workers → IsShown d held worker (noted_of domain desks worker)
-  each_shown worker low =
-      subst (λ (entries : Home → List Stamped). IsShown d entries worker (noted_of domain desks worker)) whole_is
-      (each_worker d b domain desks all (IsShown d (entries_of (whole_of d b))) (by_shows d b domain 0 all.itself.id all.itself.shows)
-      (λ number desk there. by_shows d b desk.caller.work number (all.ids number desk there) (desk_shows number desk there)) worker low)
+  all_shown : (worker : ℕ) → worker < workers → AtEach (Shown worker) (reverse (noted_of domain desks worker))
+  all_shown = each_worker d b domain desks all (λ worker own. AtEach (Shown worker) (reverse own)) (subst (λ (n : ℕ). AtEach (Shown n) (reverse domain.own)) all.itself.id all.itself.shows)
+      (λ worker desk there. subst (λ (n : ℕ). AtEach (Shown n) (reverse desk.caller.work.own)) (all.ids worker desk there) ((has_left d b domain desks all worker desk there).is.shows (whole_of d b) (one_goes_on d b domain desks all worker desk there)))
+
+  pub each_shown : (worker : ℕ) → worker < workers → (before after : List Stamped) (x : Stamped) → noted_of domain desks worker ≡ before ++ x ∷ after → IsShown d (whole_of d b) worker before x
+  each_shown worker low before after x at = subst (λ (own : List Stamped). IsShown d (whole_of d b) worker own x) (reverse-reverse before) (AtEach-cut (Shown worker) (noted_of domain desks worker) before after x (all_shown worker low) at)
+
+  -- and by the homes that were given back
+  by_homes : (P : (Home → List Stamped) → List Event → Type 0) (older : List Stamped) → P (entries_of (whole_of d b)) (past_in (reverse older)) → P held (map (λ (y : Stamped). y.event) older)
+  by_homes P older holds = subst (P held) (past_of older) (subst (λ (entries : Home → List Stamped). P entries (past_in (reverse older))) whole_is holds)
+
+  all_saw : (worker : ℕ) → worker < workers → AtEach (λ (x : Stamped) older. SawFronts d.setup d.clients held x.stamp x.event (map (λ (y : Stamped). y.event) older)) (reverse (noted_of domain desks worker))
+  all_saw worker low = each-weaker (Shown worker) (λ (x : Stamped) older. SawFronts d.setup d.clients held x.stamp x.event (map (λ (y : Stamped). y.event) older))
+      (λ x older shown. by_homes (λ entries past. SawFronts d.setup d.clients entries x.stamp x.event past) older shown.grounds.saw) (reverse (noted_of domain desks worker)) (all_shown worker low)
+
+  all_told : (worker : ℕ) → worker < workers → TellsEach d.setup d.clients held worker (noted_of domain desks worker)
+  all_told worker low = each-weaker (Shown worker) (λ (x : Stamped) older. WasTold d.setup d.clients held x.stamp (worker_events d.clients worker (map (λ (y : Stamped). y.event) older)) x.event)
+      (λ x older shown. by_homes (λ entries past. WasTold d.setup d.clients entries x.stamp (worker_events d.clients worker past) x.event) older shown.grounds.told) (reverse (noted_of domain desks worker)) (all_shown worker low)
 
   -- ---- the homes
 
@@ -120,7 +129,11 @@ module _ (d : Domain) (b : Back) (domain : Working) (desks : List Desk) (all : A
     last = d.booted;
     homes = λ home. record { first = (home_rises home).0; rises = (home_rises home).1; made = makers_at d b domain desks all home };
     booted = all.booted;
-    work = λ worker low. let left = each_left d b domain desks all worker low in let shown = each_shown worker low in record { rises = left.work.rises; may = left.work.may; met = left.work.met; behind = shown.behind; saw = shown.saw };
-    told = λ worker low. (each_shown worker low).told;
+    work = λ worker low.
+        let left = each_left d b domain desks all worker low in
+        let behind : All (λ (x : Stamped). IsBehind d.booted x.stamp x.event) (noted_of domain desks worker) =
+        All-on (λ (x : Stamped). IsBehind d.booted x.stamp x.event) [] (noted_of domain desks worker) (λ before after x at. (each_shown worker low before after x at).behind) in
+        record { rises = left.work.rises; may = left.work.may; met = left.work.met; behind = behind; saw = all_saw worker low };
+    told = all_told;
     theirs = λ worker low. (each_left d b domain desks all worker low).theirs;
   }

@@ -1,8 +1,9 @@
 -- What is asked of the homes that are shared.
-use Rattle.std.proofs.Common.{◌≡◌, ℕ, ◌<◌, ◌==◌, List, [], ◌∷◌, map, Option, Some, None, refl, sym, ◌∙◌, ap, subst}
+use Rattle.std.proofs.Common.{◌≡◌, ℕ, ◌<◌, ◌==◌, Bool, true, List, [], ◌∷◌, map, Option, Some, None, refl, sym, ◌∙◌, ap, subst}
 use Rattle.std.specs.Prelude.{option_map}
-use Rattle.std.specs.List.{All, filter}
+use Rattle.std.specs.List.{All, Contains, filter}
 use Rattle.std.proofs.lemmas.List.{length-map}
+use Rattle.std.proofs.lemmas.List.Elements.{All-contains, All-contains_itself, All-filter, All-weaker, filter_passes}
 use Rattle.xa_clients.specs.xa_types.declared.setup.Setup.{Setup}
 use Rattle.xa_clients.specs.xa_types.declared.stamp.Stamp.{Stamp}
 use Rattle.xa_clients.specs.xa_types.Setup.{numbered, queue_of, capacity_of}
@@ -11,12 +12,14 @@ use Rattle.xa_clients.specs.xa_events.Cases.{HomePart}
 use Rattle.xa_clients.specs.xa_events.Homes.Home.{BoardHome, QueueHome}
 use Rattle.xa_clients.specs.xa_events.Order.{TakesNext}
 use Rattle.xa_clients.specs.xa_events.Words.{AtEach}
+use Rattle.xa_clients.specs.xa_stamp.declared.home.Stamped.{Stamped}
 use Rattle.xa_clients.specs.xa_lock.declared.makers.Made.{Made}
 use Rattle.xa_clients.specs.xa_lock.Makers.{noted_in}
 use Rattle.xa_clients.specs.xa_crew.Crew.{AllMet, MetAmong, stands_at}
 use Rattle.xa_clients.specs.xa_crew.Ending.{list_in, workers_of}
 use Rattle.xa_clients.specs.xa_crew.Orders.{AllNew, MetIfNew as HomeIfNew, AllNext}
 use Rattle.xa_clients.specs.xa_crew.Seen.{past_in, SawFront, IsNew, SawQueue}
+use Rattle.xa_clients.proofs.xa_crew.Before.{All-on}
 use Rattle.xa_clients.proofs.xa_crew.Ending.{queues_are_met}
 use Rattle.xa_clients.proofs.xa_crew.Lists.{past_in-append, AtEach-later}
 use Rattle.xa_clients.proofs.xa_crew.Over.{met_by_workers}
@@ -43,7 +46,12 @@ module _ (setup : Setup) (queue : ℕ) where
 
 module _ (d : Domain) (b : Back) (domain : Working) (desks : List Desk) (all : AllLeft d b domain desks) where
   each_met : (worker : ℕ) → worker < workers_of d.setup d.clients → All (MetAmong d.setup (noted_in (kept_of b BoardHome))) (filter (stands_at d.setup d.clients BoardHome) (noted_of domain desks worker))
-  each_met worker low = (each_shown d b domain desks all worker low).met
+  each_met worker low =
+      let own : List Stamped = noted_of domain desks worker in
+      let p : Stamped → Bool = stands_at d.setup d.clients BoardHome in
+      let Met : Stamped → Type 0 = MetAmong d.setup (noted_in (kept_of b BoardHome)) in
+      let met : All (λ x. p x ≡ true → Met x) (filter p own) = All-filter p (λ x. p x ≡ true → Met x) own (All-on (λ x. p x ≡ true → Met x) [] own (λ before after x at. (each_shown d b domain desks all worker low before after x at).met)) in
+      All-weaker (Contains (filter p own)) Met (λ x here. All-contains (λ y. p y ≡ true → Met y) (filter p own) x met here (All-contains (λ y. p y ≡ true) (filter p own) x (filter_passes p own) here)) (filter p own) (All-contains_itself (filter p own))
 
   board_met : AtEach (HomePart d.setup) (past_in (noted_in (kept_of b BoardHome)))
   board_met = met_by_workers d.setup d.clients (workers_of d.setup d.clients) (kept_of b) (noted_of domain desks) (desks_are_crew d b domain desks all) BoardHome each_met

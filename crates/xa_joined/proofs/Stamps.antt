@@ -1,5 +1,5 @@
 -- Each stamp of a worker is one more than that of an event, also where the worker had it from a look at the board.
-use Rattle.std.proofs.Common.{◌≡◌, ◌⊎◌, ℕ, ◌+◌, ◌<◌, List, [], ◌∷◌, inl, inr, refl, sym, ◌∙◌, ap, subst}
+use Rattle.std.proofs.Common.{◌≡◌, ◌⊎◌, ℕ, ◌<◌, List, [], ◌∷◌, inl, inr, refl, sym, ◌∙◌, ap, subst}
 use Rattle.std.specs.List.{All, Contains}
 use Rattle.std.proofs.lemmas.List.Elements.{All-nil, All-cons, All-head, All-tail, All-weaker, All-contains, All-contains_itself}
 use Rattle.xa_clients.specs.xa_types.declared.stamp.Stamp.{Stamp}
@@ -10,6 +10,7 @@ use Rattle.xa_clients.specs.xa_lock.Makers.{noted_in}
 use Rattle.xa_clients.specs.xa_lock.Pages.{entries_by}
 use Rattle.xa_clients.specs.xa_crew.Crew.{IsNextStamp}
 use Rattle.xa_clients.specs.xa_crew.Ending.{workers_of}
+use Rattle.xa_clients.proofs.xa_crew.Before.{All-on}
 use Rattle.xa_clients.specs.xa_held.declared.kept_board.BoardNote.{BoardNote}
 use Rattle.xa_clients.specs.xa_held.declared.kept_board.BoardNote.TheVariants.{Opened, By, Looked}
 use Rattle.xa_clients.specs.xa_held.Board.{Climbs, maker_of as change_maker}
@@ -22,9 +23,9 @@ use Rattle.xa_clients.specs.xa_desk.Whole.{IsKnown}
 use Rattle.xa_clients.specs.xa_desk.Desks.{IsGrounded}
 use Rattle.xa_joined.specs.Joined.{Back, whole_of, kept_of, noted_of, AllLeft}
 use Rattle.xa_joined.proofs.Listed.{all_makers}
-use Rattle.xa_joined.proofs.Left.{same_homes, each_worker, each_left}
+use Rattle.xa_joined.proofs.Left.{same_homes, each_left}
 use Rattle.xa_joined.proofs.Standing.{stands}
-use Rattle.xa_joined.proofs.Crew.{desk_shows}
+use Rattle.xa_joined.proofs.Crew.{each_shown}
 
 module _ (entries : Home → List Stamped) where
   -- 0, or the stamp of an event
@@ -84,11 +85,7 @@ module _ (d : Domain) (b : Back) (domain : Working) (desks : List Desk) (all : A
   known_stamp stamp (inr (inl at)) = event_stamp held at.0 stamp (subst (λ (l : List Stamped). HasStamp l stamp) (same_homes d b at.0) at.1)
   known_stamp stamp (inr (inr look)) = subst (IsOfEvent held) (ap (λ (s : Stamp). s.0) look.2) (All-contains (IsOfEventIn held) b.board.notes (Looked look.0) looks look.1)
 
-  abbrev Nexts : List Stamped → Type 0
-  Nexts own = All (λ (x : Stamped). (before : Stamp) × (x.stamp.0 ≡ before.0 + 1) × IsKnown (whole_of d b) before) own
-
   pub stamps_next : (worker : ℕ) → worker < workers_of d.setup d.clients → All (λ (x : Stamped). IsNextStamp held x.stamp) (noted_of domain desks worker)
   stamps_next worker low =
-      All-weaker (λ (x : Stamped). (before : Stamp) × (x.stamp.0 ≡ before.0 + 1) × IsKnown (whole_of d b) before) (λ (x : Stamped). IsNextStamp held x.stamp)
-      (λ x next. record { before = next.0.0; next = next.1; known = known_stamp next.0 next.2 }) (noted_of domain desks worker)
-      (each_worker d b domain desks all (λ number own. Nexts own) all.itself.shows.next (λ number desk there. (desk_shows d b domain desks all number desk there).next) worker low)
+      All-on (λ (x : Stamped). IsNextStamp held x.stamp) [] (noted_of domain desks worker)
+      (λ before after x at. let shown = each_shown d b domain desks all worker low before after x at in record { before = shown.before.0; next = shown.next; known = known_stamp shown.before shown.known_before })

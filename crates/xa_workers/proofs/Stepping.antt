@@ -15,7 +15,6 @@ use Rattle.xa_boot.specs.xa_events.declared.event.Event.TheVariants.{Close}
 use Rattle.xa_boot.specs.xa_events.Cases.{WorkerPart}
 use Rattle.xa_boot.specs.xa_events.Homes.{home_of, same_home, worker_of}
 use Rattle.xa_boot.specs.xa_events.Homes.Home.{BoardHome, QueueHome}
-use Rattle.xa_boot.specs.xa_events.Local.{worker_events}
 use Rattle.xa_boot.specs.xa_events.Queue.{is_closed, is_close_of}
 use Rattle.xa_boot.specs.xa_events.Words.{AtEach, EachNumbered}
 use Rattle.xa_boot.specs.xa_stamp.declared.home.Stamped.{Stamped}
@@ -27,7 +26,7 @@ use Rattle.xa_boot.specs.xa_lock.Known.{known as page_of, IsPassOf}
 use Rattle.xa_boot.specs.xa_lock.Makers.{noted_in}
 use Rattle.xa_boot.specs.xa_lock.Pages.{StartsWith}
 use Rattle.xa_boot.specs.xa_crew.Crew.{IsOfDomain, MayNote, no_stamp, stands_at}
-use Rattle.xa_boot.specs.xa_crew.Seen.{past_in, IsBehind, SawFronts, WasTold}
+use Rattle.xa_boot.specs.xa_crew.Seen.{past_in}
 use Rattle.xa_boot.proofs.xa_crew.Lists.{past_in-append}
 use Rattle.xa_boot.specs.xa_cell.declared.tokens.Seat.{Seat}
 use Rattle.xa_boot.specs.xa_cell.Known.{known, IsSeatOf, IsNew}
@@ -48,11 +47,10 @@ use Rattle.xa_boot.specs.xa_work.declared.work.Halt.TheVariants as halts
 use Rattle.xa_boot.specs.xa_work.Work.{Standing as Working, IsWorkOf, theirs}
 use Rattle.xa_boot.proofs.xa_work.Noting.{theirs-more}
 use Rattle.xa_boot.specs.xa_desk.declared.domain.Domain.{Domain}
-use Rattle.xa_boot.specs.xa_desk.Desks.{IsBoardPass, IsQueuePass, IsSettingOf, IsThere, Shows, page_in, page_at}
-use Rattle.xa_boot.specs.xa_desk.Deserted.{ClearsBehind}
+use Rattle.xa_boot.specs.xa_desk.Desks.{HasGrounds, IsBoardPass, IsQueuePass, IsSettingOf, IsThere, Shows, page_in, page_at}
 use Rattle.xa_boot.specs.xa_desk.Made.{IsMade}
 use Rattle.xa_boot.specs.xa_desk.Whole.{Whole, entries_of, IsKnown}
-use Rattle.xa_boot.proofs.xa_desk.Leading.{AllMade, Grew, none_made, one_made, among_at, among_more, board_pass_stays, made_more, off_home, on_home, queue_pass_stays, shows_one_more, shows_still, starts_same, starts_trans, there}
+use Rattle.xa_boot.proofs.xa_desk.Leading.{AllMade, Grew, none_made, one_made, among_at, among_more, board_pass_stays, is_behind, made_more, off_home, on_home, queue_pass_stays, shows_more, shows_still, starts_same, starts_trans, there}
 use Rattle.xa_boot.proofs.xa_desk.Visiting.{QueuePass, QueueLock, stamp_is, last_known, larger_known, behind_known}
 use Rattle.xa_boot.specs.xa_clients.declared.working.ClientWorker.{ClientWorker}
 use Rattle.xa_boot.specs.declared.closer.Closer.{Closer}
@@ -330,11 +328,14 @@ module _ {d : Domain} {place : ℕ} {old new : Closer} {p p' : QueuePass} {last 
     shows_it whole clients count left on is_known shows =
         let entries : List Stamped = noted_in did.old.queue.entries in
         let booted = step.is.booted in
-        shows_one_more d whole w w' Its (grew did own all_made all_home) (λ there_. absurd (cc (ap (λ h. same_home h BoardHome) at_home, there_))) (subst (ClearsBehind d.setup (entries_of whole) old.own Its.stamp) (sym event_is) tt) shows (record {
-          behind = subst (IsBehind d.booted Its.stamp) (sym event_is) (omega (arith, booted, rises));
-          saw = subst (λ (e : Event). SawFronts d.setup d.clients (entries_of whole) Its.stamp e (past_in old.own)) (sym event_is) tt;
-          told = subst (WasTold d.setup d.clients (entries_of whole) Its.stamp (worker_events d.clients 0 (past_in old.own))) (sym event_is)
-              (λ client some within. each_told d whole old.seen Its.stamp rises 1 clients left on.own client (omega (arith, some)) (omega (arith, within, count)));
+        shows_more d whole w w' Its (grew did own all_made all_home) shows (record {
+          behind = is_behind d.booted Its.stamp Its.event (omega (arith, booted, rises));
+          grounds = subst (HasGrounds d whole 0 old.own Its.stamp) (sym event_is) (record {
+            saw = tt;
+            told = λ client some within. each_told d whole old.seen Its.stamp rises 1 clients left on.own client (omega (arith, some)) (omega (arith, within, count));
+            clears = tt;
+          });
+          met = λ board. absurd (cc (ap (λ h. same_home h BoardHome) at_home, board));
           before = record { 0 = larger_of old.seen did.old.queue.first entries };
           next = ap (λ (s : Stamp). s.0) next;
           known_before = behind_known whole (QueueHome (place + 1)) old.seen did.old.queue.first entries (starts_trans _ (events_at (page_of p').seen) entries (seen_front whole clients on) (Its ∷ [], events_more did)) (low_first did) is_known;
