@@ -1,11 +1,12 @@
 // The caller.
 ghost use Rattle.std.specs.Prelude.{◌≡◌, ◌+◌, ◌≤◌, ◌<◌, ◌^◌, true, false, max, [], None, Some, IfOk, IfErr, IfSome, OnOk, OnErr};
-ghost use Rattle.std.specs.List.{find};
+ghost use Rattle.std.specs.List.{find, filter};
 ghost use Rattle.xa_types.specs.Configured.{is_configured};
 ghost use Rattle.xa_events.specs.Calls.{is_invalid_call};
 ghost use Rattle.xa_events.specs.Cases.{ShowsItself, IsOwnEvidence};
 ghost use Rattle.xa_events.specs.Board.{boot};
 ghost use Rattle.xa_events.specs.Caller.{version_in, descriptor_limit};
+ghost use Rattle.xa_events.specs.Homes.Home.{CallerHome};
 ghost use Rattle.xa_cell.specs.Known.{known, IsSeatOf, SameSeat, IsNew};
 ghost use Rattle.xa_cell.specs.Known.{IsTicketOf};
 ghost use Rattle.xa_cell.specs.Changes.{withdrawn};
@@ -20,7 +21,7 @@ ghost use Rattle.xa_caller.specs.Phases.{IsPrepared, IsPreparedAt, IsSent, least
 ghost use Rattle.xa_caller.specs.declared.phase.Phase.TheVariants as phases;
 ghost use Rattle.xa_work.specs.Work.{HaltsAt, seeing, theirs};
 ghost use Rattle.xa_stamp.specs.Home.{last_stamp, Rises};
-ghost use Rattle.xa_crew.specs.Crew.{no_stamp};
+ghost use Rattle.xa_crew.specs.Crew.{no_stamp, stands_at};
 ghost use Rattle.xa_cell.specs.Places.{OpenAre};
 ghost use Rattle.xa_caller.specs.Changes.{FillsNoMore};
 ghost use Rattle.xa_caller.specs.Phases.{places_in};
@@ -40,6 +41,7 @@ use xa_events::{Accepted, Event, Evidence, Prioritized, Refused, Replied};
 use xa_held::Invocation;
 use xa_queue::Entry;
 use xa_route::priority;
+use xa_stamp::Stamped;
 use xa_types::{
     Ask, CallerId, Data, Fault, Found, Kind, Mode, NoMemory, RequestId, Row, Setup, Stamp,
 };
@@ -315,6 +317,13 @@ impl Caller {
     {
         let _bound = self.work.stamp();
         self.work.latest()
+    }
+
+    /// What it noted at its own home, in order.
+    pub fn entries(&self) -> &[Stamped]
+        ensures { result.now ≡ filter (stands_at self.now.work.setup self.now.work.clients (CallerHome self.now.work.id.0)) self.now.work.own }
+    {
+        self.work.entries()
     }
 
     /// It saw this stamp at another home.
