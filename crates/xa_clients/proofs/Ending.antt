@@ -28,9 +28,10 @@ use Rattle.xa_desk.specs.Halting.{IsHaltAt, IsStopAt}
 use Rattle.xa_desk.specs.Parting.{FitsStill}
 use Rattle.xa_desk.proofs.Leading.{leads_trans}
 use Rattle.xa_clients.specs.declared.working.Ended.{Ended}
-use Rattle.xa_clients.specs.Going.{IsReady, IsSame, PerformsBy}
+use Rattle.xa_calls.specs.Going.{IsReady as IsReadyAt, IsSame, PerformsBy}
+use Rattle.xa_calls.proofs.Going.{same_trans}
+use Rattle.xa_clients.specs.Going.{IsReady}
 use Rattle.xa_clients.specs.Ending.{FitsBy, GoesThrough, HasMade, HasEnded, HasStopped, here_by}
-use Rattle.xa_clients.proofs.Going.{same_trans}
 
 -- ---- its calls
 
@@ -43,6 +44,10 @@ module _ (d : Domain) (ops : List Op) where
         fits = λ fits. bc.fits ops (ap (λ (n : ℕ). numbered n ops) on ∙ slice_get_read ops (length ops) k op refl low at) (ab.fits fits);
         same = same_trans a b c ab.same bc.same;
       }
+
+-- a client's desk is ready for the call behind the one that was made
+pub ready_behind : (d : Domain) (op n : ℕ) (a b : Desk) → IsReady d op a → IsSame a b → IsReadyAt d n b → IsReady d n b
+ready_behind d op n a b before same ready = record { is = ready.is; client = rw same.clients (rw same.id before.client); idle = ready.idle; made = ready.made }
 
 -- ---- it leaves
 

@@ -1,6 +1,3 @@
-pub mod Resting
-pub mod Going
-pub mod Trying
 pub mod Ending
 -- what crates above cite of the lemmas of those below
 pub use Rattle.xa_desk.proofs.xa_types
@@ -19,3 +16,4 @@ pub use Rattle.xa_desk.proofs.xa_held
 pub use Rattle.xa_desk.proofs.xa_buffer
 pub use Rattle.xa_desk.proofs.xa_pipe
 pub use Rattle.xa_desk.proofs as xa_desk
+pub use Rattle.xa_calls.proofs as xa_calls

@@ -14,7 +14,8 @@ use Rattle.xa_desk.specs.declared.stopped.Stopped.TheVariants.{Here, Elsewhere}
 use Rattle.xa_desk.specs.Desks.{IsDesk, Leads, FitsCalls}
 use Rattle.xa_desk.specs.Halting.{IsStopAt}
 use Rattle.xa_desk.specs.Parting.{IsLeft, FitsStill}
-use Rattle.xa_clients.specs.Going.{IsReady, IsOut, IsSame}
+use Rattle.xa_calls.specs.Going.{IsOut, IsSame}
+use Rattle.xa_clients.specs.Going.{IsReady}
 use Rattle.xa_clients.specs.declared.working.Ended.{Ended}
 use Rattle.xa_clients.specs.declared.working.ClientWorker.{ClientWorker}
 use Rattle.xa_clients.specs.declared.working.ClientWorker.TheVariants as workers

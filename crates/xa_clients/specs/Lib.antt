@@ -1,6 +1,4 @@
-pub mod Resting
 pub mod Going
-pub mod Sending
 pub mod Ending
 -- what crates above cite of the definitions of those below
 pub use Rattle.xa_desk.specs.xa_types
@@ -21,3 +19,4 @@ pub use Rattle.xa_desk.specs.xa_frame
 pub use Rattle.xa_desk.specs.xa_link
 pub use Rattle.xa_desk.specs.xa_pipe
 pub use Rattle.xa_desk.specs as xa_desk
+pub use Rattle.xa_calls.specs as xa_calls

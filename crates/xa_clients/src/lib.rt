@@ -1,12 +1,10 @@
 //! A client's worker: it makes its calls one after another, and leaves.
 #![tactic(auto)]
 
-mod calling;
-mod sending;
 mod working;
 
-pub use calling::perform;
 pub use working::{ClientWorker, Ended, client_work};
+pub use xa_calls::perform;
 
 // What crates above name of those below.
 pub use xa_desk::{

@@ -2,13 +2,14 @@
 ghost use Rattle.std.specs.Prelude.{◌≡◌, ◌<◌, ◌^◌, length, OnOk, IfErr};
 ghost use Rattle.xa_desk.specs.Desks.{IsDomain, IsDesk};
 ghost use Rattle.xa_desk.specs.Parting.{FitsStill};
-ghost use Rattle.xa_clients.specs.Going.{IsReady, IsStopped, AllCalls};
+ghost use Rattle.xa_calls.specs.Going.{IsStopped};
+ghost use Rattle.xa_clients.specs.Going.{IsReady, AllCalls};
 ghost use Rattle.xa_clients.specs.Ending.{FitsBy, GoesThrough, HasEnded, here_by, HasStopped, MayWork, HasWorked, MayEnd, EndsAs, IsBehind, IsStampOf};
 
-use crate::calling::perform;
 use std::alloc::Global;
 use std::mem;
 use std::sync::Wait;
+use xa_calls::perform;
 use xa_desk::link::Gate;
 use xa_desk::types::{Op, Stamp};
 use xa_desk::work::Halt;

@@ -3,7 +3,8 @@ use Rattle.std.specs.Prelude.{IfErr, IfSome}
 use Rattle.xa_desk.specs.xa_work.Work.{Standing as Working}
 use Rattle.xa_desk.specs.declared.stopped.Stopped.{Stopped}
 use Rattle.xa_desk.specs.Halting.{IsStopAt}
-use Rattle.xa_clients.specs.Going.{IsReady, IsStopped}
+use Rattle.xa_calls.specs.Going.{IsStopped}
+use Rattle.xa_clients.specs.Going.{IsReady}
 use Rattle.xa_clients.proofs.Ending.{leaves_same, leaves_made, leaves_halted, stopped_still, given_up_fits}
 use Rattle.xa_clients.proofs.working.leave.Goals as goal
 

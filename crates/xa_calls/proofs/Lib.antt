@@ -1,0 +1,5 @@
+pub mod Resting
+pub mod Seating
+pub mod Going
+pub mod Noting
+pub mod Trying

@@ -1,0 +1,4 @@
+pub mod Resting
+pub mod Going
+pub mod Sending
+pub mod Telling

@@ -1,0 +1,111 @@
+-- What the worker notes of one call, and what its caller is told (XATMI, tpcall; that a server's program is told by a frame is this project's own).
+use Rattle.std.specs.Prelude.{◌≡◌, ◌⊎◌, ℕ, Bool, true, false, List, [], ◌∷◌, ◌++◌, Result, Ok, Err}
+use Rattle.xa_desk.specs.xa_types.declared.reply.Reply.TheVariants as replies
+use Rattle.xa_desk.specs.xa_events.declared.event.Event.{Event}
+use Rattle.xa_desk.specs.xa_events.declared.event.Event.TheVariants.{Accept, Answer, Refuse, Priority}
+use Rattle.xa_desk.specs.xa_events.declared.event.Replied.{Replied}
+use Rattle.xa_desk.specs.xa_events.Caller.{last_op}
+use Rattle.xa_desk.specs.xa_events.Said.{is_op, reply_at, refusal_reply}
+use Rattle.xa_desk.specs.xa_stamp.declared.home.Stamped.{Stamped}
+use Rattle.xa_desk.specs.xa_crew.Seen.{past_in}
+use Rattle.xa_desk.specs.xa_work.declared.work.Halt.TheVariants.{NoMemory}
+use Rattle.xa_desk.specs.xa_work.Work.{theirs}
+use Rattle.xa_desk.specs.xa_caller.declared.phase.Phase.TheVariants.{Idle}
+use Rattle.xa_desk.specs.declared.desk.Desk.{Desk}
+use Rattle.xa_desk.specs.declared.stopped.Stopped.{Stopped}
+use Rattle.xa_desk.specs.declared.stopped.Stopped.TheVariants as ends
+use Rattle.xa_calls.specs.declared.sending.Tried.{Tried}
+use Rattle.xa_calls.specs.declared.sending.Tried.TheVariants as attempts
+use Rattle.xa_calls.specs.declared.telling.Told.{Told}
+use Rattle.xa_calls.specs.declared.telling.Told.TheVariants as tells
+use Rattle.xa_calls.specs.Going.{IsSame}
+
+-- ---- what is noted
+
+abbrev pub is_accept : Event → Bool
+is_accept (Accept a) = true
+is_accept e = false
+
+-- the events of one call of the caller, the newest first: one, or what became of its request and the accept of that
+abbrev pub AreCall : ℕ → ℕ → List Event → Type 0
+AreCall caller n (e ∷ []) = is_op caller n e ≡ true
+AreCall caller n (e ∷ a ∷ []) = (is_op caller n e ≡ true) × (is_accept e ≡ false) × (is_op caller n a ≡ true) × (is_accept a ≡ true)
+AreCall caller n events = ⊥
+
+-- the worker noted nothing
+abbrev pub IsQuiet : Desk → Desk → Type 0
+IsQuiet old new = new.caller.work.own ≡ old.caller.work.own
+
+-- the worker noted one event, of its call with that number
+pub record NotesOne (number : ℕ) (P : Event → List Event → Type 0) (old new : Desk) : Type 0 where
+  pub noted : Stamped
+  pub own : new.caller.work.own ≡ old.caller.work.own ++ noted ∷ []
+  pub its : is_op old.caller.work.id.0 number noted.event ≡ true
+  pub shows : P noted.event (theirs old.caller.work)
+
+-- its request was accepted
+abbrev pub Accepts : Event → List Event → Type 0
+Accepts e before = is_accept e ≡ true
+
+-- the call is over: it is refused, or done, or its own request is answered
+abbrev pub Closes : Event → List Event → Type 0
+Closes (Refuse r) before = refusal_reply r.fault r.evidence ≡ replies.Fault r.fault
+Closes (Priority p) before = Unit {0}
+Closes (Answer a) before = last_op a.by.0 before ≡ a.op
+Closes e before = ⊥
+
+-- what an attempt to send notes: the accept, or the refusal, or nothing; and nothing of it stands where it failed
+abbrev pub TriedNotes : ℕ → Result Tried Stopped → Desk → Desk → Type 0
+TriedNotes op (Ok attempts.Sent) old new = NotesOne op Accepts old new
+TriedNotes op (Ok attempts.Refused) old new = NotesOne op Closes old new
+TriedNotes op (Ok attempts.Full) old new = IsQuiet old new
+TriedNotes op (Err stopped) old new = IsQuiet old new × (new.caller.phase ≡ Idle)
+
+-- so it is with sending
+abbrev pub SentNotes : ℕ → Result Bool Stopped → Desk → Desk → Type 0
+SentNotes op (Ok true) old new = NotesOne op Accepts old new
+SentNotes op (Ok false) old new = NotesOne op Closes old new
+SentNotes op (Err stopped) old new = IsQuiet old new × (new.caller.phase ≡ Idle)
+
+-- memory isn't what is wanting
+abbrev pub IsNoWant : Stopped → Type 0
+IsNoWant (ends.Here NoMemory) = ⊥
+IsNoWant stopped = Unit {0}
+
+-- a look for the answer notes that, or nothing, and needs no memory
+abbrev pub LookNotes : ℕ → Result Bool Stopped → Desk → Desk → Type 0
+LookNotes op (Ok true) old new = NotesOne op Closes old new
+LookNotes op (Ok false) old new = IsQuiet old new
+LookNotes op (Err stopped) old new = IsQuiet old new × IsNoWant stopped
+
+-- the whole call was noted
+abbrev pub NotesCall : ℕ → Desk → Desk → Type 0
+NotesCall op old new = NotesOne op Closes old new ⊎ ((mid : Desk) × IsSame old mid × NotesOne op Accepts old mid × NotesOne op Closes mid new)
+
+-- where it stopped, nothing was noted but, maybe, that its request was accepted; where memory ran out nothing at all, and the caller may make the call again
+abbrev pub StoppedIn : ℕ → Stopped → Desk → Desk → Type 0
+StoppedIn op (ends.Here NoMemory) old new = IsQuiet old new × (new.caller.phase ≡ Idle)
+StoppedIn op stopped old new = IsQuiet old new ⊎ NotesOne op Accepts old new
+
+-- ---- what is told
+
+abbrev pub told_of : Event → Told
+told_of (Refuse r) = tells.Fault r.fault
+told_of (Answer a) = tells.Answered
+told_of e = tells.Done
+
+-- what the caller is told of its call with that number is what its events say of it; of an answer, that it stands as the newest of them
+abbrev pub Says : Told → ℕ → ℕ → List Event → Type 0
+Says tells.Done number caller past = reply_at past caller number ≡ replies.Done
+Says (tells.Fault fault) number caller past = reply_at past caller number ≡ replies.Fault fault
+Says tells.Answered number caller past = (a : Replied) × (older : List Event) × (past ≡ Answer a ∷ older) × (reply_at past caller number ≡ replies.Answered 0 a.answer)
+
+-- all that the worker noted is this one call, and its caller is told what that says
+pub record IsTold (told : Told) (number : ℕ) (old new : Desk) : Type 0 where
+  pub more : List Event
+  pub noted : theirs new.caller.work ≡ more ++ theirs old.caller.work
+  pub added : List Stamped
+  pub own : new.caller.work.own ≡ old.caller.work.own ++ added
+  pub events : past_in added ≡ more
+  pub call : AreCall old.caller.work.id.0 number more
+  pub says : Says told number new.caller.work.id.0 (theirs new.caller.work)

@@ -1,0 +1,228 @@
+// A caller sends a request.
+ghost use Rattle.std.specs.Prelude.{◌≡◌, ◌+◌, false, Some};
+ghost use Rattle.xa_desk.specs.xa_types.declared.call.Op.TheVariants.{Call};
+ghost use Rattle.xa_desk.specs.xa_events.Calls.{is_invalid_call};
+ghost use Rattle.xa_desk.specs.xa_events.declared.event.Event.{Event as Accepting};
+ghost use Rattle.xa_desk.specs.Desks.{IsDomain, IsDesk};
+ghost use Rattle.xa_desk.specs.Found.{HasFound, IsAimed};
+ghost use Rattle.xa_desk.specs.Steps.{IsWhy, full_in};
+ghost use Rattle.xa_desk.specs.xa_caller.Caller.{MayCall};
+ghost use Rattle.xa_calls.specs.Resting.{SawFull};
+ghost use Rattle.xa_calls.specs.Going.{IsReady, GoesBy, PerformsBy, TriesBy, TriedAs, SentAs, tried_by, refused_by};
+ghost use Rattle.xa_calls.specs.Sending.{IsBy, IsItsOwn, why_of, full_by};
+ghost use Rattle.xa_calls.specs.Telling.{TriedNotes, SentNotes};
+
+use std::alloc::Global;
+use std::sync::Wait;
+use xa_desk::caller::{Aimed, Cargo, Note, Prepared, Step, Stop, Why};
+use xa_desk::queue::{Entry, Refusal};
+use xa_desk::types::{Ask, Name, QueueId};
+use xa_desk::work::Halt;
+use xa_desk::{Desk, Domain, Stopped, Unsent};
+
+// What an attempt to send comes to.
+#[derive(Clone, Copy)]
+pub(crate) enum Tried {
+    Sent,
+    Refused,
+    Full,
+}
+
+fn why_of(full: Option<(QueueId, u32)>) -> Why
+    ensures { result ≡ why_of full }
+{
+    match full {
+        None => Why::AllShut,
+        Some((queue, waiting)) => Why::Full(queue, waiting),
+    }
+}
+
+fn tried_by(step: Step) -> Result<Tried, Stopped>
+    ensures { result ≡ tried_by step }
+{
+    match step {
+        Step::Told(_) => Ok(Tried::Refused),
+        Step::Wait => Ok(Tried::Full),
+        Step::Halt(halt) => Err(Stopped::Here(halt)),
+        Step::Halted => Err(Stopped::Elsewhere),
+    }
+}
+
+pub(crate) fn refused_by(stop: Stop) -> Result<Tried, Stopped>
+    ensures { result ≡ refused_by stop }
+{
+    match stop {
+        Stop::Refused(_) => Ok(Tried::Refused),
+        Stop::Halt(halt) => Err(Stopped::Here(halt)),
+    }
+}
+
+// Which queue was full, behind a queue that refused, or why nothing more is tried.
+fn full_by(
+    queue: QueueId,
+    why: Refusal,
+    full: Option<(QueueId, u32)>,
+) -> Result<Option<(QueueId, u32)>, Halt>
+    ensures { result ≡ full_by queue why full }
+{
+    match why {
+        Refusal::Full(waiting) => Ok(Some((queue, waiting))),
+        Refusal::Down => Ok(full),
+        Refusal::Closed => Ok(full),
+        Refusal::Worn(stamp) => Err(Halt::Worn(stamp)),
+        Refusal::NoMemory => Err(Halt::NoMemory),
+    }
+}
+
+// No queue took the request, for that reason.
+fn give_up(
+    domain: &Domain,
+    desk: &mut Desk,
+    note: Note,
+    entry: Entry<Cargo>,
+    why: Why,
+    ask: &Ask,
+) -> Result<Tried, Stopped>
+    requires domain { IsDomain domain.now }
+    requires desk { IsDesk domain.now desk.old }
+    requires active { MayCall desk.old.caller }
+    requires valid { is_invalid_call domain.now.setup ask.now ≡ false }
+    requires found { HasFound domain.now ask.now.service desk.old.reader.found desk.old }
+    requires aimed { (event : Accepting) × IsAimed domain.now desk.old.reader.found ask.now.payload entry event desk.old }
+    requires why { IsWhy domain.now desk.old.reader.found why desk.old }
+    ensures goes { GoesBy domain.now (desk.old.caller.op + 1) ask.now desk.old desk.new }
+    ensures tries { TriesBy (λ one. full_in why ≡ Some one) desk.old desk.new }
+    ensures tried { TriedAs domain.now (desk.old.caller.op + 1) result desk.new }
+    ensures notes { TriedNotes (desk.old.caller.op + 1) result desk.old desk.new }
+    ensures active { MayCall desk.new.caller }
+{
+    tried_by(desk.unsent(domain, note, entry, why, ask.flags.no_block))
+}
+
+// Puts the request on the first queue that takes it.
+fn put_on_one<W: Wait>(
+    rt: &W,
+    alloc: Global,
+    domain: &Domain,
+    desk: &mut Desk,
+    first: Prepared,
+    ask: &Ask,
+) -> Result<Tried, Stopped>
+    requires domain { IsDomain domain.now }
+    requires desk { IsDesk domain.now desk.old }
+    requires active { MayCall desk.old.caller }
+    requires valid { is_invalid_call domain.now.setup ask.now ≡ false }
+    requires found { HasFound domain.now ask.now.service desk.old.reader.found desk.old }
+    requires aimed { IsAimed domain.now desk.old.reader.found ask.now.payload first.entry first.event desk.old }
+    requires first { IsBy desk.old.reader.found 0 first.event }
+    requires its { IsItsOwn desk.old.caller.work.id first.event }
+    ensures goes { GoesBy domain.now (desk.old.caller.op + 1) ask.now desk.old desk.new }
+    ensures tries { TriesBy (SawFull domain.now desk.old desk.new) desk.old desk.new }
+    ensures tried { TriedAs domain.now (desk.old.caller.op + 1) result desk.new }
+    ensures notes { TriedNotes (desk.old.caller.op + 1) result desk.old desk.new }
+    ensures active { MayCall desk.new.caller }
+{
+    let mut prepared = first;
+    let mut full = None;
+    let mut attempt = 0u32;
+    for _ in rt.forever() {
+        let unsent = match desk.send(rt, domain, prepared) {
+            Ok(queue) => {
+                domain.wake_server(queue);
+                return Ok(Tried::Sent);
+            }
+            Err(unsent) => unsent,
+        };
+        let Unsent {
+            queue,
+            entry,
+            note,
+            why,
+        } = unsent;
+        full = match full_by(queue, why, full) {
+            Ok(full) => full,
+            Err(halt) => return give_up(domain, desk, note, entry, Why::Halt(halt), ask),
+        };
+        attempt = attempt.saturating_add(1);
+        prepared = match desk.aim(alloc, domain, entry, attempt) {
+            Aimed::At(entry, event) => Prepared { entry, event, note },
+            Aimed::Past(entry) => {
+                return give_up(domain, desk, note, entry, why_of(full), ask);
+            }
+            Aimed::NoMemory(entry) => {
+                return give_up(domain, desk, note, entry, Why::Halt(Halt::NoMemory), ask);
+            }
+        };
+    }
+    unreachable!()
+}
+
+// Looks the service up, and sends the request by what is found, or is refused.
+fn try_to_send<W: Wait>(
+    rt: &W,
+    alloc: Global,
+    domain: &Domain,
+    desk: &mut Desk,
+    op: u32,
+    ask: &Ask,
+    service: &Name,
+) -> Result<Tried, Stopped>
+    requires domain { IsDomain domain.now }
+    requires ready { IsReady domain.now desk.old.caller.op desk.old }
+    requires active { MayCall desk.old.caller }
+    requires turn { op ≡ desk.old.caller.op + 1 }
+    requires valid { is_invalid_call domain.now.setup ask.now ≡ false }
+    requires named { service.now ≡ ask.now.service }
+    ensures goes { PerformsBy domain.now op (Call ask.now) desk.old desk.new }
+    ensures tried { TriedAs domain.now op result desk.new }
+    ensures notes { TriedNotes op result desk.old desk.new }
+    ensures active { MayCall desk.new.caller }
+{
+    desk.look_up(rt, domain, service);
+    match desk.prepare(alloc, domain, op, ask) {
+        Ok(prepared) => put_on_one(rt, alloc, domain, desk, prepared, ask),
+        Err(stop) => refused_by(stop),
+    }
+}
+
+// Sends the request; where all queues that are up are full it waits until one has room, and looks the service up again.
+// Answers whether it was sent, or else refused.
+pub(crate) fn send<W: Wait>(
+    rt: &W,
+    alloc: Global,
+    domain: &Domain,
+    desk: &mut Desk,
+    op: u32,
+    ask: &Ask,
+    service: &Name,
+) -> Result<bool, Stopped>
+    requires domain { IsDomain domain.now }
+    requires ready { IsReady domain.now desk.old.caller.op desk.old }
+    requires active { MayCall desk.old.caller }
+    requires turn { op ≡ desk.old.caller.op + 1 }
+    requires valid { is_invalid_call domain.now.setup ask.now ≡ false }
+    requires named { service.now ≡ ask.now.service }
+    ensures goes { PerformsBy domain.now op (Call ask.now) desk.old desk.new }
+    ensures sent { SentAs domain.now op result desk.new }
+    ensures notes { SentNotes op result desk.old desk.new }
+    ensures active { MayCall desk.new.caller }
+{
+    match try_to_send(rt, alloc, domain, desk, op, ask, service)? {
+        Tried::Sent => return Ok(true),
+        Tried::Refused => return Ok(false),
+        Tried::Full => {}
+    }
+    for _ in rt.forever() {
+        let key = domain.waits.room.prepare_wait();
+        match try_to_send(rt, alloc, domain, desk, op, ask, service)? {
+            Tried::Sent => return Ok(true),
+            Tried::Refused => return Ok(false),
+            Tried::Full => {}
+        }
+        if domain.halt.get().is_some() {
+            return Err(Stopped::Elsewhere);
+        }
+        key.wait(rt);
+    }
+    unreachable!()
+}

@@ -1,0 +1,40 @@
+// What the caller of a call is told.
+ghost use Rattle.std.specs.Prelude.{◌≡◌, ◌∷◌, ◌++◌, true, List, []};
+ghost use Rattle.xa_desk.specs.xa_events.Homes.Home.{CallerHome};
+ghost use Rattle.xa_desk.specs.xa_stamp.declared.home.Stamped.{Stamped};
+ghost use Rattle.xa_desk.specs.xa_crew.Crew.{stands_at};
+ghost use Rattle.xa_calls.specs.Telling.{told_of};
+
+use xa_desk::Desk;
+use xa_desk::events::Event;
+use xa_desk::types::Fault;
+
+/// What the caller of a call is told: that it is done, by which error it failed, or that it was answered. The answer stands
+/// as the newest event at the caller's own home.
+#[derive(Clone, Copy)]
+pub enum Told {
+    Done,
+    Fault(Fault),
+    Answered,
+}
+
+fn told_of(event: &Event) -> Told
+    ensures { result ≡ told_of event.now }
+{
+    match event {
+        Event::Refuse(refused) => Told::Fault(refused.fault),
+        Event::Answer(_) => Told::Answered,
+        _ => Told::Done,
+    }
+}
+
+// What its caller is told by the event that it noted last, if that stands at its own home.
+pub(crate) fn told_at(desk: &Desk) -> Told
+    ensures { (older : List Stamped) (x : Stamped) → desk.now.caller.work.own ≡ older ++ x ∷ [] → stands_at desk.now.caller.work.setup desk.now.caller.work.clients (CallerHome desk.now.caller.work.id.0) x ≡ true
+        → result ≡ told_of x.event }
+{
+    match desk.caller.entries() {
+        [.., newest] => told_of(&newest.event),
+        [] => Told::Done,
+    }
+}
