@@ -47,7 +47,6 @@ use Rattle.xa_desk.specs.declared.domain.Domain.{Domain}
 use Rattle.xa_desk.specs.declared.desk.Desk.{Desk}
 use Rattle.xa_desk.specs.declared.serving.Took.{Took}
 use Rattle.xa_desk.specs.declared.serving.Took.TheVariants as takes
-use Rattle.xa_desk.specs.declared.serving.SweptOut.{SweptOut}
 use Rattle.xa_desk.specs.Whole.{Whole, entries_of}
 use Rattle.xa_desk.specs.Deserted.{GaveUpLast}
 use Rattle.xa_desk.specs.Desks.{GoesOn, queue_page}
@@ -176,14 +175,16 @@ pub record IsToTell (d : Domain) (desk : Desk) (closing : Closing) : Type 0 wher
 abbrev pub IsSwept : Domain → ℕ → List Event → Type 0
 IsSwept d queue past = (is_down queue past ≡ true) × (waiting d.setup queue past ≡ [])
 
--- that request was swept from that queue, which the worker noted, and its caller is to be told so
-pub record Sweeps (queue : ℕ) (out : SweptOut) (old new : Desk) : Type 0 where
+-- the request that is closed was swept from that queue, which the worker noted, and its caller is to be told so
+pub record Sweeps (queue : ℕ) (closing : Closing) (old new : Desk) : Type 0 where
+  pub request : RequestId
+  pub its : closing.request ≡ Some request
   pub stamp : Stamp
-  pub noted : new.caller ≡ with_event stamp (Sweep (record { request = out.request; queue = record { 0 = queue } })) old.caller
-  pub answer : out.closing.answer ≡ Some (reply_of SweptAway)
+  pub noted : new.caller ≡ with_event stamp (Sweep (record { request = request; queue = record { 0 = queue } })) old.caller
+  pub answer : closing.answer ≡ Some (reply_of SweptAway)
 
 -- a request that waited was swept, and its caller is to be told; or the desk saw that none waits
-abbrev pub SweepsAs : Domain → ℕ → Result (Option SweptOut) Worn → Desk → Desk → Type 0
+abbrev pub SweepsAs : Domain → ℕ → Result (Option Closing) Worn → Desk → Desk → Type 0
 SweepsAs d queue (Ok None) old new = Sees old.caller new.caller × SawAtQueue d queue new (IsSwept d queue)
-SweepsAs d queue (Ok (Some out)) old new = OfDomain old new × IsToTell d new out.closing × IsSome out.closing.ticket × Sweeps queue out old new
+SweepsAs d queue (Ok (Some closing)) old new = OfDomain old new × IsToTell d new closing × IsSome closing.ticket × Sweeps queue closing old new
 SweepsAs d queue (Err worn) old new = IsAtEnd worn old new

@@ -21,7 +21,7 @@ pub use desk::Desk;
 pub use domain::{Domain, Waits};
 pub use halting::HaltWord;
 pub use passing::NotPassed;
-pub use serving::{SweptOut, Took};
+pub use serving::Took;
 pub use signal::Signals;
 pub use stopped::Stopped;
 

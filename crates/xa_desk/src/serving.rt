@@ -30,7 +30,7 @@ use xa_told::pipe::{Life, Return};
 use xa_told::queue::{GivenUp, Outgoing, Taken};
 use xa_told::server::{Closing, Given, Served, ServerSlot};
 use xa_told::stamp::Noted;
-use xa_told::types::{Name, QueueId, RequestId, Stamp, Worn};
+use xa_told::types::{Name, QueueId, Stamp, Worn};
 use xa_told::work::Halt;
 
 /// What a take of a server comes to.
@@ -42,12 +42,6 @@ pub enum Took {
     Nothing,
     /// Nothing waits, and nothing will.
     Closed,
-}
-
-/// A request that was swept, and what its caller is to be told.
-pub struct SweptOut {
-    pub request: RequestId,
-    pub closing: Closing,
 }
 
 impl Desk {
@@ -294,7 +288,7 @@ impl Desk {
         domain: &Domain,
         slot: &ServerSlot,
         queue: QueueId,
-    ) -> Result<Option<SweptOut>, Worn>
+    ) -> Result<Option<Closing>, Worn>
         requires domain { IsDomain domain.now }
         requires desk { IsDesk domain.now self.old }
         requires fallen { IsFallen domain.now queue.0 self.old × (0 < queue.0) × (queue.0 < length domain.now.queues.items + 1) }
@@ -318,9 +312,7 @@ impl Desk {
                 let Outgoing { entry, noted } = out;
                 let Noted { stamp, event } = noted;
                 self.caller.noted_for_domain(stamp, event);
-                let request = entry.request;
-                let closing = slot.swept(entry, stamp);
-                Ok(Some(SweptOut { request, closing }))
+                Ok(Some(slot.swept(entry, stamp)))
             }
             Ok(None) => {
                 self.caller.saw(last);

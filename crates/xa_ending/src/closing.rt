@@ -31,16 +31,17 @@ fn let_go(cells: &Cells<Filling>, seat: &mut Seat<Filling>, entry: Entry<Cargo>)
     ensures { IsSilent cells.now seat.new }
 {
     let Closing {
+        request: _,
         ticket,
         answer,
         stamp,
     } = ServerSlot::abandon(entry);
-    match ticket {
-        Some(ticket) => match cells.fill(seat, ticket, Filling { answer, stamp }) {
-            Filled::Delivered => {}
-            Filled::Dropped(_) => {}
-        },
-        None => unreachable!(),
+    let Some(ticket) = ticket else {
+        return;
+    };
+    match cells.fill(seat, ticket, Filling { answer, stamp }) {
+        Filled::Delivered => {}
+        Filled::Dropped(_) => {}
     }
 }
 

@@ -33,7 +33,7 @@ use Rattle.xa_desk.specs.xa_server.Told.{GivenTo, IsEnded, EndedFor, FilledByEnd
 use Rattle.xa_desk.specs.declared.domain.Domain.{Domain}
 use Rattle.xa_desk.specs.declared.desk.Desk.{Desk}
 use Rattle.xa_desk.specs.Desks.{Leads}
-use Rattle.xa_links.specs.declared.telling.Told.{Told}
+use Rattle.xa_desk.specs.xa_server.declared.closing.Closing.{Closing}
 use Rattle.xa_links.specs.Behind.{ends_by, is_ending, SweepsOr, OnlySweeps, stops_by_exit, NoExitNext, IsBehindEnd, FilledBehind, AllBehind, TellsLast, ToldAll, ToldBefore, IsCalm, ToldBy}
 use Rattle.xa_links.specs.Steps.{GivenBy, Tells}
 
@@ -128,11 +128,11 @@ given_so {R} own (Some ticket) answer stamp v w became spent new all =
     by None = tt
     by (Some a) = subst (IsBehindEnd R ⊤ own) (sym spent.stamped) new
 
-given_by : {R : Type 0} (told : Option Told) (old : Desk) (after : View Filling) → GivenBy told old after → (is_ending (past_in old.caller.work.own) ≡ true → R) → AllBehind R ⊤ old.caller.work.own (known old.caller.seat) → AllBehind R ⊤ old.caller.work.own after
+given_by : {R : Type 0} (closing : Option Closing) (old : Desk) (after : View Filling) → GivenBy closing old after → (is_ending (past_in old.caller.work.own) ≡ true → R) → AllBehind R ⊤ old.caller.work.own (known old.caller.seat) → AllBehind R ⊤ old.caller.work.own after
 given_by {R} None old after same quiet all = subst (AllBehind R ⊤ old.caller.work.own) (sym same) all
-given_by {R} (Some told) old after (became, given) quiet all =
+given_by {R} (Some closing) old after (became, given) quiet all =
     let own : List Stamped = old.caller.work.own in
-    given_so own told.closing.ticket told.closing.answer (record { 0 = last_stamp no_stamp own }) (known old.caller.seat) after became given (behind_here own (record { 0 = last_stamp no_stamp own }) refl quiet) all
+    given_so own closing.ticket closing.answer (record { 0 = last_stamp no_stamp own }) (known old.caller.seat) after became given (behind_here own (record { 0 = last_stamp no_stamp own }) refl quiet) all
 
 -- ---- at a desk
 
@@ -182,14 +182,14 @@ module _ (old new : Desk) where
   start_calm x is seat starts ends told = (push_behind ⊥ ⊤ x is seat starts told, ending_push x is ∙ ends)
 
   -- somebody is told
-  tells_behind : (R : Type 0) {d : Domain} {told : Option Told} → Tells d told old new → (is_ending (past_in own) ≡ true → R) → AllBehind R ⊤ own (known old.caller.seat) → AllBehind R ⊤ own' (known new.caller.seat)
-  tells_behind R {d} {told} tells quiet all =
-      subst (λ (l : List Stamped). AllBehind R ⊤ l (known new.caller.seat)) (sym {A = List Stamped} (ap (λ (desk : Desk). desk.caller.work.own) tells.rest)) (given_by told old (known new.caller.seat) tells.given quiet all)
+  tells_behind : (R : Type 0) {d : Domain} {closing : Option Closing} → Tells d closing old new → (is_ending (past_in own) ≡ true → R) → AllBehind R ⊤ own (known old.caller.seat) → AllBehind R ⊤ own' (known new.caller.seat)
+  tells_behind R {d} {closing} tells quiet all =
+      subst (λ (l : List Stamped). AllBehind R ⊤ l (known new.caller.seat)) (sym {A = List Stamped} (ap (λ (desk : Desk). desk.caller.work.own) tells.rest)) (given_by closing old (known new.caller.seat) tells.given quiet all)
 
-  pub tells_last : {d : Domain} {told : Option Told} → Tells d told old new → TellsLast old → TellsLast new
+  pub tells_last : {d : Domain} {closing : Option Closing} → Tells d closing old new → TellsLast old → TellsLast new
   tells_last tells all = tells_behind ⊤ tells (λ ending. tt) all
 
-  pub tells_calm : {d : Domain} {told : Option Told} → Tells d told old new → IsCalm old → IsCalm new
+  pub tells_calm : {d : Domain} {closing : Option Closing} → Tells d closing old new → IsCalm old → IsCalm new
   tells_calm tells calm = (tells_behind ⊥ tells (λ ending. absurd (false≢true (sym calm.1 ∙ ending))) calm.0, ap (λ (desk : Desk). is_ending (past_in desk.caller.work.own)) tells.rest ∙ calm.1)
 
 -- ---- where less is asked

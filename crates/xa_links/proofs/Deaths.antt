@@ -46,13 +46,12 @@ use Rattle.xa_desk.specs.declared.desk.Desk.{Desk}
 use Rattle.xa_desk.specs.declared.stopped.Stopped.{Stopped}
 use Rattle.xa_desk.specs.Desks.{Leads}
 use Rattle.xa_desk.specs.Found.{SawAtQueue}
-use Rattle.xa_desk.specs.Serving.{IsServing, IsSentFor, IsToTell}
+use Rattle.xa_desk.specs.Serving.{IsServing, IsSentFor}
 use Rattle.xa_links.specs.declared.working.ServerWorker.{ServerWorker}
-use Rattle.xa_links.specs.declared.telling.Told.{Told}
 use Rattle.xa_desk.specs.Halting.{IsStopAt}
 use Rattle.xa_links.specs.Lives.{lives_in, IsHanded, TookEach, HandsOn, IsCut}
 use Rattle.xa_links.specs.Working.{cut_in}
-use Rattle.xa_links.specs.Steps.{Steps, Serves, IsToldOf, stop_by}
+use Rattle.xa_links.specs.Steps.{Steps, Serves, stop_by}
 use Rattle.xa_links.specs.Standing.{SettlesBy, IsLast, IsAtWork, IsOff, HasEnded}
 use Rattle.xa_links.specs.Behind.{is_by_exit, TellsLast, ToldBefore}
 use Rattle.xa_links.proofs.Behind.{still_behind, more_behind, told_last}
@@ -278,8 +277,3 @@ settles_took d desk over past server (Busy g request) its (same, settles) =
 settles_took d desk over past server (Idle g) its (same, settled) = subst (λ (s : ℕ). count (is_take_in s over.life.generation.0) past ≡ length over.life.asked) its settled.taken
 settles_took d desk over past server Off its settles = absurd settles
 settles_took d desk over past server (Dying g) its settles = absurd settles
-
--- what was closed is what somebody is to be told
-pub told_of : (d : Domain) (desk : Desk) (closing : Closing) (told : Option Told) → IfSome told (λ t. t.closing ≡ closing) → IsToTell d desk closing → IfSome told (IsToldOf d desk)
-told_of d desk closing None is to = tt
-told_of d desk closing (Some told) is to = subst (IsToTell d desk) (sym is) to

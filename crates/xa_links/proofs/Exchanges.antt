@@ -67,7 +67,6 @@ use Rattle.xa_links.specs.Steps.{Steps, Takes, is_exit, stop_by}
 use Rattle.xa_links.specs.Standing.{SettlesBy, IsLast, IsAtWork, IsOff, IsIn, IsFree, HasTaken, MayDie, HasEnded}
 use Rattle.xa_links.specs.Behind.{is_lost, ends_by, ToldBefore}
 use Rattle.xa_links.specs.Passing.{IsDoneBy, Passes}
-use Rattle.xa_links.specs.declared.telling.Told.{Told}
 use Rattle.xa_links.proofs.Onward.{ended_done}
 use Rattle.xa_links.proofs.Behind.{calm_before, calm_push, leads_behind, told_last}
 use Rattle.xa_links.proofs.Keeping.{Sendings, OfLife, handed_wider, handed_led, going_on}
@@ -446,9 +445,9 @@ module _ {L T : Type 0} {d : Domain} {shows : T → StarterShows} (w : ServerWor
       )
 
   -- the request went on, or its forward failed
-  pub forwarded_in : (new old : Life) (request : RequestId) (forward : Onward) (told : Option Told) (slot' : ServerSlot) (desk' : Desk) → Heard (forward_frame (tag_of old) forward.service forward.payload) new old → IsIn d shows (Busy old.generation request) Serving 1 old w
-      → Passes d w.queue.0 forward.service forward.payload told w.served.slot slot' w.desk desk' → IsIn d shows (Idle new.generation) AwaitsNext 0 new (at_desk w slot' desk')
-  forwarded_in new old request forward told slot' desk' heard is passes =
+  pub forwarded_in : (new old : Life) (request : RequestId) (forward : Onward) (closing : Option Closing) (slot' : ServerSlot) (desk' : Desk) → Heard (forward_frame (tag_of old) forward.service forward.payload) new old → IsIn d shows (Busy old.generation request) Serving 1 old w
+      → Passes d w.queue.0 forward.service forward.payload closing w.served.slot slot' w.desk desk' → IsIn d shows (Idle new.generation) AwaitsNext 0 new (at_desk w slot' desk')
+  forwarded_in new old request forward closing slot' desk' heard is passes =
       finished_in new old request (Forwards forward) AwaitsNext passes.event slot' desk' heard is refl passes.by (keeps_on (ShowsReason d desk') forward.service forward.payload passes.event (own_of w) passes.by) passes.done
 
   -- and may have to be cut then

@@ -41,7 +41,7 @@ use Rattle.xa_desk.specs.declared.stopped.Stopped.TheVariants.{Here, Elsewhere}
 use Rattle.xa_desk.proofs.xa_server.Reading.{last_by_floor}
 use Rattle.xa_desk.specs.xa_restart.Rule.{IsLast as IsLastTick, may_start_by}
 use Rattle.xa_desk.proofs.Leading.{leads_trans}
-use Rattle.xa_links.specs.declared.telling.Told.{Told}
+use Rattle.xa_desk.specs.xa_server.declared.closing.Closing.{Closing}
 use Rattle.xa_links.specs.Behind.{TellsLast, IsCalm}
 use Rattle.xa_links.proofs.Behind.{tells_last, tells_calm, by_told}
 use Rattle.xa_links.proofs.Stepping.{told_steps, serving_told}
@@ -276,8 +276,8 @@ module _ {L T : Type 0} {d : Domain} {shows : T → StarterShows} where
       }
 
   -- and behind that, as somebody is told, with nothing or no more in hand
-  pub ended_tells : (w : ServerWorker L T) (slot' : ServerSlot) (desk' : Desk) (why : Option Stopped) → slot'.server ≡ w.served.slot.server → (slot'.hand ≡ None) ⊎ (slot' ≡ w.served.slot) → {told : Option Told} → Tells d told w.desk desk' → HasEnded d shows why w → HasEnded d shows why (at_desk w slot' desk')
-  ended_tells w slot' desk' why server hand {told} tells ended =
+  pub ended_tells : (w : ServerWorker L T) (slot' : ServerSlot) (desk' : Desk) (why : Option Stopped) → slot'.server ≡ w.served.slot.server → (slot'.hand ≡ None) ⊎ (slot' ≡ w.served.slot) → {closing : Option Closing} → Tells d closing w.desk desk' → HasEnded d shows why w → HasEnded d shows why (at_desk w slot' desk')
+  ended_tells w slot' desk' why server hand {closing} tells ended =
       let steps = told_steps tells in
       let s : ℕ = w.served.slot.server.0 in
       let shown = ended.shown in
@@ -321,11 +321,11 @@ module _ {L T : Type 0} {d : Domain} {shows : T → StarterShows} where
       subst (HasEnded d shows (Some stopped)) (sym rest) (halts_at w (Some (cut_short life)) (life.generation ∷ []) stopped at refl (All-cons Hands (cut_short life) [] still (All-nil Hands)) (All-cons Off (cut_short life) [] off (All-nil Off)) stop)
 
   -- somebody is told
-  pub in_told : (w : ServerWorker L T) (desk' : Desk) (doing : Doing) (turn : Turn) (n : ℕ) (life : Life) {told : Option Told} → Tells d told w.desk desk' → IsIn d shows doing turn n life w → IsIn d shows doing turn n life (at_desk w w.served.slot desk')
-  in_told w desk' doing turn n life {told} tells is = in_on w w.served.slot desk' doing turn n life (record { steps = told_steps tells; serving = serving_told tells is.at.serving; server = refl; made = refl; gone = refl }) refl (tells_calm w.desk desk' tells) is
+  pub in_told : (w : ServerWorker L T) (desk' : Desk) (doing : Doing) (turn : Turn) (n : ℕ) (life : Life) {closing : Option Closing} → Tells d closing w.desk desk' → IsIn d shows doing turn n life w → IsIn d shows doing turn n life (at_desk w w.served.slot desk')
+  in_told w desk' doing turn n life {closing} tells is = in_on w w.served.slot desk' doing turn n life (record { steps = told_steps tells; serving = serving_told tells is.at.serving; server = refl; made = refl; gone = refl }) refl (tells_calm w.desk desk' tells) is
 
-  pub off_told : (w : ServerWorker L T) (desk' : Desk) {told : Option Told} → Tells d told w.desk desk' → IsOff d shows w → IsOff d shows (at_desk w w.served.slot desk')
-  off_told w desk' {told} tells off =
+  pub off_told : (w : ServerWorker L T) (desk' : Desk) {closing : Option Closing} → Tells d closing w.desk desk' → IsOff d shows w → IsOff d shows (at_desk w w.served.slot desk')
+  off_told w desk' {closing} tells off =
       let at = off.at in
       let steps = told_steps tells in
       let none : (g : ℕ) → All (OfLife g) [] = λ g. All-nil (OfLife g) in

@@ -25,7 +25,7 @@ use Rattle.xa_desk.specs.declared.desk.Desk.{Desk}
 use Rattle.xa_desk.specs.declared.stopped.Stopped.{Stopped}
 use Rattle.xa_desk.specs.Desks.{Leads}
 use Rattle.xa_desk.specs.Found.{SawAtQueue}
-use Rattle.xa_desk.specs.declared.serving.SweptOut.{SweptOut}
+use Rattle.xa_desk.specs.xa_server.declared.closing.Closing.{Closing}
 use Rattle.xa_desk.specs.xa_held.Kept.{IsRight}
 use Rattle.xa_desk.specs.Serving.{IsServing, Sees, LeavesAs, OfDomain, Sweeps, IsSwept}
 use Rattle.xa_links.specs.declared.working.ServerWorker.{ServerWorker}
@@ -54,8 +54,8 @@ server_some {d} {queue} {slot} {desk} serving =
 
 -- ---- whoever was told was told behind an end
 
-pub swept_last : {queue : ℕ} {out : SweptOut} {old new : Desk} → Sweeps queue out old new → TellsLast old → TellsLast new
-swept_last {queue} {out} {old} {new} sweeps = push_behind old new ⊤ ⊤ (record { stamp = sweeps.stamp; event = Sweep (record { request = out.request; queue = record { 0 = queue } }) }) (ap (λ (c : Caller). c.work.own) sweeps.noted) (ap (λ (c : Caller). c.seat) sweeps.noted) tt
+pub swept_last : {queue : ℕ} {closing : Closing} {old new : Desk} → Sweeps queue closing old new → TellsLast old → TellsLast new
+swept_last {queue} {closing} {old} {new} sweeps = push_behind old new ⊤ ⊤ (record { stamp = sweeps.stamp; event = Sweep (record { request = sweeps.request; queue = record { 0 = queue } }) }) (ap (λ (c : Caller). c.work.own) sweeps.noted) (ap (λ (c : Caller). c.seat) sweeps.noted) tt
 
 pub seen_last : (old new : Desk) → Sees old.caller new.caller → TellsLast old → TellsLast new
 seen_last old new sees = still_behind old new ⊤ (ap (λ (c : Caller). c.work.own) sees.1) (ap (λ (c : Caller). c.seat) sees.1)

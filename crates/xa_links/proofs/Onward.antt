@@ -50,11 +50,10 @@ use Rattle.xa_desk.proofs.Staying.{found_stays}
 use Rattle.xa_desk.proofs.Stopping.{same_leads}
 use Rattle.xa_links.specs.declared.passing.Tried.{Tried}
 use Rattle.xa_links.specs.declared.passing.Tried.TheVariants as tries
-use Rattle.xa_links.specs.declared.telling.Told.{Told}
 use Rattle.xa_links.specs.Reasons.{ShowsReason}
 use Rattle.xa_links.specs.Passing.{TookNothing, IsBack, IsDoneBy, Passes, Keeps, TriedAs, PassesAs, its_queue, halt_by}
 use Rattle.xa_links.specs.Steps.{Steps, Serves}
-use Rattle.xa_links.proofs.Deaths.{is_its, told_of}
+use Rattle.xa_links.proofs.Deaths.{is_its}
 use Rattle.xa_links.proofs.Lasting.{number_of}
 use Rattle.xa_links.proofs.Reasons.{shows_reason, shut_shown, way_shown}
 use Rattle.xa_links.proofs.Stepping.{still_steps, still_serves, one_steps, noted_steps, seen_steps, halted_steps, halted_own, halted_at, steps_trans}
@@ -162,14 +161,14 @@ module _ {d : Domain} {queue : ℕ} {slot : ServerSlot} {old : Desk} where
   })
 
   -- the forward failed, as no queue took the request
-  pub fails_on : (entry : Entry Cargo) (event : Event) (service : List ℕ) (told : Told) {slot' : ServerSlot} {new : Desk} → IsDesk d old → IsPassing d queue entry event slot old → HasFound d service old.reader.found old → TookNothing d old old.reader.found.rows
-      → Leads d old new → IsServing d queue slot' new → new.caller.seat ≡ old.caller.seat → Fails old.reader.found.version told.closing slot' (holding entry slot) new.caller old.caller → IsToTell d new told.closing
-      → Passes d queue service entry.cargo.invocation.payload (Some told) slot slot' old new
-  fails_on entry event service told {slot'} {new} is passing has none leads serving seat fails to =
+  pub fails_on : (entry : Entry Cargo) (event : Event) (service : List ℕ) (closing : Closing) {slot' : ServerSlot} {new : Desk} → IsDesk d old → IsPassing d queue entry event slot old → HasFound d service old.reader.found old → TookNothing d old old.reader.found.rows
+      → Leads d old new → IsServing d queue slot' new → new.caller.seat ≡ old.caller.seat → Fails old.reader.found.version closing slot' (holding entry slot) new.caller old.caller → IsToTell d new closing
+      → Passes d queue service entry.cargo.invocation.payload (Some closing) slot slot' old new
+  fails_on entry event service closing {slot'} {new} is passing has none leads serving seat fails to =
       let version = old.reader.found.version in
       let payload = entry.cargo.invocation.payload in
       let number = number_of passing.serving in
-      let ended = ended_done {slot = holding entry slot} (BadForward version) told.closing leads number serving seat (λ g. refl) fails.finishes in
+      let ended = ended_done {slot = holding entry slot} (BadForward version) closing leads number serving seat (λ g. refl) fails.finishes in
       let done = ended.1 in
       record {
         event = End ended.0;
@@ -216,8 +215,8 @@ module _ (d : Domain) (queue : ℕ) (slot slot' last : ServerSlot) (a b c : Desk
       steps_from : (es : List Event) → Steps d es b c → Steps d es a c
       steps_from es further = subst (λ (l : List Event). Steps d l a c) (append-nil es) (steps_trans [] es steps further)
 
-  pub passes_from : (service : List ℕ) (payload : Data) (told : Option Told) → Passes d queue service payload told slot' last b c → Passes d queue service payload told slot last a c
-  passes_from service payload told passes =
+  pub passes_from : (service : List ℕ) (payload : Data) (closing : Option Closing) → Passes d queue service payload closing slot' last b c → Passes d queue service payload closing slot last a c
+  passes_from service payload closing passes =
       let done = passes.done in
       record {
         event = passes.event;
@@ -245,8 +244,8 @@ module _ (d : Domain) (queue : ℕ) (slot slot' last : ServerSlot) (a b c : Desk
     halts = keeps.halts;
   }
 
-  pub result_from : (service : List ℕ) (payload : Data) (r : Result (Option Told) Halt) → PassesAs d queue service payload r slot' last b c → PassesAs d queue service payload r slot last a c
-  result_from service payload (Ok told) passes = passes_from service payload told passes
+  pub result_from : (service : List ℕ) (payload : Data) (r : Result (Option Closing) Halt) → PassesAs d queue service payload r slot' last b c → PassesAs d queue service payload r slot last a c
+  result_from service payload (Ok closing) passes = passes_from service payload closing passes
   result_from service payload (Err halt) keeps = keeps_from halt keeps
 
 -- ---- one attempt behind another
@@ -256,8 +255,8 @@ same_server same = record { server = ap (λ (s : ServerSlot). s.server) same; ma
 
 module _ (d : Domain) (slot slot' last : ServerSlot) (a b c : Desk) (same : slot' ≡ slot) (back : IsBack d a b) where
   here_from : (service : List ℕ) (payload payload' : Data) (next : ℕ) (tried : Tried) → payload' ≡ payload → TriedAs d (its_queue d slot) service payload' next tried slot' last b c → TriedAs d (its_queue d slot) service payload next tried slot last a c
-  here_from service payload payload' next (tries.Passed told) its_data passes =
-      subst (λ (x : Data). Passes d (its_queue d slot) service x told slot last a c) its_data (passes_from d (its_queue d slot) slot slot' last a b c (same_server same) back.steps back.own back.seat service payload' told passes)
+  here_from service payload payload' next (tries.Passed closing) its_data passes =
+      subst (λ (x : Data). Passes d (its_queue d slot) service x closing slot last a c) its_data (passes_from d (its_queue d slot) slot slot' last a b c (same_server same) back.steps back.own back.seat service payload' closing passes)
   here_from service payload payload' next (tries.Halted halt) its_data keeps = keeps_from d (its_queue d slot) slot slot' last a b c (same_server same) back.steps back.own back.seat halt keeps
   here_from service payload payload' next (tries.Again entry event) its_data (passing, still, further, its, by, tried) = (passing, still ∙ same, back_trans back further, its ∙ its_data, by, tried)
 
@@ -316,10 +315,10 @@ module _ {d : Domain} {queue : ℕ} where
   if_taken on (Some entry) is = on entry is
 
   -- the forward failed by itself, by its request, or by what was found
-  pub fails_at_once : (service : List ℕ) (payload : Data) (named : ℕ) (closing : Closing) (told : Option Told) (t : Taken) {slot slot' : ServerSlot} {old new : Desk} → IsDesk d old → IfSome slot.hand (IsTaken d queue t old) → (is_name service ≡ true → HasFound d service old.reader.found old)
+  pub fails_at_once : (service : List ℕ) (payload : Data) (named : ℕ) (closing : Closing) (t : Taken) {slot slot' : ServerSlot} {old new : Desk} → IsDesk d old → IfSome slot.hand (IsTaken d queue t old) → (is_name service ≡ true → HasFound d service old.reader.found old)
       → way_of d.setup service payload (hop_in slot.hand) old.reader.found ≡ Err named → IsServing d queue slot old → Leads d old new → IsServing d queue slot' new → new.caller.seat ≡ old.caller.seat → Fails named closing slot' slot new.caller old.caller
-      → IfSome told (λ t. t.closing ≡ closing) → IsToTell d new closing → Passes d queue service payload told slot slot' old new
-  fails_at_once service payload named closing told t {slot} {slot'} {old} {new} desk taken has way was leads serving seat fails is to =
+      → IsToTell d new closing → Passes d queue service payload (Some closing) slot slot' old new
+  fails_at_once service payload named closing t {slot} {slot'} {old} {new} desk taken has way was leads serving seat fails to =
       let number = number_of was in
       let ended = ended_done (BadForward named) closing leads number serving seat (λ g. refl) fails.finishes in
       let entry = fails.finishes.ends.entry in
@@ -332,7 +331,7 @@ module _ {d : Domain} {queue : ℕ} where
           shows_reason d old new desk leads slot.server number service payload ended.0 (BadForward named) fails.finishes.stamp ended.3 ended.2 ended.5 ended.6
               (way_shown d old new desk leads slot.server number service payload ended.0 ended.3 queue entry named was.its ended.4 (subst (λ h. IfSome h (IsTaken d queue t old)) hand taken).last has (ap (λ h. way_of d.setup service payload (hop_in h) old.reader.found) (sym hand) ∙ way)),
         );
-        to_tell = told_of d new closing told is to;
+        to_tell = to;
       }
 
   -- at a halt

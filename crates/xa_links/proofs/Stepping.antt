@@ -36,11 +36,11 @@ use Rattle.xa_desk.specs.declared.serving.Took.TheVariants as takes
 use Rattle.xa_desk.specs.declared.stopped.Stopped.{Stopped}
 use Rattle.xa_desk.specs.xa_held.Notes.{is_down_in}
 use Rattle.xa_desk.specs.Desks.{Leads, queue_page}
-use Rattle.xa_desk.specs.Serving.{Sees, TakesAs, OfDomain, IsServing, IsFallen}
+use Rattle.xa_desk.specs.Serving.{Sees, TakesAs, OfDomain, IsServing, IsFallen, IsToTell}
 use Rattle.xa_desk.proofs.Leading.{leads_trans}
-use Rattle.xa_links.specs.declared.telling.Told.{Told}
+use Rattle.xa_desk.specs.xa_server.declared.closing.Closing.{Closing}
 use Rattle.xa_desk.specs.Halting.{IsHaltAt, IsStopAt}
-use Rattle.xa_links.specs.Steps.{Steps, Serves, Tells, Waits, TakesFrom, NextFrom, stop_by, OfDomainAt, IsToldOf}
+use Rattle.xa_links.specs.Steps.{Steps, Serves, Tells, Waits, TakesFrom, NextFrom, stop_by, OfDomainAt}
 
 -- what it noted for the domain isn't its own
 none_theirs : (clients worker : ℕ) → 0 < worker → (more : List Stamped) → All (λ (x : Stamped). IsOfDomain x.event) more → worker_events clients worker (past_in more) ≡ []
@@ -118,8 +118,8 @@ module _ {d : Domain} where
         idle = ap (λ (c : Caller). c.phase) of.rest;
       }
 
-  pub told_steps : {told : Option Told} {old new : Desk} → Tells d told old new → Steps d [] old new
-  told_steps {told} {old} tells = still_steps tells.leads (ap (λ (desk : Desk). desk.caller.work.id) tells.rest) (ap (λ (desk : Desk). desk.caller.work.clients) tells.rest) (ap (λ (desk : Desk). desk.caller.work.own) tells.rest)
+  pub told_steps : {closing : Option Closing} {old new : Desk} → Tells d closing old new → Steps d [] old new
+  told_steps {closing} {old} tells = still_steps tells.leads (ap (λ (desk : Desk). desk.caller.work.id) tells.rest) (ap (λ (desk : Desk). desk.caller.work.clients) tells.rest) (ap (λ (desk : Desk). desk.caller.work.own) tells.rest)
 
   -- nothing was noted at a halt
   pub halted_steps : {old new : Desk} (n : ℕ) (halt : Halt) → Leads d old new → HaltsWith n new.caller.work old.caller.work halt → Steps d [] old new
@@ -130,23 +130,23 @@ module _ {d : Domain} where
   still_serves steps serving same = record { steps = steps; serving = serving; server = ap (λ (s : ServerSlot). s.server) same; made = ap (λ (s : ServerSlot). s.made) same; gone = ap (λ (s : ServerSlot). s.gone) same }
 
   -- what the worker of a server has goes on as somebody is told
-  pub serving_told : {queue : ℕ} {slot : ServerSlot} {told : Option Told} {old new : Desk} → Tells d told old new → IsServing d queue slot old → IsServing d queue slot new
-  serving_told {queue} {slot} {told} {old} {new} tells is = subst (IsServing d queue slot) (sym tells.rest) (record { stands = is.stands; idle = is.idle; its = is.its; some = is.some; least = is.least; left = is.left; hand = is.hand })
+  pub serving_told : {queue : ℕ} {slot : ServerSlot} {closing : Option Closing} {old new : Desk} → Tells d closing old new → IsServing d queue slot old → IsServing d queue slot new
+  serving_told {queue} {slot} {closing} {old} {new} tells is = subst (IsServing d queue slot) (sym tells.rest) (record { stands = is.stands; idle = is.idle; its = is.its; some = is.some; least = is.least; left = is.left; hand = is.hand })
 
   -- ---- what is to be told stays so
 
-  pub told_on : {old new : Desk} → Leads d old new → Rises no_stamp new.caller.work.own → (told : Option Told) → IfSome told (IsToldOf d old) → IfSome told (IsToldOf d new)
+  pub told_on : {old new : Desk} → Leads d old new → Rises no_stamp new.caller.work.own → (closing : Option Closing) → IfSome closing (IsToTell d old) → IfSome closing (IsToTell d new)
   told_on leads rises None is = tt
-  told_on {old} {new} leads rises (Some told) is =
+  told_on {old} {new} leads rises (Some closing) is =
       let own : List Stamped = old.caller.work.own in
       let rest : List Stamped = leads.own.0 in
       let same : new.caller.work.own ≡ own ++ rest = leads.own.1 in
       let reached = is.reached in
       let more = last_more no_stamp own rest (subst (Rises no_stamp) same rises) in
       record {
-        backed = subst (λ (l : List Stamped). IsBacked l told.closing) (sym {A = List Stamped} same) (closings_stay own rest told.closing is.backed);
+        backed = subst (λ (l : List Stamped). IsBacked l closing) (sym {A = List Stamped} same) (closings_stay own rest closing is.backed);
         ticket = is.ticket;
-        reached = subst (λ (l : List Stamped). told.closing.stamp.0 ≤ last_stamp no_stamp l) (sym {A = List Stamped} same) (omega (arith, reached, more));
+        reached = subst (λ (l : List Stamped). closing.stamp.0 ≤ last_stamp no_stamp l) (sym {A = List Stamped} same) (omega (arith, reached, more));
         noted = λ answered none. not_empty own rest (is.noted answered) (sym same ∙ none);
       }
 
@@ -166,7 +166,7 @@ module _ {d : Domain} where
   pub domain_trans : {a b c : Desk} → OfDomainAt d a b → OfDomainAt d b c → OfDomainAt d a c
   domain_trans ab bc = record { steps = steps_trans [] [] ab.steps bc.steps; idle = bc.idle ∙ ab.idle }
 
-  pub domain_tells : {told : Option Told} {a b : Desk} → Tells d told a b → OfDomainAt d a b
+  pub domain_tells : {closing : Option Closing} {a b : Desk} → Tells d closing a b → OfDomainAt d a b
   domain_tells tells = record { steps = told_steps tells; idle = ap (λ (desk : Desk). desk.caller.phase) tells.rest }
 
   pub domain_none : {desk : Desk} → Leads d desk desk → OfDomainAt d desk desk
@@ -178,8 +178,8 @@ module _ {d : Domain} where
   pub id_kept : {a b : Desk} → OfDomainAt d a b → 0 < a.caller.work.id.0 → 0 < b.caller.work.id.0
   id_kept goes some = let same = ap (λ i. i.0) goes.steps.id in omega (arith, same, some)
 
-  pub fallen_told : (queue : ℕ) {told : Option Told} {a b : Desk} → Tells d told a b → IsFallen d queue a → IsFallen d queue b
-  fallen_told queue {told} {a} {b} tells is =
+  pub fallen_told : (queue : ℕ) {closing : Option Closing} {a b : Desk} → Tells d closing a b → IsFallen d queue a → IsFallen d queue b
+  fallen_told queue {closing} {a} {b} tells is =
       let same : queue_page b queue ≡ queue_page a queue = ap (λ (desk : Desk). queue_page desk queue) tells.rest in
       record { down = subst (λ page. is_down_in queue page.seen ≡ true) (sym same) is.down; last = gave_on tells.leads is.last }
 

@@ -15,6 +15,7 @@ use Rattle.xa_desk.specs.xa_queue.declared.queue.Refusal.TheVariants as refusals
 use Rattle.xa_desk.specs.xa_work.Work.{theirs}
 use Rattle.xa_desk.specs.xa_work.declared.work.Halt.{Halt}
 use Rattle.xa_desk.specs.xa_work.declared.work.Halt.TheVariants as halts
+use Rattle.xa_desk.specs.xa_server.declared.closing.Closing.{Closing}
 use Rattle.xa_desk.specs.xa_server.declared.slot.ServerSlot.{ServerSlot}
 use Rattle.xa_desk.specs.xa_server.Doings.{life_in}
 use Rattle.xa_desk.specs.declared.domain.Domain.{Domain}
@@ -22,11 +23,11 @@ use Rattle.xa_desk.specs.declared.desk.Desk.{Desk}
 use Rattle.xa_desk.specs.Halting.{IsHaltAt}
 use Rattle.xa_desk.specs.Found.{SawItsOwnAt, HasFound}
 use Rattle.xa_desk.specs.Passing.{IsPassing, forwarded_to}
+use Rattle.xa_desk.specs.Serving.{IsToTell}
 use Rattle.xa_links.specs.declared.passing.Tried.{Tried}
 use Rattle.xa_links.specs.declared.passing.Tried.TheVariants as tries
-use Rattle.xa_links.specs.declared.telling.Told.{Told}
 use Rattle.xa_links.specs.Reasons.{ShowsReason}
-use Rattle.xa_links.specs.Steps.{Steps, Serves, IsToldOf}
+use Rattle.xa_links.specs.Steps.{Steps, Serves}
 
 -- the number of the queue at which the slot's server is
 abbrev pub its_queue : Domain → ServerSlot → ℕ
@@ -68,11 +69,11 @@ pub record IsDoneBy (d : Domain) (queue : ℕ) (event : Event) (slot slot' : Ser
   pub seat : new.caller.seat ≡ old.caller.seat
 
 -- a forward to that service with that data is over: the request went on, or it ended as a forward that failed, and then its caller is to be told
-pub record Passes (d : Domain) (queue : ℕ) (service : List ℕ) (payload : Data) (told : Option Told) (slot slot' : ServerSlot) (old new : Desk) : Type 0 where
+pub record Passes (d : Domain) (queue : ℕ) (service : List ℕ) (payload : Data) (closing : Option Closing) (slot slot' : ServerSlot) (old new : Desk) : Type 0 where
   pub event : Event
   pub done : IsDoneBy d queue event slot slot' old new
   pub by : IsForwarded (ShowsReason d new) service payload event (theirs old.caller.work)
-  pub to_tell : IfSome told (IsToldOf d new)
+  pub to_tell : IfSome closing (IsToTell d new)
 
 -- at a halt it is in hand still, and nothing was noted
 pub record Keeps (d : Domain) (queue : ℕ) (halt : Halt) (slot slot' : ServerSlot) (old new : Desk) : Type 0 where
@@ -83,13 +84,13 @@ pub record Keeps (d : Domain) (queue : ℕ) (halt : Halt) (slot slot' : ServerSl
   pub halts : IsHaltAt new halt
 
 -- what a forward to that service with that data comes to
-abbrev pub PassesAs : Domain → ℕ → List ℕ → Data → Result (Option Told) Halt → ServerSlot → ServerSlot → Desk → Desk → Type 0
-PassesAs d queue service payload (Ok told) slot slot' old new = Passes d queue service payload told slot slot' old new
+abbrev pub PassesAs : Domain → ℕ → List ℕ → Data → Result (Option Closing) Halt → ServerSlot → ServerSlot → Desk → Desk → Type 0
+PassesAs d queue service payload (Ok closing) slot slot' old new = Passes d queue service payload closing slot slot' old new
 PassesAs d queue service payload (Err halt) slot slot' old new = Keeps d queue halt slot slot' old new
 
 -- what one attempt comes to: that, or the request is out still, with the same data, to be put by that event, which is by the row at the next attempt
 abbrev pub TriedAs : Domain → ℕ → List ℕ → Data → ℕ → Tried → ServerSlot → ServerSlot → Desk → Desk → Type 0
-TriedAs d queue service payload next (tries.Passed told) slot slot' old new = Passes d queue service payload told slot slot' old new
+TriedAs d queue service payload next (tries.Passed closing) slot slot' old new = Passes d queue service payload closing slot slot' old new
 TriedAs d queue service payload next (tries.Halted halt) slot slot' old new = Keeps d queue halt slot slot' old new
 TriedAs d queue service payload next (tries.Again entry event) slot slot' old new =
     IsPassing d queue entry event slot' new × (slot' ≡ slot) × IsBack d old new × (entry.cargo.invocation.payload ≡ payload) × IsBy new next event × WereTried d new next

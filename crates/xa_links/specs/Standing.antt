@@ -22,6 +22,7 @@ use Rattle.xa_desk.specs.xa_pipe.declared.turn.Turn.{Turn}
 use Rattle.xa_desk.specs.xa_pipe.Life.{may_end, lost_by}
 use Rattle.xa_desk.specs.xa_pipe.Standing.{Standing as Life, Ending, returned}
 use Rattle.xa_desk.specs.xa_pipe.Following.{is_of, Follows, Settled}
+use Rattle.xa_desk.specs.xa_server.declared.closing.Closing.{Closing}
 use Rattle.xa_desk.specs.xa_server.declared.slot.ServerSlot.{ServerSlot}
 use Rattle.xa_desk.specs.xa_server.Doings.{is_death}
 use Rattle.xa_desk.specs.xa_server.Served.{StarterShows}
@@ -31,8 +32,7 @@ use Rattle.xa_desk.specs.declared.desk.Desk.{Desk}
 use Rattle.xa_desk.specs.declared.stopped.Stopped.{Stopped}
 use Rattle.xa_desk.specs.Desks.{IsDesk, Leads}
 use Rattle.xa_desk.specs.Found.{SawAtQueue}
-use Rattle.xa_desk.specs.Serving.{IsServing, IsSentFor, IsTaken}
-use Rattle.xa_links.specs.declared.telling.Told.{Told}
+use Rattle.xa_desk.specs.Serving.{IsServing, IsSentFor, IsTaken, IsToTell}
 use Rattle.xa_links.specs.declared.living.Exchanged.{Exchanged}
 use Rattle.xa_links.specs.declared.living.Exchanged.TheVariants as exchanges
 use Rattle.xa_links.specs.declared.living.Off.{Off}
@@ -40,7 +40,6 @@ use Rattle.xa_links.specs.declared.living.Off.TheVariants as offs
 use Rattle.xa_links.specs.declared.working.ServerWorker.{ServerWorker}
 use Rattle.xa_desk.specs.Halting.{IsStopAt}
 use Rattle.xa_links.specs.Lives.{lives_in, failed_starts, HasStarted, IsHanded, IsLived, ServerShows}
-use Rattle.xa_links.specs.Steps.{IsToldOf}
 use Rattle.xa_links.specs.Behind.{ToldBefore, ToldBy}
 use Rattle.xa_links.specs.Reasons.{ShowsReason}
 use Rattle.xa_links.specs.Working.{cut_in}
@@ -164,14 +163,14 @@ module _ {L T : Type 0} (d : Domain) (shows : T → StarterShows) where
   -- ---- what steps of it leave
 
   -- the life is over, and somebody may be to be told; nobody was told of its end yet
-  abbrev pub OverWith : Option Told → ServerWorker L T → Type 0
-  OverWith told w = IsOff w × IfSome told (IsToldOf d w.desk) × ToldBefore w.desk
+  abbrev pub OverWith : Option Closing → ServerWorker L T → Type 0
+  OverWith closing w = IsOff w × IfSome closing (IsToTell d w.desk) × ToldBefore w.desk
 
   abbrev pub ExchangedAs : Exchanged L → ServerWorker L T → Type 0
   ExchangedAs (exchanges.Going life) w = IsFree life w
-  ExchangedAs (exchanges.Over told) w = OverWith told w
+  ExchangedAs (exchanges.Over closing) w = OverWith (Some closing) w
 
   -- the life is over, as its queue was closed and empty, or by itself
   abbrev pub OffAs : Off → ServerWorker L T → Type 0
   OffAs offs.Shut w = HasEnded None w
-  OffAs (offs.Dead told) w = OverWith told w
+  OffAs (offs.Dead closing) w = OverWith closing w

@@ -3,7 +3,6 @@ use Rattle.std.specs.Prelude.{◌≡◌, ◌⊎◌, ℕ, Bool, true, false, List
 use Rattle.std.specs.List.{All}
 use Rattle.xa_desk.specs.xa_types.declared.call.Rval.{Rval}
 use Rattle.xa_desk.specs.xa_types.declared.call.Rval.TheVariants.{Exit}
-use Rattle.xa_desk.specs.xa_types.declared.ids.RequestId.{RequestId}
 use Rattle.xa_desk.specs.xa_types.declared.stamp.Stamp.{Stamp}
 use Rattle.xa_desk.specs.xa_types.declared.stamp.Worn.{Worn}
 use Rattle.xa_desk.specs.xa_events.declared.event.Event.{Event}
@@ -35,8 +34,7 @@ use Rattle.xa_desk.specs.declared.stopped.Stopped.{Stopped}
 use Rattle.xa_desk.specs.declared.stopped.Stopped.TheVariants.{Here}
 use Rattle.xa_desk.specs.Desks.{Leads}
 use Rattle.xa_desk.specs.Found.{SawAtQueue}
-use Rattle.xa_desk.specs.Serving.{IsServing, IsTaken, IsToTell, HasNothing, LeftOthers, IsSwept}
-use Rattle.xa_links.specs.declared.telling.Told.{Told}
+use Rattle.xa_desk.specs.Serving.{IsServing, IsTaken, HasNothing, LeftOthers, IsSwept}
 use Rattle.xa_desk.specs.Halting.{IsStopAt}
 use Rattle.xa_links.specs.Behind.{TellsLast, ToldBefore}
 
@@ -57,24 +55,16 @@ pub record Serves (d : Domain) (queue : ℕ) (more : List Event) (slot slot' : S
 
 -- ---- telling
 
-abbrev pub IsToldOf : Domain → Desk → Told → Type 0
-IsToldOf d desk told = IsToTell d desk told.closing
-
 -- the answer went where it may, with the stamp of the worker's last event; where nobody is to be told the seat made no filling
-abbrev pub GivenBy : Option Told → Desk → View Filling → Type 0
-GivenBy (Some told) old after = (became : Given) × GivenAs told.closing (record { 0 = last_stamp no_stamp old.caller.work.own }) (known old.caller.seat) after became
+abbrev pub GivenBy : Option Closing → Desk → View Filling → Type 0
+GivenBy (Some closing) old after = (became : Given) × GivenAs closing (record { 0 = last_stamp no_stamp old.caller.work.own }) (known old.caller.seat) after became
 GivenBy None old after = after ≡ known old.caller.seat
 
 -- a caller was told, or none
-pub record Tells (d : Domain) (told : Option Told) (old new : Desk) : Type 0 where
+pub record Tells (d : Domain) (closing : Option Closing) (old new : Desk) : Type 0 where
   pub leads : Leads d old new
   pub rest : new ≡ record old { caller = record old.caller { seat = new.caller.seat } }
-  pub given : GivenBy told old (known new.caller.seat)
-
--- where there is a ticket, somebody is to be told
-abbrev pub HasAsker : Option RequestId → Closing → Type 0
-HasAsker None closing = closing.ticket ≡ None
-HasAsker (Some request) closing = Unit {0}
+  pub given : GivenBy closing old (known new.caller.seat)
 
 -- ---- taking
 

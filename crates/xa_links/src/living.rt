@@ -11,35 +11,36 @@ ghost use Rattle.xa_desk.specs.xa_pipe.Changes.{Heard};
 ghost use Rattle.xa_desk.specs.xa_server.declared.slot.Last.TheVariants as lasts;
 ghost use Rattle.xa_desk.specs.xa_types.declared.ids.RequestId.{RequestId as Asked};
 ghost use Rattle.xa_desk.specs.xa_events.declared.event.Taken.{Taken};
-ghost use Rattle.xa_desk.specs.Serving.{IsTaken};
+ghost use Rattle.xa_desk.specs.Serving.{IsTaken, IsToTell};
 ghost use Rattle.xa_desk.specs.Desks.{IsDomain};
 ghost use Rattle.xa_desk.specs.Found.{SawAtQueue};
 ghost use Rattle.xa_links.specs.Behind.{ToldBefore};
-ghost use Rattle.xa_links.specs.Steps.{IsToldOf, is_exit};
+ghost use Rattle.xa_links.specs.Steps.{is_exit};
 ghost use Rattle.xa_links.specs.Standing.{Goes, IsIn, IsFree, HasTaken, MayDie, HasEnded, OverWith, ExchangedAs, OffAs};
 
 use crate::passing::forward;
 use crate::taking::stop_by;
-use crate::telling::{Told, tell_if, told_by};
+use crate::telling::{tell, tell_if};
 use crate::working::ServerWorker;
 use std::alloc::Global;
 use std::sync::Wait;
 use xa_desk::events::StopCause;
 use xa_desk::link::{Gate, Link, Starter};
 use xa_desk::pipe::{Answered, EndedLife, Finish, Forward, Life, Return};
+use xa_desk::server::Closing;
 use xa_desk::types::Rval;
 use xa_desk::{Domain, Stopped};
 
-/// What comes of a life: it goes on, or is over, and then a request may have to be answered.
+/// What comes of a life: it goes on, or is over, and then its last request may have to be answered.
 pub(crate) enum Exchanged<L: Link> {
     Going(Life<L>),
-    Over(Option<Told>),
+    Over(Closing),
 }
 
 /// How a life came to its end: its queue was closed, or it died or left, and then a request may have to be answered.
 pub(crate) enum Off {
     Shut,
-    Dead(Option<Told>),
+    Dead(Option<Closing>),
 }
 
 fn is_exit(value: Rval) -> bool
@@ -65,22 +66,17 @@ impl<L: Link, T: Starter<L>> ServerWorker<L, T> {
     }
 
     // The life ended by itself.
-    pub(crate) fn died(
-        &mut self,
-        domain: &Domain,
-        over: EndedLife<L>,
-    ) -> Result<Option<Told>, Stopped>
+    pub(crate) fn died(&mut self, domain: &Domain, over: EndedLife<L>) -> Result<Closing, Stopped>
         requires domain { IsDomain domain.now }
         requires may { MayDie domain.now T.shows over self.old }
         ensures goes { Goes domain.now self.old self.new }
-        ensures over { IfOk result (λ told. OverWith domain.now T.shows told self.new) }
+        ensures over { IfOk result (λ closing. OverWith domain.now T.shows (Some closing) self.new) }
         ensures halted { IfErr result (λ stopped. HasEnded domain.now T.shows (Some stopped) self.new) }
     {
         let cause = over.cause();
         self.served.keep(over);
-        let request = self.served.slot.request();
         match self.desk.die(domain, &mut self.served.slot, cause) {
-            Ok(closing) => Ok(told_by(request, closing)),
+            Ok(closing) => Ok(closing),
             Err(worn) => Err(stop_by(worn)),
         }
     }
@@ -91,15 +87,15 @@ impl<L: Link, T: Starter<L>> ServerWorker<L, T> {
         domain: &Domain,
         gate: &G,
         life: Life<L>,
-        told: Option<Told>,
-    ) -> Result<Option<Told>, Stopped>
+        closing: Closing,
+    ) -> Result<Closing, Stopped>
         requires domain { IsDomain domain.now }
         requires life { IsIn domain.now T.shows (doings.Idle life.generation) Exited 0 life self.old }
         requires last { self.old.served.slot.last ≡ lasts.Badly }
         requires untold { ToldBefore self.old.desk }
-        requires told { IfSome told (IsToldOf domain.now self.old.desk) }
+        requires told { IsToTell domain.now self.old.desk closing }
         ensures goes { Goes domain.now self.old self.new }
-        ensures over { IfOk result (λ told. OverWith domain.now T.shows told self.new) }
+        ensures over { IfOk result (λ closing. OverWith domain.now T.shows (Some closing) self.new) }
         ensures halted { IfErr result (λ stopped. HasEnded domain.now T.shows (Some stopped) self.new) }
     {
         let over = life.exit();
@@ -111,10 +107,10 @@ impl<L: Link, T: Starter<L>> ServerWorker<L, T> {
         {
             Ok(_) => {
                 let _rises = self.desk.caller.latest();
-                Ok(told)
+                Ok(closing)
             }
             Err(worn) => {
-                tell_if(domain, &mut self.desk, gate, told);
+                tell(domain, &mut self.desk, gate, closing);
                 Err(stop_by(worn))
             }
         }
@@ -137,7 +133,6 @@ impl<L: Link, T: Starter<L>> ServerWorker<L, T> {
         ensures halted { IfErr result (λ stopped. HasEnded domain.now T.shows (Some stopped) self.new) }
     {
         let exits = is_exit(back.value);
-        let request = self.served.slot.request();
         let finished = self.desk.finish(alloc, domain, &mut self.served.slot, back);
         let closing = match finished {
             Ok(closing) => closing,
@@ -146,11 +141,10 @@ impl<L: Link, T: Starter<L>> ServerWorker<L, T> {
                 return Err(Stopped::Here(halt));
             }
         };
-        let told = told_by(request, closing);
         if exits {
-            return Ok(Exchanged::Over(self.exit(domain, gate, life, told)?));
+            return Ok(Exchanged::Over(self.exit(domain, gate, life, closing)?));
         }
-        self.go_on(domain, gate, life, told)
+        self.go_on(domain, gate, life, Some(closing))
     }
 
     // The service forwards its request.
@@ -172,7 +166,7 @@ impl<L: Link, T: Starter<L>> ServerWorker<L, T> {
     {
         let slot = &mut self.served.slot;
         match forward(rt, alloc, domain, &mut self.desk, slot, forwards) {
-            Ok(told) => self.go_on(domain, gate, life, told),
+            Ok(closing) => self.go_on(domain, gate, life, closing),
             Err(halt) => {
                 self.cut(life);
                 Err(Stopped::Here(halt))
@@ -186,16 +180,16 @@ impl<L: Link, T: Starter<L>> ServerWorker<L, T> {
         domain: &Domain,
         gate: &G,
         life: Life<L>,
-        told: Option<Told>,
+        closing: Option<Closing>,
     ) -> Result<Exchanged<L>, Stopped>
         requires domain { IsDomain domain.now }
         requires life { IsIn domain.now T.shows (doings.Idle life.generation) AwaitsNext 0 life self.old }
-        requires told { IfSome told (IsToldOf domain.now self.old.desk) }
+        requires told { IfSome closing (IsToTell domain.now self.old.desk) }
         ensures goes { Goes domain.now self.old self.new }
         ensures exchanged { IfOk result (λ exchanged. ExchangedAs domain.now T.shows exchanged self.new) }
         ensures halted { IfErr result (λ stopped. HasEnded domain.now T.shows (Some stopped) self.new) }
     {
-        tell_if(domain, &mut self.desk, gate, told);
+        tell_if(domain, &mut self.desk, gate, closing);
         match life.read_next() {
             Ok(life) => Ok(Exchanged::Going(life)),
             Err(over) => Ok(Exchanged::Over(self.died(domain, over)?)),
@@ -245,7 +239,7 @@ impl<L: Link, T: Starter<L>> ServerWorker<L, T> {
     {
         let over = life.shut_down();
         if !is_shutdown(over.cause()) {
-            return Ok(Off::Dead(self.died(domain, over)?));
+            return Ok(Off::Dead(Some(self.died(domain, over)?)));
         }
         self.served.keep(over);
         match self

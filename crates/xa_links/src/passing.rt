@@ -14,14 +14,13 @@ ghost use Rattle.xa_desk.specs.Serving.{IsServing, IsTaken};
 ghost use Rattle.xa_links.specs.Passing.{IsBy, TookNothing, WereTried, TriedAs, PassesAs, its_queue, halt_by};
 ghost use Rattle.xa_links.specs.Steps.{Steps};
 
-use crate::telling::{Told, told_by};
 use std::alloc::Global;
 use std::sync::Wait;
 use xa_desk::caller::{Aimed, Cargo};
 use xa_desk::events::Event;
 use xa_desk::pipe::Forward;
 use xa_desk::queue::{Entry, Refusal};
-use xa_desk::server::{Forwarding, ServerSlot};
+use xa_desk::server::{Closing, Forwarding, ServerSlot};
 use xa_desk::types::{Name, Octets};
 use xa_desk::work::Halt;
 use xa_desk::{Desk, Domain, NotPassed};
@@ -40,7 +39,7 @@ fn halt_by(why: Refusal) -> Option<Halt>
 // What one attempt to pass a request on comes to.
 pub(crate) enum Tried {
     // The forward is over. If it failed, the caller is to be told.
-    Passed(Option<Told>),
+    Passed(Option<Closing>),
     // It is out still, to be put on a queue by that event.
     Again(Entry<Cargo>, Event),
     Halted(Halt),
@@ -55,9 +54,8 @@ fn fail(domain: &Domain, desk: &mut Desk, slot: &mut ServerSlot, entry: Entry<Ca
     ensures { (service : List ℕ) (next : ℕ) → HasFound domain.now service desk.old.reader.found desk.old
         → TriedAs domain.now (its_queue domain.now slot.old) service entry.cargo.invocation.payload next result slot.old slot.new desk.old desk.new }
 {
-    let request = entry.request;
     match desk.fail_to_pass(domain, slot, entry) {
-        Ok(closing) => Tried::Passed(Some(Told { request, closing })),
+        Ok(closing) => Tried::Passed(Some(closing)),
         Err(halt) => Tried::Halted(halt),
     }
 }
@@ -139,7 +137,7 @@ fn pass_on<W: Wait>(
     slot: &mut ServerSlot,
     first: Entry<Cargo>,
     first_event: Event,
-) -> Result<Option<Told>, Halt>
+) -> Result<Option<Closing>, Halt>
     requires domain { IsDomain domain.now }
     requires desk { IsDesk domain.now desk.old }
     requires passing { IsPassing domain.now (its_queue domain.now slot.old) first first_event slot.old desk.old }
@@ -153,7 +151,7 @@ fn pass_on<W: Wait>(
     for _ in rt.forever() {
         attempt = attempt.saturating_add(1);
         match try_to_pass(rt, alloc, domain, desk, slot, entry, event, attempt) {
-            Tried::Passed(told) => return Ok(told),
+            Tried::Passed(closing) => return Ok(closing),
             Tried::Halted(halt) => return Err(halt),
             Tried::Again(next, next_event) => {
                 entry = next;
@@ -189,18 +187,17 @@ pub(crate) fn forward<W: Wait>(
     desk: &mut Desk,
     slot: &mut ServerSlot,
     forwards: Forward,
-) -> Result<Option<Told>, Halt>
+) -> Result<Option<Closing>, Halt>
     requires domain { IsDomain domain.now }
     requires desk { IsDesk domain.now desk.old }
     requires serving { (t : Taken) × IsServing domain.now (its_queue domain.now slot.old) slot.old desk.old × IfSome slot.old.hand (IsTaken domain.now (its_queue domain.now slot.old) t desk.old) }
     requires busy { IsBusy slot.old.doing }
     ensures { PassesAs domain.now (its_queue domain.now slot.old) forwards.service forwards.payload result slot.old slot.new desk.old desk.new }
 {
-    let request = slot.request();
     let Forward { service, payload } = forwards;
     look_up(rt, domain, desk, &service);
     match desk.forward(alloc, domain, slot, &service, payload) {
-        Ok(Forwarding::Failed(closing)) => Ok(told_by(request, closing)),
+        Ok(Forwarding::Failed(closing)) => Ok(Some(closing)),
         Ok(Forwarding::On(entry, event)) => pass_on(rt, alloc, domain, desk, slot, entry, event),
         Err(halt) => Err(halt),
     }

@@ -9,12 +9,12 @@ ghost use Rattle.xa_links.specs.Behind.{TellsLast};
 ghost use Rattle.xa_links.specs.Steps.{Steps, Retires, RetiresAs, OfDomainAt};
 
 use crate::taking::stop_by;
-use crate::telling::{Told, tell};
+use crate::telling::tell;
 use std::sync::Wait;
 use xa_desk::link::Gate;
 use xa_desk::server::ServerSlot;
 use xa_desk::types::QueueId;
-use xa_desk::{Desk, Domain, Stopped, SweptOut};
+use xa_desk::{Desk, Domain, Stopped};
 
 // The clock isn't moved yet.
 pub(crate) const NOW: u64 = 0;
@@ -39,10 +39,7 @@ fn sweep<W: Wait, G: Gate>(
 {
     for _ in rt.forever() {
         match desk.sweep(rt, domain, slot, queue) {
-            Ok(Some(out)) => {
-                let SweptOut { request, closing } = out;
-                tell(domain, desk, gate, Told { request, closing });
-            }
+            Ok(Some(closing)) => tell(domain, desk, gate, closing),
             Ok(None) => return Ok(()),
             Err(worn) => return Err(stop_by(worn)),
         }

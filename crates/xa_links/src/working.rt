@@ -8,7 +8,7 @@ ghost use Rattle.xa_links.specs.Working.{MayServe, HasServed};
 use crate::living::{Exchanged, Off};
 use crate::retiring::{NOW, retire};
 use crate::taking::next;
-use crate::telling::{tell_if, told_by};
+use crate::telling::{tell, tell_if};
 use std::alloc::Global;
 use std::sync::Wait;
 use xa_desk::link::{Gate, Link, Starter};
@@ -58,7 +58,7 @@ impl<L: Link, T: Starter<L>> ServerWorker<L, T> {
             }
             match self.exchange(rt, alloc, domain, gate, life)? {
                 Exchanged::Going(next) => life = next,
-                Exchanged::Over(told) => return Ok(Off::Dead(told)),
+                Exchanged::Over(closing) => return Ok(Off::Dead(Some(closing))),
             }
         }
         unreachable!()
@@ -105,7 +105,7 @@ impl<L: Link, T: Starter<L>> ServerWorker<L, T> {
                 self.count_up(domain);
                 self.serve(rt, alloc, domain, gate, life)
             }
-            Err(over) => Ok(Off::Dead(self.died(domain, over)?)),
+            Err(over) => Ok(Off::Dead(Some(self.died(domain, over)?))),
         }
     }
 
@@ -123,18 +123,18 @@ impl<L: Link, T: Starter<L>> ServerWorker<L, T> {
         ensures ended { HasEnded domain.now T.shows (why_of result) self.new }
     {
         for _ in rt.forever() {
-            let told = match self.live(rt, alloc, domain, gate)? {
+            let closing = match self.live(rt, alloc, domain, gate)? {
                 Off::Shut => return Ok(()),
-                Off::Dead(told) => told,
+                Off::Dead(closing) => closing,
             };
             if self.served.slot.may_start(NOW) {
-                tell_if(domain, &mut self.desk, gate, told);
+                tell_if(domain, &mut self.desk, gate, closing);
                 continue;
             }
             let slot = &mut self.served.slot;
             let retired = retire(rt, domain, gate, &mut self.desk, slot, self.queue);
             let _rises = self.desk.caller.latest();
-            tell_if(domain, &mut self.desk, gate, told);
+            tell_if(domain, &mut self.desk, gate, closing);
             return retired;
         }
         unreachable!()
@@ -148,9 +148,8 @@ impl<L: Link, T: Starter<L>> ServerWorker<L, T> {
         ensures ended { HasEnded domain.now T.shows self.new.stopped self.new }
         ensures hand { self.new.served.slot.hand ≡ None }
     {
-        let request = self.served.slot.request();
         if let Some(closing) = self.served.slot.give_up() {
-            tell_if(domain, &mut self.desk, gate, told_by(request, closing));
+            tell(domain, &mut self.desk, gate, closing);
         }
     }
 

@@ -87,17 +87,21 @@ pub record Ends (outcome : Outcome) (stamp : Stamp) (slot' slot : ServerSlot) (n
   pub noted : Notes stamp (End (record { request = entry.request; server = slot.server; generation = life_in slot.doing; outcome = outcome })) new old
   pub left : slot' ≡ record slot { doing = after_end outcome (life_in slot.doing); last = last_by outcome }
 
+-- the request of that entry ended, and its caller is to be told so
+abbrev pub closing_of : Entry Cargo → Option Answer → Stamp → Closing
+closing_of entry answer stamp = record { request = Some entry.request; ticket = Some entry.cargo.ticket; answer = answer; stamp = stamp }
+
 -- what the caller of the request in hand is to be told of its end
 pub record Closes (answer : Answer) (stamp : Stamp) (hand : Option (Entry Cargo)) (closing : Closing) : Type 0 where
   pub entry : Entry Cargo
   pub in_hand : hand ≡ Some entry
-  pub is : closing ≡ record { ticket = Some entry.cargo.ticket; answer = Some answer; stamp = stamp }
+  pub is : closing ≡ closing_of entry (Some answer) stamp
 
 -- the caller of the request in hand is to be told that the run halts
 pub record Abandons (hand : Option (Entry Cargo)) (closing : Closing) : Type 0 where
   pub entry : Entry Cargo
   pub in_hand : hand ≡ Some entry
-  pub is : closing ≡ record { ticket = Some entry.cargo.ticket; answer = None; stamp = record { 0 = 0 } }
+  pub is : closing ≡ closing_of entry None (record { 0 = 0 })
 
 -- the request in hand ended so, with room made before, and its caller is to be told
 pub record Finishes (outcome : Outcome) (closing : Closing) (slot' slot : ServerSlot) (new old : Standing) : Type 0 where
@@ -126,6 +130,7 @@ pub record DiesBusy (cause : StopCause) (closing : Closing) (slot' slot : Server
 pub record DiesIdle (cause : StopCause) (closing : Closing) (slot' slot : ServerSlot) (new old : Standing) : Type 0 where
   pub stop : Stamp
   pub stops : Stops cause stop slot' slot new old
+  pub none : closing.request ≡ None
   pub nobody : closing.ticket ≡ None
   pub stamped : closing.stamp ≡ stop
 

@@ -1,22 +1,24 @@
 // The end of a request, which its caller has to be told.
-ghost use Rattle.std.specs.Prelude.{◌≡◌, ◌≤◌, Some, IfOk, IfSome};
+ghost use Rattle.std.specs.Prelude.{◌≡◌, ◌≤◌, IfOk, IfSome};
 ghost use Rattle.xa_caller.specs.xa_events.Answers.{reply_of};
 ghost use Rattle.xa_caller.specs.xa_events.Request.Settlement.{EndedBy};
 ghost use Rattle.xa_caller.specs.xa_stamp.Home.{last_stamp};
 ghost use Rattle.xa_caller.specs.xa_crew.Crew.{no_stamp};
 ghost use Rattle.xa_caller.specs.xa_cell.Known.{known, IsSeatOf, IsTicketOf, SameSeat};
+ghost use Rattle.xa_server.specs.Changes.{closing_of};
 ghost use Rattle.xa_server.specs.Told.{GivenAs};
 
 use std::alloc::Global;
 use xa_caller::cell::{Cells, Filled, Ticket};
 use xa_caller::events::Outcome;
 use xa_caller::queue::Entry;
-use xa_caller::types::{Answer, Fault, NoMemory, Stamp};
+use xa_caller::types::{Answer, Fault, NoMemory, RequestId, Stamp};
 use xa_caller::{Caller, Cargo, Filling};
 
-/// What the caller of a request is to be told, and the stamp of the event by which the request ended: it ends in `give`. There
-/// is no answer where the run halts.
+/// A request that ended, what its caller is to be told, and the stamp of the event by which it ended: it ends in `give`. There
+/// is no answer where the run halts, and neither request nor ticket where a life ended with nothing in hand.
 pub struct Closing {
+    pub request: Option<RequestId>,
     pub ticket: Option<Ticket<Filling>>,
     pub answer: Option<Answer>,
     pub stamp: Stamp,
@@ -46,16 +48,17 @@ pub(crate) fn reply_to(alloc: Global, outcome: &Outcome) -> Result<Answer, NoMem
 
 // The answer to the request of that entry, which ended with that stamp, if it ended.
 pub(crate) fn close(entry: Entry<Cargo>, answer: Option<Answer>, stamp: Stamp) -> Closing
-    ensures { result ≡ record { ticket = Some entry.cargo.ticket; answer = answer; stamp = stamp } }
+    ensures { result ≡ closing_of entry answer stamp }
 {
     let Entry {
-        request: _,
+        request,
         priority: _,
         cargo,
     } = entry;
     let Cargo { ticket, invocation } = cargo;
     drop(invocation);
     Closing {
+        request: Some(request),
         ticket: Some(ticket),
         answer,
         stamp,
@@ -63,6 +66,13 @@ pub(crate) fn close(entry: Entry<Cargo>, answer: Option<Answer>, stamp: Stamp) -
 }
 
 impl Closing {
+    /// The request that ended, if one did.
+    pub fn request(&self) -> Option<RequestId>
+        ensures { result ≡ self.now.request }
+    {
+        self.request
+    }
+
     /// Fills the cell of the caller, or drops the answer where its place was given up. The filling has the stamp of the last
     /// event that the worker noted, so whoever is told finds all that the worker noted. It takes no memory.
     pub fn give(self, caller: &mut Caller, cells: &Cells<Filling>) -> Given
@@ -73,6 +83,7 @@ impl Closing {
         ensures caller { caller.new ≡ record caller.old { seat = caller.new.seat } }
     {
         let Closing {
+            request: _,
             ticket,
             answer,
             stamp: _,

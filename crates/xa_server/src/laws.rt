@@ -27,7 +27,7 @@ ghost use Rattle.xa_caller.specs.declared.cargo.Filling.{Filling};
 ghost use Rattle.xa_server.specs.declared.closing.Closing.{Closing};
 ghost use Rattle.xa_server.specs.declared.closing.Given.{Given};
 ghost use Rattle.xa_server.specs.Forwarding.{IsOnWay};
-ghost use Rattle.xa_server.specs.Changes.{new_slot, Ends, Closes, Finishes, Dies};
+ghost use Rattle.xa_server.specs.Changes.{closing_of, new_slot, Ends, Closes, Finishes, Dies};
 ghost use Rattle.xa_server.specs.Told.{GivenAs, FilledByEnds, HasStamp, IsBacked, NamesIts};
 
 /// The slot of a server that was never started stands, where its worker has noted nothing and the server is configured with
@@ -64,7 +64,7 @@ pub fn answers_are_backed()
 /// What is closed of a request that was swept has its sweep among entries where that stands with its stamp.
 pub fn sweeps_are_backed()
     ensures { (entries : List Stamped) (entry : Entry Cargo) (queue : QueueId) (stamp : Stamp) → Contains entries (record { stamp = stamp; event = Sweep (record { request = entry.request; queue = queue }) })
-        → NamesIts (Some entry) → IsBacked entries (record { ticket = Some entry.cargo.ticket; answer = Some (reply_of SweptAway); stamp = stamp }) }
+        → NamesIts (Some entry) → IsBacked entries (closing_of entry (Some (reply_of SweptAway)) stamp) }
 {}
 
 /// Where each filling of a seat has its end or its sweep among a worker's entries, it does so also behind the `give` of a

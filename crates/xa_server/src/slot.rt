@@ -152,7 +152,7 @@ impl ServerSlot {
     ghost use Rattle.xa_server.specs.declared.slot.Last.TheVariants as lasts;
     ghost use Rattle.xa_server.specs.Noting.{HaltsWith, IsWorn};
     ghost use Rattle.xa_server.specs.Slot.{Stands};
-    ghost use Rattle.xa_server.specs.Changes.{MayStart, Starts, FailsToStart, MayBeGivenUp, IsTakeOf, Ends, Abandons, Finishes, Stops, Dies, DiesBusy, DiesWorn, Invokes, new_slot, with_start};
+    ghost use Rattle.xa_server.specs.Changes.{MayStart, Starts, FailsToStart, MayBeGivenUp, IsTakeOf, Ends, Abandons, Finishes, Stops, Dies, DiesBusy, DiesWorn, Invokes, closing_of, new_slot, with_start};
 
     /// A server that was never started.
     pub fn new(server: ServerId, restarts: Lives) -> ServerSlot
@@ -414,7 +414,7 @@ impl ServerSlot {
 
     /// What the caller of a request is to be told that was swept from the server's queue with that stamp.
     pub fn swept(&self, entry: Entry<Cargo>, stamp: Stamp) -> Closing
-        ensures { result ≡ record { ticket = Some entry.cargo.ticket; answer = Some (reply_of SweptAway); stamp = stamp } }
+        ensures { result ≡ closing_of entry (Some (reply_of SweptAway)) stamp }
     {
         close(entry, Some(Answer::Error(Fault::System)), stamp)
     }
@@ -432,7 +432,7 @@ impl ServerSlot {
 
     /// What the caller of a request that still waits is to be told at a halt.
     pub fn abandon(entry: Entry<Cargo>) -> Closing
-        ensures { result ≡ record { ticket = Some entry.cargo.ticket; answer = None; stamp = record { 0 = 0 } } }
+        ensures { result ≡ closing_of entry None (record { 0 = 0 }) }
     {
         close(entry, None, Stamp(0))
     }
@@ -475,6 +475,7 @@ impl ServerSlot {
             _ => {
                 let stamp = self.stopped(caller, cause)?;
                 Ok(Closing {
+                    request: None,
                     ticket: None,
                     answer: None,
                     stamp,

@@ -1,4 +1,4 @@
-use Rattle.std.proofs.Common.{◌≡◌, [], Ok, refl, sym, ◌∙◌, ap, subst}
+use Rattle.std.proofs.Common.{◌≡◌, [], Ok, Some, refl, sym, ◌∙◌, ap, subst}
 use Rattle.std.specs.Prelude.{IfOk, IfErr, OnErr}
 use Rattle.xa_desk.specs.xa_types.declared.data.Data.{Data}
 use Rattle.xa_desk.specs.xa_queue.declared.entry.Entry.{Entry}
@@ -39,8 +39,8 @@ returns-in-Ok-Failed g c =
     let is = c.in-Ok-Failed.is ∙ ap Ok c.in-Ok-Failed.field-0-is in
     let failed = failed_as mid.reader.found.version c.args.forwards.payload c.args.slot.now slot' mid.caller desk'.caller (way_of d.setup c.args.forwards.service c.args.forwards.payload (hop_in c.args.slot.now.hand) mid.reader.found) c.in-Ok-Failed.closing (subst (λ r. IfOk r (λ forwarding. ForwardsAs mid.reader.found.version c.args.forwards.payload (way_of d.setup c.args.forwards.service c.args.forwards.payload (hop_in c.args.slot.now.hand) mid.reader.found) forwarding slot' c.args.slot.now desk'.caller mid.caller)) is its.ok) in
     let left = subst (λ r. IfOk r (λ forwarding. Leaves d q forwarding slot' desk')) is (its.leaves q was s.0 (if_taken (found.taken q s.0) c.args.slot.now.hand s.2)) in
-    passes_from d q c.args.slot.now c.args.slot.now slot' c.args.desk.now mid desk' (record { server = refl; made = refl; gone = refl; does = refl }) found.steps found.own found.seat c.args.forwards.service c.args.forwards.payload c.told_by.result
-    (fails_at_once c.args.forwards.service c.args.forwards.payload failed.0 c.in-Ok-Failed.closing c.told_by.result s.0 found.steps.leads.desk (if_taken (found.taken q s.0) c.args.slot.now.hand s.2) found.found failed.1 was its.leads left.0 its.rest.1 failed.2 c.told_by.ensures left.1)
+    passes_from d q c.args.slot.now c.args.slot.now slot' c.args.desk.now mid desk' (record { server = refl; made = refl; gone = refl; does = refl }) found.steps found.own found.seat c.args.forwards.service c.args.forwards.payload (Some c.in-Ok-Failed.closing)
+    (fails_at_once c.args.forwards.service c.args.forwards.payload failed.0 c.in-Ok-Failed.closing s.0 found.steps.leads.desk (if_taken (found.taken q s.0) c.args.slot.now.hand s.2) found.found failed.1 was its.leads left.0 its.rest.1 failed.2 left.1)
 
 pub pass_on-requires-clause-passing : goal.pass_on-requires-clause-passing
 pass_on-requires-clause-passing g c =

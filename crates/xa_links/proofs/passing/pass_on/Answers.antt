@@ -42,7 +42,7 @@ pub returns-in-Passed : goal.returns-in-Passed
 returns-in-Passed g c =
     let d = c.args.domain.now in
     let i = c.loop.invariant in
-    λ service has. tried_from d c.args.slot.now c.loop.slot c.try_to_pass.new.slot c.args.desk.now c.loop.desk c.try_to_pass.new.desk i.same i.back service c.args.first.cargo.invocation.payload c.loop.entry.cargo.invocation.payload c.saturating_add-attempt.result (tries.Passed c.in-Passed.told) i.payload
+    λ service has. tried_from d c.args.slot.now c.loop.slot c.try_to_pass.new.slot c.args.desk.now c.loop.desk c.try_to_pass.new.desk i.same i.back service c.args.first.cargo.invocation.payload c.loop.entry.cargo.invocation.payload c.saturating_add-attempt.result (tries.Passed c.in-Passed.closing) i.payload
     (c.in-Passed.ensures service (i.back.found service has))
 
 pub returns-in-Halted : goal.returns-in-Halted

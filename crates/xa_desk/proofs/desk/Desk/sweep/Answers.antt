@@ -41,5 +41,5 @@ returns-in-Ok-Some g c =
     let new : Desk = record c.args.self.now { caller = c.noted_for_domain.new.self; queues = c.put_back.new.passes } in
     let step = stepped new c.sweep_at-pass.result.pass c.sweep_at-pass.result.last c.requires.desk c.from-place.ensures c.requires.fallen.1 c.requires.fallen.2 c.take_from-pass.ensures.was _ c.take_from-pass.ensures.rest c.put_back.ensures refl c.index.result.now c.index.ensures c.sweep_at-pass.ensures.lock c.sweep_at-pass.ensures.reached in
     let did = subst (SweptAs (Visits (page_of c.take_from-pass.result) (page_of c.sweep_at-pass.result.pass)) c.stamp.result c.id.result) (c.in-Ok-Some.is ∙ ap Ok c.in-Ok-Some.field-0-is) c.sweep_at-pass.ensures.swept in
-    let swept = swept_goes step c.stamp.result c.id.result c.stamp.ensures.value c.in-Ok-Some.out did c.noted_for_domain.ensures.noted c.requires.fallen.0.last c.swept-closing.result c.swept-closing.ensures in
-    record { leads = swept.0; swept = (swept.1, swept.2, swept.3, record { stamp = c.in-Ok-Some.out.noted.stamp; noted = swept.4; answer = ap (λ (x : Closing). x.answer) c.swept-closing.ensures }); fallen = falls_still step did swept.0 c.requires.fallen.0; board = (refl, refl) }
+    let swept = swept_goes step c.stamp.result c.id.result c.stamp.ensures.value c.in-Ok-Some.out did c.noted_for_domain.ensures.noted c.requires.fallen.0.last c.swept.result c.swept.ensures in
+    record { leads = swept.0; swept = (swept.1, swept.2, swept.3, record { request = c.in-Ok-Some.out.entry.request; its = ap (λ (x : Closing). x.request) c.swept.ensures; stamp = c.in-Ok-Some.out.noted.stamp; noted = swept.4; answer = ap (λ (x : Closing). x.answer) c.swept.ensures }); fallen = falls_still step did swept.0 c.requires.fallen.0; board = (refl, refl) }

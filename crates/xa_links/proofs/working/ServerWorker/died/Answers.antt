@@ -3,7 +3,7 @@ use Rattle.xa_desk.specs.xa_server.declared.slot.ServerSlot.{ServerSlot}
 use Rattle.xa_desk.specs.xa_server.Doings.{is_death}
 use Rattle.xa_desk.specs.xa_server.Changes.{Dies, DiesWorn}
 use Rattle.xa_desk.specs.Serving.{IsServing}
-use Rattle.xa_links.proofs.Deaths.{dies_off, dies_told, dies_worn, told_of, settles_its, settles_took}
+use Rattle.xa_links.proofs.Deaths.{dies_off, dies_told, dies_worn, settles_its, settles_took}
 use Rattle.xa_links.proofs.working.ServerWorker.died.Goals as goal
 
 pub returns-in-Ok-clause-over : goal.returns-in-Ok-clause-over
@@ -19,7 +19,7 @@ returns-in-Ok-clause-over g c =
     let why = c.cause-cause.ensures.value in
     let death = ap is_death why ∙ may.dies c.cause-cause.ensures.over.may in (
       dies_off w c.args.over may.at may.last c.cause-cause.ensures.over may.handed kept c.keep.ensures.lives c.keep.ensures.starter slot' desk' c.die.ensures.leads c.die.ensures.rest.1 serving c.cause-cause.result why death may.shut c.in-Ok.closing w.served.slot.doing refl may.settles dies,
-      told_of d desk' c.in-Ok.closing c.told_by.result c.told_by.ensures c.in-Ok.ensures.told,
+      c.in-Ok.ensures.told,
       dies_told w c.args.over may.at may.last c.cause-cause.ensures.over may.handed kept c.keep.ensures.lives c.keep.ensures.starter slot' desk' c.die.ensures.leads c.die.ensures.rest.1 serving c.cause-cause.result why death may.shut c.in-Ok.closing w.served.slot.doing dies,
     )
 

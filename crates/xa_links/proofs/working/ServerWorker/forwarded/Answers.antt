@@ -13,8 +13,8 @@ go_on-requires-clause-life g c =
     let b = c.requires.before in
     let slot' = c.forward.new.slot in
     let desk' = c.forward.new.desk in
-    let passes = subst (λ n. Passes c.args.domain.now n c.args.forwards.service c.args.forwards.payload c.in-Ok.told w.served.slot slot' w.desk desk') b.2.at.serving.its c.in-Ok.ensures in
-    λ κs within. forwarded_in w c.args.life b.0 b.1.request c.args.forwards c.in-Ok.told slot' desk' b.3 b.2 passes
+    let passes = subst (λ n. Passes c.args.domain.now n c.args.forwards.service c.args.forwards.payload c.in-Ok.closing w.served.slot slot' w.desk desk') b.2.at.serving.its c.in-Ok.ensures in
+    λ κs within. forwarded_in w c.args.life b.0 b.1.request c.args.forwards c.in-Ok.closing slot' desk' b.3 b.2 passes
 
 pub returns-in-Ok-clause-goes : goal.returns-in-Ok-clause-goes
 returns-in-Ok-clause-goes g c =

@@ -37,7 +37,7 @@ tell_if-requires-in-loop-clause-told g c κs within =
     let d = c.args.domain.now in
     let l = c.live.new.self in
     let over = subst (λ o. OffAs d g.T.Starter.shows o l) c.in-Dead.is c.in_ok-live.ensures.off in
-    told_on c.retire-retired.ensures.retires.steps.leads c.latest-rises.ensures.rises c.in-Dead.told over.1
+    told_on c.retire-retired.ensures.retires.steps.leads c.latest-rises.ensures.rises c.in-Dead.closing over.1
 
 pub returns-in-loop-clause-goes : goal.returns-in-loop-clause-goes
 returns-in-loop-clause-goes g c =

@@ -3,7 +3,7 @@ use Rattle.xa_caller.specs.xa_types.declared.reply.Answer.{Answer}
 use Rattle.xa_caller.specs.xa_queue.declared.entry.Entry.{Entry}
 use Rattle.xa_caller.specs.Drafts.{Cargo}
 use Rattle.xa_server.specs.declared.slot.ServerSlot.{ServerSlot}
-use Rattle.xa_server.specs.Changes.{Stops}
+use Rattle.xa_server.specs.Changes.{closing_of, Stops}
 use Rattle.xa_server.proofs.slot.ServerSlot.die_busy.Goals as goal
 
 pub returns-in-Ok-clause-ok : goal.returns-in-Ok-clause-ok
@@ -20,6 +20,6 @@ returns-in-Ok-clause-ok c =
       closes = record {
         entry = c.take_out-entry.result;
         in_hand = sym (ap (λ (u : ServerSlot). u.hand) ends.left) ∙ c.take_out-entry.ensures.was;
-        is = c.close.ensures ∙ ap (λ (a : Answer). record { ticket = Some c.take_out-entry.result.cargo.ticket; answer = Some a; stamp = c.in_ok-stamp.stamp }) c.death_reply.ensures;
+        is = c.close.ensures ∙ ap (λ (a : Answer). closing_of c.take_out-entry.result (Some a) c.in_ok-stamp.stamp) c.death_reply.ensures;
       };
     }

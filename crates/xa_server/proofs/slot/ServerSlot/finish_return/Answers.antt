@@ -21,7 +21,7 @@ use Rattle.xa_caller.specs.Drafts.{Cargo}
 use Rattle.xa_server.specs.Doings.{life_in, last_by}
 use Rattle.xa_server.specs.Noting.{with_room}
 use Rattle.xa_server.specs.Slot.{Stands}
-use Rattle.xa_server.specs.Changes.{Finishes}
+use Rattle.xa_server.specs.Changes.{closing_of, Finishes}
 use Rattle.xa_server.proofs.Reading.{holding, return_is, return_may, end_of, may_ended, finished_stands}
 use Rattle.xa_server.proofs.slot.ServerSlot.finish_return.Goals as goal
 
@@ -47,8 +47,8 @@ returns-clause-ok c =
     let is : o ≡ return_by w.setup (connections w.id.0 (theirs w)) c.args.value c.args.code c.args.payload =
     c.outcome_by-outcome.ensures ∙ ap (λ (z : ℤ). if c.args.sound then returned c.args.value z c.args.payload else BadReturn) (to_z-of_z c.ranges.code) ∙ return_is w.setup (connections w.id.0 (theirs w)) c.args.sound c.args.value c.args.code c.args.payload c.requires.stands.tables.worker.unconnected c.requires.sound in
     let doing : c.after_end-doing.result ≡ after_end o (life_in s.doing) = c.after_end-doing.ensures ∙ ap (after_end o) c.life_in.ensures in
-    let closed : c.close.result ≡ record { ticket = Some c.take_out.result.cargo.ticket; answer = Some (reply_of (EndedBy o)); stamp = stamp } =
-    c.close.ensures ∙ ap (λ (a : Answer). record { ticket = Some c.take_out.result.cargo.ticket; answer = Some a; stamp = stamp }) c.in-Ok.ensures in
+    let closed : c.close.result ≡ closing_of c.take_out.result (Some (reply_of (EndedBy o))) stamp =
+    c.close.ensures ∙ ap (λ (a : Answer). closing_of c.take_out.result (Some a) stamp) c.in-Ok.ensures in
     subst (λ (o : Outcome). Finishes o c.close.result (record s { doing = c.after_end-doing.result; hand = c.take_out.new.hand; last = c.last_by-last.result }) s c.note_anew.new.caller.work w) is (record {
       stamp = stamp;
       ended = record s { doing = after_end o (life_in s.doing); last = last_by o };
