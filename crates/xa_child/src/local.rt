@@ -203,15 +203,10 @@ impl LocalLink {
 }
 
 impl Source for LocalLink {
-    ghost use Rattle.std.specs.Prelude.{Some};
+    ghost use Rattle.xa_link.specs.Links.{as_source};
+    ghost use Rattle.xa_child.specs.Local.{link_shows};
 
-    ghost left = { λ l. Some l.left };
-
-    ghost gave = { λ l. Some l.gave };
-
-    ghost read_faults = { λ _. 0 };
-
-    ghost beside_reads = { λ l. (Some l.took, l.faults, record { whose = Some (l.name, l.generation); fate = Some l.fate }) };
+    ghost shows = { λ l. as_source (link_shows l) };
 
     fn read(&mut self, into: &mut [u8]) -> Result<usize, Failed> {
         Ok(self.copy(into))
@@ -219,13 +214,10 @@ impl Source for LocalLink {
 }
 
 impl Sink for LocalLink {
-    ghost use Rattle.std.specs.Prelude.{Some};
+    ghost use Rattle.xa_link.specs.Links.{as_sink};
+    ghost use Rattle.xa_child.specs.Local.{link_shows};
 
-    ghost took = { λ l. Some l.took };
-
-    ghost write_faults = { λ l. l.faults };
-
-    ghost beside_writes = { λ l. (Some l.gave, 0, record { whose = Some (l.name, l.generation); fate = Some l.fate }) };
+    ghost shows = { λ l. as_sink (link_shows l) };
 
     fn write(&mut self, from: &[u8]) -> Result<usize, Failed> {
         let n = from.len().min(PIECE);
@@ -235,22 +227,14 @@ impl Sink for LocalLink {
 }
 
 impl Link for LocalLink {
-    ghost use Rattle.std.specs.Prelude.{refl, Some};
+    ghost use Rattle.std.specs.Prelude.{refl};
+    ghost use Rattle.xa_child.specs.Local.{link_shows};
 
-    ghost shows = { λ l. record {
-      took = Some l.took;
-      gave = Some l.gave;
-      left = Some l.left;
-      reads = 0;
-      writes = l.faults;
-      program = record { whose = Some (l.name, l.generation); fate = Some l.fate };
-    } };
+    ghost shows = { link_shows };
 
-    ghost shown = { λ _. refl };
+    ghost reads = { λ _. refl };
 
-    ghost reads_alone = { λ _. refl };
-
-    ghost writes_alone = { λ _. refl };
+    ghost writes = { λ _. refl };
 
     // The program runs only within a write.
     fn kill(mut self) -> Closed<LocalLink> {

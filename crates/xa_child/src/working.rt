@@ -50,8 +50,8 @@ pub fn work<I: Source, O: Sink>(
     input: &mut I,
     out: &mut O,
 ) -> Result<(), WorkRefused>
-    ensures worked { Worked name.now (I.left input.old) (I.left input.new) (I.gave input.old) (I.gave input.new) (O.took out.old) (O.took out.new) result }
-    ensures counts { Counts result (I.read_faults input.old) (I.read_faults input.new) (O.write_faults out.old) (O.write_faults out.new) }
+    ensures worked { Worked name.now (I.shows input.old).left (I.shows input.new).left (I.shows input.old).gave (I.shows input.new).gave (O.shows out.old).took (O.shows out.new).took result }
+    ensures counts { Counts result (I.shows input.old).faults (I.shows input.new).faults (O.shows out.old).faults (O.shows out.new).faults }
 {
     let mut serving = greet(alloc, name, out)?;
     let mut piece = [0u8; PIECE];
@@ -67,10 +67,10 @@ pub fn work<I: Source, O: Sink>(
 fn greet<O: Sink>(alloc: Global, name: &Name, out: &mut O) -> Result<Serving, WorkRefused>
     ensures child { IfOk result (λ s. s.child ≡ begun) }
     ensures reader { IfOk result (λ s. s.reader ≡ record { place = 0; rest = [] }) }
-    ensures whole { OnOk result (Grew (O.took out.old) (O.took out.new) (all_spelled (greeting name.now))) }
-    ensures part { result ≡ Err WorkRefused.WriteFault → GrewByPart (O.took out.old) (O.took out.new) (all_spelled (greeting name.now)) }
-    ensures starved { result ≡ Err WorkRefused.NoMemory → O.took out.new ≡ O.took out.old }
-    ensures counts { Counts result 0 0 (O.write_faults out.old) (O.write_faults out.new) }
+    ensures whole { OnOk result (Grew (O.shows out.old).took (O.shows out.new).took (all_spelled (greeting name.now))) }
+    ensures part { result ≡ Err WorkRefused.WriteFault → GrewByPart (O.shows out.old).took (O.shows out.new).took (all_spelled (greeting name.now)) }
+    ensures starved { result ≡ Err WorkRefused.NoMemory → (O.shows out.new).took ≡ (O.shows out.old).took }
+    ensures counts { Counts result 0 0 (O.shows out.old).faults (O.shows out.new).faults }
     ensures causes { IfErr result Unanswered }
 {
     // By its clause `named`, READY has a spelling.
@@ -88,10 +88,10 @@ fn greet<O: Sink>(alloc: Global, name: &Name, out: &mut O) -> Result<Serving, Wo
 
 fn say<O: Sink>(alloc: Global, frames: &[Frame], out: &mut O) -> Result<(), WorkRefused>
     requires { All HasSpelling frames.now }
-    ensures whole { OnOk result (Grew (O.took out.old) (O.took out.new) (all_spelled frames.now)) }
-    ensures part { result ≡ Err WorkRefused.WriteFault → GrewByPart (O.took out.old) (O.took out.new) (all_spelled frames.now) }
-    ensures starved { result ≡ Err WorkRefused.NoMemory → O.took out.new ≡ O.took out.old }
-    ensures counts { Counts result 0 0 (O.write_faults out.old) (O.write_faults out.new) }
+    ensures whole { OnOk result (Grew (O.shows out.old).took (O.shows out.new).took (all_spelled frames.now)) }
+    ensures part { result ≡ Err WorkRefused.WriteFault → GrewByPart (O.shows out.old).took (O.shows out.new).took (all_spelled frames.now) }
+    ensures starved { result ≡ Err WorkRefused.NoMemory → (O.shows out.new).took ≡ (O.shows out.old).took }
+    ensures counts { Counts result 0 0 (O.shows out.old).faults (O.shows out.new).faults }
     ensures causes { IfErr result Unanswered }
 {
     let mut due = Vec::new(alloc);
@@ -110,8 +110,8 @@ fn turn<I: Source, O: Sink>(
     requires partial { IsPartial serving.old.reader.rest }
     requires asks { 0 < length piece.old }
     requires most { length piece.old ≤ 8192 }
-    ensures turns { Turns serving.old serving.new (I.left input.old) (I.left input.new) (I.gave input.old) (I.gave input.new) (O.took out.old) (O.took out.new) result }
-    ensures counts { Counts result (I.read_faults input.old) (I.read_faults input.new) (O.write_faults out.old) (O.write_faults out.new) }
+    ensures turns { Turns serving.old serving.new (I.shows input.old).left (I.shows input.new).left (I.shows input.old).gave (I.shows input.new).gave (O.shows out.old).took (O.shows out.new).took result }
+    ensures counts { Counts result (I.shows input.old).faults (I.shows input.new).faults (O.shows out.old).faults (O.shows out.new).faults }
 {
     let Ok(n) = input.read(piece) else {
         return Err(WorkRefused::ReadFault);
@@ -141,8 +141,8 @@ fn hear<O: Sink>(serving: &mut Serving, octets: &[u8], out: &mut O) -> Result<bo
     requires going { serving.old.child.ended ≡ false }
     requires partial { IsPartial serving.old.reader.rest }
     requires most { length octets.now ≤ 8192 }
-    ensures hears { Hears serving.old serving.new octets.now (O.took out.old) (O.took out.new) ⊥ result }
-    ensures counts { Counts result 0 0 (O.write_faults out.old) (O.write_faults out.new) }
+    ensures hears { Hears serving.old serving.new octets.now (O.shows out.old).took (O.shows out.new).took ⊥ result }
+    ensures counts { Counts result 0 0 (O.shows out.old).faults (O.shows out.new).faults }
 {
     serving.reader.feed(octets)?;
     let (halt, due) = serving.take_all()?;

@@ -1,6 +1,7 @@
 -- What the forms in memory tell.
-use Rattle.std.specs.Prelude.{ℕ, List, take, drop, map, Option}
+use Rattle.std.specs.Prelude.{ℕ, List, take, drop, map, Option, Some}
 use Rattle.xa_types.specs.declared.setup.Setup.{Setup}
+use Rattle.xa_link.specs.Links.{LinkShows}
 use Rattle.xa_link.specs.declared.memory.source.MemorySource.{MemorySource}
 use Rattle.xa_link.specs.declared.memory.sink.MemorySink.{MemorySink}
 use Rattle.xa_link.specs.declared.memory.link.MemoryLink.{MemoryLink}
@@ -26,6 +27,17 @@ sink_took s = s.taken.items
 -- how often a write failed, or took nothing
 abbrev pub sink_faults : MemorySink → ℕ
 sink_faults s = s.faults
+
+-- what a link shows
+abbrev pub link_shows : MemoryLink → LinkShows
+link_shows l = record {
+  took = Some (sink_took l.sink);
+  gave = Some (source_gave l.source);
+  left = Some (source_left l.source);
+  reads = source_faults l.source;
+  writes = sink_faults l.sink;
+  program = record { whose = l.whose; fate = Some l.fate };
+}
 
 -- the two directions of a link
 abbrev pub link_source : MemoryLink → MemorySource

@@ -3,6 +3,13 @@ use Rattle.std.specs.Prelude.{◌≡◌, ℕ, List, [], ◌∷◌, ◌++◌, Opt
 use Rattle.xa_types.specs.declared.ids.Generation.{Generation}
 use Rattle.xa_types.specs.declared.setup.Setup.{Setup}
 
+-- what a shelf shows: the file of each name, where it tells it, of which `Some None` tells that there is none; the names of the files that it was
+-- asked for, the oldest first, where it tells them; and how often a read failed
+pub record ShelfShows : Type 0 where
+  pub file : List ℕ → Option (Option (List ℕ))
+  pub asked : Option (List (List ℕ))
+  pub faults : ℕ
+
 -- what a starter shows: its server's name, the starts that it was asked for, each with the server's name and the generation, where it tells them, and
 -- how often one failed
 pub record StarterShows : Type 0 where

@@ -69,13 +69,9 @@ fn end<P: OpenProcess>(child: &mut Child<P>) -> io::Result<()>
 }
 
 impl<P: OpenProcess + Drop> Source for ChildLink<P> {
-    ghost left = { λ _. None };
+    ghost use Rattle.xa_link.specs.Links.{as_source, untold_link};
 
-    ghost gave = { λ _. None };
-
-    ghost read_faults = { λ l. l.from.faults };
-
-    ghost beside_reads = { λ l. (None, l.to.faults, record { whose = l.whose; fate = None }) };
+    ghost shows = { λ l. as_source (untold_link l.from.faults l.to.faults (record { whose = l.whose; fate = None })) };
 
     fn read(&mut self, into: &mut [u8]) -> Result<usize, Failed>
         ensures bound { IfOk result (λ n. n ≤ length into.new) }
@@ -90,11 +86,9 @@ impl<P: OpenProcess + Drop> Source for ChildLink<P> {
 }
 
 impl<P: OpenProcess + Drop> Sink for ChildLink<P> {
-    ghost took = { λ _. None };
+    ghost use Rattle.xa_link.specs.Links.{as_sink, untold_link};
 
-    ghost write_faults = { λ l. l.to.faults };
-
-    ghost beside_writes = { λ l. (None, l.from.faults, record { whose = l.whose; fate = None }) };
+    ghost shows = { λ l. as_sink (untold_link l.from.faults l.to.faults (record { whose = l.whose; fate = None })) };
 
     fn write(&mut self, from: &[u8]) -> Result<usize, Failed>
         ensures bound { IfOk result (λ n. n ≤ length from.now) }
@@ -111,21 +105,13 @@ impl<P: OpenProcess + Drop> Sink for ChildLink<P> {
 
 impl<P: OpenProcess + Drop> Link for ChildLink<P> {
     ghost use Rattle.std.specs.Prelude.{refl};
+    ghost use Rattle.xa_link.specs.Links.{untold_link};
 
-    ghost shows = { λ l. record {
-      took = None;
-      gave = None;
-      left = None;
-      reads = l.from.faults;
-      writes = l.to.faults;
-      program = record { whose = l.whose; fate = None };
-    } };
+    ghost shows = { λ l. untold_link l.from.faults l.to.faults (record { whose = l.whose; fate = None }) };
 
-    ghost shown = { λ _. refl };
+    ghost reads = { λ _. refl };
 
-    ghost reads_alone = { λ _. refl };
-
-    ghost writes_alone = { λ _. refl };
+    ghost writes = { λ _. refl };
 
     // Where the system refuses to end the process, it is waited for only behind its pipes, as the link is dropped: it may
     // wait for its input.

@@ -24,7 +24,7 @@ pub struct FileShelf<R: Files> {
 impl<R: Files> FileShelf<R> {
     /// The files of this system, of which no read has failed.
     pub fn new(rt: R, alloc: Global) -> FileShelf<R>
-        ensures { ⟦<FileShelf<R> as Shelf>⟧.shelf_faults result ≡ 0 }
+        ensures { (⟦<FileShelf<R> as Shelf>⟧.shows result).faults ≡ 0 }
     {
         FileShelf {
             rt,
@@ -56,16 +56,16 @@ pub fn read_all<S: Source>(
     source: &mut S,
     limit: usize,
 ) -> Result<Vec<u8>, ShelfRefused>
-    ensures content { IfOk result (λ all. HasExactly (S.left source.old) all.items) }
-    ensures given { IfOk result (λ all. Grew (S.gave source.old) (S.gave source.new) all.items) }
+    ensures content { IfOk result (λ all. HasExactly (S.shows source.old).left all.items) }
+    ensures given { IfOk result (λ all. Grew (S.shows source.old).gave (S.shows source.new).gave all.items) }
     ensures short { IfOk result (λ all. length all.items ≤ limit) }
-    ensures long { IsErrOf result ShelfRefused.TooLong → HasMore (S.left source.old) limit }
-    ensures over { IsErrOf result ShelfRefused.TooLong → GrewByMore (S.gave source.old) (S.gave source.new) limit }
-    ensures ended { OnOk result (ReadOut (S.left source.old) (S.left source.new)) }
-    ensures alone { S.beside_reads source.new ≡ S.beside_reads source.old }
-    ensures later { S.read_faults source.old ≤ S.read_faults source.new }
-    ensures cause { IsErrOf result ShelfRefused.Failed → Rose (S.read_faults source.old) (S.read_faults source.new) }
-    ensures quiet { (IsErrOf result ShelfRefused.Failed → ⊥) → S.read_faults source.new ≡ S.read_faults source.old }
+    ensures long { IsErrOf result ShelfRefused.TooLong → HasMore (S.shows source.old).left limit }
+    ensures over { IsErrOf result ShelfRefused.TooLong → GrewByMore (S.shows source.old).gave (S.shows source.new).gave limit }
+    ensures ended { OnOk result (ReadOut (S.shows source.old).left (S.shows source.new).left) }
+    ensures alone { (S.shows source.new).beside ≡ (S.shows source.old).beside }
+    ensures later { (S.shows source.old).faults ≤ (S.shows source.new).faults }
+    ensures cause { IsErrOf result ShelfRefused.Failed → Rose (S.shows source.old).faults (S.shows source.new).faults }
+    ensures quiet { (IsErrOf result ShelfRefused.Failed → ⊥) → (S.shows source.new).faults ≡ (S.shows source.old).faults }
 {
     let mut all = Vec::new(alloc);
     let mut piece = [0u8; PIECE];
@@ -86,11 +86,7 @@ pub fn read_all<S: Source>(
 }
 
 impl<R: Files> Shelf for FileShelf<R> {
-    ghost file = { λ _ _. None };
-
-    ghost asked = { λ _. None };
-
-    ghost shelf_faults = { λ s. s.faults };
+    ghost shows = { λ s. record { file = λ _. None; asked = None; faults = s.faults } };
 
     fn read(&mut self, name: &[u8], limit: u32) -> Result<Octets, ShelfRefused> {
         let read = self.read_file(name, limit);

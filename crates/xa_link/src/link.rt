@@ -1,6 +1,6 @@
 // The pipes of a life.
 ghost use Rattle.std.specs.Prelude.{◌≡◌};
-ghost use Rattle.xa_link.specs.Links.{LinkShows, killed, closed};
+ghost use Rattle.xa_link.specs.Links.{LinkShows, as_source, as_sink, killed, closed};
 
 use crate::{Sink, Source};
 use std::snapshot::Snapshot;
@@ -50,9 +50,9 @@ pub trait Link: Source + Sink {
     fn close(self) -> Closed<Self>
         ensures { shows result.was.value ≡ closed (shows self) };
 
-    ghost shown: { (link : Self) → shows link ≡ record { took = Self.took link; gave = Self.gave link; left = Self.left link; reads = Self.read_faults link; writes = Self.write_faults link; program = (shows link).program } };
+    /// What it shows as a source.
+    ghost reads: { (link : Self) → Self.Source.shows link ≡ as_source (shows link) };
 
-    ghost reads_alone: { (link : Self) → Self.beside_reads link ≡ (Self.took link, Self.write_faults link, (shows link).program) };
-
-    ghost writes_alone: { (link : Self) → Self.beside_writes link ≡ (Self.gave link, Self.read_faults link, (shows link).program) };
+    /// What it shows as a sink.
+    ghost writes: { (link : Self) → Self.Sink.shows link ≡ as_sink (shows link) };
 }

@@ -1,8 +1,8 @@
 // Named files.
-ghost use Rattle.std.specs.Prelude.{◌≡◌, ◌≤◌, ◌<◌, ℕ, List, length, Option, IfOk, IsErrOf};
+ghost use Rattle.std.specs.Prelude.{◌≡◌, ◌≤◌, ◌<◌, length, IfOk, IsErrOf};
 ghost use Rattle.xa_link.specs.Told.{Rose};
 ghost use Rattle.xa_link.specs.Reads.{Holds, HoldsMore};
-ghost use Rattle.xa_link.specs.Starts.{AsksFile};
+ghost use Rattle.xa_link.specs.Starts.{AsksFile, ShelfShows};
 
 use thiserror::Error;
 use xa_types::Octets;
@@ -21,26 +21,19 @@ pub enum ShelfRefused {
 
 /// Has named files.
 pub trait Shelf {
-    /// The file of that name, where the shelf tells it: `Some None` tells that there is none.
-    ghost file: { Self → List ℕ → Option (Option (List ℕ)) };
-
-    /// The names of the files that it was asked for, the oldest first, where it tells them. A read that memory ran out
-    /// for is none.
-    ghost asked: { Self → Option (List (List ℕ)) };
-
-    /// How often a read failed. It stands still at 2^64 - 1.
-    ghost shelf_faults: { Self → ℕ };
+    /// What it shows. Its count stands still at 2^64 - 1, and it was not asked for a file that memory ran out for.
+    ghost shows: { Self → ShelfShows };
 
     /// The whole file of that name, of at most `limit` octets.
     fn read(&mut self, name: &[u8], limit: u32) -> Result<Octets, ShelfRefused>
-        ensures content { IfOk result (λ octets. Holds (file self.old name.now) octets) }
+        ensures content { IfOk result (λ octets. Holds ((shows self.old).file name.now) octets) }
         ensures short { IfOk result (λ octets. length octets ≤ limit) }
-        ensures long { IsErrOf result ShelfRefused.TooLong → HoldsMore (file self.old name.now) limit }
-        ensures kept { file self.new ≡ file self.old }
-        ensures asked { (IsErrOf result ShelfRefused.NoMemory → ⊥) → AsksFile (asked self.old) (asked self.new) name.now }
-        ensures starved { IsErrOf result ShelfRefused.NoMemory → asked self.new ≡ asked self.old }
+        ensures long { IsErrOf result ShelfRefused.TooLong → HoldsMore ((shows self.old).file name.now) limit }
+        ensures kept { (shows self.new).file ≡ (shows self.old).file }
+        ensures asked { (IsErrOf result ShelfRefused.NoMemory → ⊥) → AsksFile (shows self.old).asked (shows self.new).asked name.now }
+        ensures starved { IsErrOf result ShelfRefused.NoMemory → (shows self.new).asked ≡ (shows self.old).asked }
 
-        ensures later { shelf_faults self.old ≤ shelf_faults self.new }
-        ensures cause { IsErrOf result ShelfRefused.Failed → Rose (shelf_faults self.old) (shelf_faults self.new) }
-        ensures quiet { (IsErrOf result ShelfRefused.Failed → ⊥) → shelf_faults self.new ≡ shelf_faults self.old };
+        ensures later { (shows self.old).faults ≤ (shows self.new).faults }
+        ensures cause { IsErrOf result ShelfRefused.Failed → Rose (shows self.old).faults (shows self.new).faults }
+        ensures quiet { (IsErrOf result ShelfRefused.Failed → ⊥) → (shows self.new).faults ≡ (shows self.old).faults };
 }

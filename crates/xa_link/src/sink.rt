@@ -1,44 +1,38 @@
 // Where octets go.
-ghost use Rattle.std.specs.Prelude.{◌⊎◌, ◌≡◌, ◌≤◌, ◌<◌, ◌+◌, ℕ, List, [], take, drop, length, Option, IfOk, OnOk, OnErr, IsErr};
-ghost use Rattle.xa_link.specs.Links.{Program};
+ghost use Rattle.std.specs.Prelude.{◌⊎◌, ◌≡◌, ◌≤◌, ◌<◌, ◌+◌, [], take, drop, length, IfOk, OnOk, OnErr, IsErr};
+ghost use Rattle.xa_link.specs.Links.{SinkShows};
 ghost use Rattle.xa_link.specs.Told.{Rose, Grew, GrewByPart};
 
 use crate::Failed;
 
 /// Takes octets, such as a pipe's end or standard output.
 pub trait Sink {
-    /// The octets that it took so far, where it tells them.
-    ghost took: { Self → Option (List ℕ) };
-
-    /// How often a write failed, or took nothing of a piece that isn't empty. It stands still at 2^64 - 1.
-    ghost write_faults: { Self → ℕ };
-
-    /// What a write leaves alone: of a link what it gave, how often a read failed, and its program.
-    ghost beside_writes: { Self → Option (List ℕ) × ℕ × Program };
+    /// What it shows. Its count stands still at 2^64 - 1.
+    ghost shows: { Self → SinkShows };
 
     /// Takes octets off the front of the piece, and answers how many. Where it fails, it took none.
     fn write(&mut self, from: &[u8]) -> Result<usize, Failed>
         ensures bound { IfOk result (λ n. n ≤ length from.now) }
-        ensures taken { IfOk result (λ n. Grew (took self.old) (took self.new) (take n from.now)) }
-        ensures same { OnErr result (took self.new ≡ took self.old) }
+        ensures taken { IfOk result (λ n. Grew (shows self.old).took (shows self.new).took (take n from.now)) }
+        ensures same { OnErr result ((shows self.new).took ≡ (shows self.old).took) }
 
-        ensures alone { beside_writes self.new ≡ beside_writes self.old }
-        ensures later { write_faults self.old ≤ write_faults self.new }
-        ensures cause { IsErr result → Rose (write_faults self.old) (write_faults self.new) }
-        ensures nothing { result ≡ Ok 0 → 0 < length from.now → Rose (write_faults self.old) (write_faults self.new) }
-        ensures quiet { IfOk result (λ n. (0 < n) ⊎ (from.now ≡ []) → write_faults self.new ≡ write_faults self.old) };
+        ensures alone { (shows self.new).beside ≡ (shows self.old).beside }
+        ensures later { (shows self.old).faults ≤ (shows self.new).faults }
+        ensures cause { IsErr result → Rose (shows self.old).faults (shows self.new).faults }
+        ensures nothing { result ≡ Ok 0 → 0 < length from.now → Rose (shows self.old).faults (shows self.new).faults }
+        ensures quiet { IfOk result (λ n. (0 < n) ⊎ (from.now ≡ []) → (shows self.new).faults ≡ (shows self.old).faults) };
 }
 
 /// Writes the whole piece, in as many writes as that takes. Where one of them fails or takes nothing, it fails, and
 /// the sink took a prefix of the piece that is not all of it.
 pub fn put<K: Sink>(sink: &mut K, piece: &[u8]) -> Result<(), Failed>
-    ensures whole { OnOk result (Grew (K.took sink.old) (K.took sink.new) piece.now) }
-    ensures part { OnErr result (GrewByPart (K.took sink.old) (K.took sink.new) piece.now) }
+    ensures whole { OnOk result (Grew (K.shows sink.old).took (K.shows sink.new).took piece.now) }
+    ensures part { OnErr result (GrewByPart (K.shows sink.old).took (K.shows sink.new).took piece.now) }
 
-    ensures alone { K.beside_writes sink.new ≡ K.beside_writes sink.old }
-    ensures later { K.write_faults sink.old ≤ K.write_faults sink.new }
-    ensures cause { IsErr result → Rose (K.write_faults sink.old) (K.write_faults sink.new) }
-    ensures quiet { OnOk result (K.write_faults sink.new ≡ K.write_faults sink.old) }
+    ensures alone { (K.shows sink.new).beside ≡ (K.shows sink.old).beside }
+    ensures later { (K.shows sink.old).faults ≤ (K.shows sink.new).faults }
+    ensures cause { IsErr result → Rose (K.shows sink.old).faults (K.shows sink.new).faults }
+    ensures quiet { OnOk result ((K.shows sink.new).faults ≡ (K.shows sink.old).faults) }
 {
     let mut at = 0;
     while at < piece.len() {
@@ -52,13 +46,13 @@ fn put_some<K: Sink>(sink: &mut K, piece: &[u8], at: usize) -> Result<usize, Fai
     requires { at < length piece.now }
     ensures room { IfOk result (λ n. at + n ≤ length piece.now) }
     ensures moves { IfOk result (λ n. 0 < n) }
-    ensures taken { IfOk result (λ n. Grew (K.took sink.old) (K.took sink.new) (take n (drop at piece.now))) }
-    ensures same { OnErr result (Grew (K.took sink.old) (K.took sink.new) []) }
+    ensures taken { IfOk result (λ n. Grew (K.shows sink.old).took (K.shows sink.new).took (take n (drop at piece.now))) }
+    ensures same { OnErr result (Grew (K.shows sink.old).took (K.shows sink.new).took []) }
 
-    ensures alone { K.beside_writes sink.new ≡ K.beside_writes sink.old }
-    ensures later { K.write_faults sink.old ≤ K.write_faults sink.new }
-    ensures cause { IsErr result → Rose (K.write_faults sink.old) (K.write_faults sink.new) }
-    ensures quiet { OnOk result (K.write_faults sink.new ≡ K.write_faults sink.old) }
+    ensures alone { (K.shows sink.new).beside ≡ (K.shows sink.old).beside }
+    ensures later { (K.shows sink.old).faults ≤ (K.shows sink.new).faults }
+    ensures cause { IsErr result → Rose (K.shows sink.old).faults (K.shows sink.new).faults }
+    ensures quiet { OnOk result ((K.shows sink.new).faults ≡ (K.shows sink.old).faults) }
 {
     let n = sink.write(&piece[at..])?;
     if n == 0 {

@@ -1,6 +1,6 @@
 // Where octets come from.
-ghost use Rattle.std.specs.Prelude.{◌≡◌, ◌≤◌, ◌<◌, ℕ, List, take, length, Option, IfOk, OnErr, OnOk, IsErr};
-ghost use Rattle.xa_link.specs.Links.{Program};
+ghost use Rattle.std.specs.Prelude.{◌≡◌, ◌≤◌, ◌<◌, take, length, IfOk, OnErr, OnOk, IsErr};
+ghost use Rattle.xa_link.specs.Links.{SourceShows};
 ghost use Rattle.xa_link.specs.Told.{Rose, Grew, Shrank, Empty};
 
 use thiserror::Error;
@@ -12,30 +12,21 @@ pub struct Failed;
 
 /// Gives octets, such as a pipe's end or standard input.
 pub trait Source {
-    /// The octets that it still holds, where it tells them.
-    ghost left: { Self → Option (List ℕ) };
-
-    /// The octets that it gave so far, where it tells them.
-    ghost gave: { Self → Option (List ℕ) };
-
-    /// How often a read failed. It stands still at 2^64 - 1.
-    ghost read_faults: { Self → ℕ };
-
-    /// What a read leaves alone: of a link what it took, how often a write failed, and its program.
-    ghost beside_reads: { Self → Option (List ℕ) × ℕ × Program };
+    /// What it shows. Its count stands still at 2^64 - 1.
+    ghost shows: { Self → SourceShows };
 
     /// Fills the front of the piece with the next octets, and answers how many they are. 0 for a piece that isn't
     /// empty is the end. Where it fails, nothing was given.
     fn read(&mut self, into: &mut [u8]) -> Result<usize, Failed>
         ensures bound { IfOk result (λ n. n ≤ length into.new) }
-        ensures told { IfOk result (λ n. Shrank (left self.old) (left self.new) (take n into.new)) }
-        ensures given { IfOk result (λ n. Grew (gave self.old) (gave self.new) (take n into.new)) }
-        ensures end { result ≡ Ok 0 → 0 < length into.new → Empty (left self.old) }
-        ensures kept { OnErr result (left self.new ≡ left self.old) }
-        ensures same { OnErr result (gave self.new ≡ gave self.old) }
+        ensures told { IfOk result (λ n. Shrank (shows self.old).left (shows self.new).left (take n into.new)) }
+        ensures given { IfOk result (λ n. Grew (shows self.old).gave (shows self.new).gave (take n into.new)) }
+        ensures end { result ≡ Ok 0 → 0 < length into.new → Empty (shows self.old).left }
+        ensures kept { OnErr result ((shows self.new).left ≡ (shows self.old).left) }
+        ensures same { OnErr result ((shows self.new).gave ≡ (shows self.old).gave) }
 
-        ensures alone { beside_reads self.new ≡ beside_reads self.old }
-        ensures later { read_faults self.old ≤ read_faults self.new }
-        ensures cause { IsErr result → Rose (read_faults self.old) (read_faults self.new) }
-        ensures quiet { OnOk result (read_faults self.new ≡ read_faults self.old) };
+        ensures alone { (shows self.new).beside ≡ (shows self.old).beside }
+        ensures later { (shows self.old).faults ≤ (shows self.new).faults }
+        ensures cause { IsErr result → Rose (shows self.old).faults (shows self.new).faults }
+        ensures quiet { OnOk result ((shows self.new).faults ≡ (shows self.old).faults) };
 }

@@ -33,7 +33,7 @@ pub trait Starter<L: Link> {
     fn start(&mut self, server: &Name, generation: Generation) -> Result<L, StartRefused>
         requires own { server.now ≡ (shows self.old).name }
         ensures same { (shows self.new).name ≡ (shows self.old).name }
-        ensures fresh { IfOk result (λ link. IsFresh server.now generation (L.shows link)) }
+        ensures fresh { IfOk result (λ link. IsFresh server.now generation (L.Link.shows link)) }
         ensures started { OnOk result (AsksFor (shows self.old).asked (shows self.new).asked server.now generation) }
         ensures failed { IsErrOf result StartRefused.Failed → AsksFor (shows self.old).asked (shows self.new).asked server.now generation }
         ensures starved { IsErrOf result StartRefused.NoMemory → shows self.new ≡ shows self.old }

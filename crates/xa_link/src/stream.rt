@@ -1,6 +1,6 @@
 // The standard streams, and other readers and writers.
 ghost use Rattle.std.specs.Prelude.{◌≡◌, ◌≤◌, ◌<◌, ◌⊎◌, [], length, IfOk, OnOk, IsErr, Ok, None};
-ghost use Rattle.xa_link.specs.Links.{no_program};
+ghost use Rattle.xa_link.specs.Links.{nothing_beside};
 ghost use Rattle.xa_link.specs.Told.{Rose};
 ghost use Rattle.std.specs.Io.KnownBytes.{ReadConsumes, WriteAppends};
 
@@ -23,7 +23,7 @@ pub struct ReadSource<R: Read> {
 impl<R: Read> ReadSource<R> {
     /// The reader as a source, of which no read has failed.
     pub fn new(reader: R) -> ReadSource<R>
-        ensures { ⟦<ReadSource<R> as Source>⟧.read_faults result ≡ 0 }
+        ensures { (⟦<ReadSource<R> as Source>⟧.shows result).faults ≡ 0 }
     {
         ReadSource { reader, faults: 0 }
     }
@@ -43,13 +43,7 @@ fn read_on<R: Read>(reader: &mut R, into: &mut [u8]) -> io::Result<usize>
 }
 
 impl<R: Read> Source for ReadSource<R> {
-    ghost left = { λ _. None };
-
-    ghost gave = { λ _. None };
-
-    ghost read_faults = { λ s. s.faults };
-
-    ghost beside_reads = { λ _. (None, 0, no_program) };
+    ghost shows = { λ s. record { left = None; gave = None; faults = s.faults; beside = nothing_beside } };
 
     fn read(&mut self, into: &mut [u8]) -> Result<usize, Failed>
         ensures bound { IfOk result (λ n. n ≤ length into.new) }
@@ -77,7 +71,7 @@ pub struct WriteSink<W: Write> {
 impl<W: Write> WriteSink<W> {
     /// The writer as a sink, of which no write has failed.
     pub fn new(writer: W) -> WriteSink<W>
-        ensures { ⟦<WriteSink<W> as Sink>⟧.write_faults result ≡ 0 }
+        ensures { (⟦<WriteSink<W> as Sink>⟧.shows result).faults ≡ 0 }
     {
         WriteSink { writer, faults: 0 }
     }
@@ -97,11 +91,7 @@ fn write_on<W: Write>(writer: &mut W, from: &[u8]) -> io::Result<usize>
 }
 
 impl<W: Write> Sink for WriteSink<W> {
-    ghost took = { λ _. None };
-
-    ghost write_faults = { λ s. s.faults };
-
-    ghost beside_writes = { λ _. (None, 0, no_program) };
+    ghost shows = { λ s. record { took = None; faults = s.faults; beside = nothing_beside } };
 
     fn write(&mut self, from: &[u8]) -> Result<usize, Failed>
         ensures bound { IfOk result (λ n. n ≤ length from.now) }

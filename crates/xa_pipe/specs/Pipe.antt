@@ -9,6 +9,7 @@ use Rattle.xa_frame.specs.declared.frame.Frame.{Frame}
 use Rattle.xa_frame.specs.declared.frame.Body.TheVariants.{Invoke}
 use Rattle.xa_frame.specs.declared.reader.NextRefused.{NextRefused}
 use Rattle.xa_frame.specs.declared.reader.NextRefused.TheVariants.{BadFrame, NoMemory}
+use Rattle.xa_frame.specs.Reader.{Incoming}
 use Rattle.xa_frame.specs.Stream.{IsPartial, IsMalformed}
 use Rattle.xa_frame.specs.Spelling.{all_spelled}
 use Rattle.xa_events.specs.declared.event.StopCause.{StopCause}
@@ -30,6 +31,10 @@ pub record Piped : Type 0 where
   pub program : Program
   pub rest : List ℕ
   pub place : ℕ
+
+-- the pipe of that link with what its reader holds
+abbrev pub piped : LinkShows → Incoming → Piped
+piped link reader = record { took = link.took; gave = link.gave; left = link.left; reads = link.reads; writes = link.writes; program = link.program; rest = reader.rest; place = reader.place }
 
 -- what the link of the pipe shows
 abbrev pub shown : Piped → LinkShows

@@ -169,7 +169,7 @@ impl<L: Link> Course<L> {
 fn close<L: Link>(pipe: Pipe<L>, cause: StopCause) -> Pipes<L>
     ensures killed { are_killed result ≡ is_killed cause }
     ensures left_open { are_open result ≡ is_open cause }
-    ensures shows { pipes_show L.shows result ≡ left_by cause (shown pipe) }
+    ensures shows { pipes_show L.Link.shows result ≡ left_by cause (shown pipe) }
 {
     match cause {
         StopCause::Shutdown => Pipes::Open(pipe.into_link()),

@@ -60,8 +60,8 @@ impl<L: Link> Life<L> {
         server: ServerId,
         generation: Generation,
     ) -> Life<L>
-        requires { IsFresh name generation (L.shows link) }
-        ensures { result ≡ begun name server generation (L.shows link) }
+        requires { IsFresh name generation (L.Link.shows link) }
+        ensures { result ≡ begun name server generation (L.Link.shows link) }
     {
         Life {
             course: Course {

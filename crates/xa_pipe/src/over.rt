@@ -40,9 +40,9 @@ impl<L: Link> Model for EndedLife<L> {
 
     ghost Value = { Ending };
 
-    ghost view = { λ e. ending e (pipes_show L.shows e.pipes) };
+    ghost view = { λ e. ending e (pipes_show L.Link.shows e.pipes) };
 
-    ghost invariant = { λ e. IsOver (ending e (pipes_show L.shows e.pipes)) };
+    ghost invariant = { λ e. IsOver (ending e (pipes_show L.Link.shows e.pipes)) };
 }
 
 impl<L: Link> EndedLife<L> {
@@ -72,7 +72,7 @@ impl<L: Link> EndedLife<L> {
     pub fn into_pipes(self) -> Pipes<L>
         ensures killed { are_killed result ≡ self.killed }
         ensures left_open { are_open result ≡ self.left_open }
-        ensures shows { pipes_show L.shows result ≡ self.life.link }
+        ensures shows { pipes_show L.Link.shows result ≡ self.life.link }
         ensures over { IsOver self }
     {
         let EndedLife {
@@ -108,9 +108,9 @@ impl<L: Link> Model for CutLife<L> {
 
     ghost Value = { Standing };
 
-    ghost view = { λ c. cut_at L.shows c };
+    ghost view = { λ c. cut_at L.Link.shows c };
 
-    ghost invariant = { λ c. IsCutOff (cut_at L.shows c) };
+    ghost invariant = { λ c. IsCutOff (cut_at L.Link.shows c) };
 }
 
 impl<L: Link> CutLife<L> {
@@ -123,7 +123,7 @@ impl<L: Link> CutLife<L> {
 
     /// What is left of its pipes.
     pub fn into_pipes(self) -> Closed<L>
-        ensures shows { closed_show L.shows result ≡ self.link }
+        ensures shows { closed_show L.Link.shows result ≡ self.link }
         ensures cut_off { IsCutOff self }
     {
         let CutLife {

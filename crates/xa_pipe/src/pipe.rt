@@ -28,20 +28,11 @@ pub struct Pipe<L: Link> {
 }
 
 impl<L: Link> Model for Pipe<L> {
-    ghost use Rattle.xa_pipe.specs.Pipe.{Piped};
+    ghost use Rattle.xa_pipe.specs.Pipe.{Piped, piped};
 
     ghost Value = { Piped };
 
-    ghost view = { λ p. record {
-      took = L.took p.link;
-      gave = L.gave p.link;
-      left = L.left p.link;
-      reads = L.read_faults p.link;
-      writes = L.write_faults p.link;
-      program = (L.shows p.link).program;
-      rest = p.reader.rest;
-      place = p.reader.place;
-    } };
+    ghost view = { λ p. piped (L.Link.shows p.link) p.reader };
 }
 
 // Puts the octets of SHUTDOWN at the end.
@@ -59,13 +50,13 @@ fn append_shutdown(out: &mut Vec<u8>) -> Result<(), NoMemory>
 
 // Writes the octets: WriteFault where the link fails.
 fn write<L: Link>(link: &mut L, octets: &[u8]) -> Result<(), StopCause>
-    ensures took { OnOk result (Grew (L.took link.old) (L.took link.new) octets.now) }
-    ensures part { OnErr result (GrewByPart (L.took link.old) (L.took link.new) octets.now) }
-    ensures gave { L.gave link.new ≡ L.gave link.old }
-    ensures reads { L.read_faults link.new ≡ L.read_faults link.old }
-    ensures program { (L.shows link.new).program ≡ (L.shows link.old).program }
-    ensures well { OnOk result (L.write_faults link.new ≡ L.write_faults link.old) }
-    ensures why { IfErr result (λ cause. (cause ≡ StopCause.WriteFault) × Rose (L.write_faults link.old) (L.write_faults link.new)) }
+    ensures took { OnOk result (Grew (L.Link.shows link.old).took (L.Link.shows link.new).took octets.now) }
+    ensures part { OnErr result (GrewByPart (L.Link.shows link.old).took (L.Link.shows link.new).took octets.now) }
+    ensures gave { (L.Link.shows link.new).gave ≡ (L.Link.shows link.old).gave }
+    ensures reads { (L.Link.shows link.new).reads ≡ (L.Link.shows link.old).reads }
+    ensures program { (L.Link.shows link.new).program ≡ (L.Link.shows link.old).program }
+    ensures well { OnOk result ((L.Link.shows link.new).writes ≡ (L.Link.shows link.old).writes) }
+    ensures why { IfErr result (λ cause. (cause ≡ StopCause.WriteFault) × Rose (L.Link.shows link.old).writes (L.Link.shows link.new).writes) }
 {
     match put(link, octets) {
         Ok(()) => Ok(()),
@@ -86,9 +77,9 @@ fn ended_by(refused: NextRefused) -> StopCause
 impl<L: Link> Pipe<L> {
     /// The pipes through which nothing went.
     pub fn new(alloc: Global, link: L) -> Pipe<L>
-        requires took { Empty (L.took link) }
-        requires gave { Empty (L.gave link) }
-        ensures shows { shown result ≡ L.shows link }
+        requires took { Empty (L.Link.shows link).took }
+        requires gave { Empty (L.Link.shows link).gave }
+        ensures shows { shown result ≡ L.Link.shows link }
         ensures wrote { Wrote result [] }
         ensures read { HasRead result [] }
     {
@@ -101,7 +92,7 @@ impl<L: Link> Pipe<L> {
 
     /// The link, with what went through it.
     pub fn into_link(self) -> L
-        ensures { L.shows result ≡ shown self }
+        ensures { L.Link.shows result ≡ shown self }
     {
         let Pipe {
             link,
@@ -170,14 +161,14 @@ impl<L: Link> Pipe<L> {
 
     /// Ends the program by force, and waits for it: what is left.
     pub fn kill(self) -> Closed<L>
-        ensures { L.shows result.was.value ≡ killed (shown self) }
+        ensures { L.Link.shows result.was.value ≡ killed (shown self) }
     {
         self.into_link().kill()
     }
 
     /// Closes the pipes, and waits for the program, which ends by itself: what is left.
     pub fn close(self) -> Closed<L>
-        ensures { L.shows result.was.value ≡ closed (shown self) }
+        ensures { L.Link.shows result.was.value ≡ closed (shown self) }
     {
         self.into_link().close()
     }

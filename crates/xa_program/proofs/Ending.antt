@@ -4,6 +4,7 @@ use Rattle.xa_domain.specs.xa_types.declared.setup.Setup.{Setup}
 use Rattle.xa_domain.specs.xa_events.declared.event.Event.{Event}
 use Rattle.xa_domain.specs.xa_stamp.Merge.{IsMerged, IsDense}
 use Rattle.xa_domain.specs.xa_server.Served.{StarterShows}
+use Rattle.xa_domain.specs.xa_link.Starts.{ShelfShows}
 use Rattle.xa_domain.specs.xa_script.declared.script.Client.{Client}
 use Rattle.xa_text.specs.InTurn.{AllInTurn}
 use Rattle.xa_text.proofs.InTurn.{run_in_turn}
@@ -102,9 +103,8 @@ asks_files : (command : Command) (status : Status) (before after : Option (List 
 asks_files command NoMemory before after asks = inr asks
 asks_files command status before after asks = asks
 
-pub shelf_kept : (command : Command) (status : Status) (faults faults_after : ℕ) (asked asked_after : Option (List (List ℕ))) → (status ≡ ConfigRead → ⊥) → faults_after ≡ faults → AsksFiles command asked asked_after
-    → KeepsShelf (Some command) status faults faults_after asked asked_after
-shelf_kept command status faults faults_after asked asked_after other same asks = record {
-  counts = counts_kept command status faults faults_after other same;
-  asks = asks_files command status asked asked_after asks;
+pub shelf_kept : (command : Command) (status : Status) (before after : ShelfShows) → (status ≡ ConfigRead → ⊥) → after.faults ≡ before.faults → AsksFiles command before.asked after.asked → KeepsShelf (Some command) status before after
+shelf_kept command status before after other same asks = record {
+  counts = counts_kept command status before.faults after.faults other same;
+  asks = asks_files command status before.asked after.asked asks;
 }

@@ -3,7 +3,7 @@ use Rattle.std.specs.Prelude.{◌≡◌, ◌⊎◌, ◌≤◌, ℕ, List, length
 use Rattle.xa_domain.specs.xa_types.declared.setup.Setup.{Setup}
 use Rattle.xa_domain.specs.xa_link.Told.{Rose}
 use Rattle.xa_domain.specs.xa_link.Reads.{Holds, HoldsMore}
-use Rattle.xa_domain.specs.xa_link.Starts.{AsksFile}
+use Rattle.xa_domain.specs.xa_link.Starts.{ShelfShows, AsksFile}
 use Rattle.xa_config.specs.Faults.{fault}
 use Rattle.xa_config.specs.Document.{IsConfiguration, IsFirstFault}
 use Rattle.xa_program.specs.declared.words.Command.{Command}
@@ -23,9 +23,9 @@ pub record ShelfTells : Type 0 where
   pub faults : ℕ
   pub faults_after : ℕ
 
--- what it tells, by its files and its count
-abbrev pub shelf_by : {S : Type 0} → (S → List ℕ → Option (Option (List ℕ))) → (S → ℕ) → S → S → ShelfTells
-shelf_by file faults shelf shelf_after = record { file = file shelf; faults = faults shelf; faults_after = faults shelf_after }
+-- what it tells, by what it shows
+abbrev pub shelf_by : {S : Type 0} → (S → ShelfShows) → S → S → ShelfTells
+shelf_by shows shelf shelf_after = record { file = (shows shelf).file; faults = (shows shelf).faults; faults_after = (shows shelf_after).faults }
 
 -- the setup of the command: that of a configuration that the file holds and that isn't too long, or that of the service
 abbrev pub IsSetup : (List ℕ → Option (Option (List ℕ))) → Command → Setup → Type 0
@@ -66,6 +66,6 @@ AsksShelf (Some command) status before after = AsksFiles command before after
 AsksShelf None status before after = after ≡ before
 
 -- what the shelf shows of a run: how often a read failed, and which files were asked for
-pub record KeepsShelf (command : Option Command) (status : Status) (faults faults_after : ℕ) (asked asked_after : Option (List (List ℕ))) : Type 0 where
-  pub counts : CountsShelf command status faults faults_after
-  pub asks : AsksShelf command status asked asked_after
+pub record KeepsShelf (command : Option Command) (status : Status) (before after : ShelfShows) : Type 0 where
+  pub counts : CountsShelf command status before.faults after.faults
+  pub asks : AsksShelf command status before.asked after.asked

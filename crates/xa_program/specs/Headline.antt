@@ -3,6 +3,7 @@ use Rattle.std.specs.Prelude.{◌≡◌, ◌⊎◌, ◌≤◌, ℕ, List, [], le
 use Rattle.std.specs.declared.vec.Vec.{Vec}
 use Rattle.std.specs.declared.alloc.Global.{Global}
 use Rattle.xa_domain.specs.xa_types.declared.setup.Setup.{Setup}
+use Rattle.xa_domain.specs.xa_link.Links.{SourceShows, SinkShows}
 use Rattle.xa_domain.specs.xa_link.Told.{Rose, Grew, GrewByPart}
 use Rattle.xa_domain.specs.xa_events.declared.event.Event.{Event}
 use Rattle.xa_domain.specs.xa_stamp.Home.{Notes}
@@ -56,16 +57,16 @@ pub record Streams : Type 0 where
   pub writes_before : ℕ
   pub writes_after : ℕ
 
--- what they show, by what they tell and count
-abbrev pub streams_by : {I O : Type 0} → (I → Option (List ℕ)) → (I → Option (List ℕ)) → (I → ℕ) → (O → Option (List ℕ)) → (O → ℕ) → I → I → O → O → Streams
-streams_by left gave reads took writes input input_after out out_after = record {
-  input = input_by left gave input input_after;
-  reads_before = reads input;
-  reads_after = reads input_after;
-  took_before = took out;
-  took_after = took out_after;
-  writes_before = writes out;
-  writes_after = writes out_after;
+-- what they show, by what each shows
+abbrev pub streams_by : {I O : Type 0} → (I → SourceShows) → (O → SinkShows) → I → I → O → O → Streams
+streams_by reads writes input input_after out out_after = record {
+  input = input_by reads input input_after;
+  reads_before = (reads input).faults;
+  reads_after = (reads input_after).faults;
+  took_before = (writes out).took;
+  took_after = (writes out_after).took;
+  writes_before = (writes out).faults;
+  writes_after = (writes out_after).faults;
 }
 
 -- no failed read of the input was counted

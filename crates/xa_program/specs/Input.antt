@@ -1,5 +1,6 @@
 -- What the input shows of a run (this project's own).
 use Rattle.std.specs.Prelude.{◌≡◌, ◌⊎◌, ◌++◌, ℕ, List, Option, Some}
+use Rattle.xa_domain.specs.xa_link.Links.{SourceShows}
 use Rattle.xa_domain.specs.xa_link.Told.{ReadOut, Grew}
 use Rattle.xa_domain.specs.xa_link.Reads.{HasExactly, HasMore, GrewByMore}
 
@@ -10,9 +11,9 @@ pub record InputTells : Type 0 where
   pub gave : Option (List ℕ)
   pub gave_after : Option (List ℕ)
 
--- what it tells, by what it holds and gave
-abbrev pub input_by : {I : Type 0} → (I → Option (List ℕ)) → (I → Option (List ℕ)) → I → I → InputTells
-input_by left gave input input_after = record { left = left input; left_after = left input_after; gave = gave input; gave_after = gave input_after }
+-- what it tells, by what it shows
+abbrev pub input_by : {I : Type 0} → (I → SourceShows) → I → I → InputTells
+input_by shows input input_after = record { left = (shows input).left; left_after = (shows input_after).left; gave = (shows input).gave; gave_after = (shows input_after).gave }
 
 -- these octets came from it, to its end: where it tells what it holds, that was these, and now is nothing; where it tells what it gave,
 -- that grew by these

@@ -26,10 +26,10 @@ pub fn read_script<I: Source>(
 ) -> Result<Script, Status>
     requires configured { is_configured setup.now ≡ true }
     requires most { (1 ≤ most) × (most ≤ 64) }
-    ensures script { IfOk result (λ script. IsTheScript setup.now most (input_by I.left I.gave input.old input.new) script.clients) }
+    ensures script { IfOk result (λ script. IsTheScript setup.now most (input_by I.shows input.old input.new) script.clients) }
     ensures built { IfOk result (λ script. IsBuilt script.clients) }
-    ensures quiet { OnOk result (I.read_faults input.new ≡ I.read_faults input.old) }
-    ensures refused { IfErr result (ScriptRefusedAs setup.now most (input_by I.left I.gave input.old input.new) (I.read_faults input.old) (I.read_faults input.new)) }
+    ensures quiet { OnOk result ((I.shows input.new).faults ≡ (I.shows input.old).faults) }
+    ensures refused { IfErr result (ScriptRefusedAs setup.now most (input_by I.shows input.old input.new) (I.shows input.old).faults (I.shows input.new).faults) }
 {
     let octets = match read_all(alloc, input, LONGEST_SCRIPT) {
         Ok(octets) => octets,

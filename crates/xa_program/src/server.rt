@@ -16,7 +16,7 @@ pub fn child_work<I: Source, O: Sink>(
     input: &mut I,
     out: &mut O,
 ) -> Status
-    ensures { ServerEnds name.now (streams_by I.left I.gave I.read_faults O.took O.write_faults input.old input.new out.old out.new) result }
+    ensures { ServerEnds name.now (streams_by I.shows O.shows input.old input.new out.old out.new) result }
 {
     match work(alloc, name, input, out) {
         Ok(()) => Status::Done,

@@ -19,12 +19,12 @@ const LONGEST_CONFIGURATION: u32 = 262_144;
 
 /// The setup that the file of that name says.
 pub fn read_setup<S: Shelf>(alloc: Global, name: &[u8], shelf: &mut S) -> Result<Setup, Status>
-    ensures found { IfOk result (IsSetup (S.file shelf.old) (Run name.now)) }
+    ensures found { IfOk result (IsSetup (S.shows shelf.old).file (Run name.now)) }
     ensures configured { IfOk result (λ setup. is_configured setup ≡ true) }
-    ensures quiet { OnOk result (S.shelf_faults shelf.new ≡ S.shelf_faults shelf.old) }
-    ensures refused { IfErr result (SetupRefusedAs (shelf_by S.file S.shelf_faults shelf.old shelf.new) name.now) }
-    ensures asks { OnOk result (AsksFile (S.asked shelf.old) (S.asked shelf.new) name.now) }
-    ensures asked { IfErr result (λ status. AsksShelf (Some (Run name.now)) status (S.asked shelf.old) (S.asked shelf.new)) }
+    ensures quiet { OnOk result ((S.shows shelf.new).faults ≡ (S.shows shelf.old).faults) }
+    ensures refused { IfErr result (SetupRefusedAs (shelf_by S.shows shelf.old shelf.new) name.now) }
+    ensures asks { OnOk result (AsksFile (S.shows shelf.old).asked (S.shows shelf.new).asked name.now) }
+    ensures asked { IfErr result (λ status. AsksShelf (Some (Run name.now)) status (S.shows shelf.old).asked (S.shows shelf.new).asked) }
 {
     let octets = match shelf.read(name, LONGEST_CONFIGURATION) {
         Ok(octets) => octets,

@@ -39,10 +39,10 @@ fn pieces_of(alloc: Global, history: &[Event], clients: &[Client]) -> Result<Vec
 
 // Writes the pieces one after another.
 fn put_all<O: Sink>(out: &mut O, pieces: &[Octets]) -> Result<(), Failed>
-    ensures whole { OnOk result (Grew (O.took out.old) (O.took out.new) (flat_map (λ piece. piece) pieces.now)) }
-    ensures part { OnErr result (GrewByPart (O.took out.old) (O.took out.new) (flat_map (λ piece. piece) pieces.now)) }
-    ensures cause { OnErr result (Rose (O.write_faults out.old) (O.write_faults out.new)) }
-    ensures quiet { OnOk result (O.write_faults out.new ≡ O.write_faults out.old) }
+    ensures whole { OnOk result (Grew (O.shows out.old).took (O.shows out.new).took (flat_map (λ piece. piece) pieces.now)) }
+    ensures part { OnErr result (GrewByPart (O.shows out.old).took (O.shows out.new).took (flat_map (λ piece. piece) pieces.now)) }
+    ensures cause { OnErr result (Rose (O.shows out.old).faults (O.shows out.new).faults) }
+    ensures quiet { OnOk result ((O.shows out.new).faults ≡ (O.shows out.old).faults) }
 {
     for piece in pieces {
         put(out, piece.slice())?;
@@ -53,7 +53,7 @@ fn put_all<O: Sink>(out: &mut O, pieces: &[Octets]) -> Result<(), Failed>
 // Writes the transcript of the history.
 fn print<O: Sink>(alloc: Global, history: &[Event], clients: &[Client], out: &mut O) -> Status
     requires { AllInTurn (length clients.now) (reverse history.now) }
-    ensures { Printed (O.took out.old) (O.took out.new) (O.write_faults out.old) (O.write_faults out.new) (transcript (names_of clients.now) (reverse history.now)) result }
+    ensures { Printed (O.shows out.old).took (O.shows out.new).took (O.shows out.old).faults (O.shows out.new).faults (transcript (names_of clients.now) (reverse history.now)) result }
 {
     let Ok(pieces) = pieces_of(alloc, history, clients) else {
         return Status::NoMemory;
@@ -82,7 +82,7 @@ fn tell_whole<O: Sink>(
     out: &mut O,
 ) -> (Status, Vec<Event>)
     requires { (events : List Event) → IsMerged homes.now.homes events → AllInTurn (length clients.now) (reverse events) }
-    ensures { TellingEnds None homes.now.homes clients.now (O.took out.old) (O.took out.new) (O.write_faults out.old) (O.write_faults out.new) result.0 result.1.items }
+    ensures { TellingEnds None homes.now.homes clients.now (O.shows out.old).took (O.shows out.new).took (O.shows out.old).faults (O.shows out.new).faults result.0 result.1.items }
 {
     match merge(alloc, homes) {
         Ok(history) => {
@@ -102,7 +102,7 @@ pub fn tell<O: Sink>(
     out: &mut O,
 ) -> (Status, Vec<Event>)
     requires { halt ≡ None → (events : List Event) → IsMerged homes.now.homes events → AllInTurn (length clients.now) (reverse events) }
-    ensures { TellingEnds halt homes.now.homes clients.now (O.took out.old) (O.took out.new) (O.write_faults out.old) (O.write_faults out.new) result.0 result.1.items }
+    ensures { TellingEnds halt homes.now.homes clients.now (O.shows out.old).took (O.shows out.new).took (O.shows out.old).faults (O.shows out.new).faults result.0 result.1.items }
 {
     match halt {
         None => tell_whole(alloc, homes, clients, out),

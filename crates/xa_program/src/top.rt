@@ -53,31 +53,31 @@ pub fn run<R: Threads + Wait + Sync, S: Shelf, I: Source, O: Sink, Y: Yard, G: G
     ensures usage { (result.status ≡ Status.Usage) ↔ (command_in (map string_bytes words.now) ≡ None) }
 
     // Then what the input tells that it holds and gave, and what the output tells that it took, stay, and so do their counts.
-    ensures untouched { command_in (map string_bytes words.now) ≡ None → IsIdle (streams_by I.left I.gave I.read_faults O.took O.write_faults input.old input.new out.old out.new) }
+    ensures untouched { command_in (map string_bytes words.now) ≡ None → IsIdle (streams_by I.shows O.shows input.old input.new out.old out.new) }
 
     // How often a read of a file of the shelf failed, and which files were asked for.
-    ensures shelf { KeepsShelf (command_in (map string_bytes words.now)) result.status (S.shelf_faults shelf.old) (S.shelf_faults shelf.new) (S.asked shelf.old) (S.asked shelf.new) }
+    ensures shelf { KeepsShelf (command_in (map string_bytes words.now)) result.status (S.shows shelf.old) (S.shows shelf.new) }
 
     // What `run` and `play` come to.
     ensures ends { (command : Command) → command_in (map string_bytes words.now) ≡ Some command → Serves command
-        → RunEnds Y.Start.shows (shelf_by S.file S.shelf_faults shelf.old shelf.new) (streams_by I.left I.gave I.read_faults O.took O.write_faults input.old input.new out.old out.new) command
+        → RunEnds Y.Start.shows (shelf_by S.shows shelf.old shelf.new) (streams_by I.shows O.shows input.old input.new out.old out.new) command
         result.status (handed_by result) }
 
     // Where the shelf tells a configuration that is not too long, or none is wanted, and the input tells octets that are a script for it and not
     // too long, and none of the shelf, the input and the output fails, the run ends with Done, Worn or NoMemory. That they don't fail is
     // that their counts don't rise: where a count stands at 2^64 - 1 this says nothing.
     ensures complete { (command : Command) (setup : Setup) (octets : List ℕ) (script : Script) → command_in (map string_bytes words.now) ≡ Some command → Serves command
-        → TellsSetup (S.file shelf.old) command setup
-        → Tells (input_by I.left I.gave input.old input.new) octets → length octets ≤ longest_script → IsScript setup (most_clients command) octets script
-        → (Rose (S.shelf_faults shelf.old) (S.shelf_faults shelf.new) → ⊥) → (Rose (I.read_faults input.old) (I.read_faults input.new) → ⊥) → (Rose (O.write_faults out.old) (O.write_faults out.new) → ⊥)
+        → TellsSetup (S.shows shelf.old).file command setup
+        → Tells (input_by I.shows input.old input.new) octets → length octets ≤ longest_script → IsScript setup (most_clients command) octets script
+        → (Rose (S.shows shelf.old).faults (S.shows shelf.new).faults → ⊥) → (Rose (I.shows input.old).faults (I.shows input.new).faults → ⊥) → (Rose (O.shows out.old).faults (O.shows out.new).faults → ⊥)
         → EndsWithoutFault result.status }
 
     // For which setups the yard was asked for starters.
-    ensures yard { AsksYard (S.file shelf.old) (command_in (map string_bytes words.now)) result.status (Y.asked yard.old) (Y.asked yard.new) }
+    ensures yard { AsksYard (S.shows shelf.old).file (command_in (map string_bytes words.now)) result.status (Y.asked yard.old) (Y.asked yard.new) }
 
     // What the program of a server comes to; nothing is handed back.
     ensures server { (name : List ℕ) → command_in (map string_bytes words.now) ≡ Some (Server name)
-        → ServerEnds name (streams_by I.left I.gave I.read_faults O.took O.write_faults input.old input.new out.old out.new) result.status
+        → ServerEnds name (streams_by I.shows O.shows input.old input.new out.old out.new) result.status
         × HandsNothing (handed_by result) }
 
     // Where the words, the configuration, the input or the script are refused, nothing is handed back.
@@ -101,13 +101,13 @@ fn obey<R: Threads + Wait + Sync, S: Shelf, I: Source, O: Sink, Y: Yard, G: Gate
     gate: &G,
 ) -> Outcome<Y>
     ensures known { result.status ≡ Status.Usage → ⊥ }
-    ensures shelf { KeepsShelf (Some command.now) result.status (S.shelf_faults shelf.old) (S.shelf_faults shelf.new) (S.asked shelf.old) (S.asked shelf.new) }
+    ensures shelf { KeepsShelf (Some command.now) result.status (S.shows shelf.old) (S.shows shelf.new) }
     ensures ends { Serves command.now
-        → RunEnds Y.Start.shows (shelf_by S.file S.shelf_faults shelf.old shelf.new) (streams_by I.left I.gave I.read_faults O.took O.write_faults input.old input.new out.old out.new)
+        → RunEnds Y.Start.shows (shelf_by S.shows shelf.old shelf.new) (streams_by I.shows O.shows input.old input.new out.old out.new)
         command.now result.status (handed_by result) }
-    ensures yard { AsksYard (S.file shelf.old) (Some command.now) result.status (Y.asked yard.old) (Y.asked yard.new) }
+    ensures yard { AsksYard (S.shows shelf.old).file (Some command.now) result.status (Y.asked yard.old) (Y.asked yard.new) }
     ensures server { (name : List ℕ) → command.now ≡ Server name
-        → ServerEnds name (streams_by I.left I.gave I.read_faults O.took O.write_faults input.old input.new out.old out.new) result.status
+        → ServerEnds name (streams_by I.shows O.shows input.old input.new out.old out.new) result.status
         × HandsNothing (handed_by result) }
     ensures early { EndsEarly result.status (handed_by result) }
 {
@@ -144,13 +144,13 @@ fn setup_of<S: Shelf>(
     shelf: &mut S,
 ) -> Result<(Setup, u16), Status>
     requires { Serves command.now }
-    ensures found { IfOk result (λ found. IsSetup (S.file shelf.old) command.now found.0) }
+    ensures found { IfOk result (λ found. IsSetup (S.shows shelf.old).file command.now found.0) }
     ensures most { IfOk result (λ found. found.1 ≡ most_clients command.now) }
     ensures configured { IfOk result (λ found. is_configured found.0 ≡ true) }
-    ensures quiet { OnOk result (S.shelf_faults shelf.new ≡ S.shelf_faults shelf.old) }
-    ensures refused { IfErr result (CommandRefusedAs (shelf_by S.file S.shelf_faults shelf.old shelf.new) command.now) }
-    ensures asks { OnOk result (AsksFiles command.now (S.asked shelf.old) (S.asked shelf.new)) }
-    ensures asked { IfErr result (λ status. AsksShelf (Some command.now) status (S.asked shelf.old) (S.asked shelf.new)) }
+    ensures quiet { OnOk result ((S.shows shelf.new).faults ≡ (S.shows shelf.old).faults) }
+    ensures refused { IfErr result (CommandRefusedAs (shelf_by S.shows shelf.old shelf.new) command.now) }
+    ensures asks { OnOk result (AsksFiles command.now (S.shows shelf.old).asked (S.shows shelf.new).asked) }
+    ensures asked { IfErr result (λ status. AsksShelf (Some command.now) status (S.shows shelf.old).asked (S.shows shelf.new).asked) }
 {
     match command {
         Command::Run(name) => Ok((read_setup(alloc, name.slice(), shelf)?, 64)),
@@ -173,7 +173,7 @@ fn serve_script<R: Threads + Wait + Sync, I: Source, O: Sink, Y: Yard, G: Gate>(
     requires configured { is_configured setup ≡ true }
     requires most { (1 ≤ most) × (most ≤ 64) }
     ensures ends { ScriptEnds Y.Start.shows
-        (streams_by I.left I.gave I.read_faults O.took O.write_faults input.old input.new out.old out.new)
+        (streams_by I.shows O.shows input.old input.new out.old out.new)
         setup most result.status (handed_by result) }
     ensures yard { AsksBy setup result.status (Y.asked yard.old) (Y.asked yard.new) }
     ensures early { EndsEarly result.status (handed_by result) }

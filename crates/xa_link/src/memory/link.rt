@@ -56,16 +56,10 @@ impl MemoryLink {
 }
 
 impl Source for MemoryLink {
-    ghost use Rattle.std.specs.Prelude.{Some};
-    ghost use Rattle.xa_link.specs.Memory.{source_left, source_gave, source_faults, sink_took, sink_faults};
+    ghost use Rattle.xa_link.specs.Links.{as_source};
+    ghost use Rattle.xa_link.specs.Memory.{link_shows};
 
-    ghost left = { λ l. Some (source_left l.source) };
-
-    ghost gave = { λ l. Some (source_gave l.source) };
-
-    ghost read_faults = { λ l. source_faults l.source };
-
-    ghost beside_reads = { λ l. (Some (sink_took l.sink), sink_faults l.sink, record { whose = l.whose; fate = Some l.fate }) };
+    ghost shows = { λ l. as_source (link_shows l) };
 
     fn read(&mut self, into: &mut [u8]) -> Result<usize, Failed> {
         self.source.read(into)
@@ -73,14 +67,10 @@ impl Source for MemoryLink {
 }
 
 impl Sink for MemoryLink {
-    ghost use Rattle.std.specs.Prelude.{Some};
-    ghost use Rattle.xa_link.specs.Memory.{source_gave, source_faults, sink_took, sink_faults};
+    ghost use Rattle.xa_link.specs.Links.{as_sink};
+    ghost use Rattle.xa_link.specs.Memory.{link_shows};
 
-    ghost took = { λ l. Some (sink_took l.sink) };
-
-    ghost write_faults = { λ l. sink_faults l.sink };
-
-    ghost beside_writes = { λ l. (Some (source_gave l.source), source_faults l.source, record { whose = l.whose; fate = Some l.fate }) };
+    ghost shows = { λ l. as_sink (link_shows l) };
 
     fn write(&mut self, from: &[u8]) -> Result<usize, Failed> {
         self.sink.write(from)
@@ -88,23 +78,14 @@ impl Sink for MemoryLink {
 }
 
 impl Link for MemoryLink {
-    ghost use Rattle.std.specs.Prelude.{refl, Some};
-    ghost use Rattle.xa_link.specs.Memory.{source_left, source_gave, source_faults, sink_took, sink_faults};
+    ghost use Rattle.std.specs.Prelude.{refl};
+    ghost use Rattle.xa_link.specs.Memory.{link_shows};
 
-    ghost shows = { λ l. record {
-      took = Some (sink_took l.sink);
-      gave = Some (source_gave l.source);
-      left = Some (source_left l.source);
-      reads = source_faults l.source;
-      writes = sink_faults l.sink;
-      program = record { whose = l.whose; fate = Some l.fate };
-    } };
+    ghost shows = { link_shows };
 
-    ghost shown = { λ _. refl };
+    ghost reads = { λ _. refl };
 
-    ghost reads_alone = { λ _. refl };
-
-    ghost writes_alone = { λ _. refl };
+    ghost writes = { λ _. refl };
 
     // There is no program to end.
     fn kill(mut self) -> Closed<MemoryLink> {

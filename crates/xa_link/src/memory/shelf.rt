@@ -69,11 +69,7 @@ impl Shelf for MemoryShelf {
     ghost use Rattle.xa_link.specs.Files.{file_named};
     ghost use Rattle.xa_link.specs.Memory.{shelf_files, shelf_asked, shelf_faults};
 
-    ghost file = { λ s name. Some (file_named (shelf_files s) name) };
-
-    ghost asked = { λ s. Some (shelf_asked s) };
-
-    ghost shelf_faults = { shelf_faults };
+    ghost shows = { λ s. record { file = λ name. Some (file_named (shelf_files s) name); asked = Some (shelf_asked s); faults = shelf_faults s } };
 
     fn read(&mut self, name: &[u8], limit: u32) -> Result<Octets, ShelfRefused> {
         if self.asked.reserve(1).is_err() {

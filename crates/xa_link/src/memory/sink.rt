@@ -57,15 +57,11 @@ impl MemorySink {
 }
 
 impl Sink for MemorySink {
-    ghost use Rattle.std.specs.Prelude.{Some, None};
-    ghost use Rattle.xa_link.specs.Links.{no_program};
+    ghost use Rattle.std.specs.Prelude.{Some};
+    ghost use Rattle.xa_link.specs.Links.{nothing_beside};
     ghost use Rattle.xa_link.specs.Memory.{sink_took, sink_faults};
 
-    ghost took = { λ s. Some (sink_took s) };
-
-    ghost write_faults = { sink_faults };
-
-    ghost beside_writes = { λ _. (None, 0, no_program) };
+    ghost shows = { λ s. record { took = Some (sink_took s); faults = sink_faults s; beside = nothing_beside } };
 
     fn write(&mut self, from: &[u8]) -> Result<usize, Failed> {
         self.calls = self.calls.saturating_add(1);

@@ -83,17 +83,11 @@ fn give(octets: &[u8], at: usize, into: &mut [u8], most: usize) -> usize
 }
 
 impl Source for MemorySource {
-    ghost use Rattle.std.specs.Prelude.{Some, None};
-    ghost use Rattle.xa_link.specs.Links.{no_program};
+    ghost use Rattle.std.specs.Prelude.{Some};
+    ghost use Rattle.xa_link.specs.Links.{nothing_beside};
     ghost use Rattle.xa_link.specs.Memory.{source_left, source_gave, source_faults};
 
-    ghost left = { λ s. Some (source_left s) };
-
-    ghost gave = { λ s. Some (source_gave s) };
-
-    ghost read_faults = { source_faults };
-
-    ghost beside_reads = { λ _. (None, 0, no_program) };
+    ghost shows = { λ s. record { left = Some (source_left s); gave = Some (source_gave s); faults = source_faults s; beside = nothing_beside } };
 
     fn read(&mut self, into: &mut [u8]) -> Result<usize, Failed> {
         self.calls = self.calls.saturating_add(1);

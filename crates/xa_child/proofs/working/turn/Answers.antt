@@ -10,11 +10,11 @@ pub returns-then-n-eq0-clause-turns : goal.returns-then-n-eq0-clause-turns
 returns-then-n-eq0-clause-turns g c =
     let ok : c.read.result ≡ Ok c.in-Ok.n = search rules in
     let zero : c.read.result ≡ Ok 0 = ok ∙ ap Ok c.if-n-eq0.true in
-    let off : Shrank (g.I.Source.left c.args.input.now) (g.I.Source.left c.read.new.self) [] =
-    subst (λ r. IfOk r (λ n. Shrank (g.I.Source.left c.args.input.now) (g.I.Source.left c.read.new.self) (take n c.read.new.into))) zero c.read.ensures.told in
-    let given : Grew (g.I.Source.gave c.args.input.now) (g.I.Source.gave c.read.new.self) [] =
-    subst (λ r. IfOk r (λ n. Grew (g.I.Source.gave c.args.input.now) (g.I.Source.gave c.read.new.self) (take n c.read.new.into))) zero c.read.ensures.given in
-    let none : Empty (g.I.Source.left c.args.input.now) = c.read.ensures.end zero (search rules) in
+    let off : Shrank (g.I.Source.shows c.args.input.now).left (g.I.Source.shows c.read.new.self).left [] =
+    subst (λ r. IfOk r (λ n. Shrank (g.I.Source.shows c.args.input.now).left (g.I.Source.shows c.read.new.self).left (take n c.read.new.into))) zero c.read.ensures.told in
+    let given : Grew (g.I.Source.shows c.args.input.now).gave (g.I.Source.shows c.read.new.self).gave [] =
+    subst (λ r. IfOk r (λ n. Grew (g.I.Source.shows c.args.input.now).gave (g.I.Source.shows c.read.new.self).gave (take n c.read.new.into))) zero c.read.ensures.given in
+    let none : Empty (g.I.Source.shows c.args.input.now).left = c.read.ensures.end zero (search rules) in
     turns_ended c.args.serving.now _ _ _ _ _ _ c.requires.going c.requires.partial c.end.ensures.place off given none c.end.ensures.comes
 
 pub returns-clause-turns : goal.returns-clause-turns

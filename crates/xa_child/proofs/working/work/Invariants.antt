@@ -5,8 +5,8 @@ use Rattle.xa_child.proofs.working.work.Given as goal
 
 abbrev pub invariant-loop : goal.invariant-loop
 invariant-loop g l = record {
-  so_far : SoFar l.name (g.I.Source.left l.fn.input) (g.I.Source.left l.input) (g.I.Source.gave l.fn.input) (g.I.Source.gave l.input) (g.O.Sink.took l.fn.out) (g.O.Sink.took l.out) l.serving;
-  reads : g.I.Source.read_faults l.input ≡ g.I.Source.read_faults l.fn.input;
-  writes : g.O.Sink.write_faults l.out ≡ g.O.Sink.write_faults l.fn.out;
+  so_far : SoFar l.name (g.I.Source.shows l.fn.input).left (g.I.Source.shows l.input).left (g.I.Source.shows l.fn.input).gave (g.I.Source.shows l.input).gave (g.O.Sink.shows l.fn.out).took (g.O.Sink.shows l.out).took l.serving;
+  reads : (g.I.Source.shows l.input).faults ≡ (g.I.Source.shows l.fn.input).faults;
+  writes : (g.O.Sink.shows l.out).faults ≡ (g.O.Sink.shows l.fn.out).faults;
   piece : length l.piece ≡ 8192;
 }

@@ -6,10 +6,10 @@ use Rattle.xa_link.proofs.file.read_all.Given as goal
 abbrev pub invariant-loop-n : goal.invariant-loop-n
 invariant-loop-n g l = record {
   short : length l.all.items ≤ l.limit;
-  shrank : Shrank (g.S.Source.left l.initial.source) (g.S.Source.left l.source) l.all.items;
-  grew : Grew (g.S.Source.gave l.initial.source) (g.S.Source.gave l.source) l.all.items;
-  alone : g.S.Source.beside_reads l.source ≡ g.S.Source.beside_reads l.initial.source;
-  quiet : g.S.Source.read_faults l.source ≡ g.S.Source.read_faults l.initial.source;
+  shrank : Shrank (g.S.Source.shows l.initial.source).left (g.S.Source.shows l.source).left l.all.items;
+  grew : Grew (g.S.Source.shows l.initial.source).gave (g.S.Source.shows l.source).gave l.all.items;
+  alone : (g.S.Source.shows l.source).beside ≡ (g.S.Source.shows l.initial.source).beside;
+  quiet : (g.S.Source.shows l.source).faults ≡ (g.S.Source.shows l.initial.source).faults;
 }
 
 abbrev pub decreases-loop-n : goal.decreases-loop-n

@@ -6,9 +6,9 @@ use Rattle.xa_link.proofs.sink.put.Given as goal
 abbrev pub invariant-loop-at : goal.invariant-loop-at
 invariant-loop-at g l = record {
   within : l.at ≤ length l.piece;
-  grew : Grew (g.K.Sink.took l.initial.sink) (g.K.Sink.took l.sink) (take l.at l.piece);
-  quiet : g.K.Sink.write_faults l.sink ≡ g.K.Sink.write_faults l.initial.sink;
-  alone : g.K.Sink.beside_writes l.sink ≡ g.K.Sink.beside_writes l.initial.sink;
+  grew : Grew (g.K.Sink.shows l.initial.sink).took (g.K.Sink.shows l.sink).took (take l.at l.piece);
+  quiet : (g.K.Sink.shows l.sink).faults ≡ (g.K.Sink.shows l.initial.sink).faults;
+  alone : (g.K.Sink.shows l.sink).beside ≡ (g.K.Sink.shows l.initial.sink).beside;
 }
 
 abbrev pub decreases-loop-at : goal.decreases-loop-at

@@ -5,8 +5,8 @@ use Rattle.xa_program.proofs.telling.put_all.Goals as goal
 
 pub returns-in_err-put-clause-part : goal.returns-in_err-put-clause-part
 returns-in_err-put-clause-part g c =
-    let before = g.O.Sink.took c.loop-piece.out in
-    let after = g.O.Sink.took c.put.new.sink in
-    on_any (GrewByPart (g.O.Sink.took c.args.out.now) after (joined c.args.pieces.now)) c.from_residual.result
-    (part_of_all (g.O.Sink.took c.args.out.now) before after c.args.pieces.now c.loop-piece.piece-index c.piece-item.result (omega arith) c.piece-item.is c.loop-piece.invariant.took
+    let before = (g.O.Sink.shows c.loop-piece.out).took in
+    let after = (g.O.Sink.shows c.put.new.sink).took in
+    on_any (GrewByPart (g.O.Sink.shows c.args.out.now).took after (joined c.args.pieces.now)) c.from_residual.result
+    (part_of_all (g.O.Sink.shows c.args.out.now).took before after c.args.pieces.now c.loop-piece.piece-index c.piece-item.result (omega arith) c.piece-item.is c.loop-piece.invariant.took
     (subst (λ (piece : List ℕ). GrewByPart before after piece) c.slice.ensures c.in_err-put.ensures.part))

@@ -5,6 +5,6 @@ use Rattle.xa_program.proofs.telling.put_all.Given as goal
 
 abbrev pub invariant-loop-piece : goal.invariant-loop-piece
 invariant-loop-piece g l = record {
-  took : Grew (g.O.Sink.took l.initial.out) (g.O.Sink.took l.out) (joined (take l.piece-index l.pieces));
-  writes : g.O.Sink.write_faults l.out ≡ g.O.Sink.write_faults l.initial.out;
+  took : Grew (g.O.Sink.shows l.initial.out).took (g.O.Sink.shows l.out).took (joined (take l.piece-index l.pieces));
+  writes : (g.O.Sink.shows l.out).faults ≡ (g.O.Sink.shows l.initial.out).faults;
 }

@@ -9,7 +9,7 @@ returns-in-Ok-clause-ends g c serves =
 
 pub returns-in-Ok-clause-shelf : goal.returns-in-Ok-clause-shelf
 returns-in-Ok-clause-shelf g c =
-    shelf_kept c.args.command.now c.serve_script.result.status _ _ _ _
+    shelf_kept c.args.command.now c.serve_script.result.status _ _
     (ends_as _ _ c.in-Ok.setup c.in-Ok.most c.serve_script.result.status ConfigRead _ c.serve_script.ensures.ends) c.in-Ok.ensures.quiet c.in-Ok.ensures.asks
 
 pub returns-in-Ok-clause-yard : goal.returns-in-Ok-clause-yard

@@ -16,5 +16,5 @@ returns-clause-ends g c =
     served_ends g.Y.Start.Starter.shows c.args.setup c.in-Ok.script.clients
     (record { homes = c.serve-halt.result.homes.homes; history = c.tell-status.result.1.items; lives = map (λ v. v.items) c.serve-halt.result.lives.items; cut = map cut_in c.serve-halt.result.cut.items; starters = c.serve-halt.result.starters.items })
     _ c.args.most c.in-Ok.ensures.script c.in-Ok.ensures.quiet c.serve-halt.result.halt c.tell-status.result.0 c.serve-halt.ensures.ends
-    (subst (λ (clients : List Client). TellingEnds c.serve-halt.result.halt c.serve-halt.result.homes.homes clients (g.O.Sink.took c.args.out.now) (g.O.Sink.took c.tell-status.new.out) (g.O.Sink.write_faults c.args.out.now) (g.O.Sink.write_faults c.tell-status.new.out)
+    (subst (λ (clients : List Client). TellingEnds c.serve-halt.result.halt c.serve-halt.result.homes.homes clients (g.O.Sink.shows c.args.out.now).took (g.O.Sink.shows c.tell-status.new.out).took (g.O.Sink.shows c.args.out.now).faults (g.O.Sink.shows c.tell-status.new.out).faults
     c.tell-status.result.0 c.tell-status.result.1.items) c.slice.ensures c.tell-status.ensures)

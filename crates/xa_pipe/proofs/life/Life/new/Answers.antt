@@ -1,14 +1,13 @@
 use Rattle.std.proofs.Common.{refl, sym, subst}
-use Rattle.xa_link.specs.Links.{LinkShows, IsFresh}
-use Rattle.xa_link.specs.Told.{Empty}
+use Rattle.xa_link.specs.Links.{IsFresh}
 use Rattle.xa_pipe.proofs.Courses.{kept_begun}
 use Rattle.xa_pipe.proofs.life.Life.new.Goals as goal
 
 pub new-requires-clause-took : goal.new-requires-clause-took
-new-requires-clause-took g c = subst (λ (l : LinkShows). Empty l.took) (g.met.L.Link.shown c.args.link) c.requires.took
+new-requires-clause-took g c = c.requires.took
 
 pub new-requires-clause-gave : goal.new-requires-clause-gave
-new-requires-clause-gave g c = subst (λ (l : LinkShows). Empty l.gave) (g.met.L.Link.shown c.args.link) c.requires.gave
+new-requires-clause-gave g c = c.requires.gave
 
 pub invariant_of-result : goal.invariant_of-result
 invariant_of-result g c =

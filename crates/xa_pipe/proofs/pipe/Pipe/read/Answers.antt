@@ -6,7 +6,7 @@ pub returns-in-Ok-Some-clause-frame : goal.returns-in-Ok-Some-clause-frame
 returns-in-Ok-Some-clause-frame g c frames read =
     let took = rw c.in-Ok-Some.field-0-is at c.in-Ok-Some.ensures.answered in
     let seen = rw (← c.self.view_is) at (c.loop.invariant.read frames read) in
-    reads_next (g.L.Sink.took c.self.inside.link) (g.L.Source.gave c.self.inside.link) (g.L.Source.left c.self.inside.link) (g.L.Source.read_faults c.self.inside.link) (g.L.Sink.write_faults c.self.inside.link) (g.L.Link.shows c.self.inside.link).program c.self.inside.reader c.next.new.self frames c.in-Ok-Some.frame
+    reads_next (g.L.Link.shows c.self.inside.link) c.self.inside.reader c.next.new.self frames c.in-Ok-Some.frame
     took.begins.whole took.place seen
 
 pub pull-requires-clause-few : goal.pull-requires-clause-few
@@ -17,12 +17,12 @@ pull-requires-clause-few g c =
 pub returns-in-Err-clause-kept : goal.returns-in-Err-clause-kept
 returns-in-Err-clause-kept g c frames read =
     let seen = rw (← c.self.view_is) at (c.loop.invariant.read frames read) in
-    rw c.ended_by.ensures (refused_reads (g.L.Sink.took c.self.inside.link) (g.L.Source.gave c.self.inside.link) (g.L.Source.left c.self.inside.link) (g.L.Source.read_faults c.self.inside.link) (g.L.Sink.write_faults c.self.inside.link) (g.L.Link.shows c.self.inside.link).program c.self.inside.reader c.next.new.self frames c.in-Err.refused c.in-Err.ensures.answered seen).0
+    rw c.ended_by.ensures (refused_reads (g.L.Link.shows c.self.inside.link) c.self.inside.reader c.next.new.self frames c.in-Err.refused c.in-Err.ensures.answered seen).0
 
 pub returns-in-Err-clause-why : goal.returns-in-Err-clause-why
 returns-in-Err-clause-why g c frames read =
     let seen = rw (← c.self.view_is) at (c.loop.invariant.read frames read) in
-    rw c.ended_by.ensures (refused_reads (g.L.Sink.took c.self.inside.link) (g.L.Source.gave c.self.inside.link) (g.L.Source.left c.self.inside.link) (g.L.Source.read_faults c.self.inside.link) (g.L.Sink.write_faults c.self.inside.link) (g.L.Link.shows c.self.inside.link).program c.self.inside.reader c.next.new.self frames c.in-Err.refused c.in-Err.ensures.answered seen).1
+    rw c.ended_by.ensures (refused_reads (g.L.Link.shows c.self.inside.link) c.self.inside.reader c.next.new.self frames c.in-Err.refused c.in-Err.ensures.answered seen).1
 
 pub loop-preserved : goal.loop-preserved
 loop-preserved g c =

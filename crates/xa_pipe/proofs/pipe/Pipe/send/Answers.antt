@@ -9,14 +9,14 @@ use Rattle.xa_pipe.proofs.pipe.Pipe.send.Goals as goal
 pub returns-clause-took : goal.returns-clause-took
 returns-clause-took g c =
     let due : c.deref.result.now ≡ spelled (invoke_frame c.args.service.now c.args.routine.now c.args.number c.args.payload.now) = search rules in
-    let took : OnOk c.write.result (Grew c.args.self.now.took (g.L.Sink.took c.write.new.link) c.deref.result.now) = search rules in
-    subst (λ (octets : List ℕ). OnOk c.write.result (Grew c.args.self.now.took (g.L.Sink.took c.write.new.link) octets)) due took
+    let took : OnOk c.write.result (Grew c.args.self.now.took (g.L.Link.shows c.write.new.link).took c.deref.result.now) = search rules in
+    subst (λ (octets : List ℕ). OnOk c.write.result (Grew c.args.self.now.took (g.L.Link.shows c.write.new.link).took octets)) due took
 
 pub returns-clause-part : goal.returns-clause-part
 returns-clause-part g c =
     let due : c.deref.result.now ≡ spelled (invoke_frame c.args.service.now c.args.routine.now c.args.number c.args.payload.now) = search rules in
-    let before : g.L.Sink.took c.self.inside.link ≡ c.args.self.now.took = search rules in
+    let before : (g.L.Link.shows c.self.inside.link).took ≡ c.args.self.now.took = search rules in
     λ failed.
-    let part = subst (λ (r : Result (Unit {0}) StopCause). OnErr r (GrewByPart (g.L.Sink.took c.self.inside.link) (g.L.Sink.took c.write.new.link) c.deref.result.now)) failed c.write.ensures.part in
-    subst (λ (octets : List ℕ). GrewByPart c.args.self.now.took (g.L.Sink.took c.write.new.link) octets) due
-    (subst (λ (told : Option (List ℕ)). GrewByPart told (g.L.Sink.took c.write.new.link) c.deref.result.now) before part)
+    let part = subst (λ (r : Result (Unit {0}) StopCause). OnErr r (GrewByPart (g.L.Link.shows c.self.inside.link).took (g.L.Link.shows c.write.new.link).took c.deref.result.now)) failed c.write.ensures.part in
+    subst (λ (octets : List ℕ). GrewByPart c.args.self.now.took (g.L.Link.shows c.write.new.link).took octets) due
+    (subst (λ (told : Option (List ℕ)). GrewByPart told (g.L.Link.shows c.write.new.link).took c.deref.result.now) before part)
