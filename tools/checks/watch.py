@@ -191,7 +191,7 @@ def lives_watched(report, program, room):
     for does, cause in ENDED_BY_THE_MONITOR:
         written(f"{room}/server", f"#!/bin/sh\nprintf '{GREETING}'; head -c 24 >/dev/null; {does}; exec sleep 60\n", 0o755)
         said = run([TOOLS / "watch", "config"], given, room)[2]
-        found = [said.count(words) for words in (" started: ", " ended: killed by the monitor", f" ended by {cause}\n")]
+        found = [said.count(words) for words in (" started: ", " ended: killed by the monitor", f" ended by {cause}, signal 9\n")]
         report.case(f"watch: three lives, {does}", found, [4, 3, 3])
         report.has("watch: their calls failed", said, "ECHO                                  4       4")
 

@@ -1,24 +1,28 @@
 // Servers as processes.
-ghost use Rattle.std.specs.Prelude.{◌≡◌, ◌≤◌, ◌<◌, ◌⊎◌, [], ◌∷◌, ◌++◌, codes, length, None, IfOk, OnOk, IsErr, IsSome, MatchResult, unwrap_or};
+ghost use Rattle.std.specs.Prelude.{◌≡◌, ◌≤◌, ◌<◌, ◌⊎◌, [], ◌∷◌, ◌++◌, codes, length, None, Some, IfOk, IfSome, OnOk, IsErr, IsSome, MatchResult, option_map, unwrap_or};
 ghost use Rattle.xa_link.specs.declared.child.Failure.TheVariants.{NoText};
 ghost use Rattle.std.specs.Str.{IsUtf8};
-ghost use Rattle.std.specs.Process.{child_status, command_args, command_program, SameEnv, SameDir};
+ghost use Rattle.std.specs.Process.{child_status, exit_code, exit_signal, command_args, command_program, SameEnv, SameDir};
 ghost use Rattle.std.specs.Io.KnownBytes.{ReadConsumes, WriteAppends};
 ghost use Rattle.xa_link.specs.Told.{Rose};
+ghost use Rattle.xa_link.specs.declared.link.ProcessEnd.TheVariants.{Status, Signal};
 ghost use Rattle.xa_link.specs.declared.starter.StartRefused.TheVariants.{Failed as NotStarted, NoMemory as Starved};
 ghost use Rattle.xa_link.specs.Processes.{StartsServer, IsChosen};
 
 use crate::count::raise;
 use crate::escaped::Escaped;
 use crate::{
-    Closed, Failed, Link, ReadSource, Sink, Source, StartRefused, Starter, WriteSink, Yard,
+    Closed, Failed, Link, ProcessEnd, ReadSource, Sink, Source, StartRefused, Starter, WriteSink,
+    Yard,
 };
 use std::alloc::{AllocError, Global};
 use std::io::{PipeReader, PipeWriter, Write};
 use std::marker::Model;
+use std::os::unix::process::ExitStatusExt;
 use std::path::AsPath;
-use std::process::{Child, Command, OpenProcess, Processes, Stdio};
+use std::process::{Child, Command, ExitStatus, OpenProcess, Processes, Stdio};
 use std::rt::Files;
+use std::snapshot::Snapshot;
 use std::{env, io};
 use thiserror::Error;
 use xa_types::{Generation, Name, NoMemory, Octets, ServerSetup, Setup};
@@ -44,26 +48,59 @@ impl<P: OpenProcess + Drop> Drop for ChildLink<P> {
     }
 }
 
+impl<P: OpenProcess + Drop> ChildLink<P> {
+    // What is left of it: both pipes are closed, and then the process is waited for.
+    fn close_pipes(self) -> Closed<ChildLink<P>>
+        ensures { result.was.value ≡ self }
+    {
+        let was = Snapshot::of(&self);
+        let ChildLink {
+            mut child,
+            from,
+            to,
+            whose: _,
+        } = self;
+        let end = match finish(&mut child, from, to) {
+            Ok(status) => end_of(status),
+            Err(_) => None,
+        };
+        Closed::new(was, end)
+    }
+}
+
+// How the process ended to which the system gives that status.
+fn end_of(status: ExitStatus) -> Option<ProcessEnd>
+    ensures status { IfSome (exit_code status) (λ code. result ≡ Some (Status code)) }
+    ensures signal { exit_code status ≡ None → result ≡ option_map Signal (exit_signal status) }
+{
+    match (status.code(), status.signal()) {
+        (Some(code), _) => Some(ProcessEnd::Status(code)),
+        (None, Some(signal)) => Some(ProcessEnd::Signal(signal)),
+        (None, None) => None,
+    }
+}
+
 // Closes both pipes, and then waits for the process.
 fn finish<P: OpenProcess>(
     child: &mut Child<P>,
     from: ReadSource<P::Stdout>,
     to: WriteSink<PipeWriter>,
-) -> io::Result<()>
-    ensures waited { OnOk result (IsSome (child_status child.new)) }
+) -> io::Result<ExitStatus>
+    ensures waited { IfOk result (λ status. child_status child.new ≡ Some status) }
     ensures closed { child.new.stdin ≡ None }
 {
     drop(to);
     drop(from);
-    child.wait()?;
-    Ok(())
+    child.wait()
 }
 
-// Ends the process by force, and then waits for it.
+// Ends the process by force, unless it has ended by itself, and then waits for it.
 fn end<P: OpenProcess>(child: &mut Child<P>) -> io::Result<()>
     ensures { OnOk result (IsSome (child_status child.new)) }
 {
-    child.kill()?;
+    if child.try_wait()?.is_none() {
+        child.kill()?;
+    }
     child.wait()?;
     Ok(())
 }
@@ -113,15 +150,14 @@ impl<P: OpenProcess + Drop> Link for ChildLink<P> {
 
     ghost writes = { λ _. refl };
 
-    // Where the system refuses to end the process, it is waited for only behind its pipes, as the link is dropped: it may
-    // wait for its input.
+    // Where the system refuses to end the process, it is waited for only behind its pipes: it may wait for its input.
     fn kill(mut self) -> Closed<ChildLink<P>> {
         let _ = end(&mut self.child);
-        Closed::of(self)
+        self.close_pipes()
     }
 
     fn close(self) -> Closed<ChildLink<P>> {
-        Closed::of(self)
+        self.close_pipes()
     }
 }
 

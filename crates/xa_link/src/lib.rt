@@ -22,7 +22,7 @@ pub use child::{ChildLink, ChildStarter, ChildYard};
 pub use escaped::Escaped;
 pub use file::{FileShelf, read_all};
 pub use gate::{Gate, HoldUntil, MeetAt, OpenGate, Point, stay};
-pub use link::{Closed, Fate, Link};
+pub use link::{Closed, Fate, Link, ProcessEnd};
 pub use memory::{MemoryLink, MemoryShelf, MemorySink, MemorySource, MemoryStarter, MemoryYard};
 pub use shelf::{Shelf, ShelfRefused};
 pub use sink::{Sink, put};

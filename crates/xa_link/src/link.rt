@@ -13,26 +13,51 @@ pub enum Fate {
     Closed,
 }
 
+/// How a process ended: with that status, or by that signal.
+#[derive(Clone, Copy, Debug, PartialEq, Eq)]
+pub enum ProcessEnd {
+    Status(i32),
+    Signal(i32),
+}
+
 /// What is left of the pipes of a life that were closed: nothing can be read from it or written to it, and clauses read what
 /// the pipes were.
 pub struct Closed<L> {
     was: Snapshot<L>,
+    end: Option<ProcessEnd>,
 }
 
 impl<L> Drop for Closed<L> {
     fn drop(self) {
-        let Closed { was: _ } = self;
+        let Closed { was: _, end: _ } = self;
+    }
+}
+
+impl<L> Closed<L> {
+    /// What is left of a link that was so, and how its process ended, where that is known.
+    pub fn new(was: Snapshot<L>, end: Option<ProcessEnd>) -> Closed<L>
+        ensures was { result.was ≡ was }
+        ensures end { result.end ≡ end }
+    {
+        Closed { was, end }
+    }
+
+    /// How its process ended, where that is known.
+    pub fn end(&self) -> Option<ProcessEnd>
+        ensures { result ≡ self.now.end }
+    {
+        self.end
     }
 }
 
 impl<L: Drop> Closed<L> {
-    /// What is left of that link, which is dropped.
+    /// What is left of that link, which is dropped and had no process.
     pub fn of(link: L) -> Closed<L>
         ensures { result.was.value ≡ link }
     {
         let was = Snapshot::of(&link);
         drop(link);
-        Closed { was }
+        Closed::new(was, None)
     }
 }
 

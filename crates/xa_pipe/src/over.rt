@@ -8,7 +8,7 @@ use crate::noted::{Asked, Said};
 use crate::turn::{Turn, Written};
 use std::marker::Model;
 use xa_events::StopCause;
-use xa_link::{Closed, Link};
+use xa_link::{Closed, Link, ProcessEnd};
 use xa_types::{Generation, Name, ServerId};
 
 /// The pipes of a life that ended: open, where its program was told to end and is waited for as they are dropped, or what
@@ -66,6 +66,14 @@ impl<L: Link> EndedLife<L> {
         ensures { result ≡ self.now.life.generation }
     {
         self.generation
+    }
+
+    /// How its process ended, where its pipes are closed and that is known.
+    pub fn end(&self) -> Option<ProcessEnd> {
+        match &self.pipes {
+            Pipes::Open(_) => None,
+            Pipes::Closed(closed) | Pipes::Killed(closed) => closed.end(),
+        }
     }
 
     /// What is left of its pipes.

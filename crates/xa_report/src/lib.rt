@@ -1,4 +1,5 @@
-//! What the program says on standard error as a command ends: why it ended, and which lives of servers ended by a failure.
+//! What the program says on standard error as a command ends: why it ended, which lives of servers ended by a failure,
+//! and how their processes did.
 #![tactic(auto)]
 
 mod lives;

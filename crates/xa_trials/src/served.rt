@@ -7,9 +7,9 @@ use std::alloc::Global;
 use std::fs;
 use xa_report::events::Event;
 use xa_report::link::{
-    ChildYard, FileShelf, Gate, HoldUntil, MemorySink, MemorySource, OpenGate, Point,
+    ChildYard, FileShelf, Gate, HoldUntil, Link, MemorySink, MemorySource, OpenGate, Point,
 };
-use xa_report::program::{Outcome, run};
+use xa_report::program::{EndedLife, Outcome, run};
 use xa_report::types::{CallerId, Name, Octets, ServerId};
 
 // The shell's words for a server. One is started with the words `server` and its name, so `sh` reads its script from the
@@ -73,9 +73,14 @@ struct Want {
 }
 
 // Whether that line is said of the lives of the server `S`.
-fn is_told(alloc: Global, history: &[Event], ended: Option<&str>) -> bool {
+fn is_told<L: Link>(
+    alloc: Global,
+    history: &[Event],
+    lives: &[Vec<EndedLife<L>>],
+    ended: Option<&str>,
+) -> bool {
     match (ended, Name::read(b"S")) {
-        (Some(line), Ok(name)) => are_lives_told(alloc, &[name], history, line),
+        (Some(line), Ok(name)) => are_lives_told(alloc, &[name], history, lives, line),
         (None, _) => true,
         _ => false,
     }
@@ -123,7 +128,8 @@ fn prints<R: Runtime, G: Gate>(rt: &R, stage: &mut Stage, gate: &G, want: Want) 
     let printed = is_among(stage.out.taken(), want.wrote);
     let done = status.number() == 0 && are_so_many(lives.as_slice(), want.count);
     let refused = refused_in(history.as_slice()) == want.refused;
-    printed && done && refused && is_told(rt.alloc(), history.as_slice(), want.ended)
+    let told = is_told(rt.alloc(), history.as_slice(), lives.as_slice(), want.ended);
+    printed && done && refused && told
 }
 
 /// Whether the file has that text.
@@ -216,15 +222,15 @@ type Row = (
 static ROWS: [Row; 10] = [
     // It ends, or is ended by another, while the call waits.
     (
-        "greet $1; take",
+        "greet $1; take; exit 3",
         DIED,
-        Some("server S: life 1: ended by EndOfInput"),
+        Some("server S: life 1: ended by EndOfInput, status 3"),
         false,
     ),
     (
         "greet $1; take; kill -9 $$ >/dev/null & wait; exec sleep 600",
         DIED,
-        Some("server S: life 1: ended by EndOfInput"),
+        Some("server S: life 1: ended by EndOfInput, signal 9"),
         false,
     ),
     // It goes on behind its closed pipes.
@@ -233,32 +239,32 @@ static ROWS: [Row; 10] = [
     (
         "echo no frame but text; exec sleep 600",
         NEVER,
-        Some("server S: life 1: ended by BadBytes at 0"),
+        Some("server S: life 1: ended by BadBytes at 0, signal 9"),
         false,
     ),
     (
         "trap '' HUP INT PIPE TERM; greet $1; take; echo no frame but text; exec sleep 600",
         DIED,
-        Some("server S: life 1: ended by BadBytes at 26"),
+        Some("server S: life 1: ended by BadBytes at 26, signal 9"),
         false,
     ),
     // It goes on behind a RETURN to another call, and behind its answer.
     (
         "greet $1; take; give 2; exec sleep 600",
         DIED,
-        Some("server S: life 1: ended by OutOfTurn kind 4 tag 2"),
+        Some("server S: life 1: ended by OutOfTurn kind 4 tag 2, signal 9"),
         false,
     ),
     (
         "greet $1; take; give 1; echo no frame but text; exec sleep 600",
         ONCE,
-        Some("server S: life 1: ended by BadBytes at 44"),
+        Some("server S: life 1: ended by BadBytes at 44, signal 9"),
         false,
     ),
     (
         "greet $1; take; give 1; next; take; echo no frame but text; exec sleep 600",
         &[b"a 1 OK 0 none\na 2 TPESVCERR\n"],
-        Some("server S: life 1: ended by BadBytes at 56"),
+        Some("server S: life 1: ended by BadBytes at 56, signal 9"),
         false,
     ),
     // It is shut down, or returned TPEXIT.

@@ -4,8 +4,8 @@ use std::alloc::Global;
 use std::fmt::Display;
 use std::io;
 use xa_report::events::{Event, StopCause, Stopped};
-use xa_report::link::MemoryArguments;
-use xa_report::program::{Input, Status, all_words, words_behind};
+use xa_report::link::{Link, MemoryArguments, MemoryLink};
+use xa_report::program::{EndedLife, Input, Status, all_words, words_behind};
 use xa_report::types::{Generation, Name, Octets, ServerId, Stamp};
 use xa_report::{report, report_lives};
 
@@ -126,9 +126,15 @@ static CAUSES: [(StopCause, &str); 8] = [
 ];
 
 /// Whether of the lives of these servers that line is said, and no other; of the empty one, whether nothing is.
-pub fn are_lives_told(alloc: Global, names: &[Name], history: &[Event], line: &str) -> bool {
-    let says = report_lives(&Taking { alloc, line }, names, history).is_ok();
-    let silent = report_lives(&Taking { alloc, line: "" }, names, history).is_ok();
+pub fn are_lives_told<L: Link>(
+    alloc: Global,
+    names: &[Name],
+    history: &[Event],
+    lives: &[Vec<EndedLife<L>>],
+    line: &str,
+) -> bool {
+    let says = report_lives(&Taking { alloc, line }, names, history, lives).is_ok();
+    let silent = report_lives(&Taking { alloc, line: "" }, names, history, lives).is_ok();
     says && silent == line.is_empty()
 }
 
@@ -141,7 +147,14 @@ fn is_end_told(alloc: Global, cause: StopCause, line: &str) -> bool {
         generation: Generation(3),
         cause,
     };
-    are_lives_told(alloc, &[first, second], &[Event::Stop(stopped)], line)
+    let none: Vec<Vec<EndedLife<MemoryLink>>> = Vec::new(alloc);
+    are_lives_told(
+        alloc,
+        &[first, second],
+        &[Event::Stop(stopped)],
+        none.as_slice(),
+        line,
+    )
 }
 
 fn first_end_not_said(alloc: Global) -> Option<usize> {

@@ -64,11 +64,11 @@ fn run_words<R: Threads + Wait + Sync>(
         &mut ChildYard::new(rt, own),
         &OpenGate,
     );
+    if let Ok(names) = names_of(rt.alloc(), starters.as_slice()) {
+        let _ = report_lives(&rt, names.as_slice(), history.as_slice(), lives.as_slice());
+    }
     drop(lives);
     drop(cut);
-    if let Ok(names) = names_of(rt.alloc(), starters.as_slice()) {
-        let _ = report_lives(&rt, names.as_slice(), history.as_slice());
-    }
     // The system takes back all memory at once as the program ends.
     forget(homes);
     forget(history);
