@@ -3,17 +3,17 @@ use Rattle.std.proofs.Common.{◌≡◌, ℕ, zero, suc, ◌+◌, ◌<◌, ◌�
 use Rattle.std.specs.List.{All}
 use Rattle.std.proofs.lemmas.List.{length-map, get_or_default}
 use Rattle.std.proofs.lemmas.List.Elements.{All-head, All-tail}
-use Rattle.xa_clients.specs.xa_types.declared.stamp.Stamp.{Stamp}
-use Rattle.xa_clients.specs.xa_events.Caller.{is_client}
-use Rattle.xa_clients.specs.xa_events.Words.{EachNumbered}
-use Rattle.xa_clients.specs.xa_lock.declared.guarded.Guarded.{Guarded}
-use Rattle.xa_clients.specs.xa_lock.Known.{IsPassOf, passes_of}
-use Rattle.xa_clients.specs.xa_cell.declared.tokens.Seat.{Seat}
-use Rattle.xa_clients.specs.xa_cell.Known.{known, IsSeatOf, IsNew}
-use Rattle.xa_clients.specs.xa_held.declared.kept_queue.KeptQueue.{KeptQueue}
-use Rattle.xa_clients.specs.xa_held.declared.kept_queue.QueueNote.{QueueNote}
-use Rattle.xa_clients.specs.xa_caller.declared.cargo.Filling.{Filling}
-use Rattle.xa_clients.specs.xa_desk.declared.domain.Domain.{Domain}
+use Rattle.xa_client_worker.specs.xa_types.declared.stamp.Stamp.{Stamp}
+use Rattle.xa_client_worker.specs.xa_events.Caller.{is_client}
+use Rattle.xa_client_worker.specs.xa_events.Words.{EachNumbered}
+use Rattle.xa_client_worker.specs.xa_lock.declared.guarded.Guarded.{Guarded}
+use Rattle.xa_client_worker.specs.xa_lock.Known.{IsPassOf, passes_of}
+use Rattle.xa_client_worker.specs.xa_cell.declared.tokens.Seat.{Seat}
+use Rattle.xa_client_worker.specs.xa_cell.Known.{known, IsSeatOf, IsNew}
+use Rattle.xa_client_worker.specs.xa_held.declared.kept_queue.KeptQueue.{KeptQueue}
+use Rattle.xa_client_worker.specs.xa_held.declared.kept_queue.QueueNote.{QueueNote}
+use Rattle.xa_client_worker.specs.xa_caller.declared.cargo.Filling.{Filling}
+use Rattle.xa_client_worker.specs.xa_desk.declared.domain.Domain.{Domain}
 use Rattle.xa_boot.specs.declared.staff.Staff.{Staff}
 use Rattle.xa_boot.specs.Opening.{IsBoot, opening}
 use Rattle.xa_boot.specs.Supplies.{limit_of, IsBoardFor, IsRoom}

@@ -4,11 +4,11 @@ use Rattle.std.specs.List.{All}
 use Rattle.std.proofs.lemmas.List.{get_or_append_left}
 use Rattle.std.specs.declared.vec.Vec.{Vec}
 use Rattle.std.specs.declared.alloc.Global.{Global}
-use Rattle.xa_clients.specs.xa_events.Words.{EachNumbered}
-use Rattle.xa_clients.specs.xa_stamp.declared.home.Stamped.{Stamped}
-use Rattle.xa_clients.specs.xa_lock.declared.pass.LockPass.{LockPass}
-use Rattle.xa_clients.specs.xa_desk.declared.domain.Domain.{Domain}
-use Rattle.xa_clients.specs.xa_desk.Desks.{IsThere}
+use Rattle.xa_client_worker.specs.xa_events.Words.{EachNumbered}
+use Rattle.xa_client_worker.specs.xa_stamp.declared.home.Stamped.{Stamped}
+use Rattle.xa_client_worker.specs.xa_lock.declared.pass.LockPass.{LockPass}
+use Rattle.xa_client_worker.specs.xa_desk.declared.domain.Domain.{Domain}
+use Rattle.xa_client_worker.specs.xa_desk.Desks.{IsThere}
 use Rattle.xa_boot.specs.declared.staff.Staff.{Staff}
 use Rattle.xa_boot.specs.declared.staff.Post.{Post}
 use Rattle.xa_boot.specs.Opening.{IsBoot, opening}

@@ -4,24 +4,24 @@ use Rattle.std.specs.Prelude.{slice_get, nat_le, IsSomeAnd}
 use Rattle.std.specs.List.{All}
 use Rattle.std.proofs.lemmas.Option.{get_or_from_slice_get, slice_get_within}
 use Rattle.std.proofs.lemmas.List.Elements.{All-nil}
-use Rattle.xa_clients.specs.xa_types.declared.ids.ServerId.{ServerId}
-use Rattle.xa_clients.specs.xa_types.declared.setup.Setup.{Setup}
-use Rattle.xa_clients.specs.xa_types.declared.setup.ServerSetup.{ServerSetup}
-use Rattle.xa_clients.specs.xa_types.Configured.{is_among, queue_names}
-use Rattle.xa_clients.specs.xa_types.Setup.{numbered, queue_named, queue_in, queue_of}
-use Rattle.xa_clients.specs.xa_held.Notes.{IsOther}
-use Rattle.xa_clients.specs.xa_restart.Rule.{Standing as Restarts, IsRuleOf}
-use Rattle.xa_clients.specs.xa_server.Changes.{new_slot}
-use Rattle.xa_clients.specs.xa_server.declared.slot.ServerSlot.{ServerSlot}
-use Rattle.xa_clients.specs.xa_server.Served.{StarterShows}
-use Rattle.xa_clients.proofs.xa_server.Beginning.{new_stands}
-use Rattle.xa_clients.specs.declared.working.ClientWorker.TheVariants.{Ready}
-use Rattle.xa_links.specs.declared.working.ServerWorker.{ServerWorker}
-use Rattle.xa_links.specs.Lives.{HasStarted}
-use Rattle.xa_clients.specs.xa_desk.declared.domain.Domain.{Domain}
-use Rattle.xa_clients.specs.xa_desk.declared.desk.Desk.{Desk}
-use Rattle.xa_clients.specs.xa_desk.Desks.{IsDomain, IsDesk, queue_page}
-use Rattle.xa_clients.specs.xa_desk.Serving.{IsServing}
+use Rattle.xa_client_worker.specs.xa_types.declared.ids.ServerId.{ServerId}
+use Rattle.xa_client_worker.specs.xa_types.declared.setup.Setup.{Setup}
+use Rattle.xa_client_worker.specs.xa_types.declared.setup.ServerSetup.{ServerSetup}
+use Rattle.xa_client_worker.specs.xa_types.Configured.{is_among, queue_names}
+use Rattle.xa_client_worker.specs.xa_types.Setup.{numbered, queue_named, queue_in, queue_of}
+use Rattle.xa_client_worker.specs.xa_held.Notes.{IsOther}
+use Rattle.xa_client_worker.specs.xa_restart.Rule.{Standing as Restarts, IsRuleOf}
+use Rattle.xa_client_worker.specs.xa_server.Changes.{new_slot}
+use Rattle.xa_client_worker.specs.xa_server.declared.slot.ServerSlot.{ServerSlot}
+use Rattle.xa_client_worker.specs.xa_server.Served.{StarterShows}
+use Rattle.xa_client_worker.proofs.xa_server.Beginning.{new_stands}
+use Rattle.xa_client_worker.specs.declared.working.ClientWorker.TheVariants.{Ready}
+use Rattle.xa_server_worker.specs.declared.working.ServerWorker.{ServerWorker}
+use Rattle.xa_server_worker.specs.Lives.{HasStarted}
+use Rattle.xa_client_worker.specs.xa_desk.declared.domain.Domain.{Domain}
+use Rattle.xa_client_worker.specs.xa_desk.declared.desk.Desk.{Desk}
+use Rattle.xa_client_worker.specs.xa_desk.Desks.{IsDomain, IsDesk, queue_page}
+use Rattle.xa_client_worker.specs.xa_desk.Serving.{IsServing}
 use Rattle.xa_boot.specs.Booting.{IsNewClient, IsNewServer}
 use Rattle.xa_boot.specs.Staffing.{IsNewDesk}
 use Rattle.xa_boot.specs.Supplies.{restarts_of}

@@ -14,15 +14,14 @@ mod Hired
 mod Manned
 mod Begun
 -- what crates above cite of the lemmas of those below
-pub use Rattle.xa_clients.proofs.xa_types
-pub use Rattle.xa_clients.proofs.xa_stamp
-pub use Rattle.xa_clients.proofs.xa_lock
-pub use Rattle.xa_clients.proofs.xa_crew
-pub use Rattle.xa_clients.proofs.xa_work
-pub use Rattle.xa_clients.proofs.xa_caller
-pub use Rattle.xa_clients.proofs.xa_cell
-pub use Rattle.xa_clients.proofs.xa_queue
-pub use Rattle.xa_clients.proofs.xa_board
-pub use Rattle.xa_clients.proofs.xa_held
-pub use Rattle.xa_clients.proofs.xa_buffer
-pub use Rattle.xa_clients.proofs.xa_desk
+pub use Rattle.xa_client_worker.proofs.xa_types
+pub use Rattle.xa_client_worker.proofs.xa_stamp
+pub use Rattle.xa_client_worker.proofs.xa_lock
+pub use Rattle.xa_client_worker.proofs.xa_worker
+pub use Rattle.xa_client_worker.proofs.xa_caller
+pub use Rattle.xa_client_worker.proofs.xa_cell
+pub use Rattle.xa_client_worker.proofs.xa_queue
+pub use Rattle.xa_client_worker.proofs.xa_board
+pub use Rattle.xa_client_worker.proofs.xa_held
+pub use Rattle.xa_client_worker.proofs.xa_buffer
+pub use Rattle.xa_client_worker.proofs.xa_desk

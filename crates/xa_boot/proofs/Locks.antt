@@ -4,23 +4,23 @@ use Rattle.std.proofs.lemmas.Option.{slice_get_read}
 use Rattle.std.specs.List.{All}
 use Rattle.std.specs.declared.vec.Vec.{Vec}
 use Rattle.std.specs.declared.alloc.Global.{Global}
-use Rattle.xa_clients.specs.xa_types.declared.setup.Setup.{Setup}
-use Rattle.xa_clients.specs.xa_types.declared.setup.QueueSetup.{QueueSetup}
-use Rattle.xa_clients.specs.xa_types.declared.stamp.Stamp.{Stamp}
-use Rattle.xa_clients.specs.xa_types.Setup.{capacity_in, capacity_of}
-use Rattle.xa_clients.specs.xa_lock.declared.guarded.Guarded.{Guarded}
-use Rattle.xa_clients.specs.xa_lock.declared.pass.LockPass.{LockPass}
-use Rattle.xa_clients.specs.xa_lock.Known.{known as page_of, IsPassOf, passes_of}
-use Rattle.xa_clients.specs.xa_lock.Pages.{first_page}
-use Rattle.xa_clients.specs.xa_cell.declared.cells.Cells.{Cells}
-use Rattle.xa_clients.specs.xa_queue.Queue.{Standing}
-use Rattle.xa_clients.specs.xa_held.declared.cargo.Cargo.{Cargo}
-use Rattle.xa_clients.specs.xa_held.declared.kept_queue.KeptQueue.{KeptQueue}
-use Rattle.xa_clients.specs.xa_held.declared.kept_queue.QueueNote.{QueueNote}
-use Rattle.xa_clients.specs.xa_held.declared.kept_queue.QueueNote.TheVariants.{Opened}
-use Rattle.xa_clients.specs.xa_held.declared.kept_queue.Setting.{Setting}
-use Rattle.xa_clients.specs.xa_held.Kept.{Kept, notes_of}
-use Rattle.xa_clients.specs.xa_caller.declared.cargo.Filling.{Filling}
+use Rattle.xa_client_worker.specs.xa_types.declared.setup.Setup.{Setup}
+use Rattle.xa_client_worker.specs.xa_types.declared.setup.QueueSetup.{QueueSetup}
+use Rattle.xa_client_worker.specs.xa_types.declared.stamp.Stamp.{Stamp}
+use Rattle.xa_client_worker.specs.xa_types.Setup.{capacity_in, capacity_of}
+use Rattle.xa_client_worker.specs.xa_lock.declared.guarded.Guarded.{Guarded}
+use Rattle.xa_client_worker.specs.xa_lock.declared.pass.LockPass.{LockPass}
+use Rattle.xa_client_worker.specs.xa_lock.Known.{known as page_of, IsPassOf, passes_of}
+use Rattle.xa_client_worker.specs.xa_lock.Pages.{first_page}
+use Rattle.xa_client_worker.specs.xa_cell.declared.cells.Cells.{Cells}
+use Rattle.xa_client_worker.specs.xa_queue.Queue.{Standing}
+use Rattle.xa_client_worker.specs.xa_held.declared.cargo.Cargo.{Cargo}
+use Rattle.xa_client_worker.specs.xa_held.declared.kept_queue.KeptQueue.{KeptQueue}
+use Rattle.xa_client_worker.specs.xa_held.declared.kept_queue.QueueNote.{QueueNote}
+use Rattle.xa_client_worker.specs.xa_held.declared.kept_queue.QueueNote.TheVariants.{Opened}
+use Rattle.xa_client_worker.specs.xa_held.declared.kept_queue.Setting.{Setting}
+use Rattle.xa_client_worker.specs.xa_held.Kept.{Kept, notes_of}
+use Rattle.xa_client_worker.specs.xa_caller.declared.cargo.Filling.{Filling}
 use Rattle.xa_boot.specs.Locking.{IsPlain, IsLocked}
 
 pub capacity-at : (setup : Setup) (place : ℕ) (queue : QueueSetup) → place < length setup.queues → queue ≡ get_or setup.queues place queue → capacity_of setup (place + 1) ≡ queue.capacity

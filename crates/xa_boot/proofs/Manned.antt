@@ -4,12 +4,12 @@ use Rattle.std.specs.Prelude.{slice_get, option_map}
 use Rattle.std.specs.List.{All}
 use Rattle.std.proofs.lemmas.Option.{slice_get-map, slice_get_within}
 use Rattle.std.proofs.lemmas.List.{reverse-append, length-map}
-use Rattle.xa_clients.specs.xa_events.Words.{EachNumbered}
-use Rattle.xa_clients.specs.xa_restart.Rule.{Standing as Restarts}
-use Rattle.xa_clients.specs.xa_server.Served.{StarterShows}
-use Rattle.xa_clients.specs.xa_types.declared.setup.ServerSetup.{ServerSetup}
-use Rattle.xa_links.specs.declared.working.ServerWorker.{ServerWorker}
-use Rattle.xa_clients.specs.xa_desk.declared.domain.Domain.{Domain}
+use Rattle.xa_client_worker.specs.xa_events.Words.{EachNumbered}
+use Rattle.xa_client_worker.specs.xa_restart.Rule.{Standing as Restarts}
+use Rattle.xa_client_worker.specs.xa_server.Served.{StarterShows}
+use Rattle.xa_client_worker.specs.xa_types.declared.setup.ServerSetup.{ServerSetup}
+use Rattle.xa_server_worker.specs.declared.working.ServerWorker.{ServerWorker}
+use Rattle.xa_client_worker.specs.xa_desk.declared.domain.Domain.{Domain}
 use Rattle.xa_boot.specs.Booting.{IsNewServer}
 use Rattle.xa_boot.specs.Supplies.{restarts_of}
 use Rattle.xa_boot.specs.Hiring.{AreHired, HasServers}

@@ -3,33 +3,33 @@ use Rattle.std.proofs.Common.{◌≡◌, ◌⊎◌, ℕ, suc, ◌+◌, ◌≤◌
 use Rattle.std.specs.List.{All, Contains, filter}
 use Rattle.std.proofs.lemmas.List.{reverse-append, reverse-reverse, length-reverse}
 use Rattle.std.proofs.lemmas.List.Elements.{All-nil, All-cons, All-head, All-tail, All-weaker, All-filter, Contains-push, Contains-append_left, Contains-append_right}
-use Rattle.xa_clients.specs.xa_types.declared.setup.Setup.{Setup}
-use Rattle.xa_clients.specs.xa_types.declared.stamp.Stamp.{Stamp}
-use Rattle.xa_clients.specs.xa_events.declared.event.Event.{Event}
-use Rattle.xa_clients.specs.xa_events.declared.event.Event.TheVariants.{Advertise}
-use Rattle.xa_clients.specs.xa_events.Cases.{HomePart, WorkerPart}
-use Rattle.xa_clients.specs.xa_events.Homes.{home_of, same_home, of_worker}
-use Rattle.xa_clients.specs.xa_events.Homes.Home.{BoardHome, QueueHome}
-use Rattle.xa_clients.specs.xa_events.Words.{AtEach}
-use Rattle.xa_clients.specs.xa_stamp.declared.home.Stamped.{Stamped}
-use Rattle.xa_clients.specs.xa_stamp.Home.{Rises, last_stamp}
-use Rattle.xa_clients.proofs.xa_stamp.Stamps.{last_stamp-push, Rises-push}
-use Rattle.xa_clients.specs.xa_lock.Makers.{made_by, noted_in}
-use Rattle.xa_clients.specs.xa_lock.Pages.{StartsWith}
-use Rattle.xa_clients.specs.xa_crew.Crew.{IsOfDomain, MayNote, no_stamp, stands_at}
-use Rattle.xa_clients.specs.xa_crew.Seen.{past_in, IsBehind}
-use Rattle.xa_clients.proofs.xa_crew.Lists.{filter-yes, filter-none, past_in-filter, map-reverse, AtEach-later, AtEach-cut}
-use Rattle.xa_clients.proofs.xa_crew.Before.{All-on}
-use Rattle.xa_clients.proofs.xa_crew.Workers.{AtEach-from, All-at}
-use Rattle.xa_clients.specs.xa_held.declared.kept_board.BoardNote.TheVariants.{Opened, By}
-use Rattle.xa_clients.specs.xa_held.Board.{made_in}
-use Rattle.xa_clients.specs.xa_held.Joins.{changes_at}
-use Rattle.xa_clients.proofs.xa_held.Fronts.{changes_front}
-use Rattle.xa_clients.specs.xa_work.Work.{IsWorkOf}
-use Rattle.xa_clients.specs.xa_server.Told.{HasStamp}
-use Rattle.xa_clients.specs.xa_desk.declared.domain.Domain.{Domain}
-use Rattle.xa_clients.specs.xa_desk.Desks.{HasGrounds, IsGrounded, IsShown}
-use Rattle.xa_clients.specs.xa_desk.Whole.{Whole, entries_of, IsKnown}
+use Rattle.xa_client_worker.specs.xa_types.declared.setup.Setup.{Setup}
+use Rattle.xa_client_worker.specs.xa_types.declared.stamp.Stamp.{Stamp}
+use Rattle.xa_client_worker.specs.xa_events.declared.event.Event.{Event}
+use Rattle.xa_client_worker.specs.xa_events.declared.event.Event.TheVariants.{Advertise}
+use Rattle.xa_client_worker.specs.xa_events.Cases.{HomePart, WorkerPart}
+use Rattle.xa_client_worker.specs.xa_events.Homes.{home_of, same_home, of_worker}
+use Rattle.xa_client_worker.specs.xa_events.Homes.Home.{BoardHome, QueueHome}
+use Rattle.xa_client_worker.specs.xa_events.Words.{AtEach}
+use Rattle.xa_client_worker.specs.xa_stamp.declared.home.Stamped.{Stamped}
+use Rattle.xa_client_worker.specs.xa_stamp.Home.{Rises, last_stamp}
+use Rattle.xa_client_worker.proofs.xa_stamp.Stamps.{last_stamp-push, Rises-push}
+use Rattle.xa_client_worker.specs.xa_lock.Makers.{made_by, noted_in}
+use Rattle.xa_client_worker.specs.xa_lock.Pages.{StartsWith}
+use Rattle.xa_client_worker.specs.xa_worker.Crew.{IsOfDomain, MayNote, no_stamp, stands_at}
+use Rattle.xa_client_worker.specs.xa_worker.Seen.{past_in, IsBehind}
+use Rattle.xa_client_worker.proofs.xa_worker.Lists.{filter-yes, filter-none, past_in-filter, map-reverse, AtEach-later, AtEach-cut}
+use Rattle.xa_client_worker.proofs.xa_worker.Before.{All-on}
+use Rattle.xa_client_worker.proofs.xa_worker.Workers.{AtEach-from, All-at}
+use Rattle.xa_client_worker.specs.xa_held.declared.kept_board.BoardNote.TheVariants.{Opened, By}
+use Rattle.xa_client_worker.specs.xa_held.Board.{made_in}
+use Rattle.xa_client_worker.specs.xa_held.Joins.{changes_at}
+use Rattle.xa_client_worker.proofs.xa_held.Fronts.{changes_front}
+use Rattle.xa_client_worker.specs.xa_worker.Work.{IsWorkOf}
+use Rattle.xa_client_worker.specs.xa_server.Told.{HasStamp}
+use Rattle.xa_client_worker.specs.xa_desk.declared.domain.Domain.{Domain}
+use Rattle.xa_client_worker.specs.xa_desk.Desks.{HasGrounds, IsGrounded, IsShown}
+use Rattle.xa_client_worker.specs.xa_desk.Whole.{Whole, entries_of, IsKnown}
 use Rattle.xa_boot.specs.Booting.{IsBoots}
 use Rattle.xa_boot.specs.Opening.{IsNextNote, opening, IsBoot}
 use Rattle.xa_boot.proofs.Noting.{domain}

@@ -3,29 +3,29 @@ use Rattle.std.proofs.Common.{◌≡◌, ℕ, zero, suc, ◌+◌, ◌<◌, ◌�
 use Rattle.std.specs.Prelude.{slice_get}
 use Rattle.std.specs.List.{flat_map}
 use Rattle.std.proofs.lemmas.List.{map-append, reverse-append, length-reverse}
-use Rattle.xa_clients.specs.xa_types.declared.row.Row.{Row}
-use Rattle.xa_clients.specs.xa_types.declared.setup.Setup.{Setup}
-use Rattle.xa_clients.specs.xa_types.declared.setup.ServiceSetup.{ServiceSetup}
-use Rattle.xa_clients.specs.xa_types.declared.ids.CallerId.{CallerId}
-use Rattle.xa_clients.specs.xa_types.Rows.{Change, Put, row_with, row_for, changes_of, configured}
-use Rattle.xa_clients.specs.xa_types.Setup.{service_named, queue_named}
-use Rattle.xa_clients.specs.xa_events.declared.event.Event.{Event}
-use Rattle.xa_clients.specs.xa_events.declared.event.Event.TheVariants.{Advertise}
-use Rattle.xa_clients.specs.xa_events.declared.event.Advertised.{Advertised}
-use Rattle.xa_clients.specs.xa_events.Board.{published, changes}
-use Rattle.xa_clients.specs.xa_events.Cases.{HomePart}
-use Rattle.xa_clients.specs.xa_events.Words.{AtEach}
-use Rattle.xa_clients.specs.xa_stamp.declared.home.Stamped.{Stamped}
-use Rattle.xa_clients.proofs.xa_stamp.Stamps.{last_stamp-push}
-use Rattle.xa_clients.specs.xa_lock.Makers.{made_by}
-use Rattle.xa_clients.specs.xa_crew.Seen.{past_in}
-use Rattle.xa_clients.proofs.xa_crew.Lists.{past_in-append, map-reverse}
-use Rattle.xa_clients.specs.xa_board.declared.board.Changed.{Changed}
-use Rattle.xa_clients.specs.xa_board.Board.{put_of, stamp_of}
-use Rattle.xa_clients.specs.xa_held.declared.kept_board.BoardNote.{BoardNote}
-use Rattle.xa_clients.specs.xa_held.declared.kept_board.BoardNote.TheVariants.{Opened, By}
-use Rattle.xa_clients.specs.xa_held.Board.{Turns, IsPlaced}
-use Rattle.xa_clients.specs.xa_held.BoardSteps.{AdvertisedAs}
+use Rattle.xa_client_worker.specs.xa_types.declared.row.Row.{Row}
+use Rattle.xa_client_worker.specs.xa_types.declared.setup.Setup.{Setup}
+use Rattle.xa_client_worker.specs.xa_types.declared.setup.ServiceSetup.{ServiceSetup}
+use Rattle.xa_client_worker.specs.xa_types.declared.ids.CallerId.{CallerId}
+use Rattle.xa_client_worker.specs.xa_types.Rows.{Change, Put, row_with, row_for, changes_of, configured}
+use Rattle.xa_client_worker.specs.xa_types.Setup.{service_named, queue_named}
+use Rattle.xa_client_worker.specs.xa_events.declared.event.Event.{Event}
+use Rattle.xa_client_worker.specs.xa_events.declared.event.Event.TheVariants.{Advertise}
+use Rattle.xa_client_worker.specs.xa_events.declared.event.Advertised.{Advertised}
+use Rattle.xa_client_worker.specs.xa_events.Board.{published, changes}
+use Rattle.xa_client_worker.specs.xa_events.Cases.{HomePart}
+use Rattle.xa_client_worker.specs.xa_events.Words.{AtEach}
+use Rattle.xa_client_worker.specs.xa_stamp.declared.home.Stamped.{Stamped}
+use Rattle.xa_client_worker.proofs.xa_stamp.Stamps.{last_stamp-push}
+use Rattle.xa_client_worker.specs.xa_lock.Makers.{made_by}
+use Rattle.xa_client_worker.specs.xa_worker.Seen.{past_in}
+use Rattle.xa_client_worker.proofs.xa_worker.Lists.{past_in-append, map-reverse}
+use Rattle.xa_client_worker.specs.xa_board.declared.board.Changed.{Changed}
+use Rattle.xa_client_worker.specs.xa_board.Board.{put_of, stamp_of}
+use Rattle.xa_client_worker.specs.xa_held.declared.kept_board.BoardNote.{BoardNote}
+use Rattle.xa_client_worker.specs.xa_held.declared.kept_board.BoardNote.TheVariants.{Opened, By}
+use Rattle.xa_client_worker.specs.xa_held.Board.{Turns, IsPlaced}
+use Rattle.xa_client_worker.specs.xa_held.BoardSteps.{AdvertisedAs}
 use Rattle.xa_boot.specs.declared.advertising.Opening.{Opening}
 use Rattle.xa_boot.specs.Booting.{IsBoots}
 use Rattle.xa_boot.specs.Opening.{IsNextNote, opening, puts, Remain, Passed}

@@ -2,7 +2,7 @@
 use Rattle.std.proofs.Common.{◌≡◌, ℕ, suc, ◌+◌, ◌<◌, List, [], ◌∷◌, ◌++◌, length, get_or, subst, arith}
 use Rattle.std.specs.List.{All}
 use Rattle.std.proofs.lemmas.List.Elements.{All-nil, All-cons}
-use Rattle.xa_clients.specs.xa_events.Words.{EachNumbered}
+use Rattle.xa_client_worker.specs.xa_events.Words.{EachNumbered}
 
 module _ {X : Type 0} (P : ℕ → X → Type 0) where
   pub numbered-from : (n : ℕ) (xs : List X) → ((k : ℕ) (d : X) → k < length xs → P (n + k) (get_or xs k d)) → EachNumbered P n xs

@@ -2,17 +2,17 @@
 use Rattle.std.proofs.Common.{◌≡◌, ℕ, zero, suc, ◌<◌, List, [], ◌∷◌, length, map, refl, ◌∙◌, ap, arith, length-drop}
 use Rattle.std.specs.List.{All}
 use Rattle.std.proofs.lemmas.List.Elements.{All-nil, All-cons}
-use Rattle.xa_clients.specs.xa_types.declared.setup.Setup.{Setup}
-use Rattle.xa_clients.specs.xa_types.declared.stamp.Stamp.{Stamp}
-use Rattle.xa_clients.specs.xa_types.Rows.{configured}
-use Rattle.xa_clients.specs.xa_events.Board.{published}
-use Rattle.xa_clients.specs.xa_stamp.declared.home.Stamped.{Stamped}
-use Rattle.xa_clients.specs.xa_lock.Makers.{made_by}
-use Rattle.xa_clients.specs.xa_crew.Seen.{past_in}
-use Rattle.xa_clients.specs.xa_board.Board.{version_of}
-use Rattle.xa_clients.specs.xa_held.declared.kept_board.BoardNote.{BoardNote}
-use Rattle.xa_clients.specs.xa_held.declared.kept_board.BoardNote.TheVariants.{Opened, By}
-use Rattle.xa_clients.specs.xa_held.Board.{maker_of, IsSoundBoard}
+use Rattle.xa_client_worker.specs.xa_types.declared.setup.Setup.{Setup}
+use Rattle.xa_client_worker.specs.xa_types.declared.stamp.Stamp.{Stamp}
+use Rattle.xa_client_worker.specs.xa_types.Rows.{configured}
+use Rattle.xa_client_worker.specs.xa_events.Board.{published}
+use Rattle.xa_client_worker.specs.xa_stamp.declared.home.Stamped.{Stamped}
+use Rattle.xa_client_worker.specs.xa_lock.Makers.{made_by}
+use Rattle.xa_client_worker.specs.xa_worker.Seen.{past_in}
+use Rattle.xa_client_worker.specs.xa_board.Board.{version_of}
+use Rattle.xa_client_worker.specs.xa_held.declared.kept_board.BoardNote.{BoardNote}
+use Rattle.xa_client_worker.specs.xa_held.declared.kept_board.BoardNote.TheVariants.{Opened, By}
+use Rattle.xa_client_worker.specs.xa_held.Board.{maker_of, IsSoundBoard}
 use Rattle.xa_boot.specs.declared.advertising.Opening.{Opening}
 use Rattle.xa_boot.specs.Opening.{opening, Remain, IsBoot}
 use Rattle.xa_boot.proofs.Noting.{domain}

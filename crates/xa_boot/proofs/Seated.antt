@@ -3,38 +3,38 @@ use Rattle.std.proofs.Common.{◌≡◌, ℕ, zero, suc, ◌+◌, ◌<◌, ◌�
 use Rattle.std.specs.Prelude.{slice_index_or}
 use Rattle.std.specs.List.{All, filter}
 use Rattle.std.proofs.lemmas.List.Elements.{All-nil}
-use Rattle.xa_clients.specs.xa_events.Board.{boot, published}
-use Rattle.xa_clients.specs.xa_events.Homes.{home_of}
-use Rattle.xa_clients.specs.xa_events.Homes.Home.{BoardHome, QueueHome}
-use Rattle.xa_clients.specs.xa_stamp.declared.home.Stamped.{Stamped}
-use Rattle.xa_clients.specs.xa_lock.declared.pass.LockPass.{LockPass}
-use Rattle.xa_clients.specs.xa_lock.declared.pass.Page.{Page}
-use Rattle.xa_clients.specs.xa_lock.Known.{known as page_of}
-use Rattle.xa_clients.specs.xa_lock.Makers.{noted_in}
-use Rattle.xa_clients.specs.xa_lock.Pages.{StartsWith, first_own, first_page}
-use Rattle.xa_clients.specs.xa_crew.Crew.{stands_at}
-use Rattle.xa_clients.specs.xa_crew.Seen.{past_in}
-use Rattle.xa_clients.specs.xa_cell.declared.tokens.Seat.{Seat}
-use Rattle.xa_clients.specs.xa_cell.Known.{known}
-use Rattle.xa_clients.specs.xa_cell.Views.{at}
-use Rattle.xa_clients.specs.xa_held.declared.kept_board.BoardNote.{BoardNote}
-use Rattle.xa_clients.specs.xa_held.declared.kept_queue.QueueNote.{QueueNote}
-use Rattle.xa_clients.specs.xa_held.declared.kept_queue.QueueNote.TheVariants.{Opened}
-use Rattle.xa_clients.specs.xa_held.declared.kept_queue.Setting.{Setting}
-use Rattle.xa_clients.specs.xa_held.Joins.{changes_at, changes_page, events_at}
-use Rattle.xa_clients.specs.xa_held.Notes.{made_page}
-use Rattle.xa_clients.specs.xa_work.Work.{Standing as Working}
-use Rattle.xa_clients.specs.xa_work.declared.own.Own.{Own}
-use Rattle.xa_clients.specs.xa_caller.declared.cargo.Filling.{Filling}
-use Rattle.xa_clients.specs.xa_caller.Caller.{Standing as Caller}
-use Rattle.xa_clients.specs.xa_caller.declared.phase.Phase.TheVariants.{Idle}
-use Rattle.xa_clients.specs.xa_server.Told.{EndedFor}
-use Rattle.xa_clients.specs.xa_told.Told.{WasTaken}
-use Rattle.xa_clients.specs.xa_desk.declared.domain.Domain.{Domain}
-use Rattle.xa_clients.specs.xa_desk.declared.desk.Desk.{Desk}
-use Rattle.xa_clients.specs.xa_desk.Made.{IsMade}
-use Rattle.xa_clients.specs.xa_desk.Whole.{Whole, IsKnown}
-use Rattle.xa_clients.specs.xa_desk.Desks.{IsDesk, IsBoardPass, IsQueuePass, IsGrounded, IsThere, IsAmong, page_in, queue_page}
+use Rattle.xa_client_worker.specs.xa_events.Board.{boot, published}
+use Rattle.xa_client_worker.specs.xa_events.Homes.{home_of}
+use Rattle.xa_client_worker.specs.xa_events.Homes.Home.{BoardHome, QueueHome}
+use Rattle.xa_client_worker.specs.xa_stamp.declared.home.Stamped.{Stamped}
+use Rattle.xa_client_worker.specs.xa_lock.declared.pass.LockPass.{LockPass}
+use Rattle.xa_client_worker.specs.xa_lock.declared.pass.Page.{Page}
+use Rattle.xa_client_worker.specs.xa_lock.Known.{known as page_of}
+use Rattle.xa_client_worker.specs.xa_lock.Makers.{noted_in}
+use Rattle.xa_client_worker.specs.xa_lock.Pages.{StartsWith, first_own, first_page}
+use Rattle.xa_client_worker.specs.xa_worker.Crew.{stands_at}
+use Rattle.xa_client_worker.specs.xa_worker.Seen.{past_in}
+use Rattle.xa_client_worker.specs.xa_cell.declared.tokens.Seat.{Seat}
+use Rattle.xa_client_worker.specs.xa_cell.Known.{known}
+use Rattle.xa_client_worker.specs.xa_cell.Views.{at}
+use Rattle.xa_client_worker.specs.xa_held.declared.kept_board.BoardNote.{BoardNote}
+use Rattle.xa_client_worker.specs.xa_held.declared.kept_queue.QueueNote.{QueueNote}
+use Rattle.xa_client_worker.specs.xa_held.declared.kept_queue.QueueNote.TheVariants.{Opened}
+use Rattle.xa_client_worker.specs.xa_held.declared.kept_queue.Setting.{Setting}
+use Rattle.xa_client_worker.specs.xa_held.Joins.{changes_at, changes_page, events_at}
+use Rattle.xa_client_worker.specs.xa_held.Notes.{made_page}
+use Rattle.xa_client_worker.specs.xa_worker.Work.{Standing as Working}
+use Rattle.xa_client_worker.specs.xa_worker.declared.own.Own.{Own}
+use Rattle.xa_client_worker.specs.xa_caller.declared.cargo.Filling.{Filling}
+use Rattle.xa_client_worker.specs.xa_caller.Caller.{Standing as Caller}
+use Rattle.xa_client_worker.specs.xa_caller.declared.phase.Phase.TheVariants.{Idle}
+use Rattle.xa_client_worker.specs.xa_server.Told.{EndedFor}
+use Rattle.xa_client_worker.specs.xa_server.Fillings.{WasTaken}
+use Rattle.xa_client_worker.specs.xa_desk.declared.domain.Domain.{Domain}
+use Rattle.xa_client_worker.specs.xa_desk.declared.desk.Desk.{Desk}
+use Rattle.xa_client_worker.specs.xa_desk.Made.{IsMade}
+use Rattle.xa_client_worker.specs.xa_desk.Whole.{Whole, IsKnown}
+use Rattle.xa_client_worker.specs.xa_desk.Desks.{IsDesk, IsBoardPass, IsQueuePass, IsGrounded, IsThere, IsAmong, page_in, queue_page}
 use Rattle.xa_boot.specs.declared.closer.Closer.{Closer}
 use Rattle.xa_boot.specs.declared.staff.Post.{Post}
 use Rattle.xa_boot.specs.Booting.{IsNewCloser, work_of}

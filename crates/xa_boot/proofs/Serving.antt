@@ -2,11 +2,11 @@
 use Rattle.std.proofs.Common.{◌≡◌, ℕ, zero, suc, ◌+◌, ◌<◌, ◌==◌, ◌||◌, Bool, true, false, cond, List, [], ◌∷◌, ◌++◌, length, get_or, drop, append_assoc, refl, sym, ◌∙◌, ap, subst, arith, eq-eqb, ne_eqb}
 use Rattle.std.specs.Prelude.{slice_get}
 use Rattle.std.specs.List.{list_any}
-use Rattle.xa_clients.specs.xa_types.declared.ids.ServerId.{ServerId}
-use Rattle.xa_clients.specs.xa_types.declared.setup.Setup.{Setup}
-use Rattle.xa_clients.specs.xa_types.declared.setup.ServerSetup.{ServerSetup}
-use Rattle.xa_clients.specs.xa_types.Setup.{queue_named, queue_in}
-use Rattle.xa_clients.specs.xa_held.Joins.{HasServers}
+use Rattle.xa_client_worker.specs.xa_types.declared.ids.ServerId.{ServerId}
+use Rattle.xa_client_worker.specs.xa_types.declared.setup.Setup.{Setup}
+use Rattle.xa_client_worker.specs.xa_types.declared.setup.ServerSetup.{ServerSetup}
+use Rattle.xa_client_worker.specs.xa_types.Setup.{queue_named, queue_in}
+use Rattle.xa_client_worker.specs.xa_held.Joins.{HasServers}
 use Rattle.xa_boot.specs.Locking.{servers_at}
 use Rattle.xa_boot.proofs.Noting.{drop_next}
 

@@ -7,12 +7,12 @@ use Rattle.std.proofs.lemmas.Bool.{cases_Bool, and_parts, lt-ltb, cond-true, fal
 use Rattle.std.proofs.lemmas.List.Elements.{All-weaker}
 use Rattle.std.proofs.lemmas.List.Sums.{AllPass-from_list_all}
 use Rattle.std.proofs.lemmas.Slice.Eq.{bytes_eq-Decides}
-use Rattle.xa_clients.specs.xa_types.declared.setup.Setup.{Setup}
-use Rattle.xa_clients.specs.xa_types.declared.setup.QueueSetup.{QueueSetup}
-use Rattle.xa_clients.specs.xa_types.declared.setup.ServerSetup.{ServerSetup}
-use Rattle.xa_clients.specs.xa_types.declared.setup.ServiceSetup.{ServiceSetup}
-use Rattle.xa_clients.specs.xa_types.Configured.{is_within, is_among, are_distinct, is_valid_queue, is_valid_program, is_valid_server, is_valid_accepts, is_valid_service, queue_names, server_names, service_names, are_valid_shapes, are_valid_queues, are_valid_servers, are_valid_services, are_served, is_configured}
-use Rattle.xa_clients.specs.xa_types.Setup.{counted_from_1, queue_named}
+use Rattle.xa_client_worker.specs.xa_types.declared.setup.Setup.{Setup}
+use Rattle.xa_client_worker.specs.xa_types.declared.setup.QueueSetup.{QueueSetup}
+use Rattle.xa_client_worker.specs.xa_types.declared.setup.ServerSetup.{ServerSetup}
+use Rattle.xa_client_worker.specs.xa_types.declared.setup.ServiceSetup.{ServiceSetup}
+use Rattle.xa_client_worker.specs.xa_types.Configured.{is_within, is_among, are_distinct, is_valid_queue, is_valid_program, is_valid_server, is_valid_accepts, is_valid_service, queue_names, server_names, service_names, are_valid_shapes, are_valid_queues, are_valid_servers, are_valid_services, are_served, is_configured}
+use Rattle.xa_client_worker.specs.xa_types.Setup.{counted_from_1, queue_named}
 
 -- ---- queues by their names
 

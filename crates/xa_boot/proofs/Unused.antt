@@ -2,20 +2,20 @@
 use Rattle.std.proofs.Common.{◌≡◌, ℕ, zero, suc, ◌<◌, ◌==◌, true, false, cond, List, [], ◌∷◌, length, get_or, map, refl, sym, ◌∙◌, ap, subst, arith, eq-eqb, ne_eqb}
 use Rattle.std.specs.List.{All, Contains}
 use Rattle.std.proofs.lemmas.List.Elements.{All-head, All-tail}
-use Rattle.xa_clients.specs.xa_lock.declared.makers.Made.{Made}
-use Rattle.xa_clients.specs.xa_lock.declared.guarded.Guarded.{Guarded}
-use Rattle.xa_clients.specs.xa_lock.declared.pass.LockPass.{LockPass}
-use Rattle.xa_clients.specs.xa_lock.Known.{known as page_of, passes_of}
-use Rattle.xa_clients.specs.xa_lock.Pages.{Knows, entries_by, first_own}
-use Rattle.xa_clients.specs.xa_queue.declared.entry.Entry.{Entry}
-use Rattle.xa_clients.specs.xa_held.declared.cargo.Cargo.{Cargo}
-use Rattle.xa_clients.specs.xa_held.declared.kept_queue.KeptQueue.{KeptQueue}
-use Rattle.xa_clients.specs.xa_held.declared.kept_queue.QueueNote.{QueueNote}
-use Rattle.xa_clients.specs.xa_held.declared.kept_queue.QueueNote.TheVariants.{Opened, By}
-use Rattle.xa_clients.specs.xa_held.declared.kept_queue.Setting.{Setting}
-use Rattle.xa_clients.specs.xa_held.Notes.{maker_of}
-use Rattle.xa_clients.specs.xa_held.Kept.{Kept, IsBrought, setting_of, notes_of}
-use Rattle.xa_clients.specs.xa_caller.declared.cargo.Filling.{Filling}
+use Rattle.xa_client_worker.specs.xa_lock.declared.makers.Made.{Made}
+use Rattle.xa_client_worker.specs.xa_lock.declared.guarded.Guarded.{Guarded}
+use Rattle.xa_client_worker.specs.xa_lock.declared.pass.LockPass.{LockPass}
+use Rattle.xa_client_worker.specs.xa_lock.Known.{known as page_of, passes_of}
+use Rattle.xa_client_worker.specs.xa_lock.Pages.{Knows, entries_by, first_own}
+use Rattle.xa_client_worker.specs.xa_queue.declared.entry.Entry.{Entry}
+use Rattle.xa_client_worker.specs.xa_held.declared.cargo.Cargo.{Cargo}
+use Rattle.xa_client_worker.specs.xa_held.declared.kept_queue.KeptQueue.{KeptQueue}
+use Rattle.xa_client_worker.specs.xa_held.declared.kept_queue.QueueNote.{QueueNote}
+use Rattle.xa_client_worker.specs.xa_held.declared.kept_queue.QueueNote.TheVariants.{Opened, By}
+use Rattle.xa_client_worker.specs.xa_held.declared.kept_queue.Setting.{Setting}
+use Rattle.xa_client_worker.specs.xa_held.Notes.{maker_of}
+use Rattle.xa_client_worker.specs.xa_held.Kept.{Kept, IsBrought, setting_of, notes_of}
+use Rattle.xa_client_worker.specs.xa_caller.declared.cargo.Filling.{Filling}
 use Rattle.xa_boot.specs.Locking.{IsFresh}
 
 -- an event would be one of its maker's pass, which knows of none

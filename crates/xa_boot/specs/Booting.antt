@@ -1,31 +1,31 @@
 -- A domain that was booted, and its workers (this project's own).
 use Rattle.std.specs.Prelude.{◌≡◌, ℕ, ◌+◌, ◌<◌, ◌≤◌, ◌^◌, List, [], length, map, None, slice_index_or}
 use Rattle.std.specs.List.{All}
-use Rattle.xa_clients.specs.xa_types.declared.setup.Setup.{Setup}
-use Rattle.xa_clients.specs.xa_types.declared.setup.ServerSetup.{ServerSetup}
-use Rattle.xa_clients.specs.xa_events.declared.event.Event.{Event}
-use Rattle.xa_clients.specs.xa_events.declared.event.Event.TheVariants.{Advertise}
-use Rattle.xa_clients.specs.xa_events.Words.{EachNumbered}
-use Rattle.xa_clients.specs.xa_stamp.declared.home.Stamped.{Stamped}
-use Rattle.xa_clients.specs.xa_lock.declared.guarded.Guarded.{Guarded}
-use Rattle.xa_clients.specs.xa_lock.Known.{passes_of}
-use Rattle.xa_clients.specs.xa_lock.Pages.{StartsWith}
-use Rattle.xa_clients.specs.xa_crew.Ending.{workers_of}
-use Rattle.xa_clients.specs.xa_cell.Known.{known, IsSeatOf, IsNew, callers_of}
-use Rattle.xa_clients.specs.xa_held.declared.kept_queue.KeptQueue.{KeptQueue}
-use Rattle.xa_clients.specs.xa_held.declared.kept_queue.QueueNote.{QueueNote}
-use Rattle.xa_clients.specs.xa_held.Board.{IsSoundBoard}
-use Rattle.xa_clients.specs.xa_work.Work.{Standing as Working, IsWorkOf}
-use Rattle.xa_clients.specs.xa_caller.declared.cargo.Filling.{Filling}
-use Rattle.xa_clients.specs.xa_server.Served.{StarterShows}
-use Rattle.xa_clients.specs.xa_desk.declared.domain.Domain.{Domain}
-use Rattle.xa_clients.specs.xa_desk.Whole.{Whole, IsKnown}
-use Rattle.xa_clients.specs.xa_desk.Desks.{IsDomain, IsBoardPass, IsQueuePass, IsThere, Shows, page_in}
-use Rattle.xa_clients.specs.declared.working.ClientWorker.{ClientWorker}
-use Rattle.xa_clients.specs.declared.working.ClientWorker.TheVariants.{Ready}
-use Rattle.xa_clients.specs.Going.{IsReady}
-use Rattle.xa_links.specs.declared.working.ServerWorker.{ServerWorker}
-use Rattle.xa_links.specs.Working.{MayServe}
+use Rattle.xa_client_worker.specs.xa_types.declared.setup.Setup.{Setup}
+use Rattle.xa_client_worker.specs.xa_types.declared.setup.ServerSetup.{ServerSetup}
+use Rattle.xa_client_worker.specs.xa_events.declared.event.Event.{Event}
+use Rattle.xa_client_worker.specs.xa_events.declared.event.Event.TheVariants.{Advertise}
+use Rattle.xa_client_worker.specs.xa_events.Words.{EachNumbered}
+use Rattle.xa_client_worker.specs.xa_stamp.declared.home.Stamped.{Stamped}
+use Rattle.xa_client_worker.specs.xa_lock.declared.guarded.Guarded.{Guarded}
+use Rattle.xa_client_worker.specs.xa_lock.Known.{passes_of}
+use Rattle.xa_client_worker.specs.xa_lock.Pages.{StartsWith}
+use Rattle.xa_client_worker.specs.xa_worker.Ending.{workers_of}
+use Rattle.xa_client_worker.specs.xa_cell.Known.{known, IsSeatOf, IsNew, callers_of}
+use Rattle.xa_client_worker.specs.xa_held.declared.kept_queue.KeptQueue.{KeptQueue}
+use Rattle.xa_client_worker.specs.xa_held.declared.kept_queue.QueueNote.{QueueNote}
+use Rattle.xa_client_worker.specs.xa_held.Board.{IsSoundBoard}
+use Rattle.xa_client_worker.specs.xa_worker.Work.{Standing as Working, IsWorkOf}
+use Rattle.xa_client_worker.specs.xa_caller.declared.cargo.Filling.{Filling}
+use Rattle.xa_client_worker.specs.xa_server.Served.{StarterShows}
+use Rattle.xa_client_worker.specs.xa_desk.declared.domain.Domain.{Domain}
+use Rattle.xa_client_worker.specs.xa_desk.Whole.{Whole, IsKnown}
+use Rattle.xa_client_worker.specs.xa_desk.Desks.{IsDomain, IsBoardPass, IsQueuePass, IsThere, Shows, page_in}
+use Rattle.xa_client_worker.specs.declared.working.ClientWorker.{ClientWorker}
+use Rattle.xa_client_worker.specs.declared.working.ClientWorker.TheVariants.{Ready}
+use Rattle.xa_client_worker.specs.Going.{IsReady}
+use Rattle.xa_server_worker.specs.declared.working.ServerWorker.{ServerWorker}
+use Rattle.xa_server_worker.specs.Working.{MayServe}
 use Rattle.xa_boot.specs.declared.closer.Closer.{Closer}
 use Rattle.xa_boot.specs.declared.booting.Booted.{Booted}
 

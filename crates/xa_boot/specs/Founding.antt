@@ -1,12 +1,12 @@
 -- A domain whose workers are still to get their desks (this project's own).
 use Rattle.std.specs.Prelude.{◌≡◌, ℕ, ◌+◌, ◌≤◌, List, [], length, map, vec_capacity}
 use Rattle.std.specs.List.{All}
-use Rattle.xa_clients.specs.xa_types.declared.setup.Setup.{Setup}
-use Rattle.xa_clients.specs.xa_cell.declared.cells.Cells.{Cells}
-use Rattle.xa_clients.specs.xa_cell.declared.tokens.Seat.{Seat}
-use Rattle.xa_clients.specs.xa_cell.Known.{known, IsSeatOf, IsNew, callers_of}
-use Rattle.xa_clients.specs.xa_caller.declared.cargo.Filling.{Filling}
-use Rattle.xa_clients.specs.xa_desk.Desks.{IsDomain}
+use Rattle.xa_client_worker.specs.xa_types.declared.setup.Setup.{Setup}
+use Rattle.xa_client_worker.specs.xa_cell.declared.cells.Cells.{Cells}
+use Rattle.xa_client_worker.specs.xa_cell.declared.tokens.Seat.{Seat}
+use Rattle.xa_client_worker.specs.xa_cell.Known.{known, IsSeatOf, IsNew, callers_of}
+use Rattle.xa_client_worker.specs.xa_caller.declared.cargo.Filling.{Filling}
+use Rattle.xa_client_worker.specs.xa_desk.Desks.{IsDomain}
 use Rattle.xa_boot.specs.declared.founding.Founded.{Founded}
 use Rattle.xa_boot.specs.declared.booting.Workers.{Workers}
 use Rattle.xa_boot.specs.Booting.{IsDealt}

@@ -1,11 +1,11 @@
 -- The workers with their desks (this project's own).
 use Rattle.std.specs.Prelude.{◌≡◌, ℕ, ◌+◌, ◌++◌, List, length, map, reverse}
-use Rattle.xa_clients.specs.xa_events.Words.{EachNumbered}
-use Rattle.xa_clients.specs.xa_restart.Rule.{Standing as Restarts}
-use Rattle.xa_clients.specs.xa_server.Served.{StarterShows}
-use Rattle.xa_clients.specs.declared.working.ClientWorker.{ClientWorker}
-use Rattle.xa_links.specs.declared.working.ServerWorker.{ServerWorker}
-use Rattle.xa_clients.specs.xa_desk.declared.domain.Domain.{Domain}
+use Rattle.xa_client_worker.specs.xa_events.Words.{EachNumbered}
+use Rattle.xa_client_worker.specs.xa_restart.Rule.{Standing as Restarts}
+use Rattle.xa_client_worker.specs.xa_server.Served.{StarterShows}
+use Rattle.xa_client_worker.specs.declared.working.ClientWorker.{ClientWorker}
+use Rattle.xa_server_worker.specs.declared.working.ServerWorker.{ServerWorker}
+use Rattle.xa_client_worker.specs.xa_desk.declared.domain.Domain.{Domain}
 use Rattle.xa_boot.specs.declared.staff.Staff.{Staff}
 use Rattle.xa_boot.specs.Booting.{IsNewClient, IsNewServer}
 use Rattle.xa_boot.specs.Staffing.{IsFull, IsStaff}

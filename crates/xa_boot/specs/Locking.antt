@@ -3,25 +3,25 @@ use Rattle.std.specs.Prelude.{◌≡◌, ℕ, ◌+◌, ◌<◌, ◌==◌, cond, 
 use Rattle.std.specs.List.{All}
 use Rattle.std.specs.declared.vec.Vec.{Vec}
 use Rattle.std.specs.declared.alloc.Global.{Global}
-use Rattle.xa_clients.specs.xa_types.declared.ids.ServerId.{ServerId}
-use Rattle.xa_clients.specs.xa_types.declared.setup.Setup.{Setup}
-use Rattle.xa_clients.specs.xa_types.declared.setup.ServerSetup.{ServerSetup}
-use Rattle.xa_clients.specs.xa_types.declared.stamp.Stamp.{Stamp}
-use Rattle.xa_clients.specs.xa_types.Setup.{queue_named, capacity_of}
-use Rattle.xa_clients.specs.xa_lock.declared.guarded.Guarded.{Guarded}
-use Rattle.xa_clients.specs.xa_lock.declared.pass.LockPass.{LockPass}
-use Rattle.xa_clients.specs.xa_lock.Known.{known as page_of, IsPassOf, passes_of}
-use Rattle.xa_clients.specs.xa_lock.Pages.{first_page}
-use Rattle.xa_clients.specs.xa_cell.declared.cells.Cells.{Cells}
-use Rattle.xa_clients.specs.xa_queue.Queue.{Standing}
-use Rattle.xa_clients.specs.xa_queue.Changes.{opened}
-use Rattle.xa_clients.specs.xa_held.declared.cargo.Cargo.{Cargo}
-use Rattle.xa_clients.specs.xa_held.declared.kept_queue.KeptQueue.{KeptQueue}
-use Rattle.xa_clients.specs.xa_held.declared.kept_queue.QueueNote.{QueueNote}
-use Rattle.xa_clients.specs.xa_held.declared.kept_queue.QueueNote.TheVariants.{Opened}
-use Rattle.xa_clients.specs.xa_held.declared.kept_queue.Setting.{Setting}
-use Rattle.xa_clients.specs.xa_held.Joins.{HasServers}
-use Rattle.xa_clients.specs.xa_caller.declared.cargo.Filling.{Filling}
+use Rattle.xa_client_worker.specs.xa_types.declared.ids.ServerId.{ServerId}
+use Rattle.xa_client_worker.specs.xa_types.declared.setup.Setup.{Setup}
+use Rattle.xa_client_worker.specs.xa_types.declared.setup.ServerSetup.{ServerSetup}
+use Rattle.xa_client_worker.specs.xa_types.declared.stamp.Stamp.{Stamp}
+use Rattle.xa_client_worker.specs.xa_types.Setup.{queue_named, capacity_of}
+use Rattle.xa_client_worker.specs.xa_lock.declared.guarded.Guarded.{Guarded}
+use Rattle.xa_client_worker.specs.xa_lock.declared.pass.LockPass.{LockPass}
+use Rattle.xa_client_worker.specs.xa_lock.Known.{known as page_of, IsPassOf, passes_of}
+use Rattle.xa_client_worker.specs.xa_lock.Pages.{first_page}
+use Rattle.xa_client_worker.specs.xa_cell.declared.cells.Cells.{Cells}
+use Rattle.xa_client_worker.specs.xa_queue.Queue.{Standing}
+use Rattle.xa_client_worker.specs.xa_queue.Changes.{opened}
+use Rattle.xa_client_worker.specs.xa_held.declared.cargo.Cargo.{Cargo}
+use Rattle.xa_client_worker.specs.xa_held.declared.kept_queue.KeptQueue.{KeptQueue}
+use Rattle.xa_client_worker.specs.xa_held.declared.kept_queue.QueueNote.{QueueNote}
+use Rattle.xa_client_worker.specs.xa_held.declared.kept_queue.QueueNote.TheVariants.{Opened}
+use Rattle.xa_client_worker.specs.xa_held.declared.kept_queue.Setting.{Setting}
+use Rattle.xa_client_worker.specs.xa_held.Joins.{HasServers}
+use Rattle.xa_client_worker.specs.xa_caller.declared.cargo.Filling.{Filling}
 use Rattle.xa_boot.specs.declared.locking.Locked.{Locked}
 
 -- P holds of the entries of two lists with their number; the first has number n

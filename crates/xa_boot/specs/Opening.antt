@@ -1,18 +1,18 @@
 -- The board as the domain advertises what is configured, and what it noted of that (this project's own).
 use Rattle.std.specs.Prelude.{◌≡◌, ℕ, ◌+◌, ◌≤◌, ◌^◌, List, ◌∷◌, ◌++◌, length, map, reverse, drop}
-use Rattle.xa_clients.specs.xa_types.declared.setup.Setup.{Setup}
-use Rattle.xa_clients.specs.xa_types.declared.setup.ServiceSetup.{ServiceSetup}
-use Rattle.xa_clients.specs.xa_types.Rows.{Change, Put, configured}
-use Rattle.xa_clients.specs.xa_types.Setup.{queue_named}
-use Rattle.xa_clients.specs.xa_events.Board.{boot, published}
-use Rattle.xa_clients.specs.xa_events.Cases.{HomePart}
-use Rattle.xa_clients.specs.xa_events.Words.{AtEach}
-use Rattle.xa_clients.specs.xa_stamp.declared.home.Stamped.{Stamped}
-use Rattle.xa_clients.specs.xa_lock.Makers.{made_by}
-use Rattle.xa_clients.specs.xa_crew.Seen.{past_in}
-use Rattle.xa_clients.specs.xa_board.Board.{stamp_of}
-use Rattle.xa_clients.specs.xa_held.declared.kept_board.BoardNote.{BoardNote}
-use Rattle.xa_clients.specs.xa_held.declared.kept_board.BoardNote.TheVariants.{Opened, By}
+use Rattle.xa_client_worker.specs.xa_types.declared.setup.Setup.{Setup}
+use Rattle.xa_client_worker.specs.xa_types.declared.setup.ServiceSetup.{ServiceSetup}
+use Rattle.xa_client_worker.specs.xa_types.Rows.{Change, Put, configured}
+use Rattle.xa_client_worker.specs.xa_types.Setup.{queue_named}
+use Rattle.xa_client_worker.specs.xa_events.Board.{boot, published}
+use Rattle.xa_client_worker.specs.xa_events.Cases.{HomePart}
+use Rattle.xa_client_worker.specs.xa_events.Words.{AtEach}
+use Rattle.xa_client_worker.specs.xa_stamp.declared.home.Stamped.{Stamped}
+use Rattle.xa_client_worker.specs.xa_lock.Makers.{made_by}
+use Rattle.xa_client_worker.specs.xa_worker.Seen.{past_in}
+use Rattle.xa_client_worker.specs.xa_board.Board.{stamp_of}
+use Rattle.xa_client_worker.specs.xa_held.declared.kept_board.BoardNote.{BoardNote}
+use Rattle.xa_client_worker.specs.xa_held.declared.kept_board.BoardNote.TheVariants.{Opened, By}
 use Rattle.xa_boot.specs.declared.advertising.Opening.{Opening}
 use Rattle.xa_boot.specs.Booting.{IsBoots}
 

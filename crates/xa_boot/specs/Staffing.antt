@@ -3,23 +3,23 @@ use Rattle.std.specs.Prelude.{◌≡◌, ℕ, ◌+◌, ◌<◌, ◌≤◌, List,
 use Rattle.std.specs.List.{All}
 use Rattle.std.specs.declared.vec.Vec.{Vec}
 use Rattle.std.specs.declared.alloc.Global.{Global}
-use Rattle.xa_clients.specs.xa_events.Words.{EachNumbered}
-use Rattle.xa_clients.specs.xa_stamp.declared.home.Stamped.{Stamped}
-use Rattle.xa_clients.specs.xa_lock.declared.guarded.Guarded.{Guarded}
-use Rattle.xa_clients.specs.xa_lock.declared.pass.LockPass.{LockPass}
-use Rattle.xa_clients.specs.xa_lock.Known.{known as page_of, IsPassOf}
-use Rattle.xa_clients.specs.xa_lock.Pages.{first_page}
-use Rattle.xa_clients.specs.xa_cell.declared.tokens.Seat.{Seat}
-use Rattle.xa_clients.specs.xa_cell.Known.{known, IsSeatOf, IsNew}
-use Rattle.xa_clients.specs.xa_held.declared.kept_queue.KeptQueue.{KeptQueue}
-use Rattle.xa_clients.specs.xa_held.declared.kept_queue.QueueNote.{QueueNote}
-use Rattle.xa_clients.specs.xa_held.declared.kept_queue.QueueNote.TheVariants.{Opened}
-use Rattle.xa_clients.specs.xa_held.declared.kept_queue.Setting.{Setting}
-use Rattle.xa_clients.specs.xa_caller.declared.cargo.Filling.{Filling}
-use Rattle.xa_clients.specs.xa_caller.declared.phase.Phase.TheVariants.{Idle}
-use Rattle.xa_clients.specs.xa_desk.declared.domain.Domain.{Domain}
-use Rattle.xa_clients.specs.xa_desk.declared.desk.Desk.{Desk}
-use Rattle.xa_clients.specs.xa_desk.Desks.{IsDesk, IsSettingOf, IsThere, queue_page}
+use Rattle.xa_client_worker.specs.xa_events.Words.{EachNumbered}
+use Rattle.xa_client_worker.specs.xa_stamp.declared.home.Stamped.{Stamped}
+use Rattle.xa_client_worker.specs.xa_lock.declared.guarded.Guarded.{Guarded}
+use Rattle.xa_client_worker.specs.xa_lock.declared.pass.LockPass.{LockPass}
+use Rattle.xa_client_worker.specs.xa_lock.Known.{known as page_of, IsPassOf}
+use Rattle.xa_client_worker.specs.xa_lock.Pages.{first_page}
+use Rattle.xa_client_worker.specs.xa_cell.declared.tokens.Seat.{Seat}
+use Rattle.xa_client_worker.specs.xa_cell.Known.{known, IsSeatOf, IsNew}
+use Rattle.xa_client_worker.specs.xa_held.declared.kept_queue.KeptQueue.{KeptQueue}
+use Rattle.xa_client_worker.specs.xa_held.declared.kept_queue.QueueNote.{QueueNote}
+use Rattle.xa_client_worker.specs.xa_held.declared.kept_queue.QueueNote.TheVariants.{Opened}
+use Rattle.xa_client_worker.specs.xa_held.declared.kept_queue.Setting.{Setting}
+use Rattle.xa_client_worker.specs.xa_caller.declared.cargo.Filling.{Filling}
+use Rattle.xa_client_worker.specs.xa_caller.declared.phase.Phase.TheVariants.{Idle}
+use Rattle.xa_client_worker.specs.xa_desk.declared.domain.Domain.{Domain}
+use Rattle.xa_client_worker.specs.xa_desk.declared.desk.Desk.{Desk}
+use Rattle.xa_client_worker.specs.xa_desk.Desks.{IsDesk, IsSettingOf, IsThere, queue_page}
 use Rattle.xa_boot.specs.declared.staff.Staff.{Staff}
 use Rattle.xa_boot.specs.declared.staff.Post.{Post}
 use Rattle.xa_boot.specs.Opening.{IsBoot, opening}

@@ -3,20 +3,20 @@ use Rattle.std.specs.Prelude.{◌≡◌, ℕ, zero, suc, List, [], length, map, 
 use Rattle.std.specs.List.{All}
 use Rattle.std.specs.declared.vec.Vec.{Vec}
 use Rattle.std.specs.declared.alloc.Global.{Global}
-use Rattle.xa_clients.specs.xa_types.declared.setup.Setup.{Setup}
-use Rattle.xa_clients.specs.xa_types.declared.setup.ServerSetup.{ServerSetup}
-use Rattle.xa_clients.specs.xa_events.Caller.{descriptor_limit}
-use Rattle.xa_clients.specs.xa_events.Words.{EachNumbered}
-use Rattle.xa_clients.specs.xa_crew.Ending.{workers_of}
-use Rattle.xa_clients.specs.xa_lock.declared.guarded.Guarded.{Guarded}
-use Rattle.xa_clients.specs.xa_lock.declared.pass.LockPass.{LockPass}
-use Rattle.xa_clients.specs.xa_lock.Known.{known as page_of, IsPassOf, passes_of}
-use Rattle.xa_clients.specs.xa_lock.Pages.{first_page}
-use Rattle.xa_clients.specs.xa_held.Board.{Held}
-use Rattle.xa_clients.specs.xa_held.declared.kept_board.BoardNote.{BoardNote}
-use Rattle.xa_clients.specs.xa_held.declared.kept_queue.QueueNote.{QueueNote}
-use Rattle.xa_clients.specs.xa_caller.declared.cargo.Filling.{Filling}
-use Rattle.xa_clients.specs.xa_restart.Rule.{Standing as Restarts}
+use Rattle.xa_client_worker.specs.xa_types.declared.setup.Setup.{Setup}
+use Rattle.xa_client_worker.specs.xa_types.declared.setup.ServerSetup.{ServerSetup}
+use Rattle.xa_client_worker.specs.xa_events.Caller.{descriptor_limit}
+use Rattle.xa_client_worker.specs.xa_events.Words.{EachNumbered}
+use Rattle.xa_client_worker.specs.xa_worker.Ending.{workers_of}
+use Rattle.xa_client_worker.specs.xa_lock.declared.guarded.Guarded.{Guarded}
+use Rattle.xa_client_worker.specs.xa_lock.declared.pass.LockPass.{LockPass}
+use Rattle.xa_client_worker.specs.xa_lock.Known.{known as page_of, IsPassOf, passes_of}
+use Rattle.xa_client_worker.specs.xa_lock.Pages.{first_page}
+use Rattle.xa_client_worker.specs.xa_held.Board.{Held}
+use Rattle.xa_client_worker.specs.xa_held.declared.kept_board.BoardNote.{BoardNote}
+use Rattle.xa_client_worker.specs.xa_held.declared.kept_queue.QueueNote.{QueueNote}
+use Rattle.xa_client_worker.specs.xa_caller.declared.cargo.Filling.{Filling}
+use Rattle.xa_client_worker.specs.xa_restart.Rule.{Standing as Restarts}
 use Rattle.xa_boot.specs.declared.boards.OpenBoard.{OpenBoard}
 use Rattle.xa_boot.specs.declared.rooms.Supplies.{Supplies}
 use Rattle.xa_boot.specs.Opening.{IsBoot, opening}

@@ -2,16 +2,16 @@
 ghost use Rattle.std.specs.Prelude.{◌≡◌, ◌+◌, ◌<◌, [], ◌∷◌, length, position, true, IfOk, OnOk};
 ghost use Rattle.std.specs.List.{All};
 ghost use Rattle.std.specs.Str.{bytes_eq};
-ghost use Rattle.xa_clients.specs.xa_types.Configured.{is_configured, is_among, queue_names};
-ghost use Rattle.xa_clients.specs.xa_types.Rows.{Put, changes_of, configured};
-ghost use Rattle.xa_clients.specs.xa_types.Setup.{queue_named};
+ghost use Rattle.xa_client_worker.specs.xa_types.Configured.{is_configured, is_among, queue_names};
+ghost use Rattle.xa_client_worker.specs.xa_types.Rows.{Put, changes_of, configured};
+ghost use Rattle.xa_client_worker.specs.xa_types.Setup.{queue_named};
 ghost use Rattle.xa_boot.specs.Opening.{Remain, Begin, Passed};
 
-use xa_clients::board::Board;
-use xa_clients::held::KeptBoard;
-use xa_clients::route::{is_same, row_for};
-use xa_clients::types::{CallerId, Name, NoMemory, QueueId, ServiceSetup, Setup, Stamp};
-use xa_clients::work::Own;
+use xa_client_worker::board::Board;
+use xa_client_worker::held::KeptBoard;
+use xa_client_worker::route::{is_same, row_for};
+use xa_client_worker::types::{CallerId, Name, NoMemory, QueueId, ServiceSetup, Setup, Stamp};
+use xa_client_worker::work::Own;
 
 /// The board, and what the domain noted there.
 #[derive(Drop)]

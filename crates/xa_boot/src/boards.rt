@@ -1,15 +1,15 @@
 // The board under its lock, behind the boot.
 ghost use Rattle.std.specs.Prelude.{◌≡◌, ◌<◌, length, true, IfOk};
-ghost use Rattle.xa_clients.specs.xa_types.Configured.{is_configured};
+ghost use Rattle.xa_client_worker.specs.xa_types.Configured.{is_configured};
 ghost use Rattle.xa_boot.specs.Supplies.{IsOpenBoard};
 
 use crate::advertising::Opening;
 use std::alloc::Global;
-use xa_clients::board::{Board, Reader};
-use xa_clients::held::{BoardNote, KeptBoard};
-use xa_clients::lock::{Guarded, LockPass};
-use xa_clients::types::{NoMemory, Setup, Stamp};
-use xa_clients::work::Own;
+use xa_client_worker::board::{Board, Reader};
+use xa_client_worker::held::{BoardNote, KeptBoard};
+use xa_client_worker::lock::{Guarded, LockPass};
+use xa_client_worker::types::{NoMemory, Setup, Stamp};
+use xa_client_worker::work::Own;
 
 /// The board, on which the configured services are advertised: a pass and a reader for each worker, what the domain noted
 /// there, the stamp of the last of that, and the board's version then.

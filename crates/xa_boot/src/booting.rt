@@ -1,8 +1,8 @@
 // The boot.
 ghost use Rattle.std.specs.Prelude.{◌≡◌, ◌≤◌, true, [], length, map, IfOk, IfErr};
 ghost use Rattle.std.specs.List.{All};
-ghost use Rattle.xa_clients.specs.xa_types.Configured.{is_configured};
-ghost use Rattle.xa_links.specs.Lives.{HasStarted};
+ghost use Rattle.xa_client_worker.specs.xa_types.Configured.{is_configured};
+ghost use Rattle.xa_server_worker.specs.Lives.{HasStarted};
 ghost use Rattle.xa_boot.specs.Booting.{HasBooted};
 ghost use Rattle.xa_boot.specs.Founding.{IsFounded, AreRooms};
 
@@ -10,11 +10,11 @@ use crate::closer::Closer;
 use crate::founding::{Founded, found};
 use crate::hiring::{hire_clients, hire_closer, hire_servers};
 use std::alloc::Global;
-use xa_clients::ClientWorker;
-use xa_clients::desk::Domain;
-use xa_clients::link::{Link, Starter};
-use xa_clients::types::{NoMemory, Setup};
-use xa_links::ServerWorker;
+use xa_client_worker::ClientWorker;
+use xa_client_worker::desk::Domain;
+use xa_client_worker::link::{Link, Starter};
+use xa_client_worker::types::{NoMemory, Setup};
+use xa_server_worker::ServerWorker;
 
 /// What a run is made of: the domain, and its workers.
 pub struct Booted<L: Link, T: Starter<L>> {

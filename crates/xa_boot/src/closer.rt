@@ -1,10 +1,10 @@
 // What closes a domain.
-use xa_clients::caller::Filling;
-use xa_clients::cell::Seat;
-use xa_clients::held::{BoardNote, QueueNote};
-use xa_clients::lock::LockPass;
-use xa_clients::types::Stamp;
-use xa_clients::work::{Halt, Own};
+use xa_client_worker::caller::Filling;
+use xa_client_worker::cell::Seat;
+use xa_client_worker::held::{BoardNote, QueueNote};
+use xa_client_worker::lock::LockPass;
+use xa_client_worker::types::Stamp;
+use xa_client_worker::work::{Halt, Own};
 
 /// The domain itself, which is caller 0: its seat and its passes, what it noted, which takes no memory, the greatest stamp
 /// that it noted or saw, and why it halted, if it did.

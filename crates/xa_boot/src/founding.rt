@@ -1,7 +1,7 @@
 // The domain, and what there is for its workers. Where memory runs out nothing of it is left.
 ghost use Rattle.std.specs.Prelude.{◌≡◌, ◌≤◌, length, true, IfOk};
-ghost use Rattle.xa_clients.specs.xa_types.Configured.{is_configured};
-ghost use Rattle.xa_clients.specs.xa_crew.Ending.{workers_of};
+ghost use Rattle.xa_client_worker.specs.xa_types.Configured.{is_configured};
+ghost use Rattle.xa_client_worker.specs.xa_worker.Ending.{workers_of};
 ghost use Rattle.xa_boot.specs.Supplies.{AreSupplies, IsOpenBoard};
 ghost use Rattle.xa_boot.specs.Locking.{AreLocked};
 ghost use Rattle.xa_boot.specs.Founding.{AreSeats, IsFounded};
@@ -11,11 +11,11 @@ use crate::locking::{Locked, lock_queues};
 use crate::rooms::{Supplies, workers_of};
 use crate::staff::Staff;
 use std::alloc::Global;
-use xa_clients::caller::Filling;
-use xa_clients::cell::{Cells, Seat};
-use xa_clients::desk::{Domain, HaltWord};
-use xa_clients::restart::Lives;
-use xa_clients::types::{NoMemory, Setup};
+use xa_client_worker::caller::Filling;
+use xa_client_worker::cell::{Cells, Seat};
+use xa_client_worker::desk::{Domain, HaltWord};
+use xa_client_worker::restart::Lives;
+use xa_client_worker::types::{NoMemory, Setup};
 
 /// A domain, what there is for its workers, and the starts of each server.
 pub struct Founded {

@@ -1,10 +1,10 @@
 // The workers with their desks, of which each takes what the workers before it have left.
 ghost use Rattle.std.specs.Prelude.{◌≡◌, ◌+◌, ◌<◌, ◌≤◌, [], length, map, slice_get, Some, true, vec_capacity};
 ghost use Rattle.std.specs.List.{All};
-ghost use Rattle.xa_clients.specs.xa_types.Configured.{is_configured};
-ghost use Rattle.xa_links.specs.Lives.{HasStarted};
-ghost use Rattle.xa_clients.specs.xa_restart.Rule.{Standing as Restarts};
-ghost use Rattle.xa_clients.specs.xa_desk.Desks.{IsDomain};
+ghost use Rattle.xa_client_worker.specs.xa_types.Configured.{is_configured};
+ghost use Rattle.xa_server_worker.specs.Lives.{HasStarted};
+ghost use Rattle.xa_client_worker.specs.xa_restart.Rule.{Standing as Restarts};
+ghost use Rattle.xa_client_worker.specs.xa_desk.Desks.{IsDomain};
 ghost use Rattle.xa_boot.specs.Booting.{IsNewServer, IsNewCloser};
 ghost use Rattle.xa_boot.specs.Supplies.{restarts_of};
 ghost use Rattle.xa_boot.specs.Hiring.{AreLeft, HasClients, HasServers};
@@ -13,13 +13,13 @@ use crate::advertising::queue_named;
 use crate::closer::Closer;
 use crate::staff::{Post, Staff, last_of};
 use std::alloc::Global;
-use xa_clients::ClientWorker;
-use xa_clients::desk::Domain;
-use xa_clients::link::{Link, Starter};
-use xa_clients::restart::Lives;
-use xa_clients::server::{Served, ServerSlot};
-use xa_clients::types::ServerId;
-use xa_links::ServerWorker;
+use xa_client_worker::ClientWorker;
+use xa_client_worker::desk::Domain;
+use xa_client_worker::link::{Link, Starter};
+use xa_client_worker::restart::Lives;
+use xa_client_worker::server::{Served, ServerSlot};
+use xa_client_worker::types::ServerId;
+use xa_server_worker::ServerWorker;
 
 // The worker of the server at that place, which is the last that is left.
 fn server_worker<L: Link, T: Starter<L>>(

@@ -15,15 +15,15 @@ pub use booting::{Booted, NotBooted, boot};
 pub use closer::Closer;
 
 // What crates above name of those below.
-pub use xa_clients::{
+pub use xa_client_worker::{
     caller, cell, desk, events, held, link, lock, pipe, queue, server, stamp, types, work,
 };
 
-// What xa_clients itself has.
+// What xa_client_worker itself has.
 pub mod clients {
-    pub use xa_clients::{ClientWorker, Ended, client_work, perform};
+    pub use xa_client_worker::{ClientWorker, Ended, client_work, perform};
 }
 
 pub mod links {
-    pub use xa_links::{CutLife, ServerWorker};
+    pub use xa_server_worker::{CutLife, ServerWorker};
 }

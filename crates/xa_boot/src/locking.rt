@@ -1,20 +1,20 @@
 // The queues, each under its lock. Where memory runs out, those that stand are closed again.
 ghost use Rattle.std.specs.Prelude.{◌≡◌, ◌+◌, ◌<◌, ◌≤◌, ◌^◌, length, true, IfOk};
-ghost use Rattle.xa_clients.specs.xa_types.Configured.{is_configured};
-ghost use Rattle.xa_clients.specs.xa_held.declared.kept_queue.Setting.{Setting};
-ghost use Rattle.xa_clients.specs.xa_held.Joins.{HasServers};
-ghost use Rattle.xa_clients.specs.xa_caller.declared.cargo.Filling.{Filling};
+ghost use Rattle.xa_client_worker.specs.xa_types.Configured.{is_configured};
+ghost use Rattle.xa_client_worker.specs.xa_held.declared.kept_queue.Setting.{Setting};
+ghost use Rattle.xa_client_worker.specs.xa_held.Joins.{HasServers};
+ghost use Rattle.xa_client_worker.specs.xa_caller.declared.cargo.Filling.{Filling};
 ghost use Rattle.xa_boot.specs.Locking.{IsPlain, IsFresh, IsLocked, AreLocked, AreFresh};
 
 use crate::advertising::queue_named;
 use crate::rooms::QueuePass;
 use std::alloc::Global;
-use xa_clients::caller::{Cargo, Filling};
-use xa_clients::cell::Cells;
-use xa_clients::held::KeptQueue;
-use xa_clients::lock::Guarded;
-use xa_clients::queue::Queue;
-use xa_clients::types::{NoMemory, QueueId, ServerId, Setup, Stamp};
+use xa_client_worker::caller::{Cargo, Filling};
+use xa_client_worker::cell::Cells;
+use xa_client_worker::held::KeptQueue;
+use xa_client_worker::lock::Guarded;
+use xa_client_worker::queue::Queue;
+use xa_client_worker::types::{NoMemory, QueueId, ServerId, Setup, Stamp};
 
 /// Queues under their locks, and all passes of each.
 pub struct Locked {

@@ -1,21 +1,21 @@
 // What the workers' desks and the domain take of memory beside queues and cells. All of it can be dropped.
 ghost use Rattle.std.specs.Prelude.{◌≡◌, ◌≤◌, length, map, true, IfOk};
 ghost use Rattle.std.specs.List.{All};
-ghost use Rattle.xa_clients.specs.xa_types.Configured.{is_configured};
-ghost use Rattle.xa_clients.specs.xa_events.Words.{EachNumbered};
-ghost use Rattle.xa_clients.specs.xa_crew.Ending.{workers_of};
+ghost use Rattle.xa_client_worker.specs.xa_types.Configured.{is_configured};
+ghost use Rattle.xa_client_worker.specs.xa_events.Words.{EachNumbered};
+ghost use Rattle.xa_client_worker.specs.xa_worker.Ending.{workers_of};
 ghost use Rattle.xa_boot.specs.Supplies.{limit_of, restarts_of, IsRoom, AreSupplies};
 
 use crossbeam_utils::sync::EventCount;
 use std::alloc::Global;
 use std::sync::atomic::AtomicU64;
-use xa_clients::buffer::Shapes;
-use xa_clients::caller::Filling;
-use xa_clients::desk::{Signals, Waits};
-use xa_clients::held::QueueNote;
-use xa_clients::lock::LockPass;
-use xa_clients::restart::Lives;
-use xa_clients::types::{NoMemory, Setup};
+use xa_client_worker::buffer::Shapes;
+use xa_client_worker::caller::Filling;
+use xa_client_worker::desk::{Signals, Waits};
+use xa_client_worker::held::QueueNote;
+use xa_client_worker::lock::LockPass;
+use xa_client_worker::restart::Lives;
+use xa_client_worker::types::{NoMemory, Setup};
 
 // How many requests a client may have out, and a server.
 const CLIENT_CELLS: u32 = 50;

@@ -6,14 +6,14 @@ ghost use Rattle.xa_boot.specs.Staffing.{IsFull, IsStaff, AreTaken, Hires, Seats
 
 use crate::rooms::QueuePass;
 use std::alloc::Global;
-use xa_clients::board::Reader;
-use xa_clients::caller::{Caller, Filling};
-use xa_clients::cell::Seat;
-use xa_clients::desk::{Desk, Domain};
-use xa_clients::held::BoardNote;
-use xa_clients::lock::LockPass;
-use xa_clients::types::CallerId;
-use xa_clients::work::{Own, Work};
+use xa_client_worker::board::Reader;
+use xa_client_worker::caller::{Caller, Filling};
+use xa_client_worker::cell::Seat;
+use xa_client_worker::desk::{Desk, Domain};
+use xa_client_worker::held::BoardNote;
+use xa_client_worker::lock::LockPass;
+use xa_client_worker::types::CallerId;
+use xa_client_worker::work::{Own, Work};
 
 /// What is there for the workers that have no desk yet, of which `left` are left, in the order of their numbers. The domain
 /// noted `own` at the boot, and the board had that version then.

@@ -15,7 +15,7 @@ use Rattle.xa_cell.specs.Known.{known, SameSeat}
 use Rattle.xa_cell.specs.Calls.{AllTaken, NoneFree, TookAs}
 use Rattle.xa_cell.specs.Places.{OpenAre, Stand, StandsAt}
 use Rattle.xa_cell.proofs.Lists.{decided}
-use Rattle.xa_work.specs.Work.{Standing as Working}
+use Rattle.xa_worker.specs.Work.{Standing as Working}
 use Rattle.xa_caller.specs.declared.caller.Caller.TheInside.{Inside}
 use Rattle.xa_caller.specs.declared.cargo.Filling.{Filling}
 use Rattle.xa_caller.specs.declared.phase.Phase.{Phase}

@@ -9,8 +9,7 @@ pub use Rattle.xa_types.proofs as xa_types
 pub use Rattle.xa_events.proofs as xa_events
 pub use Rattle.xa_stamp.proofs as xa_stamp
 pub use Rattle.xa_lock.proofs as xa_lock
-pub use Rattle.xa_crew.proofs as xa_crew
-pub use Rattle.xa_work.proofs as xa_work
+pub use Rattle.xa_worker.proofs as xa_worker
 pub use Rattle.xa_cell.proofs as xa_cell
 pub use Rattle.xa_queue.proofs as xa_queue
 pub use Rattle.xa_held.proofs as xa_held

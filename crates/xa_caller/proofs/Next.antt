@@ -28,7 +28,7 @@ use Rattle.xa_events.specs.Calls.{is_invalid_ask, is_invalid_call}
 use Rattle.xa_types.specs.Name.{is_name}
 use Rattle.xa_types.specs.declared.call.Ask.{Ask}
 use Rattle.xa_events.proofs.WordsLemmas.{same_request_of}
-use Rattle.xa_work.specs.Work.{Standing as Working, IsNext, theirs}
+use Rattle.xa_worker.specs.Work.{Standing as Working, IsNext, theirs}
 use Rattle.xa_caller.specs.declared.phase.Open.{Open}
 use Rattle.xa_caller.specs.declared.phase.Phase.TheVariants.{Idle, Sent}
 use Rattle.xa_caller.specs.Phases.{just_in, open_in}

@@ -20,13 +20,13 @@ use Rattle.xa_events.specs.Caller.{op_of, accepted_in, version_in, wants_reply, 
 use Rattle.xa_events.specs.Conversation.{connections, closes_connection}
 use Rattle.xa_types.specs.declared.ids.RequestId.{RequestId}
 use Rattle.xa_events.specs.Local.{worker_events}
-use Rattle.xa_crew.specs.Seen.{past_in}
+use Rattle.xa_worker.specs.Seen.{past_in}
 use Rattle.xa_events.specs.Views.{newer, CallerView, caller_view, caller_after}
 use Rattle.xa_events.proofs.Owns.{caller_more}
 use Rattle.xa_events.proofs.WordsLemmas.{same_request_of, greatest_one_more, if_some}
 use Rattle.xa_stamp.specs.declared.home.Stamped.{Stamped}
-use Rattle.xa_work.specs.Work.{Standing as Working, noted}
-use Rattle.xa_work.proofs.Noting.{theirs-more}
+use Rattle.xa_worker.specs.Work.{Standing as Working, noted}
+use Rattle.xa_worker.proofs.Noting.{theirs-more}
 use Rattle.xa_caller.specs.declared.phase.Open.{Open}
 use Rattle.xa_caller.specs.declared.phase.Phase.{Phase}
 use Rattle.xa_caller.specs.declared.phase.Phase.TheVariants.{Idle, Sent}

@@ -9,7 +9,7 @@ use Rattle.xa_events.specs.Board.{boot}
 use Rattle.xa_events.specs.Caller.{op_of, accepted_in, priority_asked, is_client, is_serving}
 use Rattle.xa_events.specs.Views.{CallerView, caller_view}
 use Rattle.xa_cell.specs.declared.tokens.Seat.{Seat}
-use Rattle.xa_work.specs.Work.{Standing as Working, theirs}
+use Rattle.xa_worker.specs.Work.{Standing as Working, theirs}
 use Rattle.xa_caller.specs.declared.cargo.Filling.{Filling}
 use Rattle.xa_caller.specs.declared.phase.Phase.{Phase}
 use Rattle.xa_caller.specs.Phases.{just_in, open_in}

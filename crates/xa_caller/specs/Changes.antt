@@ -26,9 +26,9 @@ use Rattle.xa_cell.specs.declared.tokens.Seat.{Seat}
 use Rattle.xa_cell.specs.declared.view.Fill.{Fill}
 use Rattle.xa_cell.specs.declared.view.View.{View}
 use Rattle.xa_cell.specs.Calls.{Began, AllTaken}
-use Rattle.xa_work.specs.declared.work.Halt.{Halt}
-use Rattle.xa_work.specs.declared.work.Halt.TheVariants.{Worn}
-use Rattle.xa_work.specs.Work.{Standing as Working, noted, seeing, HaltsAt}
+use Rattle.xa_worker.specs.declared.work.Halt.{Halt}
+use Rattle.xa_worker.specs.declared.work.Halt.TheVariants.{Worn}
+use Rattle.xa_worker.specs.Work.{Standing as Working, noted, seeing, HaltsAt}
 use Rattle.xa_caller.specs.declared.cargo.Filling.{Filling}
 use Rattle.xa_caller.specs.declared.phase.Open.{Open}
 use Rattle.xa_caller.specs.declared.phase.Draft.{Draft}

@@ -10,8 +10,7 @@ pub use Rattle.xa_types.specs as xa_types
 pub use Rattle.xa_events.specs as xa_events
 pub use Rattle.xa_stamp.specs as xa_stamp
 pub use Rattle.xa_lock.specs as xa_lock
-pub use Rattle.xa_crew.specs as xa_crew
-pub use Rattle.xa_work.specs as xa_work
+pub use Rattle.xa_worker.specs as xa_worker
 pub use Rattle.xa_cell.specs as xa_cell
 pub use Rattle.xa_queue.specs as xa_queue
 pub use Rattle.xa_held.specs as xa_held

@@ -4,7 +4,7 @@ use Rattle.xa_types.specs.declared.stamp.Stamp.{Stamp}
 use Rattle.xa_events.specs.declared.event.Event.{Event}
 use Rattle.xa_events.specs.declared.event.Event.TheVariants.{Take, Forward, Gone, Start, StartFailed, End, Stop}
 use Rattle.xa_events.specs.Caller.{version_of}
-use Rattle.xa_work.specs.Work.{noted, noted_here}
+use Rattle.xa_worker.specs.Work.{noted, noted_here}
 use Rattle.xa_caller.specs.Caller.{Standing}
 
 -- it is of the server's lives and of its requests' ends, and stands at its caller's own home

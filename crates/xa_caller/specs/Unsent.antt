@@ -15,8 +15,8 @@ use Rattle.xa_queue.specs.declared.entry.Entry.{Entry}
 use Rattle.xa_cell.specs.declared.tokens.Seat.{Seat}
 use Rattle.xa_cell.specs.Known.{known}
 use Rattle.xa_cell.specs.Changes.{withdrawn}
-use Rattle.xa_work.specs.declared.work.Halt.{Halt}
-use Rattle.xa_work.specs.Work.{HaltsAt}
+use Rattle.xa_worker.specs.declared.work.Halt.{Halt}
+use Rattle.xa_worker.specs.Work.{HaltsAt}
 use Rattle.xa_caller.specs.declared.cargo.Filling.{Filling}
 use Rattle.xa_caller.specs.declared.phase.Draft.{Draft}
 use Rattle.xa_caller.specs.declared.phase.Phase.TheVariants.{Idle, Prepared}

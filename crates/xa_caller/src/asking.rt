@@ -29,7 +29,7 @@ use xa_held::Invocation;
 use xa_queue::Entry;
 use xa_route::priority;
 use xa_types::{Ask, Fault, Found, Name, Row, Stamp};
-use xa_work::Halt;
+use xa_worker::Halt;
 
 // A request whose cell was given back: the number of its call, and the version of the board by which it was made.
 #[derive(Drop)]

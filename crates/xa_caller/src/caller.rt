@@ -19,9 +19,9 @@ ghost use Rattle.xa_caller.specs.Drafts.{accepted_by, entry_by};
 ghost use Rattle.xa_caller.specs.Changes.{stop};
 ghost use Rattle.xa_caller.specs.Phases.{IsPrepared, IsPreparedAt, IsSent, least_by};
 ghost use Rattle.xa_caller.specs.declared.phase.Phase.TheVariants as phases;
-ghost use Rattle.xa_work.specs.Work.{HaltsAt, seeing, theirs};
+ghost use Rattle.xa_worker.specs.Work.{HaltsAt, seeing, theirs};
 ghost use Rattle.xa_stamp.specs.Home.{last_stamp, Rises};
-ghost use Rattle.xa_crew.specs.Crew.{no_stamp, stands_at};
+ghost use Rattle.xa_worker.specs.Crew.{no_stamp, stands_at};
 ghost use Rattle.xa_cell.specs.Places.{OpenAre};
 ghost use Rattle.xa_caller.specs.Changes.{FillsNoMore};
 ghost use Rattle.xa_caller.specs.Phases.{places_in};
@@ -45,7 +45,7 @@ use xa_stamp::Stamped;
 use xa_types::{
     Ask, CallerId, Data, Fault, Found, Kind, Mode, NoMemory, RequestId, Row, Setup, Stamp,
 };
-use xa_work::{Halt, Work};
+use xa_worker::{Halt, Work};
 
 /// What a caller leaves behind.
 pub struct Left {

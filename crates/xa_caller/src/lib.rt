@@ -63,5 +63,5 @@ pub mod types {
 }
 
 pub mod work {
-    pub use xa_work::{Halt, Own, Work};
+    pub use xa_worker::{Halt, Own, Work};
 }

@@ -2,8 +2,8 @@
 ghost use Rattle.std.specs.Prelude.{◌≡◌, ◌+◌, ◌≤◌, ◌<◌, ◌^◌, None, IfOk, IfErr, OnErr};
 ghost use Rattle.xa_cell.specs.Known.{known, IsSeatOf, IsTicketOf, SameSeat};
 ghost use Rattle.xa_cell.specs.Calls.{FilledAs};
-ghost use Rattle.xa_crew.specs.Crew.{IsOfDomain};
-ghost use Rattle.xa_work.specs.Work.{IsNext};
+ghost use Rattle.xa_worker.specs.Crew.{IsOfDomain};
+ghost use Rattle.xa_worker.specs.Work.{IsNext};
 ghost use Rattle.xa_caller.specs.declared.phase.Phase.TheVariants as phases;
 ghost use Rattle.xa_caller.specs.Serving.{IsOfServer, IsAtQueue, IsForwardBy, version_ended, raised, noted_own, noted_off, forwarded_off};
 

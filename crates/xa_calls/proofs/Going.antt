@@ -13,7 +13,7 @@ use Rattle.xa_desk.specs.xa_types.Found.{FoundRows}
 use Rattle.xa_desk.specs.xa_types.Kind.{kind_of}
 use Rattle.xa_desk.specs.xa_events.declared.event.Evidence.{Evidence}
 use Rattle.xa_desk.specs.xa_events.declared.event.Evidence.TheVariants.{Version, Cells}
-use Rattle.xa_desk.specs.xa_work.declared.work.Halt.{Halt}
+use Rattle.xa_desk.specs.xa_worker.declared.work.Halt.{Halt}
 use Rattle.xa_desk.specs.xa_caller.declared.outcomes.Prepared.{Prepared}
 use Rattle.xa_desk.specs.xa_caller.declared.outcomes.Step.{Step}
 use Rattle.xa_desk.specs.xa_caller.declared.outcomes.Stop.{Stop}

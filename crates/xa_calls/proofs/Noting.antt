@@ -23,12 +23,12 @@ use Rattle.xa_desk.specs.xa_events.Homes.Home.{CallerHome}
 use Rattle.xa_desk.specs.xa_events.Said.{is_op, reply_at, reply_shown_by, refusal_reply}
 use Rattle.xa_desk.specs.xa_events.Server.{doing, is_busy, moves_server}
 use Rattle.xa_desk.specs.xa_stamp.declared.home.Stamped.{Stamped}
-use Rattle.xa_desk.specs.xa_crew.Crew.{stands_at}
-use Rattle.xa_desk.proofs.xa_crew.Calls.{call_of_worker}
-use Rattle.xa_desk.specs.xa_work.Work.{Standing as Working, theirs, noted}
-use Rattle.xa_desk.proofs.xa_work.Noting.{theirs-more}
-use Rattle.xa_desk.specs.xa_work.declared.work.Halt.{Halt}
-use Rattle.xa_desk.specs.xa_work.declared.work.Halt.TheVariants.{NoMemory, Worn}
+use Rattle.xa_desk.specs.xa_worker.Crew.{stands_at}
+use Rattle.xa_desk.proofs.xa_worker.Calls.{call_of_worker}
+use Rattle.xa_desk.specs.xa_worker.Work.{Standing as Working, theirs, noted}
+use Rattle.xa_desk.proofs.xa_worker.Noting.{theirs-more}
+use Rattle.xa_desk.specs.xa_worker.declared.work.Halt.{Halt}
+use Rattle.xa_desk.specs.xa_worker.declared.work.Halt.TheVariants.{NoMemory, Worn}
 use Rattle.xa_desk.specs.xa_cell.declared.tokens.Seat.{Seat}
 use Rattle.xa_desk.specs.xa_caller.declared.cargo.Filling.{Filling}
 use Rattle.xa_desk.specs.xa_caller.declared.outcomes.Step.{Step}

@@ -21,7 +21,7 @@ use Rattle.xa_desk.specs.xa_queue.declared.queue.Refusal.{Refusal}
 use Rattle.xa_desk.specs.xa_queue.declared.queue.Refusal.TheVariants as refusals
 use Rattle.xa_desk.specs.xa_held.declared.kept_board.BoardNote.{BoardNote}
 use Rattle.xa_desk.specs.xa_held.declared.kept_board.BoardNote.TheVariants.{Looked}
-use Rattle.xa_desk.specs.xa_work.declared.work.Halt.{Halt}
+use Rattle.xa_desk.specs.xa_worker.declared.work.Halt.{Halt}
 use Rattle.xa_desk.specs.xa_caller.declared.phase.Draft.{Draft}
 use Rattle.xa_desk.specs.xa_caller.declared.outcomes.Step.{Step}
 use Rattle.xa_desk.specs.xa_caller.declared.outcomes.Step.TheVariants as steps

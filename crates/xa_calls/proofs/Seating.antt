@@ -16,9 +16,9 @@ use Rattle.xa_desk.specs.xa_cell.Growing.{Keeps}
 use Rattle.xa_desk.specs.xa_cell.Known.{known}
 use Rattle.xa_desk.specs.xa_cell.Views.{at}
 use Rattle.xa_desk.proofs.xa_cell.Growing.{looked_keeps, withdrawn_keeps, more_behind}
-use Rattle.xa_desk.proofs.xa_told.Calls.{began_keeps, full_keeps, asked_looked, took_is_more}
-use Rattle.xa_desk.proofs.xa_told.Growth.{only_at}
-use Rattle.xa_desk.specs.xa_work.declared.work.Halt.{Halt}
+use Rattle.xa_desk.proofs.xa_server.Calls.{began_keeps, full_keeps, asked_looked, took_is_more}
+use Rattle.xa_desk.proofs.xa_server.Growth.{only_at}
+use Rattle.xa_desk.specs.xa_worker.declared.work.Halt.{Halt}
 use Rattle.xa_desk.specs.xa_caller.declared.cargo.Filling.{Filling}
 use Rattle.xa_desk.specs.xa_caller.declared.outcomes.Prepared.{Prepared}
 use Rattle.xa_desk.specs.xa_caller.declared.outcomes.Step.{Step}

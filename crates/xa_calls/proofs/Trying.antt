@@ -23,7 +23,7 @@ use Rattle.xa_desk.specs.xa_events.Queue.{is_down, is_closed, waiting}
 use Rattle.xa_desk.specs.xa_queue.declared.entry.Entry.{Entry}
 use Rattle.xa_desk.specs.xa_queue.declared.queue.Refusal.{Refusal}
 use Rattle.xa_desk.specs.xa_queue.declared.queue.Refusal.TheVariants as refusals
-use Rattle.xa_desk.specs.xa_work.declared.work.Halt.{Halt}
+use Rattle.xa_desk.specs.xa_worker.declared.work.Halt.{Halt}
 use Rattle.xa_desk.specs.xa_caller.declared.outcomes.Aimed.{Aimed}
 use Rattle.xa_desk.specs.xa_caller.declared.outcomes.Aimed.TheVariants as aims
 use Rattle.xa_desk.specs.xa_caller.declared.outcomes.Step.{Step}

@@ -14,8 +14,8 @@ use Rattle.xa_desk.specs.xa_events.Queue.{is_down, is_closed, waiting}
 use Rattle.xa_desk.specs.xa_queue.declared.entry.Entry.{Entry}
 use Rattle.xa_desk.specs.xa_queue.declared.queue.Refusal.{Refusal}
 use Rattle.xa_desk.specs.xa_queue.declared.queue.Refusal.TheVariants as refusals
-use Rattle.xa_desk.specs.xa_work.declared.work.Halt.{Halt}
-use Rattle.xa_desk.specs.xa_work.declared.work.Halt.TheVariants as halts
+use Rattle.xa_desk.specs.xa_worker.declared.work.Halt.{Halt}
+use Rattle.xa_desk.specs.xa_worker.declared.work.Halt.TheVariants as halts
 use Rattle.xa_desk.specs.xa_caller.Drafts.{Cargo}
 use Rattle.xa_desk.specs.xa_caller.declared.outcomes.Why.{Why}
 use Rattle.xa_desk.specs.xa_caller.declared.outcomes.Why.TheVariants as reasons

@@ -7,9 +7,9 @@ use Rattle.xa_desk.specs.xa_events.declared.event.Replied.{Replied}
 use Rattle.xa_desk.specs.xa_events.Caller.{last_op}
 use Rattle.xa_desk.specs.xa_events.Said.{is_op, reply_at, refusal_reply}
 use Rattle.xa_desk.specs.xa_stamp.declared.home.Stamped.{Stamped}
-use Rattle.xa_desk.specs.xa_crew.Seen.{past_in}
-use Rattle.xa_desk.specs.xa_work.declared.work.Halt.TheVariants.{NoMemory}
-use Rattle.xa_desk.specs.xa_work.Work.{theirs}
+use Rattle.xa_desk.specs.xa_worker.Seen.{past_in}
+use Rattle.xa_desk.specs.xa_worker.declared.work.Halt.TheVariants.{NoMemory}
+use Rattle.xa_desk.specs.xa_worker.Work.{theirs}
 use Rattle.xa_desk.specs.xa_caller.declared.phase.Phase.TheVariants.{Idle}
 use Rattle.xa_desk.specs.declared.desk.Desk.{Desk}
 use Rattle.xa_desk.specs.declared.stopped.Stopped.{Stopped}

@@ -2,7 +2,7 @@
 ghost use Rattle.std.specs.Prelude.{◌≡◌, ◌∷◌, ◌++◌, true, List, []};
 ghost use Rattle.xa_desk.specs.xa_events.Homes.Home.{CallerHome};
 ghost use Rattle.xa_desk.specs.xa_stamp.declared.home.Stamped.{Stamped};
-ghost use Rattle.xa_desk.specs.xa_crew.Crew.{stands_at};
+ghost use Rattle.xa_desk.specs.xa_worker.Crew.{stands_at};
 ghost use Rattle.xa_calls.specs.Telling.{told_of};
 
 use xa_desk::Desk;

@@ -1,36 +1,36 @@
 -- A request that is aimed by another row.
 use Rattle.std.proofs.Common.{◌≡◌, ℕ, ◌+◌, true, List, [], Some, refl, sym, ◌∙◌, ap, subst, arith}
 use Rattle.xa_desk.specs.Steps.{FitsOn}
-use Rattle.xa_told.specs.xa_cell.Known.{known}
+use Rattle.xa_server.specs.xa_cell.Known.{known}
 use Rattle.std.specs.Prelude.{slice_get}
 use Rattle.std.specs.List.{Contains}
 use Rattle.std.proofs.lemmas.List.Elements.{All-contains, All-contains_itself}
-use Rattle.xa_told.specs.xa_types.declared.call.Ask.{Ask}
-use Rattle.xa_told.specs.xa_types.declared.data.Data.{Data}
-use Rattle.xa_told.specs.xa_types.declared.ids.RequestId.{RequestId}
-use Rattle.xa_told.specs.xa_types.declared.row.Row.{Row}
-use Rattle.xa_told.specs.xa_types.Found.{FoundRows}
-use Rattle.xa_told.specs.xa_types.declared.setup.Setup.{Setup}
-use Rattle.xa_told.specs.xa_types.Kind.{kind_of, is_accepted, is_sound}
-use Rattle.xa_told.specs.xa_types.Rows.{row_for}
-use Rattle.xa_told.specs.xa_types.Setup.{service_named}
-use Rattle.xa_told.specs.xa_events.declared.event.Event.{Event}
-use Rattle.xa_told.specs.xa_events.declared.event.Event.TheVariants.{Accept}
-use Rattle.xa_told.specs.xa_cell.declared.tokens.Ticket.{Ticket}
-use Rattle.xa_told.specs.xa_queue.declared.entry.Entry.{Entry}
-use Rattle.xa_told.specs.xa_held.Kept.{IsRight}
-use Rattle.xa_told.specs.xa_caller.declared.cargo.Filling.{Filling}
-use Rattle.xa_told.specs.xa_caller.declared.outcomes.Aimed.{Aimed}
-use Rattle.xa_told.specs.xa_caller.declared.outcomes.Aimed.TheVariants as aims
-use Rattle.xa_told.specs.xa_caller.declared.phase.Draft.{Draft}
-use Rattle.xa_told.specs.xa_caller.declared.phase.Open.{Open}
-use Rattle.xa_told.specs.xa_caller.declared.phase.Phase.{Phase}
-use Rattle.xa_told.specs.xa_caller.Caller.{Standing as Caller, AreRowsOf}
-use Rattle.xa_told.specs.xa_caller.Drafts.{Cargo, accepted_by, entry_by}
-use Rattle.xa_told.specs.xa_caller.Phases.{IsOfVersion}
-use Rattle.xa_told.specs.xa_caller.Unsent.{AimsAs, AimsAt, entry_in}
-use Rattle.xa_told.proofs.xa_caller.Next.{same_kinds, row-service}
-use Rattle.xa_told.proofs.xa_caller.Unsent.{at-all}
+use Rattle.xa_server.specs.xa_types.declared.call.Ask.{Ask}
+use Rattle.xa_server.specs.xa_types.declared.data.Data.{Data}
+use Rattle.xa_server.specs.xa_types.declared.ids.RequestId.{RequestId}
+use Rattle.xa_server.specs.xa_types.declared.row.Row.{Row}
+use Rattle.xa_server.specs.xa_types.Found.{FoundRows}
+use Rattle.xa_server.specs.xa_types.declared.setup.Setup.{Setup}
+use Rattle.xa_server.specs.xa_types.Kind.{kind_of, is_accepted, is_sound}
+use Rattle.xa_server.specs.xa_types.Rows.{row_for}
+use Rattle.xa_server.specs.xa_types.Setup.{service_named}
+use Rattle.xa_server.specs.xa_events.declared.event.Event.{Event}
+use Rattle.xa_server.specs.xa_events.declared.event.Event.TheVariants.{Accept}
+use Rattle.xa_server.specs.xa_cell.declared.tokens.Ticket.{Ticket}
+use Rattle.xa_server.specs.xa_queue.declared.entry.Entry.{Entry}
+use Rattle.xa_server.specs.xa_held.Kept.{IsRight}
+use Rattle.xa_server.specs.xa_caller.declared.cargo.Filling.{Filling}
+use Rattle.xa_server.specs.xa_caller.declared.outcomes.Aimed.{Aimed}
+use Rattle.xa_server.specs.xa_caller.declared.outcomes.Aimed.TheVariants as aims
+use Rattle.xa_server.specs.xa_caller.declared.phase.Draft.{Draft}
+use Rattle.xa_server.specs.xa_caller.declared.phase.Open.{Open}
+use Rattle.xa_server.specs.xa_caller.declared.phase.Phase.{Phase}
+use Rattle.xa_server.specs.xa_caller.Caller.{Standing as Caller, AreRowsOf}
+use Rattle.xa_server.specs.xa_caller.Drafts.{Cargo, accepted_by, entry_by}
+use Rattle.xa_server.specs.xa_caller.Phases.{IsOfVersion}
+use Rattle.xa_server.specs.xa_caller.Unsent.{AimsAs, AimsAt, entry_in}
+use Rattle.xa_server.proofs.xa_caller.Next.{same_kinds, row-service}
+use Rattle.xa_server.proofs.xa_caller.Unsent.{at-all}
 use Rattle.xa_desk.specs.declared.domain.Domain.{Domain}
 use Rattle.xa_desk.proofs.Leading.{grew_none, IsQuiet, calm_leads}
 use Rattle.xa_desk.specs.declared.desk.Desk.{Desk}

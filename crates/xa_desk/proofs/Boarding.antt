@@ -3,30 +3,30 @@ use Rattle.std.proofs.Common.{◌≡◌, ◌≤◌, ℕ, ◌+◌, max, List, [],
 use Rattle.std.specs.Prelude.{slice_index_or}
 use Rattle.std.specs.List.{All, Contains, filter}
 use Rattle.std.proofs.lemmas.List.Elements.{All-nil, All-append, All-weaker, Contains-append_left}
-use Rattle.xa_told.specs.xa_types.declared.stamp.Stamp.{Stamp}
-use Rattle.xa_told.specs.xa_types.declared.ids.CallerId.{CallerId}
-use Rattle.xa_told.specs.xa_events.Board.{published}
-use Rattle.xa_told.specs.xa_events.Homes.{home_of}
-use Rattle.xa_told.specs.xa_events.Homes.Home.{BoardHome, QueueHome}
-use Rattle.xa_told.specs.xa_stamp.declared.home.Stamped.{Stamped}
-use Rattle.xa_told.specs.xa_lock.declared.pass.LockPass.{LockPass}
-use Rattle.xa_told.specs.xa_lock.Known.{known as page_of, IsPassOf}
-use Rattle.xa_told.specs.xa_lock.Pages.{StartsWith}
-use Rattle.xa_told.specs.xa_crew.Crew.{stands_at}
-use Rattle.xa_told.specs.xa_crew.Seen.{past_in}
-use Rattle.xa_told.specs.xa_cell.declared.tokens.Seat.{Seat}
-use Rattle.xa_told.specs.xa_cell.Known.{known, IsSeatOf}
-use Rattle.xa_told.specs.xa_held.declared.kept_board.BoardNote.{BoardNote}
-use Rattle.xa_told.specs.xa_held.declared.kept_board.BoardNote.TheVariants.{Looked}
-use Rattle.xa_told.specs.xa_held.declared.kept_queue.QueueNote.{QueueNote}
-use Rattle.xa_told.specs.xa_held.Board.{Held}
-use Rattle.xa_told.specs.xa_held.BoardVisits.{BoardVisits, HasStampIn, ReachesBoard}
-use Rattle.xa_told.specs.xa_held.Joins.{changes_at}
-use Rattle.xa_told.proofs.xa_held.Fronts.{changes_front, published-front, seen_more, sees_still, change_stands}
-use Rattle.xa_told.proofs.xa_held.Owning.{board_own}
-use Rattle.xa_told.specs.xa_work.Work.{Standing as Working, seeing}
-use Rattle.xa_told.specs.xa_caller.declared.cargo.Filling.{Filling}
-use Rattle.xa_told.specs.xa_caller.Caller.{Standing as Caller}
+use Rattle.xa_server.specs.xa_types.declared.stamp.Stamp.{Stamp}
+use Rattle.xa_server.specs.xa_types.declared.ids.CallerId.{CallerId}
+use Rattle.xa_server.specs.xa_events.Board.{published}
+use Rattle.xa_server.specs.xa_events.Homes.{home_of}
+use Rattle.xa_server.specs.xa_events.Homes.Home.{BoardHome, QueueHome}
+use Rattle.xa_server.specs.xa_stamp.declared.home.Stamped.{Stamped}
+use Rattle.xa_server.specs.xa_lock.declared.pass.LockPass.{LockPass}
+use Rattle.xa_server.specs.xa_lock.Known.{known as page_of, IsPassOf}
+use Rattle.xa_server.specs.xa_lock.Pages.{StartsWith}
+use Rattle.xa_server.specs.xa_worker.Crew.{stands_at}
+use Rattle.xa_server.specs.xa_worker.Seen.{past_in}
+use Rattle.xa_server.specs.xa_cell.declared.tokens.Seat.{Seat}
+use Rattle.xa_server.specs.xa_cell.Known.{known, IsSeatOf}
+use Rattle.xa_server.specs.xa_held.declared.kept_board.BoardNote.{BoardNote}
+use Rattle.xa_server.specs.xa_held.declared.kept_board.BoardNote.TheVariants.{Looked}
+use Rattle.xa_server.specs.xa_held.declared.kept_queue.QueueNote.{QueueNote}
+use Rattle.xa_server.specs.xa_held.Board.{Held}
+use Rattle.xa_server.specs.xa_held.BoardVisits.{BoardVisits, HasStampIn, ReachesBoard}
+use Rattle.xa_server.specs.xa_held.Joins.{changes_at}
+use Rattle.xa_server.proofs.xa_held.Fronts.{changes_front, published-front, seen_more, sees_still, change_stands}
+use Rattle.xa_server.proofs.xa_held.Owning.{board_own}
+use Rattle.xa_server.specs.xa_worker.Work.{Standing as Working, seeing}
+use Rattle.xa_server.specs.xa_caller.declared.cargo.Filling.{Filling}
+use Rattle.xa_server.specs.xa_caller.Caller.{Standing as Caller}
 use Rattle.xa_desk.specs.declared.domain.Domain.{Domain}
 use Rattle.xa_desk.specs.declared.desk.Desk.{Desk}
 use Rattle.xa_desk.specs.Whole.{Whole, IsKnown}

@@ -1,59 +1,59 @@
 -- What a desk knows and shows goes on, as its worker clears the board of a queue without servers.
 use Rattle.std.proofs.Common.{◌≡◌, ◌≤◌, ◌<◌, ℕ, ◌+◌, ◌^◌, max, List, [], ◌∷◌, Option, Some, None, ltb-true, inl, inr, refl, sym, ◌∙◌, ap, subst, append-nil, arith, ⊎_elim}
-use Rattle.xa_told.proofs.xa_held.Seen.{events_kept}
+use Rattle.xa_server.proofs.xa_held.Seen.{events_kept}
 use Rattle.std.specs.Prelude.{◌⊎◌, Bool, true, false, nat_lt, if◌then◌else◌, Ok, Err}
 use Rattle.std.specs.Option.{option_or}
 use Rattle.std.specs.List.{All, Contains}
 use Rattle.std.proofs.lemmas.List.Elements.{All-nil, All-cons, All-weaker, Contains-push}
-use Rattle.xa_told.specs.xa_types.declared.ids.CallerId.{CallerId}
-use Rattle.xa_told.specs.xa_types.declared.ids.QueueId.{QueueId}
-use Rattle.xa_told.specs.xa_types.declared.row.Row.{Row}
-use Rattle.xa_told.specs.xa_types.declared.stamp.Stamp.{Stamp}
-use Rattle.xa_told.specs.xa_events.declared.event.Event.{Event}
-use Rattle.xa_told.specs.xa_events.Homes.{home_of}
-use Rattle.xa_told.specs.xa_events.Homes.Home.{BoardHome}
-use Rattle.xa_told.specs.xa_events.Server.{AllGone}
-use Rattle.xa_told.specs.xa_stamp.declared.home.Stamped.{Stamped}
-use Rattle.xa_told.specs.xa_stamp.declared.told.Noted.{Noted}
-use Rattle.xa_told.specs.xa_stamp.Home.{last_stamp}
-use Rattle.xa_told.specs.xa_lock.declared.pass.LockPass.{LockPass}
-use Rattle.xa_told.specs.xa_lock.Known.{known as page_of}
-use Rattle.xa_told.specs.xa_lock.Pages.{StartsWith}
-use Rattle.xa_told.specs.xa_crew.Seen.{SawFront}
+use Rattle.xa_server.specs.xa_types.declared.ids.CallerId.{CallerId}
+use Rattle.xa_server.specs.xa_types.declared.ids.QueueId.{QueueId}
+use Rattle.xa_server.specs.xa_types.declared.row.Row.{Row}
+use Rattle.xa_server.specs.xa_types.declared.stamp.Stamp.{Stamp}
+use Rattle.xa_server.specs.xa_events.declared.event.Event.{Event}
+use Rattle.xa_server.specs.xa_events.Homes.{home_of}
+use Rattle.xa_server.specs.xa_events.Homes.Home.{BoardHome}
+use Rattle.xa_server.specs.xa_events.Server.{AllGone}
+use Rattle.xa_server.specs.xa_stamp.declared.home.Stamped.{Stamped}
+use Rattle.xa_server.specs.xa_stamp.declared.told.Noted.{Noted}
+use Rattle.xa_server.specs.xa_stamp.Home.{last_stamp}
+use Rattle.xa_server.specs.xa_lock.declared.pass.LockPass.{LockPass}
+use Rattle.xa_server.specs.xa_lock.Known.{known as page_of}
+use Rattle.xa_server.specs.xa_lock.Pages.{StartsWith}
+use Rattle.xa_server.specs.xa_worker.Seen.{SawFront}
 use Rattle.xa_board.specs.Board.{version_of}
-use Rattle.xa_told.specs.xa_types.Rows.{row_of}
+use Rattle.xa_server.specs.xa_types.Rows.{row_of}
 use Rattle.xa_board.specs.declared.board.BoardRefused.{BoardRefused}
 use Rattle.xa_board.specs.declared.board.BoardRefused.TheVariants.{NoEnt, Worn}
 use Rattle.xa_board.specs.Changes.{larger, bars_withdrawal}
-use Rattle.xa_told.specs.xa_held.declared.kept_board.BoardNote.{BoardNote}
-use Rattle.xa_told.specs.xa_held.declared.kept_board.BoardNote.TheVariants.{Looked}
-use Rattle.xa_told.specs.xa_held.declared.kept_board.Look.{Look}
-use Rattle.xa_told.specs.xa_held.declared.kept_board.Clearing.TheVariants.{Clear, Withdrew}
-use Rattle.xa_told.specs.xa_held.declared.kept_queue.QueueNote.{QueueNote}
-use Rattle.xa_told.specs.xa_held.Board.{Held, raised}
-use Rattle.xa_told.specs.xa_held.BoardSteps.{ClearedAs, change, withdrawal}
-use Rattle.xa_told.specs.xa_held.BoardVisits.{BoardVisits, ReachesBoard}
-use Rattle.xa_told.specs.xa_held.Joins.{SawLeft, events_at, changes_at}
-use Rattle.xa_told.specs.xa_held.Kept.{notes_of}
-use Rattle.xa_told.proofs.xa_held.Climbing.{stamped}
-use Rattle.xa_told.proofs.xa_held.Fronts.{deserted, reached_last}
-use Rattle.xa_told.proofs.xa_held.Lefts.{gone_front}
-use Rattle.xa_told.proofs.xa_cell.Lists.{below}
-use Rattle.xa_told.specs.xa_work.Work.{Standing as Working, seeing}
-use Rattle.xa_told.specs.xa_work.declared.work.Halt.{Halt}
-use Rattle.xa_told.specs.xa_work.declared.work.Halt.TheVariants as halts
-use Rattle.xa_told.specs.xa_lock.declared.pass.Page.{Page}
-use Rattle.xa_told.specs.xa_caller.declared.cargo.Filling.{Filling}
-use Rattle.xa_told.specs.xa_caller.Caller.{Standing as Caller}
-use Rattle.xa_told.specs.xa_caller.Serving.{noted_off}
+use Rattle.xa_server.specs.xa_held.declared.kept_board.BoardNote.{BoardNote}
+use Rattle.xa_server.specs.xa_held.declared.kept_board.BoardNote.TheVariants.{Looked}
+use Rattle.xa_server.specs.xa_held.declared.kept_board.Look.{Look}
+use Rattle.xa_server.specs.xa_held.declared.kept_board.Clearing.TheVariants.{Clear, Withdrew}
+use Rattle.xa_server.specs.xa_held.declared.kept_queue.QueueNote.{QueueNote}
+use Rattle.xa_server.specs.xa_held.Board.{Held, raised}
+use Rattle.xa_server.specs.xa_held.BoardSteps.{ClearedAs, change, withdrawal}
+use Rattle.xa_server.specs.xa_held.BoardVisits.{BoardVisits, ReachesBoard}
+use Rattle.xa_server.specs.xa_held.Joins.{SawLeft, events_at, changes_at}
+use Rattle.xa_server.specs.xa_held.Kept.{notes_of}
+use Rattle.xa_server.proofs.xa_held.Climbing.{stamped}
+use Rattle.xa_server.proofs.xa_held.Fronts.{deserted, reached_last}
+use Rattle.xa_server.proofs.xa_held.Lefts.{gone_front}
+use Rattle.xa_server.proofs.xa_cell.Lists.{below}
+use Rattle.xa_server.specs.xa_worker.Work.{Standing as Working, seeing}
+use Rattle.xa_server.specs.xa_worker.declared.work.Halt.{Halt}
+use Rattle.xa_server.specs.xa_worker.declared.work.Halt.TheVariants as halts
+use Rattle.xa_server.specs.xa_lock.declared.pass.Page.{Page}
+use Rattle.xa_server.specs.xa_caller.declared.cargo.Filling.{Filling}
+use Rattle.xa_server.specs.xa_caller.Caller.{Standing as Caller}
+use Rattle.xa_server.specs.xa_caller.Serving.{noted_off}
 use Rattle.xa_desk.specs.declared.domain.Domain.{Domain}
 use Rattle.xa_desk.specs.declared.desk.Desk.{Desk}
 use Rattle.xa_desk.specs.Whole.{Whole, IsKnown}
-use Rattle.xa_told.specs.xa_server.Told.{HasStamp}
+use Rattle.xa_server.specs.Told.{HasStamp}
 use Rattle.xa_desk.specs.Made.{IsMade}
 use Rattle.xa_desk.specs.Desks.{IsGrounded, GoesOn, HasGrounds, IsShown, Leads, page_at, queue_page}
 use Rattle.xa_desk.specs.Serving.{IsDeserted, IsCleared, OfDomain, IsHaltNear, halt_by, seen_by}
-use Rattle.xa_told.proofs.xa_held.Changed.{withdrawal_met}
+use Rattle.xa_server.proofs.xa_held.Changed.{withdrawal_met}
 use Rattle.xa_desk.proofs.Boarding.{BoardStep, board_front, board_before, stamp_known, reach_known, board_moves, board_seen_leads}
 use Rattle.xa_desk.proofs.Leading.{Grew, grew_one, is_behind, one_leads, starts_trans}
 use Rattle.xa_desk.proofs.Falling.{gave_on, of_domain, of_none}

@@ -1,21 +1,21 @@
 -- What a configured setup says of its queues and services.
 use Rattle.std.proofs.Common.{◌≡◌, ℕ, ◌+◌, ◌<◌, ◌≤◌, Bool, true, List, [], ◌∷◌, length, Option, Some, None, inl, inr, refl, sym, ap, subst, arith, add-one, leb-true}
 use Rattle.std.proofs.lemmas.List.Elements.{All-nil, All-cons, All-weaker}
-use Rattle.xa_told.proofs.xa_caller.Unsent.{at-all}
-use Rattle.xa_told.proofs.xa_caller.Next.{found-all}
+use Rattle.xa_server.proofs.xa_caller.Unsent.{at-all}
+use Rattle.xa_server.proofs.xa_caller.Next.{found-all}
 use Rattle.std.specs.Prelude.{◌&&◌, ℤ, pos, negsuc, ◌+ℤ◌, false}
 use Rattle.std.specs.List.{list_all, All}
 use Rattle.std.specs.Str.{bytes_eq}
 use Rattle.std.proofs.lemmas.Bool.{and_parts}
 use Rattle.std.proofs.lemmas.Option.{slice_get_cases}
-use Rattle.xa_told.specs.xa_types.declared.row.Row.{Row}
-use Rattle.xa_told.specs.xa_types.declared.setup.Setup.{Setup}
-use Rattle.xa_told.specs.xa_types.declared.setup.QueueSetup.{QueueSetup}
-use Rattle.xa_told.specs.xa_types.declared.setup.ServiceSetup.{ServiceSetup}
-use Rattle.xa_told.specs.xa_types.Priority.{clamped, priority_of}
-use Rattle.xa_told.specs.xa_types.Rows.{row_with, row_for}
-use Rattle.xa_told.specs.xa_types.Setup.{capacity_in, capacity_of, service_named}
-use Rattle.xa_told.specs.xa_types.Configured.{is_configured, is_within, is_valid_queue, is_valid_service, queue_names, are_valid_queues, are_valid_services}
+use Rattle.xa_server.specs.xa_types.declared.row.Row.{Row}
+use Rattle.xa_server.specs.xa_types.declared.setup.Setup.{Setup}
+use Rattle.xa_server.specs.xa_types.declared.setup.QueueSetup.{QueueSetup}
+use Rattle.xa_server.specs.xa_types.declared.setup.ServiceSetup.{ServiceSetup}
+use Rattle.xa_server.specs.xa_types.Priority.{clamped, priority_of}
+use Rattle.xa_server.specs.xa_types.Rows.{row_with, row_for}
+use Rattle.xa_server.specs.xa_types.Setup.{capacity_in, capacity_of, service_named}
+use Rattle.xa_server.specs.xa_types.Configured.{is_configured, is_within, is_valid_queue, is_valid_service, queue_names, are_valid_queues, are_valid_services}
 
 each_passes : {X : Type 0} (p : X → Bool) (xs : List X) → list_all p xs ≡ true → All (λ x. p x ≡ true) xs
 each_passes p [] all = All-nil (λ x. p x ≡ true)

@@ -2,30 +2,30 @@
 use Rattle.std.proofs.Common.{◌≡◌, ◌⊎◌, ℕ, Bool, true, false, [], Result, Ok, Err, Option, None, inl, inr, refl, sym, ◌∙◌, ap, subst}
 use Rattle.std.specs.Prelude.{IfOk, IfErr, IfSome, cond}
 use Rattle.std.specs.List.{All}
-use Rattle.xa_told.specs.xa_types.declared.stamp.Worn.{Worn}
-use Rattle.xa_told.specs.xa_types.Setup.{queue_of}
-use Rattle.xa_told.specs.xa_events.declared.event.Doing.{Doing}
-use Rattle.xa_told.specs.xa_events.declared.event.Doing.TheVariants.{Busy}
-use Rattle.xa_told.specs.xa_events.declared.event.Outcome.TheVariants as outcomes
-use Rattle.xa_told.specs.xa_events.declared.event.StopCause.{StopCause}
-use Rattle.xa_told.specs.xa_events.declared.event.StopCause.TheVariants.{Shutdown}
-use Rattle.xa_told.specs.xa_events.Answers.{reply_of}
-use Rattle.xa_told.specs.xa_events.Cases.{is_starved}
-use Rattle.xa_told.specs.xa_events.Request.Settlement.{EndedBy}
-use Rattle.xa_told.specs.xa_events.State.{caller_of}
-use Rattle.xa_told.specs.xa_held.Kept.{IsRight}
-use Rattle.xa_told.specs.xa_held.Notes.{IsOther}
-use Rattle.xa_told.specs.xa_cell.Known.{IsTicketOf}
-use Rattle.xa_told.specs.xa_queue.declared.entry.Entry.{Entry}
-use Rattle.xa_told.specs.xa_work.Work.{Standing as Working}
-use Rattle.xa_told.specs.xa_caller.Caller.{Standing as Caller}
-use Rattle.xa_told.specs.xa_caller.Drafts.{Cargo}
-use Rattle.xa_told.specs.xa_server.declared.closing.Closing.{Closing}
-use Rattle.xa_told.specs.xa_server.declared.slot.ServerSlot.{ServerSlot}
-use Rattle.xa_told.specs.xa_server.Changes.{Dies, DiesFrom, DiesWorn}
-use Rattle.xa_told.specs.xa_server.Doings.{is_death, outcome_of}
-use Rattle.xa_told.specs.xa_server.Slot.{Stands}
-use Rattle.xa_told.proofs.xa_server.Telling.{death_backed}
+use Rattle.xa_server.specs.xa_types.declared.stamp.Worn.{Worn}
+use Rattle.xa_server.specs.xa_types.Setup.{queue_of}
+use Rattle.xa_server.specs.xa_events.declared.event.Doing.{Doing}
+use Rattle.xa_server.specs.xa_events.declared.event.Doing.TheVariants.{Busy}
+use Rattle.xa_server.specs.xa_events.declared.event.Outcome.TheVariants as outcomes
+use Rattle.xa_server.specs.xa_events.declared.event.StopCause.{StopCause}
+use Rattle.xa_server.specs.xa_events.declared.event.StopCause.TheVariants.{Shutdown}
+use Rattle.xa_server.specs.xa_events.Answers.{reply_of}
+use Rattle.xa_server.specs.xa_events.Cases.{is_starved}
+use Rattle.xa_server.specs.xa_events.Request.Settlement.{EndedBy}
+use Rattle.xa_server.specs.xa_events.State.{caller_of}
+use Rattle.xa_server.specs.xa_held.Kept.{IsRight}
+use Rattle.xa_server.specs.xa_held.Notes.{IsOther}
+use Rattle.xa_server.specs.xa_cell.Known.{IsTicketOf}
+use Rattle.xa_server.specs.xa_queue.declared.entry.Entry.{Entry}
+use Rattle.xa_server.specs.xa_worker.Work.{Standing as Working}
+use Rattle.xa_server.specs.xa_caller.Caller.{Standing as Caller}
+use Rattle.xa_server.specs.xa_caller.Drafts.{Cargo}
+use Rattle.xa_server.specs.declared.closing.Closing.{Closing}
+use Rattle.xa_server.specs.declared.slot.ServerSlot.{ServerSlot}
+use Rattle.xa_server.specs.Changes.{Dies, DiesFrom, DiesWorn}
+use Rattle.xa_server.specs.Doings.{is_death, outcome_of}
+use Rattle.xa_server.specs.Slot.{Stands}
+use Rattle.xa_server.proofs.Telling.{death_backed}
 use Rattle.xa_desk.specs.declared.domain.Domain.{Domain}
 use Rattle.xa_desk.specs.declared.desk.Desk.{Desk}
 use Rattle.xa_desk.specs.Desks.{IsDesk, Leads, queue_page}

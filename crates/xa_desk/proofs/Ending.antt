@@ -1,42 +1,42 @@
 -- The end of a request that a server has in hand, and what its caller is told.
 use Rattle.std.proofs.Common.{◌-◌, ◌≡◌, ◌≤◌, ℕ, ℤ, max, Bool, true, false, List, [], ◌∷◌, ◌++◌, Result, Ok, Err, Option, Some, None, if◌then◌else◌, refl, sym, ◌∙◌, ap, subst, arith}
 use Rattle.std.specs.Prelude.{IfOk, IfErr, IfSome}
-use Rattle.xa_told.specs.xa_types.declared.call.Rval.{Rval}
-use Rattle.xa_told.specs.xa_types.declared.call.Rval.TheVariants.{Success, Fail, Exit}
-use Rattle.xa_told.specs.xa_types.declared.data.Data.{Data}
-use Rattle.xa_told.specs.xa_types.declared.reply.Answer.{Answer}
-use Rattle.xa_told.specs.xa_types.declared.stamp.Stamp.{Stamp}
-use Rattle.xa_told.specs.xa_events.declared.event.Event.TheVariants.{End}
-use Rattle.xa_told.specs.xa_events.declared.event.Outcome.{Outcome}
-use Rattle.xa_told.specs.xa_events.declared.event.Outcome.TheVariants.{BadReturn}
-use Rattle.xa_told.specs.xa_events.Answers.{reply_of}
-use Rattle.xa_told.specs.xa_events.Board.{published}
-use Rattle.xa_told.specs.xa_events.Caller.{version_of}
-use Rattle.xa_told.specs.xa_events.Conversation.{connections}
-use Rattle.xa_told.specs.xa_events.Finishing.{returned, return_by}
-use Rattle.xa_told.specs.xa_events.Homes.Home.{CallerHome}
-use Rattle.xa_told.specs.xa_events.Request.Settlement.{EndedBy}
-use Rattle.xa_told.specs.xa_events.State.{caller_of}
-use Rattle.xa_told.specs.xa_stamp.declared.home.Stamped.{Stamped}
-use Rattle.xa_told.specs.xa_queue.declared.entry.Entry.{Entry}
-use Rattle.xa_told.specs.xa_cell.declared.view.Opening.{Opening}
-use Rattle.xa_told.specs.xa_cell.Known.{IsTicketOf, IsSeatOf, known}
-use Rattle.xa_told.specs.xa_crew.Seen.{past_in}
-use Rattle.xa_told.specs.xa_held.Joins.{changes_at}
-use Rattle.xa_told.specs.xa_held.Kept.{IsRight}
-use Rattle.xa_told.specs.xa_work.declared.work.Halt.{Halt}
-use Rattle.xa_told.specs.xa_work.declared.work.Halt.TheVariants.{NoMemory, Worn}
-use Rattle.xa_told.specs.xa_work.Work.{Standing as Working, theirs}
-use Rattle.xa_told.specs.xa_caller.Caller.{Standing as Caller}
-use Rattle.xa_told.specs.xa_caller.Drafts.{Cargo}
-use Rattle.xa_told.specs.xa_caller.Serving.{raised}
-use Rattle.xa_told.specs.xa_server.declared.closing.Closing.{Closing}
-use Rattle.xa_told.specs.xa_server.declared.slot.ServerSlot.{ServerSlot}
-use Rattle.xa_told.specs.xa_server.Changes.{Ends, Closes, Finishes}
-use Rattle.xa_told.specs.xa_server.Doings.{life_in}
-use Rattle.xa_told.specs.xa_server.Noting.{HaltsWith, with_room}
-use Rattle.xa_told.specs.xa_server.Told.{NamesIts}
-use Rattle.xa_told.proofs.xa_server.Telling.{finish_backed}
+use Rattle.xa_server.specs.xa_types.declared.call.Rval.{Rval}
+use Rattle.xa_server.specs.xa_types.declared.call.Rval.TheVariants.{Success, Fail, Exit}
+use Rattle.xa_server.specs.xa_types.declared.data.Data.{Data}
+use Rattle.xa_server.specs.xa_types.declared.reply.Answer.{Answer}
+use Rattle.xa_server.specs.xa_types.declared.stamp.Stamp.{Stamp}
+use Rattle.xa_server.specs.xa_events.declared.event.Event.TheVariants.{End}
+use Rattle.xa_server.specs.xa_events.declared.event.Outcome.{Outcome}
+use Rattle.xa_server.specs.xa_events.declared.event.Outcome.TheVariants.{BadReturn}
+use Rattle.xa_server.specs.xa_events.Answers.{reply_of}
+use Rattle.xa_server.specs.xa_events.Board.{published}
+use Rattle.xa_server.specs.xa_events.Caller.{version_of}
+use Rattle.xa_server.specs.xa_events.Conversation.{connections}
+use Rattle.xa_server.specs.xa_events.Finishing.{returned, return_by}
+use Rattle.xa_server.specs.xa_events.Homes.Home.{CallerHome}
+use Rattle.xa_server.specs.xa_events.Request.Settlement.{EndedBy}
+use Rattle.xa_server.specs.xa_events.State.{caller_of}
+use Rattle.xa_server.specs.xa_stamp.declared.home.Stamped.{Stamped}
+use Rattle.xa_server.specs.xa_queue.declared.entry.Entry.{Entry}
+use Rattle.xa_server.specs.xa_cell.declared.view.Opening.{Opening}
+use Rattle.xa_server.specs.xa_cell.Known.{IsTicketOf, IsSeatOf, known}
+use Rattle.xa_server.specs.xa_worker.Seen.{past_in}
+use Rattle.xa_server.specs.xa_held.Joins.{changes_at}
+use Rattle.xa_server.specs.xa_held.Kept.{IsRight}
+use Rattle.xa_server.specs.xa_worker.declared.work.Halt.{Halt}
+use Rattle.xa_server.specs.xa_worker.declared.work.Halt.TheVariants.{NoMemory, Worn}
+use Rattle.xa_server.specs.xa_worker.Work.{Standing as Working, theirs}
+use Rattle.xa_server.specs.xa_caller.Caller.{Standing as Caller}
+use Rattle.xa_server.specs.xa_caller.Drafts.{Cargo}
+use Rattle.xa_server.specs.xa_caller.Serving.{raised}
+use Rattle.xa_server.specs.declared.closing.Closing.{Closing}
+use Rattle.xa_server.specs.declared.slot.ServerSlot.{ServerSlot}
+use Rattle.xa_server.specs.Changes.{Ends, Closes, Finishes}
+use Rattle.xa_server.specs.Doings.{life_in}
+use Rattle.xa_server.specs.Noting.{HaltsWith, with_room}
+use Rattle.xa_server.specs.Told.{NamesIts}
+use Rattle.xa_server.proofs.Telling.{finish_backed}
 use Rattle.xa_desk.specs.declared.domain.Domain.{Domain}
 use Rattle.xa_desk.specs.declared.desk.Desk.{Desk}
 use Rattle.xa_desk.specs.Desks.{IsDesk, Leads, board_page}

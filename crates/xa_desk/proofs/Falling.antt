@@ -1,47 +1,47 @@
 -- A queue without servers that goes down, and what still waits there: events of the domain at a queue.
 use Rattle.std.proofs.Common.{◌≡◌, ℕ, true, List, [], ◌∷◌, ◌++◌, map, Some, Ok, refl, sym, ◌∙◌, ap, subst, append-nil, append_assoc, arith}
-use Rattle.xa_told.proofs.xa_held.Seen.{sees_more, down_left}
+use Rattle.xa_server.proofs.xa_held.Seen.{sees_more, down_left}
 use Rattle.std.specs.Prelude.{IfSome, IsSome}
 use Rattle.std.specs.List.{All, Contains}
 use Rattle.std.proofs.lemmas.List.Elements.{All-nil, All-cons, All-append, Contains-push}
-use Rattle.xa_told.specs.xa_types.declared.ids.CallerId.{CallerId}
-use Rattle.xa_told.specs.xa_types.declared.ids.QueueId.{QueueId}
-use Rattle.xa_told.specs.xa_types.declared.stamp.Stamp.{Stamp}
-use Rattle.xa_told.specs.xa_events.declared.event.Event.{Event}
-use Rattle.xa_told.specs.xa_events.declared.event.Event.TheVariants.{Down, Sweep}
-use Rattle.xa_told.specs.xa_events.Answers.{reply_of}
-use Rattle.xa_told.specs.xa_events.Request.Settlement.{SweptAway}
-use Rattle.xa_told.specs.xa_events.Homes.Home.{BoardHome, QueueHome}
-use Rattle.xa_told.specs.xa_crew.Crew.{IsOfDomain, no_stamp}
-use Rattle.xa_told.specs.xa_crew.Seen.{SawDeserted}
-use Rattle.xa_told.specs.xa_stamp.declared.home.Stamped.{Stamped}
-use Rattle.xa_told.specs.xa_stamp.declared.told.Noted.{Noted}
-use Rattle.xa_told.specs.xa_stamp.Home.{last_stamp}
-use Rattle.xa_told.proofs.xa_stamp.Stamps.{last_stamp-push}
-use Rattle.xa_told.specs.xa_cell.declared.view.Opening.{Opening}
-use Rattle.xa_told.specs.xa_cell.Known.{IsTicketOf}
-use Rattle.xa_told.specs.xa_lock.declared.makers.Made.{Made}
-use Rattle.xa_told.specs.xa_lock.Known.{known as page_of}
-use Rattle.xa_told.specs.xa_queue.declared.entry.Entry.{Entry}
-use Rattle.xa_told.specs.xa_queue.declared.told.Outgoing.{Outgoing}
-use Rattle.xa_told.specs.xa_queue.Changes.{next_stamp}
-use Rattle.xa_told.specs.xa_queue.Queue.{all_gone}
-use Rattle.xa_told.specs.xa_held.declared.kept_queue.Setting.{Setting}
-use Rattle.xa_told.specs.xa_held.Joins.{SawLeft}
-use Rattle.xa_told.specs.xa_held.Kept.{Kept, IsRight}
-use Rattle.xa_told.specs.xa_held.Notes.{gone_in, is_down_in}
-use Rattle.xa_told.specs.xa_held.Steps.{WentDownAs, SweptAs}
-use Rattle.xa_told.specs.xa_held.Visits.{Sees, Visits}
-use Rattle.xa_told.proofs.xa_held.Front.{is_down-whole}
-use Rattle.xa_told.specs.xa_work.Work.{seeing}
-use Rattle.xa_told.specs.xa_caller.Caller.{Standing as Caller}
-use Rattle.xa_told.specs.xa_caller.declared.cargo.Filling.{Filling}
-use Rattle.xa_told.specs.xa_caller.Drafts.{Cargo}
-use Rattle.xa_told.specs.xa_caller.Serving.{noted_off}
-use Rattle.xa_told.specs.xa_server.declared.closing.Closing.{Closing}
-use Rattle.xa_told.specs.xa_server.Changes.{closing_of}
-use Rattle.xa_told.specs.xa_server.Told.{IsBacked}
-use Rattle.xa_told.proofs.xa_server.Telling.{sweep_backed}
+use Rattle.xa_server.specs.xa_types.declared.ids.CallerId.{CallerId}
+use Rattle.xa_server.specs.xa_types.declared.ids.QueueId.{QueueId}
+use Rattle.xa_server.specs.xa_types.declared.stamp.Stamp.{Stamp}
+use Rattle.xa_server.specs.xa_events.declared.event.Event.{Event}
+use Rattle.xa_server.specs.xa_events.declared.event.Event.TheVariants.{Down, Sweep}
+use Rattle.xa_server.specs.xa_events.Answers.{reply_of}
+use Rattle.xa_server.specs.xa_events.Request.Settlement.{SweptAway}
+use Rattle.xa_server.specs.xa_events.Homes.Home.{BoardHome, QueueHome}
+use Rattle.xa_server.specs.xa_worker.Crew.{IsOfDomain, no_stamp}
+use Rattle.xa_server.specs.xa_worker.Seen.{SawDeserted}
+use Rattle.xa_server.specs.xa_stamp.declared.home.Stamped.{Stamped}
+use Rattle.xa_server.specs.xa_stamp.declared.told.Noted.{Noted}
+use Rattle.xa_server.specs.xa_stamp.Home.{last_stamp}
+use Rattle.xa_server.proofs.xa_stamp.Stamps.{last_stamp-push}
+use Rattle.xa_server.specs.xa_cell.declared.view.Opening.{Opening}
+use Rattle.xa_server.specs.xa_cell.Known.{IsTicketOf}
+use Rattle.xa_server.specs.xa_lock.declared.makers.Made.{Made}
+use Rattle.xa_server.specs.xa_lock.Known.{known as page_of}
+use Rattle.xa_server.specs.xa_queue.declared.entry.Entry.{Entry}
+use Rattle.xa_server.specs.xa_queue.declared.told.Outgoing.{Outgoing}
+use Rattle.xa_server.specs.xa_queue.Changes.{next_stamp}
+use Rattle.xa_server.specs.xa_queue.Queue.{all_gone}
+use Rattle.xa_server.specs.xa_held.declared.kept_queue.Setting.{Setting}
+use Rattle.xa_server.specs.xa_held.Joins.{SawLeft}
+use Rattle.xa_server.specs.xa_held.Kept.{Kept, IsRight}
+use Rattle.xa_server.specs.xa_held.Notes.{gone_in, is_down_in}
+use Rattle.xa_server.specs.xa_held.Steps.{WentDownAs, SweptAs}
+use Rattle.xa_server.specs.xa_held.Visits.{Sees, Visits}
+use Rattle.xa_server.proofs.xa_held.Front.{is_down-whole}
+use Rattle.xa_server.specs.xa_worker.Work.{seeing}
+use Rattle.xa_server.specs.xa_caller.Caller.{Standing as Caller}
+use Rattle.xa_server.specs.xa_caller.declared.cargo.Filling.{Filling}
+use Rattle.xa_server.specs.xa_caller.Drafts.{Cargo}
+use Rattle.xa_server.specs.xa_caller.Serving.{noted_off}
+use Rattle.xa_server.specs.declared.closing.Closing.{Closing}
+use Rattle.xa_server.specs.Changes.{closing_of}
+use Rattle.xa_server.specs.Told.{IsBacked}
+use Rattle.xa_server.proofs.Telling.{sweep_backed}
 use Rattle.xa_desk.specs.declared.domain.Domain.{Domain}
 use Rattle.xa_desk.specs.declared.desk.Desk.{Desk}
 use Rattle.xa_desk.specs.Whole.{entries_of}

@@ -2,24 +2,24 @@
 use Rattle.std.proofs.Common.{◌≡◌, ℕ, ◌+◌, true, false, List, [], ◌∷◌, ◌++◌, Option, Some, None, refl, sym, ◌∙◌, ap, subst, append-nil}
 use Rattle.xa_desk.proofs.Stopping.{same_leads}
 use Rattle.std.specs.Prelude.{IsSomeAnd}
-use Rattle.xa_told.specs.xa_types.declared.call.Ask.{Ask}
-use Rattle.xa_told.specs.xa_types.declared.call.Op.{Op}
-use Rattle.xa_told.specs.xa_types.declared.ids.CallerId.{CallerId}
-use Rattle.xa_told.specs.xa_types.Setup.{numbered}
-use Rattle.xa_told.specs.xa_events.declared.event.Event.{Event}
-use Rattle.xa_told.specs.xa_events.declared.event.Event.TheVariants.{Accept}
-use Rattle.xa_told.specs.xa_events.Caller.{is_call_of, op_in, newest_call, last_op, accepted_in}
-use Rattle.xa_told.specs.xa_events.Calls.{awaits_answer}
-use Rattle.xa_told.specs.xa_events.Local.{worker_events}
-use Rattle.xa_told.specs.xa_events.Views.{caller_view}
-use Rattle.xa_told.specs.xa_types.declared.setup.Setup.{Setup}
-use Rattle.xa_told.specs.xa_stamp.declared.home.Stamped.{Stamped}
-use Rattle.xa_told.specs.xa_crew.Calls.{FitsOwn, FitsTurn}
-use Rattle.xa_told.specs.xa_crew.Seen.{past_in}
-use Rattle.xa_told.specs.xa_work.Going.{FitEach}
-use Rattle.xa_told.proofs.xa_work.Noting.{each-more}
-use Rattle.xa_told.specs.xa_caller.Caller.{IsSound, Reads, Standing as Caller}
-use Rattle.xa_told.specs.xa_caller.Phases.{just_in}
+use Rattle.xa_server.specs.xa_types.declared.call.Ask.{Ask}
+use Rattle.xa_server.specs.xa_types.declared.call.Op.{Op}
+use Rattle.xa_server.specs.xa_types.declared.ids.CallerId.{CallerId}
+use Rattle.xa_server.specs.xa_types.Setup.{numbered}
+use Rattle.xa_server.specs.xa_events.declared.event.Event.{Event}
+use Rattle.xa_server.specs.xa_events.declared.event.Event.TheVariants.{Accept}
+use Rattle.xa_server.specs.xa_events.Caller.{is_call_of, op_in, newest_call, last_op, accepted_in}
+use Rattle.xa_server.specs.xa_events.Calls.{awaits_answer}
+use Rattle.xa_server.specs.xa_events.Local.{worker_events}
+use Rattle.xa_server.specs.xa_events.Views.{caller_view}
+use Rattle.xa_server.specs.xa_types.declared.setup.Setup.{Setup}
+use Rattle.xa_server.specs.xa_stamp.declared.home.Stamped.{Stamped}
+use Rattle.xa_server.specs.xa_worker.Calls.{FitsOwn, FitsTurn}
+use Rattle.xa_server.specs.xa_worker.Seen.{past_in}
+use Rattle.xa_server.specs.xa_worker.Going.{FitEach}
+use Rattle.xa_server.proofs.xa_worker.Noting.{each-more}
+use Rattle.xa_server.specs.xa_caller.Caller.{IsSound, Reads, Standing as Caller}
+use Rattle.xa_server.specs.xa_caller.Phases.{just_in}
 use Rattle.xa_desk.specs.declared.domain.Domain.{Domain}
 use Rattle.xa_desk.specs.declared.desk.Desk.{Desk}
 use Rattle.xa_desk.specs.Whole.{Whole, entries_of}

@@ -4,41 +4,41 @@ use Rattle.std.specs.Prelude.{slice_index_or}
 use Rattle.std.proofs.lemmas.List.{append_assoc, reverse-append, reverse-reverse}
 use Rattle.std.specs.List.{All, Contains, filter}
 use Rattle.std.proofs.lemmas.List.Elements.{All-nil, All-cons, All-append, All-weaker, Contains-push, Contains-append_left}
-use Rattle.xa_told.specs.xa_types.declared.stamp.Stamp.{Stamp}
-use Rattle.xa_told.specs.xa_types.declared.setup.Setup.{Setup}
-use Rattle.xa_told.specs.xa_types.declared.ids.CallerId.{CallerId}
-use Rattle.xa_told.specs.xa_events.declared.event.Event.{Event}
-use Rattle.xa_told.specs.xa_events.declared.event.Event.TheVariants.{Advertise}
-use Rattle.xa_told.specs.xa_events.Words.{AtEach}
-use Rattle.xa_told.specs.xa_events.Homes.{Home, home_of, same_home}
-use Rattle.xa_told.specs.xa_events.Homes.Home.{BoardHome, QueueHome, CallerHome}
-use Rattle.xa_told.specs.xa_events.Board.{published}
-use Rattle.xa_told.specs.xa_stamp.declared.home.Stamped.{Stamped}
-use Rattle.xa_told.specs.xa_lock.declared.pass.LockPass.{LockPass}
-use Rattle.xa_told.specs.xa_crew.Seen.{past_in, IsBehind}
-use Rattle.xa_told.specs.xa_crew.Crew.{stands_at}
-use Rattle.xa_told.proofs.xa_crew.Growing.{page_stays}
-use Rattle.xa_told.specs.xa_cell.declared.view.View.{View}
-use Rattle.xa_told.specs.xa_cell.Known.{known, IsSeatOf}
-use Rattle.xa_told.specs.xa_held.declared.kept_board.BoardNote.{BoardNote}
-use Rattle.xa_told.specs.xa_held.declared.kept_board.BoardNote.TheVariants.{Opened, By, Looked}
-use Rattle.xa_told.specs.xa_held.declared.kept_queue.QueueNote.{QueueNote}
-use Rattle.xa_told.specs.xa_held.Joins.{changes_at, events_at}
-use Rattle.xa_told.specs.xa_held.Kept.{notes_of}
-use Rattle.xa_told.specs.xa_lock.Known.{known as page_of}
-use Rattle.xa_told.specs.xa_lock.Pages.{StartsWith}
-use Rattle.xa_told.specs.xa_work.Work.{Standing as Working}
-use Rattle.xa_told.specs.xa_caller.declared.cargo.Filling.{Filling}
-use Rattle.xa_told.specs.xa_caller.Caller.{Standing as Caller}
-use Rattle.xa_told.specs.xa_server.Told.{HasStamp, FilledByEnds}
-use Rattle.xa_told.proofs.xa_server.Telling.{fillings_stay}
+use Rattle.xa_server.specs.xa_types.declared.stamp.Stamp.{Stamp}
+use Rattle.xa_server.specs.xa_types.declared.setup.Setup.{Setup}
+use Rattle.xa_server.specs.xa_types.declared.ids.CallerId.{CallerId}
+use Rattle.xa_server.specs.xa_events.declared.event.Event.{Event}
+use Rattle.xa_server.specs.xa_events.declared.event.Event.TheVariants.{Advertise}
+use Rattle.xa_server.specs.xa_events.Words.{AtEach}
+use Rattle.xa_server.specs.xa_events.Homes.{Home, home_of, same_home}
+use Rattle.xa_server.specs.xa_events.Homes.Home.{BoardHome, QueueHome, CallerHome}
+use Rattle.xa_server.specs.xa_events.Board.{published}
+use Rattle.xa_server.specs.xa_stamp.declared.home.Stamped.{Stamped}
+use Rattle.xa_server.specs.xa_lock.declared.pass.LockPass.{LockPass}
+use Rattle.xa_server.specs.xa_worker.Seen.{past_in, IsBehind}
+use Rattle.xa_server.specs.xa_worker.Crew.{stands_at}
+use Rattle.xa_server.proofs.xa_worker.Growing.{page_stays}
+use Rattle.xa_server.specs.xa_cell.declared.view.View.{View}
+use Rattle.xa_server.specs.xa_cell.Known.{known, IsSeatOf}
+use Rattle.xa_server.specs.xa_held.declared.kept_board.BoardNote.{BoardNote}
+use Rattle.xa_server.specs.xa_held.declared.kept_board.BoardNote.TheVariants.{Opened, By, Looked}
+use Rattle.xa_server.specs.xa_held.declared.kept_queue.QueueNote.{QueueNote}
+use Rattle.xa_server.specs.xa_held.Joins.{changes_at, events_at}
+use Rattle.xa_server.specs.xa_held.Kept.{notes_of}
+use Rattle.xa_server.specs.xa_lock.Known.{known as page_of}
+use Rattle.xa_server.specs.xa_lock.Pages.{StartsWith}
+use Rattle.xa_server.specs.xa_worker.Work.{Standing as Working}
+use Rattle.xa_server.specs.xa_caller.declared.cargo.Filling.{Filling}
+use Rattle.xa_server.specs.xa_caller.Caller.{Standing as Caller}
+use Rattle.xa_server.specs.Told.{HasStamp, FilledByEnds}
+use Rattle.xa_server.proofs.Telling.{fillings_stay}
 use Rattle.xa_desk.specs.declared.domain.Domain.{Domain}
 use Rattle.xa_desk.specs.declared.desk.Desk.{Desk}
 use Rattle.xa_desk.specs.Whole.{Whole, IsKnown}
 use Rattle.xa_desk.specs.Made.{IsMade}
 use Rattle.xa_desk.specs.Deserted.{GaveUpLast}
 use Rattle.xa_desk.specs.Desks.{IsAmong, IsGrounded, IsBoardPass, IsQueuePass, IsThere, GoesOn, HasGrounds, IsShown, Shows, IsDesk, Leads, board_page, queue_page}
-use Rattle.xa_told.specs.Told.{WasTaken, AnswersTaken}
+use Rattle.xa_server.specs.Fillings.{WasTaken, AnswersTaken}
 use Rattle.xa_desk.proofs.Seating.{TakesAll, TakesOn, taken_before, took_on, filled_on}
 
 -- the events are such as workers make

@@ -3,29 +3,29 @@ use Rattle.std.proofs.Common.{◌≡◌, ℕ, ◌≤◌, true, false, List, [], 
 use Rattle.std.specs.Prelude.{IfSome}
 use Rattle.std.specs.List.{All, Contains}
 use Rattle.std.proofs.lemmas.List.Elements.{Contains-push}
-use Rattle.xa_told.specs.xa_types.declared.ids.CallerId.{CallerId}
-use Rattle.xa_told.specs.xa_types.declared.ids.ServerId.{ServerId}
-use Rattle.xa_told.specs.xa_types.declared.stamp.Stamp.{Stamp}
-use Rattle.xa_told.specs.xa_events.declared.event.Event.{Event}
-use Rattle.xa_told.specs.xa_events.declared.event.Event.TheVariants.{Gone}
-use Rattle.xa_told.specs.xa_events.Homes.Home.{QueueHome}
-use Rattle.xa_told.specs.xa_stamp.declared.home.Stamped.{Stamped}
-use Rattle.xa_told.specs.xa_lock.Known.{known as page_of}
-use Rattle.xa_told.specs.xa_lock.Pages.{StartsWith}
-use Rattle.xa_told.specs.xa_crew.Seen.{past_in}
-use Rattle.xa_told.specs.xa_queue.declared.told.GivenUp.{GivenUp}
-use Rattle.xa_told.specs.xa_queue.Changes.{next_stamp}
-use Rattle.xa_told.specs.xa_held.Joins.{SawLeft, events_at}
-use Rattle.xa_told.specs.xa_held.Kept.{notes_of, IsRight}
-use Rattle.xa_told.specs.xa_held.Steps.{GaveUpAs}
-use Rattle.xa_told.specs.xa_held.Visits.{Visits}
-use Rattle.xa_told.proofs.xa_held.Lefts.{events_front, saw_left, saw_others, seen_gone}
-use Rattle.xa_told.proofs.xa_held.Seen.{events_kept}
-use Rattle.xa_told.specs.xa_caller.Caller.{Standing as Caller}
-use Rattle.xa_told.specs.xa_caller.declared.cargo.Filling.{Filling}
-use Rattle.xa_told.specs.xa_caller.Serving.{noted_off}
-use Rattle.xa_told.specs.xa_server.declared.slot.ServerSlot.{ServerSlot}
-use Rattle.xa_told.specs.xa_server.Slot.{Stands}
+use Rattle.xa_server.specs.xa_types.declared.ids.CallerId.{CallerId}
+use Rattle.xa_server.specs.xa_types.declared.ids.ServerId.{ServerId}
+use Rattle.xa_server.specs.xa_types.declared.stamp.Stamp.{Stamp}
+use Rattle.xa_server.specs.xa_events.declared.event.Event.{Event}
+use Rattle.xa_server.specs.xa_events.declared.event.Event.TheVariants.{Gone}
+use Rattle.xa_server.specs.xa_events.Homes.Home.{QueueHome}
+use Rattle.xa_server.specs.xa_stamp.declared.home.Stamped.{Stamped}
+use Rattle.xa_server.specs.xa_lock.Known.{known as page_of}
+use Rattle.xa_server.specs.xa_lock.Pages.{StartsWith}
+use Rattle.xa_server.specs.xa_worker.Seen.{past_in}
+use Rattle.xa_server.specs.xa_queue.declared.told.GivenUp.{GivenUp}
+use Rattle.xa_server.specs.xa_queue.Changes.{next_stamp}
+use Rattle.xa_server.specs.xa_held.Joins.{SawLeft, events_at}
+use Rattle.xa_server.specs.xa_held.Kept.{notes_of, IsRight}
+use Rattle.xa_server.specs.xa_held.Steps.{GaveUpAs}
+use Rattle.xa_server.specs.xa_held.Visits.{Visits}
+use Rattle.xa_server.proofs.xa_held.Lefts.{events_front, saw_left, saw_others, seen_gone}
+use Rattle.xa_server.proofs.xa_held.Seen.{events_kept}
+use Rattle.xa_server.specs.xa_caller.Caller.{Standing as Caller}
+use Rattle.xa_server.specs.xa_caller.declared.cargo.Filling.{Filling}
+use Rattle.xa_server.specs.xa_caller.Serving.{noted_off}
+use Rattle.xa_server.specs.declared.slot.ServerSlot.{ServerSlot}
+use Rattle.xa_server.specs.Slot.{Stands}
 use Rattle.xa_desk.specs.declared.domain.Domain.{Domain}
 use Rattle.xa_desk.specs.declared.desk.Desk.{Desk}
 use Rattle.xa_desk.specs.Desks.{Leads, queue_page}

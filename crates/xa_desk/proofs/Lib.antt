@@ -27,18 +27,16 @@ pub mod Taking
 pub mod Requests
 pub mod Passes
 -- what crates above cite of the lemmas of those below
-pub use Rattle.xa_told.proofs.xa_types
-pub use Rattle.xa_told.proofs.xa_events
-pub use Rattle.xa_told.proofs.xa_stamp
-pub use Rattle.xa_told.proofs.xa_lock
-pub use Rattle.xa_told.proofs.xa_crew
-pub use Rattle.xa_told.proofs.xa_work
-pub use Rattle.xa_told.proofs.xa_caller
-pub use Rattle.xa_told.proofs.xa_cell
-pub use Rattle.xa_told.proofs.xa_queue
-pub use Rattle.xa_told.proofs as xa_told
-pub use Rattle.xa_told.proofs.xa_server
+pub use Rattle.xa_server.proofs.xa_types
+pub use Rattle.xa_server.proofs.xa_events
+pub use Rattle.xa_server.proofs.xa_stamp
+pub use Rattle.xa_server.proofs.xa_lock
+pub use Rattle.xa_server.proofs.xa_worker
+pub use Rattle.xa_server.proofs.xa_caller
+pub use Rattle.xa_server.proofs.xa_cell
+pub use Rattle.xa_server.proofs.xa_queue
+pub use Rattle.xa_server.proofs as xa_server
 pub use Rattle.xa_board.proofs as xa_board
-pub use Rattle.xa_told.proofs.xa_held
-pub use Rattle.xa_told.proofs.xa_buffer
-pub use Rattle.xa_told.proofs.xa_pipe
+pub use Rattle.xa_server.proofs.xa_held
+pub use Rattle.xa_server.proofs.xa_buffer
+pub use Rattle.xa_server.proofs.xa_pipe

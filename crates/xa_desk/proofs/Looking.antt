@@ -3,32 +3,32 @@ use Rattle.std.proofs.Common.{◌≡◌, ◌≤◌, ◌<◌, ℕ, ◌+◌, max, 
 use Rattle.std.specs.List.{All, Contains}
 use Rattle.std.proofs.lemmas.Grind.{flat_map-append}
 use Rattle.std.proofs.lemmas.List.Elements.{All-nil, All-cons, All-weaker, All-contains, All-contains_itself}
-use Rattle.xa_told.specs.xa_types.declared.ids.CallerId.{CallerId}
-use Rattle.xa_told.specs.xa_types.declared.row.Row.{Row}
-use Rattle.xa_told.specs.xa_types.declared.stamp.Stamp.{Stamp}
-use Rattle.xa_told.specs.xa_types.Found.{FoundRows}
-use Rattle.xa_told.specs.xa_types.Kind.{is_accepted, kind_of}
-use Rattle.xa_told.specs.xa_events.Board.{published}
-use Rattle.xa_told.specs.xa_events.Cases.{RowStands, RowAdmits}
-use Rattle.xa_told.specs.xa_lock.declared.pass.LockPass.{LockPass}
-use Rattle.xa_told.specs.xa_lock.declared.pass.Page.{Page}
-use Rattle.xa_told.specs.xa_lock.Known.{known as page_of}
-use Rattle.xa_told.specs.xa_lock.Makers.{noted_in}
-use Rattle.xa_told.specs.xa_lock.Pages.{StartsWith, page}
-use Rattle.xa_told.specs.xa_crew.Seen.{past_in, SawFront}
-use Rattle.xa_told.specs.xa_stamp.declared.home.Stamped.{Stamped}
+use Rattle.xa_server.specs.xa_types.declared.ids.CallerId.{CallerId}
+use Rattle.xa_server.specs.xa_types.declared.row.Row.{Row}
+use Rattle.xa_server.specs.xa_types.declared.stamp.Stamp.{Stamp}
+use Rattle.xa_server.specs.xa_types.Found.{FoundRows}
+use Rattle.xa_server.specs.xa_types.Kind.{is_accepted, kind_of}
+use Rattle.xa_server.specs.xa_events.Board.{published}
+use Rattle.xa_server.specs.xa_events.Cases.{RowStands, RowAdmits}
+use Rattle.xa_server.specs.xa_lock.declared.pass.LockPass.{LockPass}
+use Rattle.xa_server.specs.xa_lock.declared.pass.Page.{Page}
+use Rattle.xa_server.specs.xa_lock.Known.{known as page_of}
+use Rattle.xa_server.specs.xa_lock.Makers.{noted_in}
+use Rattle.xa_server.specs.xa_lock.Pages.{StartsWith, page}
+use Rattle.xa_server.specs.xa_worker.Seen.{past_in, SawFront}
+use Rattle.xa_server.specs.xa_stamp.declared.home.Stamped.{Stamped}
 use Rattle.xa_board.specs.Board.{version_of}
 use Rattle.xa_board.specs.Reader.{Finds}
-use Rattle.xa_told.specs.xa_held.declared.kept_board.BoardNote.{BoardNote}
-use Rattle.xa_told.specs.xa_held.declared.kept_board.BoardNote.TheVariants.{Looked}
-use Rattle.xa_told.specs.xa_held.declared.kept_board.Look.{Look}
-use Rattle.xa_told.specs.xa_held.Board.{IsPlaced, made_in, made_of}
-use Rattle.xa_told.specs.xa_held.BoardSteps.{LookedUpAs}
-use Rattle.xa_told.specs.xa_held.BoardVisits.{BoardVisits, ReachesBoard}
-use Rattle.xa_told.specs.xa_held.Joins.{changes_at}
-use Rattle.xa_told.proofs.xa_held.Standing.{found_grows, found_configured, found_placed, found_listed, found_later, found_seen, found_admits}
-use Rattle.xa_told.specs.xa_work.Work.{seeing}
-use Rattle.xa_told.specs.xa_caller.Caller.{Standing as Caller}
+use Rattle.xa_server.specs.xa_held.declared.kept_board.BoardNote.{BoardNote}
+use Rattle.xa_server.specs.xa_held.declared.kept_board.BoardNote.TheVariants.{Looked}
+use Rattle.xa_server.specs.xa_held.declared.kept_board.Look.{Look}
+use Rattle.xa_server.specs.xa_held.Board.{IsPlaced, made_in, made_of}
+use Rattle.xa_server.specs.xa_held.BoardSteps.{LookedUpAs}
+use Rattle.xa_server.specs.xa_held.BoardVisits.{BoardVisits, ReachesBoard}
+use Rattle.xa_server.specs.xa_held.Joins.{changes_at}
+use Rattle.xa_server.proofs.xa_held.Standing.{found_grows, found_configured, found_placed, found_listed, found_later, found_seen, found_admits}
+use Rattle.xa_server.specs.xa_worker.Work.{seeing}
+use Rattle.xa_server.specs.xa_caller.Caller.{Standing as Caller}
 use Rattle.xa_desk.specs.declared.domain.Domain.{Domain}
 use Rattle.xa_desk.specs.declared.desk.Desk.{Desk}
 use Rattle.xa_desk.specs.Whole.{Whole}

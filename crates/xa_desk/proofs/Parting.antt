@@ -1,20 +1,20 @@
 -- What a worker that leaves has noted and shown.
 use Rattle.std.proofs.Common.{◌≡◌, ℕ, ◌+◌, true, List, Option, Some, None, inl, inr, refl, sym, subst, arith}
-use Rattle.xa_told.specs.xa_types.declared.stamp.Stamp.{Stamp}
-use Rattle.xa_told.specs.xa_events.declared.event.Event.{Event}
-use Rattle.xa_told.specs.xa_events.declared.event.Event.TheVariants.{Leave}
-use Rattle.xa_told.specs.xa_events.Caller.{is_call_of}
-use Rattle.xa_told.specs.xa_events.Local.{worker_events}
-use Rattle.xa_told.specs.xa_stamp.declared.home.Stamped.{Stamped}
-use Rattle.xa_told.specs.xa_crew.Calls.{FitsTurn}
-use Rattle.xa_told.specs.xa_cell.declared.tokens.Seat.{Seat}
-use Rattle.xa_told.specs.xa_cell.Known.{known, IsSeatOf}
-use Rattle.xa_told.specs.xa_work.declared.work.Halt.{Halt}
-use Rattle.xa_told.specs.xa_work.Work.{Standing as Working, noted}
-use Rattle.xa_told.specs.xa_work.Going.{FitEach}
-use Rattle.xa_told.proofs.xa_work.Noting.{each-more}
-use Rattle.xa_told.specs.xa_caller.declared.cargo.Filling.{Filling}
-use Rattle.xa_told.specs.xa_caller.Changes.{LeavesAs, FillsNoMore}
+use Rattle.xa_server.specs.xa_types.declared.stamp.Stamp.{Stamp}
+use Rattle.xa_server.specs.xa_events.declared.event.Event.{Event}
+use Rattle.xa_server.specs.xa_events.declared.event.Event.TheVariants.{Leave}
+use Rattle.xa_server.specs.xa_events.Caller.{is_call_of}
+use Rattle.xa_server.specs.xa_events.Local.{worker_events}
+use Rattle.xa_server.specs.xa_stamp.declared.home.Stamped.{Stamped}
+use Rattle.xa_server.specs.xa_worker.Calls.{FitsTurn}
+use Rattle.xa_server.specs.xa_cell.declared.tokens.Seat.{Seat}
+use Rattle.xa_server.specs.xa_cell.Known.{known, IsSeatOf}
+use Rattle.xa_server.specs.xa_worker.declared.work.Halt.{Halt}
+use Rattle.xa_server.specs.xa_worker.Work.{Standing as Working, noted}
+use Rattle.xa_server.specs.xa_worker.Going.{FitEach}
+use Rattle.xa_server.proofs.xa_worker.Noting.{each-more}
+use Rattle.xa_server.specs.xa_caller.declared.cargo.Filling.{Filling}
+use Rattle.xa_server.specs.xa_caller.Changes.{LeavesAs, FillsNoMore}
 use Rattle.xa_desk.specs.declared.domain.Domain.{Domain}
 use Rattle.xa_desk.specs.declared.desk.Desk.{Desk}
 use Rattle.xa_desk.specs.Whole.{entries_of}

@@ -4,68 +4,68 @@ use Rattle.std.specs.Prelude.{IfOk, IfErr, IfSome, IsSomeAnd, OnErr, slice_index
 use Rattle.std.specs.List.{All, Contains, find}
 use Rattle.std.proofs.lemmas.Bool.{cases_Bool}
 use Rattle.std.proofs.lemmas.List.Elements.{All-nil, All-cons, All-append, All-contains, All-contains_itself}
-use Rattle.xa_told.specs.xa_types.declared.data.Data.{Data}
-use Rattle.xa_told.specs.xa_types.declared.ids.CallerId.{CallerId}
-use Rattle.xa_told.specs.xa_types.declared.ids.QueueId.{QueueId}
-use Rattle.xa_told.specs.xa_types.declared.ids.RequestId.{RequestId}
-use Rattle.xa_told.specs.xa_types.declared.row.Row.{Row}
-use Rattle.xa_told.specs.xa_types.declared.setup.Setup.{Setup}
-use Rattle.xa_told.specs.xa_types.declared.stamp.Stamp.{Stamp}
-use Rattle.xa_told.specs.xa_types.Found.{FoundRows}
-use Rattle.xa_told.specs.xa_types.Kind.{is_accepted, is_sound, kind_of}
-use Rattle.xa_told.specs.xa_types.Name.{is_name}
-use Rattle.xa_told.specs.xa_types.Rows.{row_for}
-use Rattle.xa_told.specs.xa_types.Setup.{queue_of, service_named}
-use Rattle.xa_told.specs.xa_events.declared.event.Doing.{Doing}
-use Rattle.xa_told.specs.xa_events.declared.event.Event.{Event}
-use Rattle.xa_told.specs.xa_events.declared.event.Event.TheVariants.{Accept, Forward}
-use Rattle.xa_told.specs.xa_events.declared.event.Outcome.TheVariants.{BadForward}
-use Rattle.xa_told.specs.xa_events.declared.event.Taken.{Taken}
-use Rattle.xa_told.specs.xa_events.Board.{published, listed_in}
-use Rattle.xa_told.specs.xa_events.Caller.{is_conversational, version_of}
-use Rattle.xa_told.specs.xa_events.Cases.{RowStands, RowAdmits}
-use Rattle.xa_told.specs.xa_events.Homes.{home_of}
-use Rattle.xa_told.specs.xa_events.Homes.Home.{BoardHome, QueueHome}
-use Rattle.xa_told.specs.xa_events.Local.{Forwardable}
-use Rattle.xa_told.specs.xa_events.Request.{is_entry_of}
-use Rattle.xa_told.specs.xa_events.State.{caller_of}
-use Rattle.xa_told.specs.xa_events.Words.{latest}
-use Rattle.xa_told.specs.xa_stamp.declared.home.Stamped.{Stamped}
-use Rattle.xa_told.specs.xa_lock.declared.makers.Made.{Made}
-use Rattle.xa_told.specs.xa_lock.Known.{known as page_of}
-use Rattle.xa_told.specs.xa_crew.Seen.{past_in, SawFront, SawSince}
-use Rattle.xa_told.specs.xa_queue.declared.entry.Entry.{Entry}
-use Rattle.xa_told.specs.xa_queue.Changes.{IsEntry, next_stamp}
-use Rattle.xa_told.proofs.xa_cell.Lists.{decided}
-use Rattle.xa_told.specs.xa_held.declared.cargo.Invocation.{Invocation}
-use Rattle.xa_told.specs.xa_held.declared.kept_queue.QueueNote.{QueueNote}
-use Rattle.xa_told.specs.xa_held.declared.kept_queue.QueueNote.TheVariants.{By}
-use Rattle.xa_told.specs.xa_held.declared.kept_queue.Setting.{Setting}
-use Rattle.xa_told.specs.xa_held.Joins.{changes_at}
-use Rattle.xa_told.specs.xa_held.Kept.{Kept, IsRight, Brings}
-use Rattle.xa_told.specs.xa_held.Notes.{IsOther}
-use Rattle.xa_told.specs.xa_held.Steps.{PutAs}
-use Rattle.xa_told.specs.xa_held.Visits.{Sees, Visits}
-use Rattle.xa_told.proofs.xa_held.Front.{note}
-use Rattle.xa_told.specs.xa_frame.Spelling.{IsData}
-use Rattle.xa_told.specs.xa_work.declared.work.Halt.{Halt}
-use Rattle.xa_told.specs.xa_work.Work.{seeing}
-use Rattle.xa_told.specs.xa_caller.declared.cargo.Filling.{Filling}
-use Rattle.xa_told.specs.xa_caller.declared.outcomes.Aimed.{Aimed}
-use Rattle.xa_told.specs.xa_caller.declared.outcomes.Aimed.TheVariants as aims
-use Rattle.xa_told.specs.xa_caller.Caller.{Standing as Caller, AreRowsOf}
-use Rattle.xa_told.specs.xa_caller.Drafts.{Cargo, entry_behind}
-use Rattle.xa_told.proofs.xa_caller.Next.{found-all, same_kinds, row-service}
-use Rattle.xa_told.proofs.xa_caller.Sound.{sound_is_data}
-use Rattle.xa_told.proofs.xa_caller.Unsent.{at-all}
-use Rattle.xa_told.specs.xa_server.declared.closing.Closing.{Closing}
-use Rattle.xa_told.specs.xa_server.declared.forwarding.Forwarding.{Forwarding}
-use Rattle.xa_told.specs.xa_server.declared.forwarding.Forwarding.TheVariants.{On, Failed}
-use Rattle.xa_told.specs.xa_server.declared.slot.ServerSlot.{ServerSlot}
-use Rattle.xa_told.specs.xa_server.Doings.{InHand}
-use Rattle.xa_told.specs.xa_server.Forwarding.{way_of, row_or, hop_in, forwarded_by, GoesBy, Passes, Fails, ForwardsAs, IsOnWay, LeftBy, AimsOn, StaysOnWay, GoesOn}
-use Rattle.xa_told.specs.xa_server.Noting.{HaltsWith}
-use Rattle.xa_told.specs.xa_server.Slot.{Tables, Stands}
+use Rattle.xa_server.specs.xa_types.declared.data.Data.{Data}
+use Rattle.xa_server.specs.xa_types.declared.ids.CallerId.{CallerId}
+use Rattle.xa_server.specs.xa_types.declared.ids.QueueId.{QueueId}
+use Rattle.xa_server.specs.xa_types.declared.ids.RequestId.{RequestId}
+use Rattle.xa_server.specs.xa_types.declared.row.Row.{Row}
+use Rattle.xa_server.specs.xa_types.declared.setup.Setup.{Setup}
+use Rattle.xa_server.specs.xa_types.declared.stamp.Stamp.{Stamp}
+use Rattle.xa_server.specs.xa_types.Found.{FoundRows}
+use Rattle.xa_server.specs.xa_types.Kind.{is_accepted, is_sound, kind_of}
+use Rattle.xa_server.specs.xa_types.Name.{is_name}
+use Rattle.xa_server.specs.xa_types.Rows.{row_for}
+use Rattle.xa_server.specs.xa_types.Setup.{queue_of, service_named}
+use Rattle.xa_server.specs.xa_events.declared.event.Doing.{Doing}
+use Rattle.xa_server.specs.xa_events.declared.event.Event.{Event}
+use Rattle.xa_server.specs.xa_events.declared.event.Event.TheVariants.{Accept, Forward}
+use Rattle.xa_server.specs.xa_events.declared.event.Outcome.TheVariants.{BadForward}
+use Rattle.xa_server.specs.xa_events.declared.event.Taken.{Taken}
+use Rattle.xa_server.specs.xa_events.Board.{published, listed_in}
+use Rattle.xa_server.specs.xa_events.Caller.{is_conversational, version_of}
+use Rattle.xa_server.specs.xa_events.Cases.{RowStands, RowAdmits}
+use Rattle.xa_server.specs.xa_events.Homes.{home_of}
+use Rattle.xa_server.specs.xa_events.Homes.Home.{BoardHome, QueueHome}
+use Rattle.xa_server.specs.xa_events.Local.{Forwardable}
+use Rattle.xa_server.specs.xa_events.Request.{is_entry_of}
+use Rattle.xa_server.specs.xa_events.State.{caller_of}
+use Rattle.xa_server.specs.xa_events.Words.{latest}
+use Rattle.xa_server.specs.xa_stamp.declared.home.Stamped.{Stamped}
+use Rattle.xa_server.specs.xa_lock.declared.makers.Made.{Made}
+use Rattle.xa_server.specs.xa_lock.Known.{known as page_of}
+use Rattle.xa_server.specs.xa_worker.Seen.{past_in, SawFront, SawSince}
+use Rattle.xa_server.specs.xa_queue.declared.entry.Entry.{Entry}
+use Rattle.xa_server.specs.xa_queue.Changes.{IsEntry, next_stamp}
+use Rattle.xa_server.proofs.xa_cell.Lists.{decided}
+use Rattle.xa_server.specs.xa_held.declared.cargo.Invocation.{Invocation}
+use Rattle.xa_server.specs.xa_held.declared.kept_queue.QueueNote.{QueueNote}
+use Rattle.xa_server.specs.xa_held.declared.kept_queue.QueueNote.TheVariants.{By}
+use Rattle.xa_server.specs.xa_held.declared.kept_queue.Setting.{Setting}
+use Rattle.xa_server.specs.xa_held.Joins.{changes_at}
+use Rattle.xa_server.specs.xa_held.Kept.{Kept, IsRight, Brings}
+use Rattle.xa_server.specs.xa_held.Notes.{IsOther}
+use Rattle.xa_server.specs.xa_held.Steps.{PutAs}
+use Rattle.xa_server.specs.xa_held.Visits.{Sees, Visits}
+use Rattle.xa_server.proofs.xa_held.Front.{note}
+use Rattle.xa_server.specs.xa_frame.Spelling.{IsData}
+use Rattle.xa_server.specs.xa_worker.declared.work.Halt.{Halt}
+use Rattle.xa_server.specs.xa_worker.Work.{seeing}
+use Rattle.xa_server.specs.xa_caller.declared.cargo.Filling.{Filling}
+use Rattle.xa_server.specs.xa_caller.declared.outcomes.Aimed.{Aimed}
+use Rattle.xa_server.specs.xa_caller.declared.outcomes.Aimed.TheVariants as aims
+use Rattle.xa_server.specs.xa_caller.Caller.{Standing as Caller, AreRowsOf}
+use Rattle.xa_server.specs.xa_caller.Drafts.{Cargo, entry_behind}
+use Rattle.xa_server.proofs.xa_caller.Next.{found-all, same_kinds, row-service}
+use Rattle.xa_server.proofs.xa_caller.Sound.{sound_is_data}
+use Rattle.xa_server.proofs.xa_caller.Unsent.{at-all}
+use Rattle.xa_server.specs.declared.closing.Closing.{Closing}
+use Rattle.xa_server.specs.declared.forwarding.Forwarding.{Forwarding}
+use Rattle.xa_server.specs.declared.forwarding.Forwarding.TheVariants.{On, Failed}
+use Rattle.xa_server.specs.declared.slot.ServerSlot.{ServerSlot}
+use Rattle.xa_server.specs.Doings.{InHand}
+use Rattle.xa_server.specs.Forwarding.{way_of, row_or, hop_in, forwarded_by, GoesBy, Passes, Fails, ForwardsAs, IsOnWay, LeftBy, AimsOn, StaysOnWay, GoesOn}
+use Rattle.xa_server.specs.Noting.{HaltsWith}
+use Rattle.xa_server.specs.Slot.{Tables, Stands}
 use Rattle.xa_desk.specs.Made.{IsMade}
 use Rattle.xa_desk.specs.declared.domain.Domain.{Domain}
 use Rattle.xa_desk.specs.declared.desk.Desk.{Desk}

@@ -4,36 +4,36 @@ use Rattle.std.specs.Prelude.{IfOk, IfErr, OnOk}
 use Rattle.std.specs.List.{Contains, find, list_any}
 use Rattle.std.proofs.lemmas.Bool.{cases_Bool}
 use Rattle.std.proofs.lemmas.List.Elements.{All-contains_itself}
-use Rattle.xa_told.specs.xa_types.declared.call.Ask.{Ask}
-use Rattle.xa_told.specs.xa_types.declared.fault.Fault.{Fault}
-use Rattle.xa_told.specs.xa_types.declared.fault.Fault.TheVariants.{NoEnt, IType, Limit, Inval}
-use Rattle.xa_told.specs.xa_types.declared.ids.RequestId.{RequestId}
-use Rattle.xa_told.specs.xa_types.declared.row.Row.{Row}
-use Rattle.xa_told.specs.xa_types.declared.stamp.Stamp.{Stamp}
-use Rattle.xa_told.specs.xa_types.Found.{FoundRows}
-use Rattle.xa_told.specs.xa_types.Kind.{is_accepted, kind_of}
-use Rattle.xa_told.specs.xa_events.declared.event.Event.{Event}
-use Rattle.xa_told.specs.xa_events.declared.event.Event.TheVariants.{Accept}
-use Rattle.xa_told.specs.xa_events.declared.event.Evidence.TheVariants.{Version, Cells, Argument}
-use Rattle.xa_told.specs.xa_events.Board.{published, listed_in}
-use Rattle.xa_told.specs.xa_events.Calls.{as_call, is_invalid_call, is_accepted_by}
-use Rattle.xa_told.specs.xa_events.Homes.Home.{BoardHome}
-use Rattle.xa_told.specs.xa_stamp.declared.home.Stamped.{Stamped}
-use Rattle.xa_told.specs.xa_crew.Calls.{AskRefusedOwn, SawListed}
-use Rattle.xa_told.specs.xa_crew.Seen.{past_in, SawFront}
-use Rattle.xa_told.specs.xa_cell.Known.{known, IsSeatOf}
-use Rattle.xa_told.specs.xa_held.Kept.{IsRight}
-use Rattle.xa_told.specs.xa_caller.declared.outcomes.Prepared.{Prepared as Made}
-use Rattle.xa_told.specs.xa_caller.declared.outcomes.Stop.{Stop}
-use Rattle.xa_told.specs.xa_caller.declared.outcomes.Stop.TheVariants as stops
-use Rattle.xa_told.specs.xa_caller.declared.phase.Draft.{Draft}
-use Rattle.xa_told.specs.xa_caller.Caller.{Standing as Caller}
-use Rattle.xa_told.specs.xa_caller.Changes.{Prepares, Refuses, StopsAs, Limits}
-use Rattle.xa_told.specs.xa_caller.Drafts.{accepted_by, entry_by}
-use Rattle.xa_told.specs.xa_caller.Phases.{just_in}
-use Rattle.xa_told.specs.xa_caller.Unsent.{ChecksAs}
-use Rattle.xa_told.proofs.xa_caller.Next.{found-all, sound_ask}
-use Rattle.xa_told.proofs.Calls.{began_keeps, full_keeps}
+use Rattle.xa_server.specs.xa_types.declared.call.Ask.{Ask}
+use Rattle.xa_server.specs.xa_types.declared.fault.Fault.{Fault}
+use Rattle.xa_server.specs.xa_types.declared.fault.Fault.TheVariants.{NoEnt, IType, Limit, Inval}
+use Rattle.xa_server.specs.xa_types.declared.ids.RequestId.{RequestId}
+use Rattle.xa_server.specs.xa_types.declared.row.Row.{Row}
+use Rattle.xa_server.specs.xa_types.declared.stamp.Stamp.{Stamp}
+use Rattle.xa_server.specs.xa_types.Found.{FoundRows}
+use Rattle.xa_server.specs.xa_types.Kind.{is_accepted, kind_of}
+use Rattle.xa_server.specs.xa_events.declared.event.Event.{Event}
+use Rattle.xa_server.specs.xa_events.declared.event.Event.TheVariants.{Accept}
+use Rattle.xa_server.specs.xa_events.declared.event.Evidence.TheVariants.{Version, Cells, Argument}
+use Rattle.xa_server.specs.xa_events.Board.{published, listed_in}
+use Rattle.xa_server.specs.xa_events.Calls.{as_call, is_invalid_call, is_accepted_by}
+use Rattle.xa_server.specs.xa_events.Homes.Home.{BoardHome}
+use Rattle.xa_server.specs.xa_stamp.declared.home.Stamped.{Stamped}
+use Rattle.xa_server.specs.xa_worker.Calls.{AskRefusedOwn, SawListed}
+use Rattle.xa_server.specs.xa_worker.Seen.{past_in, SawFront}
+use Rattle.xa_server.specs.xa_cell.Known.{known, IsSeatOf}
+use Rattle.xa_server.specs.xa_held.Kept.{IsRight}
+use Rattle.xa_server.specs.xa_caller.declared.outcomes.Prepared.{Prepared as Made}
+use Rattle.xa_server.specs.xa_caller.declared.outcomes.Stop.{Stop}
+use Rattle.xa_server.specs.xa_caller.declared.outcomes.Stop.TheVariants as stops
+use Rattle.xa_server.specs.xa_caller.declared.phase.Draft.{Draft}
+use Rattle.xa_server.specs.xa_caller.Caller.{Standing as Caller}
+use Rattle.xa_server.specs.xa_caller.Changes.{Prepares, Refuses, StopsAs, Limits}
+use Rattle.xa_server.specs.xa_caller.Drafts.{accepted_by, entry_by}
+use Rattle.xa_server.specs.xa_caller.Phases.{just_in}
+use Rattle.xa_server.specs.xa_caller.Unsent.{ChecksAs}
+use Rattle.xa_server.proofs.xa_caller.Next.{found-all, sound_ask}
+use Rattle.xa_server.proofs.Calls.{began_keeps, full_keeps}
 use Rattle.xa_desk.specs.Made.{IsRefusal}
 use Rattle.xa_desk.specs.declared.domain.Domain.{Domain}
 use Rattle.xa_desk.specs.declared.desk.Desk.{Desk}

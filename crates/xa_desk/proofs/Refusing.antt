@@ -1,24 +1,24 @@
 -- What a desk knows and shows goes on, as a call of its caller is refused.
 use Rattle.std.proofs.Common.{◌≡◌, ◌≤◌, ℕ, [], ◌∷◌, ◌++◌, Option, Some, None, refl, sym, ◌∙◌, ap, subst, arith, ◌+◌}
 use Rattle.std.specs.Prelude.{IfSome}
-use Rattle.xa_told.specs.xa_types.declared.call.Ask.{Ask}
-use Rattle.xa_told.specs.xa_types.declared.call.Op.TheVariants.{Call}
-use Rattle.xa_told.specs.xa_types.declared.fault.Fault.{Fault}
-use Rattle.xa_told.specs.xa_types.declared.stamp.Stamp.{Stamp}
-use Rattle.xa_told.specs.xa_events.declared.event.Evidence.{Evidence}
-use Rattle.xa_told.specs.xa_events.Board.{published}
-use Rattle.xa_told.specs.xa_events.Caller.{version_in}
-use Rattle.xa_told.specs.xa_events.Calls.{as_call}
-use Rattle.xa_told.specs.xa_events.Homes.Home.{CallerHome}
-use Rattle.xa_told.specs.xa_stamp.declared.home.Stamped.{Stamped}
-use Rattle.xa_told.specs.xa_crew.Calls.{AskRefusedOwn}
-use Rattle.xa_told.specs.xa_crew.Seen.{past_in, SawEvidence, ToldEvidence}
-use Rattle.xa_told.specs.xa_cell.Known.{known, IsSeatOf}
-use Rattle.xa_told.specs.xa_held.Joins.{changes_at}
-use Rattle.xa_told.specs.xa_work.Work.{Standing as Working}
-use Rattle.xa_told.specs.xa_caller.Caller.{Standing as Caller}
-use Rattle.xa_told.specs.xa_caller.Changes.{refused, Refuses}
-use Rattle.xa_told.specs.xa_caller.Phases.{just_in, least_by}
+use Rattle.xa_server.specs.xa_types.declared.call.Ask.{Ask}
+use Rattle.xa_server.specs.xa_types.declared.call.Op.TheVariants.{Call}
+use Rattle.xa_server.specs.xa_types.declared.fault.Fault.{Fault}
+use Rattle.xa_server.specs.xa_types.declared.stamp.Stamp.{Stamp}
+use Rattle.xa_server.specs.xa_events.declared.event.Evidence.{Evidence}
+use Rattle.xa_server.specs.xa_events.Board.{published}
+use Rattle.xa_server.specs.xa_events.Caller.{version_in}
+use Rattle.xa_server.specs.xa_events.Calls.{as_call}
+use Rattle.xa_server.specs.xa_events.Homes.Home.{CallerHome}
+use Rattle.xa_server.specs.xa_stamp.declared.home.Stamped.{Stamped}
+use Rattle.xa_server.specs.xa_worker.Calls.{AskRefusedOwn}
+use Rattle.xa_server.specs.xa_worker.Seen.{past_in, SawEvidence, ToldEvidence}
+use Rattle.xa_server.specs.xa_cell.Known.{known, IsSeatOf}
+use Rattle.xa_server.specs.xa_held.Joins.{changes_at}
+use Rattle.xa_server.specs.xa_worker.Work.{Standing as Working}
+use Rattle.xa_server.specs.xa_caller.Caller.{Standing as Caller}
+use Rattle.xa_server.specs.xa_caller.Changes.{refused, Refuses}
+use Rattle.xa_server.specs.xa_caller.Phases.{just_in, least_by}
 use Rattle.xa_desk.specs.declared.domain.Domain.{Domain}
 use Rattle.xa_desk.specs.Made.{IsRefusal}
 use Rattle.xa_desk.specs.declared.desk.Desk.{Desk}

@@ -3,38 +3,38 @@ use Rattle.std.proofs.Common.{◌≡◌, ◌≤◌, ℕ, max, List, Option, Some
 use Rattle.std.specs.Prelude.{IfSome, IsSomeAnd}
 use Rattle.std.specs.List.{Contains}
 use Rattle.std.proofs.lemmas.List.Elements.{All-contains, Contains-push}
-use Rattle.xa_told.specs.xa_types.declared.call.Ask.{Ask}
-use Rattle.xa_told.specs.xa_types.declared.call.Op.TheVariants.{Call}
-use Rattle.xa_told.specs.xa_types.declared.data.Kind.{Kind}
-use Rattle.xa_told.specs.xa_types.declared.ids.RequestId.{RequestId}
-use Rattle.xa_told.specs.xa_types.declared.reply.Answer.{Answer as Reply}
-use Rattle.xa_told.specs.xa_types.declared.stamp.Stamp.{Stamp}
-use Rattle.xa_told.specs.xa_events.declared.event.Event.{Event}
-use Rattle.xa_told.specs.xa_events.declared.event.Event.TheVariants.{Answer}
-use Rattle.xa_told.specs.xa_events.Answers.{reply_of, answer_to, IsAnswerTo}
-use Rattle.xa_told.specs.xa_events.Homes.{Home}
-use Rattle.xa_told.specs.xa_events.Request.{Settlement, settlement_in}
-use Rattle.xa_told.specs.xa_stamp.declared.home.Stamped.{Stamped}
-use Rattle.xa_told.specs.xa_crew.Seen.{SawEntry}
-use Rattle.xa_told.specs.xa_cell.declared.view.Fill.{Fill}
-use Rattle.xa_told.specs.xa_cell.declared.view.View.{View}
-use Rattle.xa_told.specs.xa_cell.Calls.{TookAs}
-use Rattle.xa_told.specs.xa_cell.Changes.{looked}
-use Rattle.xa_told.specs.xa_cell.Growing.{Keeps, TakesMore}
-use Rattle.xa_told.specs.xa_cell.Known.{known, IsSeatOf}
-use Rattle.xa_told.specs.xa_cell.Views.{at, fill}
-use Rattle.xa_told.proofs.xa_cell.Growing.{looked_keeps, more_behind}
-use Rattle.xa_told.specs.xa_work.Work.{seeing, Standing as Working}
-use Rattle.xa_told.specs.xa_caller.declared.cargo.Filling.{Filling}
-use Rattle.xa_told.specs.xa_caller.declared.outcomes.Step.{Step}
-use Rattle.xa_told.specs.xa_caller.declared.outcomes.Step.TheVariants as steps
-use Rattle.xa_told.specs.xa_caller.Caller.{Standing as Caller}
-use Rattle.xa_told.specs.xa_caller.Changes.{Answers, StepsAs}
-use Rattle.xa_told.specs.xa_caller.Phases.{just_in}
-use Rattle.xa_told.specs.Told.{WasTaken, EndsAt, HasEnd}
-use Rattle.xa_told.proofs.Calls.{asked_looked, took_is_more}
-use Rattle.xa_told.proofs.Growth.{only_at, takes_grows}
-use Rattle.xa_told.proofs.Joining.{shown}
+use Rattle.xa_server.specs.xa_types.declared.call.Ask.{Ask}
+use Rattle.xa_server.specs.xa_types.declared.call.Op.TheVariants.{Call}
+use Rattle.xa_server.specs.xa_types.declared.data.Kind.{Kind}
+use Rattle.xa_server.specs.xa_types.declared.ids.RequestId.{RequestId}
+use Rattle.xa_server.specs.xa_types.declared.reply.Answer.{Answer as Reply}
+use Rattle.xa_server.specs.xa_types.declared.stamp.Stamp.{Stamp}
+use Rattle.xa_server.specs.xa_events.declared.event.Event.{Event}
+use Rattle.xa_server.specs.xa_events.declared.event.Event.TheVariants.{Answer}
+use Rattle.xa_server.specs.xa_events.Answers.{reply_of, answer_to, IsAnswerTo}
+use Rattle.xa_server.specs.xa_events.Homes.{Home}
+use Rattle.xa_server.specs.xa_events.Request.{Settlement, settlement_in}
+use Rattle.xa_server.specs.xa_stamp.declared.home.Stamped.{Stamped}
+use Rattle.xa_server.specs.xa_worker.Seen.{SawEntry}
+use Rattle.xa_server.specs.xa_cell.declared.view.Fill.{Fill}
+use Rattle.xa_server.specs.xa_cell.declared.view.View.{View}
+use Rattle.xa_server.specs.xa_cell.Calls.{TookAs}
+use Rattle.xa_server.specs.xa_cell.Changes.{looked}
+use Rattle.xa_server.specs.xa_cell.Growing.{Keeps, TakesMore}
+use Rattle.xa_server.specs.xa_cell.Known.{known, IsSeatOf}
+use Rattle.xa_server.specs.xa_cell.Views.{at, fill}
+use Rattle.xa_server.proofs.xa_cell.Growing.{looked_keeps, more_behind}
+use Rattle.xa_server.specs.xa_worker.Work.{seeing, Standing as Working}
+use Rattle.xa_server.specs.xa_caller.declared.cargo.Filling.{Filling}
+use Rattle.xa_server.specs.xa_caller.declared.outcomes.Step.{Step}
+use Rattle.xa_server.specs.xa_caller.declared.outcomes.Step.TheVariants as steps
+use Rattle.xa_server.specs.xa_caller.Caller.{Standing as Caller}
+use Rattle.xa_server.specs.xa_caller.Changes.{Answers, StepsAs}
+use Rattle.xa_server.specs.xa_caller.Phases.{just_in}
+use Rattle.xa_server.specs.Fillings.{WasTaken, EndsAt, HasEnd}
+use Rattle.xa_server.proofs.Calls.{asked_looked, took_is_more}
+use Rattle.xa_server.proofs.Growth.{only_at, takes_grows}
+use Rattle.xa_server.proofs.Joining.{shown}
 use Rattle.xa_desk.specs.declared.domain.Domain.{Domain}
 use Rattle.xa_desk.specs.declared.desk.Desk.{Desk}
 use Rattle.xa_desk.specs.Whole.{Whole, entries_of, IsKnown}

@@ -3,48 +3,48 @@ use Rattle.std.proofs.Common.{◌≡◌, ◌<◌, ℕ, ◌+◌, ◌==◌, Bool, 
 use Rattle.std.specs.Prelude.{IfSome, IsSomeAnd}
 use Rattle.std.proofs.lemmas.List.{append_assoc}
 use Rattle.std.proofs.lemmas.List.Elements.{filter-append}
-use Rattle.xa_told.specs.xa_types.declared.ids.CallerId.{CallerId}
-use Rattle.xa_told.specs.xa_types.declared.ids.Generation.{Generation}
-use Rattle.xa_told.specs.xa_types.declared.ids.ServerId.{ServerId}
-use Rattle.xa_told.specs.xa_types.declared.stamp.Stamp.{Stamp}
-use Rattle.xa_told.specs.xa_types.Setup.{queue_of, capacity_of}
-use Rattle.xa_told.specs.xa_events.declared.event.Doing.TheVariants.{Busy}
-use Rattle.xa_told.specs.xa_events.declared.event.Event.{Event}
-use Rattle.xa_told.specs.xa_events.declared.event.Event.TheVariants.{Take}
-use Rattle.xa_told.specs.xa_events.declared.event.Taken.{Taken}
-use Rattle.xa_told.specs.xa_events.Homes.{is_own_at}
-use Rattle.xa_told.specs.xa_events.Homes.Home.{QueueHome}
-use Rattle.xa_told.specs.xa_events.Request.{is_entry_of}
-use Rattle.xa_told.specs.xa_events.Words.{count, latest}
-use Rattle.xa_told.specs.xa_stamp.declared.home.Stamped.{Stamped}
-use Rattle.xa_told.specs.xa_lock.declared.makers.Made.{Made}
-use Rattle.xa_told.specs.xa_lock.declared.pass.Page.{Page}
-use Rattle.xa_told.specs.xa_lock.Known.{known as page_of}
-use Rattle.xa_told.specs.xa_lock.Makers.{noted_in}
-use Rattle.xa_told.specs.xa_lock.Pages.{Knows, entries_by}
-use Rattle.xa_told.specs.xa_crew.Seen.{past_in, IfNew}
-use Rattle.xa_told.proofs.xa_crew.Lists.{past_in-append}
-use Rattle.xa_told.specs.xa_queue.declared.told.Outgoing.{Outgoing}
-use Rattle.xa_told.specs.xa_queue.declared.queue.Taken.TheVariants as takes
-use Rattle.xa_told.specs.xa_queue.Changes.{taken, next_stamp}
-use Rattle.xa_told.specs.xa_queue.Reading.{AllNew}
-use Rattle.xa_told.specs.xa_held.declared.kept_queue.QueueNote.{QueueNote}
-use Rattle.xa_told.specs.xa_held.declared.kept_queue.QueueNote.TheVariants.{By}
-use Rattle.xa_told.specs.xa_held.Joins.{events_at}
-use Rattle.xa_told.specs.xa_held.Kept.{Kept, IsRight, Brings, notes_of}
-use Rattle.xa_told.specs.xa_held.Notes.{maker_of}
-use Rattle.xa_told.specs.xa_held.Steps.{TookAs}
-use Rattle.xa_told.specs.xa_held.Visits.{Visits}
-use Rattle.xa_told.proofs.xa_held.Front.{knows_events}
-use Rattle.xa_told.proofs.xa_held.Seen.{events_more}
-use Rattle.xa_told.specs.xa_caller.declared.cargo.Filling.{Filling}
-use Rattle.xa_told.specs.xa_caller.Caller.{Standing as Caller}
-use Rattle.xa_told.specs.xa_caller.Drafts.{Cargo}
-use Rattle.xa_told.specs.xa_caller.Serving.{noted_off}
-use Rattle.xa_told.specs.xa_server.declared.slot.Last.TheVariants.{Nothing as NoLast}
-use Rattle.xa_told.specs.xa_server.declared.slot.ServerSlot.{ServerSlot}
-use Rattle.xa_told.specs.xa_server.Doings.{life_in}
-use Rattle.xa_told.specs.xa_server.Slot.{Stands}
+use Rattle.xa_server.specs.xa_types.declared.ids.CallerId.{CallerId}
+use Rattle.xa_server.specs.xa_types.declared.ids.Generation.{Generation}
+use Rattle.xa_server.specs.xa_types.declared.ids.ServerId.{ServerId}
+use Rattle.xa_server.specs.xa_types.declared.stamp.Stamp.{Stamp}
+use Rattle.xa_server.specs.xa_types.Setup.{queue_of, capacity_of}
+use Rattle.xa_server.specs.xa_events.declared.event.Doing.TheVariants.{Busy}
+use Rattle.xa_server.specs.xa_events.declared.event.Event.{Event}
+use Rattle.xa_server.specs.xa_events.declared.event.Event.TheVariants.{Take}
+use Rattle.xa_server.specs.xa_events.declared.event.Taken.{Taken}
+use Rattle.xa_server.specs.xa_events.Homes.{is_own_at}
+use Rattle.xa_server.specs.xa_events.Homes.Home.{QueueHome}
+use Rattle.xa_server.specs.xa_events.Request.{is_entry_of}
+use Rattle.xa_server.specs.xa_events.Words.{count, latest}
+use Rattle.xa_server.specs.xa_stamp.declared.home.Stamped.{Stamped}
+use Rattle.xa_server.specs.xa_lock.declared.makers.Made.{Made}
+use Rattle.xa_server.specs.xa_lock.declared.pass.Page.{Page}
+use Rattle.xa_server.specs.xa_lock.Known.{known as page_of}
+use Rattle.xa_server.specs.xa_lock.Makers.{noted_in}
+use Rattle.xa_server.specs.xa_lock.Pages.{Knows, entries_by}
+use Rattle.xa_server.specs.xa_worker.Seen.{past_in, IfNew}
+use Rattle.xa_server.proofs.xa_worker.Lists.{past_in-append}
+use Rattle.xa_server.specs.xa_queue.declared.told.Outgoing.{Outgoing}
+use Rattle.xa_server.specs.xa_queue.declared.queue.Taken.TheVariants as takes
+use Rattle.xa_server.specs.xa_queue.Changes.{taken, next_stamp}
+use Rattle.xa_server.specs.xa_queue.Reading.{AllNew}
+use Rattle.xa_server.specs.xa_held.declared.kept_queue.QueueNote.{QueueNote}
+use Rattle.xa_server.specs.xa_held.declared.kept_queue.QueueNote.TheVariants.{By}
+use Rattle.xa_server.specs.xa_held.Joins.{events_at}
+use Rattle.xa_server.specs.xa_held.Kept.{Kept, IsRight, Brings, notes_of}
+use Rattle.xa_server.specs.xa_held.Notes.{maker_of}
+use Rattle.xa_server.specs.xa_held.Steps.{TookAs}
+use Rattle.xa_server.specs.xa_held.Visits.{Visits}
+use Rattle.xa_server.proofs.xa_held.Front.{knows_events}
+use Rattle.xa_server.proofs.xa_held.Seen.{events_more}
+use Rattle.xa_server.specs.xa_caller.declared.cargo.Filling.{Filling}
+use Rattle.xa_server.specs.xa_caller.Caller.{Standing as Caller}
+use Rattle.xa_server.specs.xa_caller.Drafts.{Cargo}
+use Rattle.xa_server.specs.xa_caller.Serving.{noted_off}
+use Rattle.xa_server.specs.declared.slot.Last.TheVariants.{Nothing as NoLast}
+use Rattle.xa_server.specs.declared.slot.ServerSlot.{ServerSlot}
+use Rattle.xa_server.specs.Doings.{life_in}
+use Rattle.xa_server.specs.Slot.{Stands}
 use Rattle.xa_desk.specs.declared.domain.Domain.{Domain}
 use Rattle.xa_desk.specs.declared.desk.Desk.{Desk}
 use Rattle.xa_desk.specs.declared.serving.Took.TheVariants as tooks

@@ -2,22 +2,22 @@
 use Rattle.std.proofs.Common.{◌≡◌, ℕ, List, refl, sym, subst}
 use Rattle.std.specs.List.{All, Contains}
 use Rattle.std.proofs.lemmas.List.Elements.{All-weaker, All-contains, All-contains_itself}
-use Rattle.xa_told.specs.xa_types.declared.setup.Setup.{Setup}
-use Rattle.xa_told.specs.xa_types.declared.stamp.Stamp.{Stamp}
-use Rattle.xa_told.specs.xa_events.declared.event.Event.{Event}
-use Rattle.xa_told.specs.xa_events.declared.event.Event.TheVariants.{Answer}
-use Rattle.xa_told.specs.xa_events.Homes.{Home, home_of}
-use Rattle.xa_told.specs.xa_events.Homes.Home.{CallerHome}
-use Rattle.xa_told.specs.xa_stamp.declared.home.Stamped.{Stamped}
-use Rattle.xa_told.specs.xa_cell.declared.tokens.Seat.{Seat}
-use Rattle.xa_told.specs.xa_cell.declared.view.Fill.{Fill}
-use Rattle.xa_told.specs.xa_cell.declared.view.View.{View}
-use Rattle.xa_told.specs.xa_cell.Growing.{Keeps}
-use Rattle.xa_told.specs.xa_cell.Known.{known}
-use Rattle.xa_told.specs.xa_cell.Views.{at}
-use Rattle.xa_told.specs.xa_caller.declared.cargo.Filling.{Filling}
-use Rattle.xa_told.specs.xa_server.Told.{EndedFor, FilledByEnds}
-use Rattle.xa_told.specs.Told.{WasTaken, AnswersTaken, HasEnd}
+use Rattle.xa_server.specs.xa_types.declared.setup.Setup.{Setup}
+use Rattle.xa_server.specs.xa_types.declared.stamp.Stamp.{Stamp}
+use Rattle.xa_server.specs.xa_events.declared.event.Event.{Event}
+use Rattle.xa_server.specs.xa_events.declared.event.Event.TheVariants.{Answer}
+use Rattle.xa_server.specs.xa_events.Homes.{Home, home_of}
+use Rattle.xa_server.specs.xa_events.Homes.Home.{CallerHome}
+use Rattle.xa_server.specs.xa_stamp.declared.home.Stamped.{Stamped}
+use Rattle.xa_server.specs.xa_cell.declared.tokens.Seat.{Seat}
+use Rattle.xa_server.specs.xa_cell.declared.view.Fill.{Fill}
+use Rattle.xa_server.specs.xa_cell.declared.view.View.{View}
+use Rattle.xa_server.specs.xa_cell.Growing.{Keeps}
+use Rattle.xa_server.specs.xa_cell.Known.{known}
+use Rattle.xa_server.specs.xa_cell.Views.{at}
+use Rattle.xa_server.specs.xa_caller.declared.cargo.Filling.{Filling}
+use Rattle.xa_server.specs.Told.{EndedFor, FilledByEnds}
+use Rattle.xa_server.specs.Fillings.{WasTaken, AnswersTaken, HasEnd}
 use Rattle.xa_desk.specs.Whole.{Whole, entries_of}
 
 -- what the one seat took the other did too

@@ -1,55 +1,55 @@
 -- What a put of a request leaves.
 use Rattle.std.proofs.Common.{◌≡◌, ◌⊎◌, ◌≤◌, ◌<◌, ℕ, ◌+◌, Bool, true, false, List, [], ◌∷◌, ◌++◌, length, Some, Ok, inl, inr, refl, sym, ◌∙◌, ap, subst, arith, eqb-true, leb-true, ◌^◌}
-use Rattle.xa_told.proofs.xa_held.Refusals.{WhyOf, why_refused}
-use Rattle.xa_told.proofs.xa_held.Seen.{knows_still}
+use Rattle.xa_server.proofs.xa_held.Refusals.{WhyOf, why_refused}
+use Rattle.xa_server.proofs.xa_held.Seen.{knows_still}
 use Rattle.std.specs.Prelude.{nat_le, nat_lt}
 use Rattle.std.proofs.lemmas.Bool.{and_parts, ltb-true}
 use Rattle.std.proofs.lemmas.List.{length-map}
 use Rattle.std.proofs.lemmas.List.Elements.{All-contains}
-use Rattle.xa_told.specs.xa_types.declared.call.Ask.{Ask}
-use Rattle.xa_told.specs.xa_types.declared.call.Op.TheVariants.{Call}
-use Rattle.xa_told.specs.xa_types.declared.ids.CallerId.{CallerId}
-use Rattle.xa_told.specs.xa_types.declared.ids.QueueId.{QueueId}
-use Rattle.xa_told.specs.xa_types.declared.row.Row.{Row}
-use Rattle.xa_told.specs.xa_types.declared.stamp.Stamp.{Stamp}
-use Rattle.xa_told.specs.xa_types.Found.{FoundRows}
-use Rattle.xa_told.specs.xa_types.Kind.{is_accepted, kind_of}
-use Rattle.xa_told.specs.xa_types.Rows.{row_for}
-use Rattle.xa_told.specs.xa_types.Setup.{capacity_of}
-use Rattle.xa_told.specs.xa_events.declared.event.Event.{Event}
-use Rattle.xa_told.specs.xa_events.Caller.{op_in}
-use Rattle.xa_told.specs.xa_events.Calls.{is_invalid_call}
-use Rattle.xa_told.specs.xa_events.Cases.{RowStands, RowAdmits}
-use Rattle.xa_told.specs.xa_events.Homes.{home_of, is_own_at}
-use Rattle.xa_told.specs.xa_events.Homes.Home.{BoardHome, QueueHome}
-use Rattle.xa_told.specs.xa_events.Queue.{is_down, is_closed, waiting}
-use Rattle.xa_told.specs.xa_events.Words.{count}
-use Rattle.xa_told.specs.xa_stamp.declared.home.Stamped.{Stamped}
-use Rattle.xa_told.specs.xa_lock.declared.pass.Page.{Page}
-use Rattle.xa_told.specs.xa_lock.Known.{known as page_of}
-use Rattle.xa_told.specs.xa_crew.Calls.{FitsOwn}
-use Rattle.xa_told.specs.xa_crew.Seen.{past_in, SawFront, IfNew}
-use Rattle.xa_told.specs.xa_queue.declared.entry.Entry.{Entry}
-use Rattle.xa_told.specs.xa_queue.declared.queue.Refusal.{Refusal}
-use Rattle.xa_told.specs.xa_queue.declared.queue.Refusal.TheVariants as refusals
-use Rattle.xa_told.specs.xa_queue.Changes.{IsEntry, put_refused, next_stamp, larger}
-use Rattle.xa_told.specs.xa_held.Joins.{events_at}
-use Rattle.xa_told.specs.xa_held.declared.kept_queue.QueueNote.{QueueNote}
-use Rattle.xa_told.specs.xa_held.declared.kept_queue.Setting.{Setting}
-use Rattle.xa_told.specs.xa_held.Kept.{Kept, IsRight, Brings}
-use Rattle.xa_told.specs.xa_held.Steps.{PutAs}
-use Rattle.xa_told.specs.xa_held.Visits.{Sees, Visits}
-use Rattle.xa_told.proofs.xa_held.Front.{knows_events}
-use Rattle.xa_told.specs.xa_work.Work.{seeing}
-use Rattle.xa_told.specs.xa_caller.declared.cargo.Filling.{Filling}
-use Rattle.xa_told.specs.xa_caller.declared.phase.Draft.{Draft}
-use Rattle.xa_told.specs.xa_caller.declared.phase.Phase.{Phase}
-use Rattle.xa_told.specs.xa_caller.declared.phase.Phase.TheVariants.{Prepared}
-use Rattle.xa_told.specs.xa_caller.Caller.{Standing as Caller, MayCall}
-use Rattle.xa_told.specs.xa_caller.Changes.{Sends}
-use Rattle.xa_told.specs.xa_caller.Drafts.{Cargo, entry_by}
-use Rattle.xa_told.specs.xa_caller.Phases.{just_in}
-use Rattle.xa_told.proofs.xa_caller.Next.{row-service}
+use Rattle.xa_server.specs.xa_types.declared.call.Ask.{Ask}
+use Rattle.xa_server.specs.xa_types.declared.call.Op.TheVariants.{Call}
+use Rattle.xa_server.specs.xa_types.declared.ids.CallerId.{CallerId}
+use Rattle.xa_server.specs.xa_types.declared.ids.QueueId.{QueueId}
+use Rattle.xa_server.specs.xa_types.declared.row.Row.{Row}
+use Rattle.xa_server.specs.xa_types.declared.stamp.Stamp.{Stamp}
+use Rattle.xa_server.specs.xa_types.Found.{FoundRows}
+use Rattle.xa_server.specs.xa_types.Kind.{is_accepted, kind_of}
+use Rattle.xa_server.specs.xa_types.Rows.{row_for}
+use Rattle.xa_server.specs.xa_types.Setup.{capacity_of}
+use Rattle.xa_server.specs.xa_events.declared.event.Event.{Event}
+use Rattle.xa_server.specs.xa_events.Caller.{op_in}
+use Rattle.xa_server.specs.xa_events.Calls.{is_invalid_call}
+use Rattle.xa_server.specs.xa_events.Cases.{RowStands, RowAdmits}
+use Rattle.xa_server.specs.xa_events.Homes.{home_of, is_own_at}
+use Rattle.xa_server.specs.xa_events.Homes.Home.{BoardHome, QueueHome}
+use Rattle.xa_server.specs.xa_events.Queue.{is_down, is_closed, waiting}
+use Rattle.xa_server.specs.xa_events.Words.{count}
+use Rattle.xa_server.specs.xa_stamp.declared.home.Stamped.{Stamped}
+use Rattle.xa_server.specs.xa_lock.declared.pass.Page.{Page}
+use Rattle.xa_server.specs.xa_lock.Known.{known as page_of}
+use Rattle.xa_server.specs.xa_worker.Calls.{FitsOwn}
+use Rattle.xa_server.specs.xa_worker.Seen.{past_in, SawFront, IfNew}
+use Rattle.xa_server.specs.xa_queue.declared.entry.Entry.{Entry}
+use Rattle.xa_server.specs.xa_queue.declared.queue.Refusal.{Refusal}
+use Rattle.xa_server.specs.xa_queue.declared.queue.Refusal.TheVariants as refusals
+use Rattle.xa_server.specs.xa_queue.Changes.{IsEntry, put_refused, next_stamp, larger}
+use Rattle.xa_server.specs.xa_held.Joins.{events_at}
+use Rattle.xa_server.specs.xa_held.declared.kept_queue.QueueNote.{QueueNote}
+use Rattle.xa_server.specs.xa_held.declared.kept_queue.Setting.{Setting}
+use Rattle.xa_server.specs.xa_held.Kept.{Kept, IsRight, Brings}
+use Rattle.xa_server.specs.xa_held.Steps.{PutAs}
+use Rattle.xa_server.specs.xa_held.Visits.{Sees, Visits}
+use Rattle.xa_server.proofs.xa_held.Front.{knows_events}
+use Rattle.xa_server.specs.xa_worker.Work.{seeing}
+use Rattle.xa_server.specs.xa_caller.declared.cargo.Filling.{Filling}
+use Rattle.xa_server.specs.xa_caller.declared.phase.Draft.{Draft}
+use Rattle.xa_server.specs.xa_caller.declared.phase.Phase.{Phase}
+use Rattle.xa_server.specs.xa_caller.declared.phase.Phase.TheVariants.{Prepared}
+use Rattle.xa_server.specs.xa_caller.Caller.{Standing as Caller, MayCall}
+use Rattle.xa_server.specs.xa_caller.Changes.{Sends}
+use Rattle.xa_server.specs.xa_caller.Drafts.{Cargo, entry_by}
+use Rattle.xa_server.specs.xa_caller.Phases.{just_in}
+use Rattle.xa_server.proofs.xa_caller.Next.{row-service}
 use Rattle.xa_desk.specs.Made.{IsMade}
 use Rattle.xa_desk.specs.declared.domain.Domain.{Domain}
 use Rattle.xa_desk.specs.declared.desk.Desk.{Desk}

@@ -1,42 +1,42 @@
 -- What a pass of a queue saw, as its worker may show it in the end.
 use Rattle.std.proofs.Common.{◌≡◌, ◌≢◌, ◌≤◌, ◌<◌, ℕ, ◌==◌, ◌&&◌, Bool, true, false, List, [], ◌∷◌, ◌++◌, map, inl, inr, sym, ◌∙◌, ap, subst, arith}
 use Rattle.std.proofs.Math.Bool.{and-false}
-use Rattle.xa_told.specs.xa_lock.declared.pass.Page.{Page}
-use Rattle.xa_told.specs.xa_held.Visits.{Visits}
-use Rattle.xa_told.proofs.xa_held.Seen.{events_kept}
-use Rattle.xa_told.proofs.xa_held.Counting.{own_counted}
+use Rattle.xa_server.specs.xa_lock.declared.pass.Page.{Page}
+use Rattle.xa_server.specs.xa_held.Visits.{Visits}
+use Rattle.xa_server.proofs.xa_held.Seen.{events_kept}
+use Rattle.xa_server.proofs.xa_held.Counting.{own_counted}
 use Rattle.std.specs.List.{All, filter, flat_map, Contains}
 use Rattle.std.proofs.lemmas.Bool.{ne_eqb, and_parts}
 use Rattle.std.proofs.lemmas.Grind.{flat_map-append}
 use Rattle.std.proofs.lemmas.List.Elements.{All-weaker, All-contains, All-contains_itself, Contains-append_left}
-use Rattle.xa_told.specs.xa_types.declared.ids.RequestId.{RequestId}
-use Rattle.xa_told.specs.xa_types.declared.setup.Setup.{Setup}
-use Rattle.xa_told.specs.xa_types.Setup.{capacity_of, queue_of}
-use Rattle.xa_told.specs.xa_events.declared.event.Event.{Event}
-use Rattle.xa_told.specs.xa_events.Homes.{of_worker, at_home, is_own_at}
-use Rattle.xa_told.specs.xa_events.Homes.Home.{QueueHome}
-use Rattle.xa_told.specs.xa_events.Queue.{is_down, is_closed, waiting}
-use Rattle.xa_told.specs.xa_events.Views.{QueueView}
-use Rattle.xa_told.specs.xa_events.Words.{count}
-use Rattle.xa_told.specs.xa_stamp.declared.home.Stamped.{Stamped}
-use Rattle.xa_told.specs.xa_lock.declared.makers.Made.{Made}
-use Rattle.xa_told.specs.xa_lock.Known.{known as page_of}
-use Rattle.xa_told.specs.xa_lock.Makers.{maker_of as made_maker, noted_in}
-use Rattle.xa_told.specs.xa_lock.Pages.{Knows}
-use Rattle.xa_told.specs.xa_crew.Crew.{MayNote, stands_at}
-use Rattle.xa_told.specs.xa_types.declared.stamp.Stamp.{Stamp}
-use Rattle.xa_told.specs.xa_crew.Seen.{past_in, SawFront, IfNew}
-use Rattle.xa_told.proofs.xa_crew.Lists.{count_part}
-use Rattle.xa_told.specs.xa_queue.Reading.{AllNew, Fits}
-use Rattle.xa_told.specs.xa_held.declared.kept_queue.QueueNote.{QueueNote}
-use Rattle.xa_told.specs.xa_held.declared.kept_queue.QueueNote.TheVariants.{Opened, By}
-use Rattle.xa_told.specs.xa_held.declared.kept_queue.Setting.{Setting}
-use Rattle.xa_told.specs.xa_held.Joins.{events_at}
-use Rattle.xa_told.specs.xa_held.Kept.{Kept, setting_of}
-use Rattle.xa_told.specs.xa_held.Notes.{made_of, made_page}
-use Rattle.xa_told.proofs.xa_held.Front.{made_in-notes}
-use Rattle.xa_told.proofs.xa_work.Noting.{not_theirs}
-use Rattle.xa_told.specs.xa_caller.declared.cargo.Filling.{Filling}
+use Rattle.xa_server.specs.xa_types.declared.ids.RequestId.{RequestId}
+use Rattle.xa_server.specs.xa_types.declared.setup.Setup.{Setup}
+use Rattle.xa_server.specs.xa_types.Setup.{capacity_of, queue_of}
+use Rattle.xa_server.specs.xa_events.declared.event.Event.{Event}
+use Rattle.xa_server.specs.xa_events.Homes.{of_worker, at_home, is_own_at}
+use Rattle.xa_server.specs.xa_events.Homes.Home.{QueueHome}
+use Rattle.xa_server.specs.xa_events.Queue.{is_down, is_closed, waiting}
+use Rattle.xa_server.specs.xa_events.Views.{QueueView}
+use Rattle.xa_server.specs.xa_events.Words.{count}
+use Rattle.xa_server.specs.xa_stamp.declared.home.Stamped.{Stamped}
+use Rattle.xa_server.specs.xa_lock.declared.makers.Made.{Made}
+use Rattle.xa_server.specs.xa_lock.Known.{known as page_of}
+use Rattle.xa_server.specs.xa_lock.Makers.{maker_of as made_maker, noted_in}
+use Rattle.xa_server.specs.xa_lock.Pages.{Knows}
+use Rattle.xa_server.specs.xa_worker.Crew.{MayNote, stands_at}
+use Rattle.xa_server.specs.xa_types.declared.stamp.Stamp.{Stamp}
+use Rattle.xa_server.specs.xa_worker.Seen.{past_in, SawFront, IfNew}
+use Rattle.xa_server.proofs.xa_worker.Lists.{count_part}
+use Rattle.xa_server.specs.xa_queue.Reading.{AllNew, Fits}
+use Rattle.xa_server.specs.xa_held.declared.kept_queue.QueueNote.{QueueNote}
+use Rattle.xa_server.specs.xa_held.declared.kept_queue.QueueNote.TheVariants.{Opened, By}
+use Rattle.xa_server.specs.xa_held.declared.kept_queue.Setting.{Setting}
+use Rattle.xa_server.specs.xa_held.Joins.{events_at}
+use Rattle.xa_server.specs.xa_held.Kept.{Kept, setting_of}
+use Rattle.xa_server.specs.xa_held.Notes.{made_of, made_page}
+use Rattle.xa_server.proofs.xa_held.Front.{made_in-notes}
+use Rattle.xa_server.proofs.xa_worker.Noting.{not_theirs}
+use Rattle.xa_server.specs.xa_caller.declared.cargo.Filling.{Filling}
 use Rattle.xa_desk.specs.declared.domain.Domain.{Domain}
 use Rattle.xa_desk.specs.declared.desk.Desk.{Desk}
 use Rattle.xa_desk.specs.Whole.{Whole, entries_of}

@@ -2,20 +2,20 @@
 use Rattle.std.proofs.Common.{◌-◌, ◌≡◌, ◌<◌, ℕ, max, true, List, [], Result, Ok, Err, Option, Some, None, inl, inr, refl, sym, ◌∙◌, ap, subst}
 use Rattle.std.specs.Prelude.{IfOk, IfErr}
 use Rattle.std.proofs.lemmas.List.Elements.{All-nil}
-use Rattle.xa_told.specs.xa_types.declared.stamp.Stamp.{Stamp}
-use Rattle.xa_told.specs.xa_events.declared.event.Event.TheVariants.{Start, StartFailed}
-use Rattle.xa_told.specs.xa_events.Clock.{is_shown}
-use Rattle.xa_told.specs.xa_events.Homes.Home.{CallerHome, ClockHome}
-use Rattle.xa_told.specs.xa_events.State.{caller_of}
-use Rattle.xa_told.specs.xa_stamp.declared.home.Stamped.{Stamped}
-use Rattle.xa_told.specs.xa_crew.Seen.{SawFront}
-use Rattle.xa_told.specs.xa_work.declared.work.Halt.{Halt}
-use Rattle.xa_told.specs.xa_work.Work.{Standing as Working}
-use Rattle.xa_told.specs.xa_server.declared.slot.ServerSlot.{ServerSlot}
-use Rattle.xa_told.specs.xa_server.Changes.{next_life}
-use Rattle.xa_told.specs.xa_server.Noting.{HaltsWith}
-use Rattle.xa_told.specs.xa_server.Served.{StarterShows, Tries, Halts}
-use Rattle.xa_told.specs.xa_pipe.Standing.{Standing as Life}
+use Rattle.xa_server.specs.xa_types.declared.stamp.Stamp.{Stamp}
+use Rattle.xa_server.specs.xa_events.declared.event.Event.TheVariants.{Start, StartFailed}
+use Rattle.xa_server.specs.xa_events.Clock.{is_shown}
+use Rattle.xa_server.specs.xa_events.Homes.Home.{CallerHome, ClockHome}
+use Rattle.xa_server.specs.xa_events.State.{caller_of}
+use Rattle.xa_server.specs.xa_stamp.declared.home.Stamped.{Stamped}
+use Rattle.xa_server.specs.xa_worker.Seen.{SawFront}
+use Rattle.xa_server.specs.xa_worker.declared.work.Halt.{Halt}
+use Rattle.xa_server.specs.xa_worker.Work.{Standing as Working}
+use Rattle.xa_server.specs.declared.slot.ServerSlot.{ServerSlot}
+use Rattle.xa_server.specs.Changes.{next_life}
+use Rattle.xa_server.specs.Noting.{HaltsWith}
+use Rattle.xa_server.specs.Served.{StarterShows, Tries, Halts}
+use Rattle.xa_server.specs.xa_pipe.Standing.{Standing as Life}
 use Rattle.xa_desk.specs.declared.domain.Domain.{Domain}
 use Rattle.xa_desk.specs.declared.desk.Desk.{Desk}
 use Rattle.xa_desk.specs.Whole.{Whole, entries_of}

@@ -1,24 +1,24 @@
 -- An event of a server that its worker noted at its own home.
 use Rattle.std.proofs.Common.{◌≡◌, ℕ, [], Result, Ok, Err, sym, ◌∙◌, ap, subst, append-nil, arith, ◌-◌, ◌+◌, ◌++◌, ◌∷◌}
-use Rattle.xa_told.specs.xa_cell.Known.{known}
+use Rattle.xa_server.specs.xa_cell.Known.{known}
 use Rattle.std.specs.Prelude.{OnErr, IfOk}
-use Rattle.xa_told.specs.xa_types.declared.stamp.Stamp.{Stamp}
-use Rattle.xa_told.specs.xa_types.Setup.{queue_of}
-use Rattle.xa_told.specs.xa_events.declared.event.Event.{Event}
-use Rattle.xa_told.specs.xa_types.declared.stamp.Worn.{Worn}
-use Rattle.xa_told.specs.xa_events.declared.event.Event.TheVariants.{Stop}
-use Rattle.xa_told.specs.xa_events.declared.event.StopCause.{StopCause}
-use Rattle.xa_told.specs.xa_events.declared.event.StopCause.TheVariants.{Shutdown}
-use Rattle.xa_told.specs.xa_events.Cases.{IsShut}
-use Rattle.xa_told.specs.xa_events.Homes.{home_of}
-use Rattle.xa_told.specs.xa_events.Homes.Home.{CallerHome, QueueHome}
-use Rattle.xa_told.specs.xa_events.State.{caller_of}
-use Rattle.xa_told.specs.xa_stamp.declared.home.Stamped.{Stamped}
-use Rattle.xa_told.specs.xa_crew.Seen.{SawQueue}
-use Rattle.xa_told.specs.xa_work.Work.{Standing as Working}
-use Rattle.xa_told.specs.xa_server.declared.slot.ServerSlot.{ServerSlot}
-use Rattle.xa_told.specs.xa_server.Changes.{Stops}
-use Rattle.xa_told.specs.xa_server.Doings.{life_in}
+use Rattle.xa_server.specs.xa_types.declared.stamp.Stamp.{Stamp}
+use Rattle.xa_server.specs.xa_types.Setup.{queue_of}
+use Rattle.xa_server.specs.xa_events.declared.event.Event.{Event}
+use Rattle.xa_server.specs.xa_types.declared.stamp.Worn.{Worn}
+use Rattle.xa_server.specs.xa_events.declared.event.Event.TheVariants.{Stop}
+use Rattle.xa_server.specs.xa_events.declared.event.StopCause.{StopCause}
+use Rattle.xa_server.specs.xa_events.declared.event.StopCause.TheVariants.{Shutdown}
+use Rattle.xa_server.specs.xa_events.Cases.{IsShut}
+use Rattle.xa_server.specs.xa_events.Homes.{home_of}
+use Rattle.xa_server.specs.xa_events.Homes.Home.{CallerHome, QueueHome}
+use Rattle.xa_server.specs.xa_events.State.{caller_of}
+use Rattle.xa_server.specs.xa_stamp.declared.home.Stamped.{Stamped}
+use Rattle.xa_server.specs.xa_worker.Seen.{SawQueue}
+use Rattle.xa_server.specs.xa_worker.Work.{Standing as Working}
+use Rattle.xa_server.specs.declared.slot.ServerSlot.{ServerSlot}
+use Rattle.xa_server.specs.Changes.{Stops}
+use Rattle.xa_server.specs.Doings.{life_in}
 use Rattle.xa_desk.specs.Made.{IsMade}
 use Rattle.xa_desk.specs.declared.domain.Domain.{Domain}
 use Rattle.xa_desk.specs.declared.desk.Desk.{Desk}
@@ -26,7 +26,7 @@ use Rattle.xa_desk.specs.Whole.{Whole, entries_of}
 use Rattle.xa_desk.specs.Found.{SawAtQueue}
 use Rattle.xa_desk.specs.Serving.{IsServing}
 use Rattle.xa_desk.specs.Desks.{GoesOn, HasGrounds, IsDesk, Leads, queue_page}
-use Rattle.xa_told.specs.Told.{WasTaken}
+use Rattle.xa_server.specs.Fillings.{WasTaken}
 use Rattle.xa_desk.proofs.Leading.{starts_same, grew_one, next_leads}
 use Rattle.xa_desk.proofs.Seating.{takes_same}
 

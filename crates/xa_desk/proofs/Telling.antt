@@ -1,25 +1,25 @@
 -- What a closing that is given leaves.
 use Rattle.std.proofs.Common.{◌≡◌, List, [], ◌∷◌, Option, Some, None, refl, sym, subst, arith}
-use Rattle.xa_told.specs.xa_events.Homes.Home.{CallerHome}
-use Rattle.xa_told.specs.xa_events.Homes.{home_of}
+use Rattle.xa_server.specs.xa_events.Homes.Home.{CallerHome}
+use Rattle.xa_server.specs.xa_events.Homes.{home_of}
 use Rattle.std.proofs.lemmas.List.Elements.{Contains-push, Contains-append_right, All-nil}
-use Rattle.xa_told.specs.xa_types.declared.reply.Answer.{Answer}
-use Rattle.xa_told.specs.xa_types.declared.stamp.Stamp.{Stamp}
-use Rattle.xa_told.specs.xa_stamp.declared.home.Stamped.{Stamped}
-use Rattle.xa_told.specs.xa_stamp.Home.{last_stamp}
-use Rattle.xa_told.specs.xa_crew.Crew.{no_stamp}
-use Rattle.xa_told.specs.xa_cell.declared.tokens.Ticket.{Ticket}
-use Rattle.xa_told.specs.xa_cell.declared.tokens.Seat.{Seat}
-use Rattle.xa_told.specs.xa_cell.declared.view.View.{View}
-use Rattle.xa_told.specs.xa_cell.Known.{known, IsSeatOf}
-use Rattle.xa_told.specs.xa_caller.declared.cargo.Filling.{Filling}
-use Rattle.xa_told.specs.xa_server.declared.closing.Closing.{Closing}
-use Rattle.xa_told.specs.xa_server.declared.closing.Given.{Given}
-use Rattle.xa_told.specs.xa_server.Told.{GivenTo, GivenAs, HasStamp}
-use Rattle.xa_told.proofs.xa_server.Telling.{given_ended}
-use Rattle.xa_told.specs.Growing.{Grows}
-use Rattle.xa_told.specs.Told.{WasTaken}
-use Rattle.xa_told.proofs.Calls.{fill_grows}
+use Rattle.xa_server.specs.xa_types.declared.reply.Answer.{Answer}
+use Rattle.xa_server.specs.xa_types.declared.stamp.Stamp.{Stamp}
+use Rattle.xa_server.specs.xa_stamp.declared.home.Stamped.{Stamped}
+use Rattle.xa_server.specs.xa_stamp.Home.{last_stamp}
+use Rattle.xa_server.specs.xa_worker.Crew.{no_stamp}
+use Rattle.xa_server.specs.xa_cell.declared.tokens.Ticket.{Ticket}
+use Rattle.xa_server.specs.xa_cell.declared.tokens.Seat.{Seat}
+use Rattle.xa_server.specs.xa_cell.declared.view.View.{View}
+use Rattle.xa_server.specs.xa_cell.Known.{known, IsSeatOf}
+use Rattle.xa_server.specs.xa_caller.declared.cargo.Filling.{Filling}
+use Rattle.xa_server.specs.declared.closing.Closing.{Closing}
+use Rattle.xa_server.specs.declared.closing.Given.{Given}
+use Rattle.xa_server.specs.Told.{GivenTo, GivenAs, HasStamp}
+use Rattle.xa_server.proofs.Telling.{given_ended}
+use Rattle.xa_server.specs.Growing.{Grows}
+use Rattle.xa_server.specs.Fillings.{WasTaken}
+use Rattle.xa_server.proofs.Calls.{fill_grows}
 use Rattle.xa_desk.specs.declared.domain.Domain.{Domain}
 use Rattle.xa_desk.specs.declared.desk.Desk.{Desk}
 use Rattle.xa_desk.specs.Desks.{IsDesk, Leads}

@@ -1,47 +1,47 @@
 -- What a request leaves that no queue took.
 use Rattle.std.proofs.Common.{◌≡◌, ◌⊎◌, ◌≤◌, ℕ, ◌+◌, ◌==◌, Bool, true, false, List, [], Option, Some, None, inr, refl, sym, ◌∙◌, ap, subst, arith, eq-eqb, inl}
-use Rattle.xa_told.proofs.xa_queue.Waiting.{none_of}
+use Rattle.xa_server.proofs.xa_queue.Waiting.{none_of}
 use Rattle.std.proofs.lemmas.Bool.{cases_Bool, false≢true}
 use Rattle.std.specs.List.{All, list_any}
 use Rattle.std.proofs.lemmas.List.Elements.{All-weaker, All-contains}
-use Rattle.xa_told.specs.xa_types.declared.call.Ask.{Ask}
-use Rattle.xa_told.specs.xa_types.declared.fault.Fault.{Fault}
-use Rattle.xa_told.specs.xa_types.declared.fault.Fault.TheVariants.{System, Block}
-use Rattle.xa_told.specs.xa_types.declared.ids.QueueId.{QueueId}
-use Rattle.xa_told.specs.xa_types.declared.row.Row.{Row}
-use Rattle.xa_told.specs.xa_types.declared.setup.Setup.{Setup}
-use Rattle.xa_told.specs.xa_types.declared.stamp.Stamp.{Stamp}
-use Rattle.xa_told.specs.xa_types.Setup.{capacity_of}
-use Rattle.xa_told.specs.xa_types.Found.{FoundRows}
-use Rattle.xa_told.specs.xa_events.declared.event.Event.{Event}
-use Rattle.xa_told.specs.xa_events.declared.event.Evidence.{Evidence}
-use Rattle.xa_told.specs.xa_events.declared.event.Evidence.TheVariants.{AllDown, Queue}
-use Rattle.xa_told.specs.xa_events.Board.{published, listed_in}
-use Rattle.xa_told.specs.xa_events.Calls.{is_invalid_call, IsShutOut}
-use Rattle.xa_told.specs.xa_events.Homes.{is_own_at}
-use Rattle.xa_told.specs.xa_events.Homes.Home.{BoardHome, QueueHome}
-use Rattle.xa_told.specs.xa_events.Queue.{is_down, is_closed}
-use Rattle.xa_told.specs.xa_events.Words.{count}
-use Rattle.xa_told.specs.xa_crew.Calls.{SawNoRoom, SawListed}
-use Rattle.xa_told.specs.xa_crew.Seen.{past_in, IfNew, SawQueue, SawSince}
-use Rattle.xa_told.specs.xa_cell.declared.tokens.Seat.{Seat}
-use Rattle.xa_told.specs.xa_cell.Changes.{withdrawn}
-use Rattle.xa_told.specs.xa_cell.Growing.{Keeps}
-use Rattle.xa_told.specs.xa_cell.Known.{known, IsSeatOf}
-use Rattle.xa_told.proofs.xa_cell.Growing.{withdrawn_keeps}
-use Rattle.xa_told.specs.xa_queue.declared.entry.Entry.{Entry}
-use Rattle.xa_told.specs.xa_caller.declared.cargo.Filling.{Filling}
-use Rattle.xa_told.specs.xa_caller.declared.outcomes.Step.{Step}
-use Rattle.xa_told.specs.xa_caller.declared.outcomes.Step.TheVariants as steps
-use Rattle.xa_told.specs.xa_caller.declared.outcomes.Why.{Why}
-use Rattle.xa_told.specs.xa_caller.declared.outcomes.Why.TheVariants as reasons
-use Rattle.xa_told.specs.xa_caller.declared.phase.Draft.{Draft}
-use Rattle.xa_told.specs.xa_caller.declared.phase.Phase.TheVariants.{Idle}
-use Rattle.xa_told.specs.xa_caller.Drafts.{Cargo}
-use Rattle.xa_told.specs.xa_caller.Caller.{Standing as Caller}
-use Rattle.xa_told.specs.xa_caller.Changes.{Refuses}
-use Rattle.xa_told.specs.xa_caller.Phases.{just_in, IsPreparedAt}
-use Rattle.xa_told.specs.xa_caller.Unsent.{MayBe, UnsentAs, EndsAs, refused_for, other_step}
+use Rattle.xa_server.specs.xa_types.declared.call.Ask.{Ask}
+use Rattle.xa_server.specs.xa_types.declared.fault.Fault.{Fault}
+use Rattle.xa_server.specs.xa_types.declared.fault.Fault.TheVariants.{System, Block}
+use Rattle.xa_server.specs.xa_types.declared.ids.QueueId.{QueueId}
+use Rattle.xa_server.specs.xa_types.declared.row.Row.{Row}
+use Rattle.xa_server.specs.xa_types.declared.setup.Setup.{Setup}
+use Rattle.xa_server.specs.xa_types.declared.stamp.Stamp.{Stamp}
+use Rattle.xa_server.specs.xa_types.Setup.{capacity_of}
+use Rattle.xa_server.specs.xa_types.Found.{FoundRows}
+use Rattle.xa_server.specs.xa_events.declared.event.Event.{Event}
+use Rattle.xa_server.specs.xa_events.declared.event.Evidence.{Evidence}
+use Rattle.xa_server.specs.xa_events.declared.event.Evidence.TheVariants.{AllDown, Queue}
+use Rattle.xa_server.specs.xa_events.Board.{published, listed_in}
+use Rattle.xa_server.specs.xa_events.Calls.{is_invalid_call, IsShutOut}
+use Rattle.xa_server.specs.xa_events.Homes.{is_own_at}
+use Rattle.xa_server.specs.xa_events.Homes.Home.{BoardHome, QueueHome}
+use Rattle.xa_server.specs.xa_events.Queue.{is_down, is_closed}
+use Rattle.xa_server.specs.xa_events.Words.{count}
+use Rattle.xa_server.specs.xa_worker.Calls.{SawNoRoom, SawListed}
+use Rattle.xa_server.specs.xa_worker.Seen.{past_in, IfNew, SawQueue, SawSince}
+use Rattle.xa_server.specs.xa_cell.declared.tokens.Seat.{Seat}
+use Rattle.xa_server.specs.xa_cell.Changes.{withdrawn}
+use Rattle.xa_server.specs.xa_cell.Growing.{Keeps}
+use Rattle.xa_server.specs.xa_cell.Known.{known, IsSeatOf}
+use Rattle.xa_server.proofs.xa_cell.Growing.{withdrawn_keeps}
+use Rattle.xa_server.specs.xa_queue.declared.entry.Entry.{Entry}
+use Rattle.xa_server.specs.xa_caller.declared.cargo.Filling.{Filling}
+use Rattle.xa_server.specs.xa_caller.declared.outcomes.Step.{Step}
+use Rattle.xa_server.specs.xa_caller.declared.outcomes.Step.TheVariants as steps
+use Rattle.xa_server.specs.xa_caller.declared.outcomes.Why.{Why}
+use Rattle.xa_server.specs.xa_caller.declared.outcomes.Why.TheVariants as reasons
+use Rattle.xa_server.specs.xa_caller.declared.phase.Draft.{Draft}
+use Rattle.xa_server.specs.xa_caller.declared.phase.Phase.TheVariants.{Idle}
+use Rattle.xa_server.specs.xa_caller.Drafts.{Cargo}
+use Rattle.xa_server.specs.xa_caller.Caller.{Standing as Caller}
+use Rattle.xa_server.specs.xa_caller.Changes.{Refuses}
+use Rattle.xa_server.specs.xa_caller.Phases.{just_in, IsPreparedAt}
+use Rattle.xa_server.specs.xa_caller.Unsent.{MayBe, UnsentAs, EndsAs, refused_for, other_step}
 use Rattle.xa_desk.specs.declared.domain.Domain.{Domain}
 use Rattle.xa_desk.proofs.Leading.{grew_none, IsQuiet, calm_leads}
 use Rattle.xa_desk.specs.declared.desk.Desk.{Desk}

@@ -1,49 +1,49 @@
 -- What a desk knows and shows goes on, as its worker visits a queue.
 use Rattle.std.proofs.Common.{◌≡◌, ◌≢◌, ◌≤◌, ◌<◌, ℕ, zero, suc, ◌+◌, ◌-◌, max, List, [], ◌∷◌, ◌++◌, length, Option, Some, None, inl, inr, refl, sym, ◌∙◌, ap, subst, append-nil, ◌^◌, arith, ⊎_elim}
-use Rattle.xa_told.proofs.xa_held.Seen.{events_kept, sees_more, events_more}
+use Rattle.xa_server.proofs.xa_held.Seen.{events_kept, sees_more, events_more}
 use Rattle.std.specs.Prelude.{slice_index_or, slice_set}
 use Rattle.std.specs.List.{All, Contains, filter}
 use Rattle.std.proofs.lemmas.Bool.{ne_eqb}
 use Rattle.std.proofs.Common.{eq-eqb}
 use Rattle.std.proofs.lemmas.List.{set-set, length-set, get_or-set_same, get_or-set_other, get_or_default}
 use Rattle.std.proofs.lemmas.List.Elements.{All-nil, All-cons, All-weaker, Contains-append_left}
-use Rattle.xa_told.specs.xa_types.declared.stamp.Stamp.{Stamp}
-use Rattle.xa_told.specs.xa_types.declared.ids.CallerId.{CallerId}
-use Rattle.xa_told.specs.xa_events.declared.event.Event.{Event}
-use Rattle.xa_told.specs.xa_events.Homes.{Home, home_of, same_home}
-use Rattle.xa_told.specs.xa_events.Homes.Home.{BoardHome, QueueHome}
-use Rattle.xa_told.specs.xa_events.Board.{published}
-use Rattle.xa_told.specs.xa_stamp.declared.home.Stamped.{Stamped}
-use Rattle.xa_told.specs.xa_stamp.Home.{last_stamp, larger_of}
-use Rattle.xa_told.proofs.xa_stamp.Stamps.{last_stamp-push}
-use Rattle.xa_told.specs.xa_lock.declared.guarded.Guarded.{Guarded}
-use Rattle.xa_told.specs.xa_lock.declared.makers.Made.{Made}
-use Rattle.xa_told.specs.xa_lock.declared.pass.LockPass.{LockPass}
-use Rattle.xa_told.specs.xa_lock.Known.{known as page_of, IsPassOf}
-use Rattle.xa_told.specs.xa_lock.Makers.{noted_in}
-use Rattle.xa_told.specs.xa_lock.Pages.{StartsWith}
-use Rattle.xa_told.specs.xa_crew.Crew.{no_stamp, stands_at}
-use Rattle.xa_told.specs.xa_crew.Seen.{past_in}
-use Rattle.xa_told.specs.xa_cell.declared.tokens.Seat.{Seat}
-use Rattle.xa_told.specs.xa_cell.Known.{known, IsSeatOf}
-use Rattle.xa_told.specs.xa_cell.Views.{at}
-use Rattle.xa_told.proofs.xa_cell.Lists.{decided, below}
-use Rattle.xa_told.specs.xa_queue.Changes.{next_stamp, IsWorn}
-use Rattle.xa_told.specs.xa_types.declared.stamp.Worn.{Worn}
+use Rattle.xa_server.specs.xa_types.declared.stamp.Stamp.{Stamp}
+use Rattle.xa_server.specs.xa_types.declared.ids.CallerId.{CallerId}
+use Rattle.xa_server.specs.xa_events.declared.event.Event.{Event}
+use Rattle.xa_server.specs.xa_events.Homes.{Home, home_of, same_home}
+use Rattle.xa_server.specs.xa_events.Homes.Home.{BoardHome, QueueHome}
+use Rattle.xa_server.specs.xa_events.Board.{published}
+use Rattle.xa_server.specs.xa_stamp.declared.home.Stamped.{Stamped}
+use Rattle.xa_server.specs.xa_stamp.Home.{last_stamp, larger_of}
+use Rattle.xa_server.proofs.xa_stamp.Stamps.{last_stamp-push}
+use Rattle.xa_server.specs.xa_lock.declared.guarded.Guarded.{Guarded}
+use Rattle.xa_server.specs.xa_lock.declared.makers.Made.{Made}
+use Rattle.xa_server.specs.xa_lock.declared.pass.LockPass.{LockPass}
+use Rattle.xa_server.specs.xa_lock.Known.{known as page_of, IsPassOf}
+use Rattle.xa_server.specs.xa_lock.Makers.{noted_in}
+use Rattle.xa_server.specs.xa_lock.Pages.{StartsWith}
+use Rattle.xa_server.specs.xa_worker.Crew.{no_stamp, stands_at}
+use Rattle.xa_server.specs.xa_worker.Seen.{past_in}
+use Rattle.xa_server.specs.xa_cell.declared.tokens.Seat.{Seat}
+use Rattle.xa_server.specs.xa_cell.Known.{known, IsSeatOf}
+use Rattle.xa_server.specs.xa_cell.Views.{at}
+use Rattle.xa_server.proofs.xa_cell.Lists.{decided, below}
+use Rattle.xa_server.specs.xa_queue.Changes.{next_stamp, IsWorn}
+use Rattle.xa_server.specs.xa_types.declared.stamp.Worn.{Worn}
 use Rattle.xa_desk.specs.Serving.{IsAtEnd}
-use Rattle.xa_told.specs.xa_held.declared.kept_queue.KeptQueue.{KeptQueue}
-use Rattle.xa_told.specs.xa_held.declared.kept_queue.QueueNote.{QueueNote}
-use Rattle.xa_told.specs.xa_held.Joins.{changes_at, events_at}
-use Rattle.xa_told.specs.xa_held.Kept.{Kept, setting_of, notes_of}
-use Rattle.xa_told.specs.xa_held.Notes.{one}
-use Rattle.xa_told.specs.xa_held.Visits.{Visits, Reaches}
-use Rattle.xa_told.proofs.xa_held.Lefts.{events_front}
-use Rattle.xa_told.proofs.xa_held.Owning.{queue_own}
-use Rattle.xa_told.specs.xa_work.Work.{Standing as Working, seeing}
-use Rattle.xa_told.specs.xa_caller.declared.cargo.Filling.{Filling}
-use Rattle.xa_told.specs.xa_caller.Caller.{Standing as Caller}
-use Rattle.xa_told.specs.xa_caller.Serving.{noted_off}
-use Rattle.xa_told.specs.xa_server.Told.{HasStamp}
+use Rattle.xa_server.specs.xa_held.declared.kept_queue.KeptQueue.{KeptQueue}
+use Rattle.xa_server.specs.xa_held.declared.kept_queue.QueueNote.{QueueNote}
+use Rattle.xa_server.specs.xa_held.Joins.{changes_at, events_at}
+use Rattle.xa_server.specs.xa_held.Kept.{Kept, setting_of, notes_of}
+use Rattle.xa_server.specs.xa_held.Notes.{one}
+use Rattle.xa_server.specs.xa_held.Visits.{Visits, Reaches}
+use Rattle.xa_server.proofs.xa_held.Lefts.{events_front}
+use Rattle.xa_server.proofs.xa_held.Owning.{queue_own}
+use Rattle.xa_server.specs.xa_worker.Work.{Standing as Working, seeing}
+use Rattle.xa_server.specs.xa_caller.declared.cargo.Filling.{Filling}
+use Rattle.xa_server.specs.xa_caller.Caller.{Standing as Caller}
+use Rattle.xa_server.specs.xa_caller.Serving.{noted_off}
+use Rattle.xa_server.specs.Told.{HasStamp}
 use Rattle.xa_desk.specs.declared.domain.Domain.{Domain}
 use Rattle.xa_desk.specs.declared.desk.Desk.{Desk}
 use Rattle.xa_desk.specs.Whole.{Whole, entries_of, IsKnown}

@@ -2,18 +2,18 @@
 -- queue's last server does so is this project's own).
 use Rattle.std.specs.Prelude.{◌≡◌, ℕ, ◌<◌, ◌≤◌, List}
 use Rattle.std.specs.List.{All, Contains}
-use Rattle.xa_told.specs.xa_types.declared.ids.ServerId.{ServerId}
-use Rattle.xa_told.specs.xa_types.declared.setup.Setup.{Setup}
-use Rattle.xa_told.specs.xa_types.declared.stamp.Stamp.{Stamp}
-use Rattle.xa_told.specs.xa_types.Setup.{queue_of}
-use Rattle.xa_told.specs.xa_events.declared.event.Event.{Event}
-use Rattle.xa_told.specs.xa_events.declared.event.Event.TheVariants.{Withdraw, Sweep, Gone, Down}
-use Rattle.xa_told.specs.xa_events.Homes.{Home}
-use Rattle.xa_told.specs.xa_events.Homes.Home.{QueueHome}
-use Rattle.xa_told.specs.xa_events.Server.{AllGone}
-use Rattle.xa_told.specs.xa_stamp.declared.home.Stamped.{Stamped}
-use Rattle.xa_told.specs.xa_lock.Pages.{StartsWith}
-use Rattle.xa_told.specs.xa_crew.Seen.{past_in}
+use Rattle.xa_server.specs.xa_types.declared.ids.ServerId.{ServerId}
+use Rattle.xa_server.specs.xa_types.declared.setup.Setup.{Setup}
+use Rattle.xa_server.specs.xa_types.declared.stamp.Stamp.{Stamp}
+use Rattle.xa_server.specs.xa_types.Setup.{queue_of}
+use Rattle.xa_server.specs.xa_events.declared.event.Event.{Event}
+use Rattle.xa_server.specs.xa_events.declared.event.Event.TheVariants.{Withdraw, Sweep, Gone, Down}
+use Rattle.xa_server.specs.xa_events.Homes.{Home}
+use Rattle.xa_server.specs.xa_events.Homes.Home.{QueueHome}
+use Rattle.xa_server.specs.xa_events.Server.{AllGone}
+use Rattle.xa_server.specs.xa_stamp.declared.home.Stamped.{Stamped}
+use Rattle.xa_server.specs.xa_lock.Pages.{StartsWith}
+use Rattle.xa_server.specs.xa_worker.Seen.{past_in}
 
 -- before that stamp the worker, which noted these, gave a server of the queue up, and as that was noted each server of the queue had been given up there
 pub record GaveUpLast (setup : Setup) (queue : ℕ) (entries own : List Stamped) (stamp : Stamp) : Type 0 where

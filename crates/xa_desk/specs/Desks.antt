@@ -1,44 +1,44 @@
 -- A worker's desk: what its passes know of the homes, and what it has shown of all that it noted (this project's own).
 use Rattle.std.specs.Prelude.{◌≡◌, ◌⊎◌, ℕ, zero, suc, ◌+◌, ◌<◌, ◌≤◌, true, List, [], reverse, length, Option, Some, None, slice_index_or}
 use Rattle.std.specs.List.{All, filter}
-use Rattle.xa_told.specs.xa_types.Configured.{is_configured}
-use Rattle.xa_told.specs.xa_types.Setup.{capacity_of}
-use Rattle.xa_told.specs.xa_types.declared.call.Op.{Op}
-use Rattle.xa_told.specs.xa_types.declared.stamp.Stamp.{Stamp}
-use Rattle.xa_told.specs.xa_events.declared.event.Event.{Event}
-use Rattle.xa_told.specs.xa_events.Board.{boot, published}
-use Rattle.xa_told.specs.xa_events.Homes.{Home, home_of}
-use Rattle.xa_told.specs.xa_events.Homes.Home.{BoardHome, QueueHome}
-use Rattle.xa_told.specs.xa_events.Local.{worker_events}
-use Rattle.xa_told.specs.xa_events.Words.{AtEach}
-use Rattle.xa_told.specs.xa_stamp.declared.home.Stamped.{Stamped}
-use Rattle.xa_told.specs.xa_lock.declared.makers.Made.{Made}
-use Rattle.xa_told.specs.xa_lock.declared.guarded.Guarded.{Guarded}
-use Rattle.xa_told.specs.xa_lock.declared.pass.LockPass.{LockPass}
-use Rattle.xa_told.specs.xa_lock.declared.pass.Page.{Page}
-use Rattle.xa_told.specs.xa_lock.Known.{known as page_of, IsPassOf}
-use Rattle.xa_told.specs.xa_lock.Pages.{StartsWith, page}
-use Rattle.xa_told.specs.xa_lock.Makers.{noted_in}
-use Rattle.xa_told.specs.xa_crew.Crew.{MayNote, MetAmong, stands_at}
-use Rattle.xa_told.specs.xa_crew.Seen.{past_in, IsBehind, SawFronts, WasTold}
-use Rattle.xa_told.specs.xa_cell.Known.{known, IsSeatOf}
-use Rattle.xa_told.specs.xa_cell.Views.{at}
-use Rattle.xa_told.specs.xa_held.declared.kept_board.BoardNote.{BoardNote}
-use Rattle.xa_told.specs.xa_held.declared.kept_board.BoardNote.TheVariants.{Looked}
-use Rattle.xa_told.specs.xa_held.declared.kept_queue.KeptQueue.{KeptQueue}
-use Rattle.xa_told.specs.xa_held.declared.kept_queue.QueueNote.{QueueNote}
-use Rattle.xa_told.specs.xa_held.declared.kept_queue.Setting.{Setting}
-use Rattle.xa_told.specs.xa_held.Board.{IsSoundBoard}
-use Rattle.xa_told.specs.xa_held.BoardVisits.{SeesBoard}
-use Rattle.xa_told.specs.xa_held.Joins.{HasServers, changes_page, changes_at, events_at}
-use Rattle.xa_told.specs.xa_held.Kept.{notes_of}
-use Rattle.xa_told.specs.xa_held.Notes.{made_page}
-use Rattle.xa_told.specs.xa_held.Visits.{Sees}
-use Rattle.xa_told.specs.xa_work.Work.{Standing as Working}
-use Rattle.xa_told.specs.xa_work.Going.{FitEach}
-use Rattle.xa_told.specs.xa_caller.declared.cargo.Filling.{Filling}
-use Rattle.xa_told.specs.xa_server.Told.{HasStamp, FilledByEnds}
-use Rattle.xa_told.specs.Told.{AnswersTaken, HasEnd, StandAt}
+use Rattle.xa_server.specs.xa_types.Configured.{is_configured}
+use Rattle.xa_server.specs.xa_types.Setup.{capacity_of}
+use Rattle.xa_server.specs.xa_types.declared.call.Op.{Op}
+use Rattle.xa_server.specs.xa_types.declared.stamp.Stamp.{Stamp}
+use Rattle.xa_server.specs.xa_events.declared.event.Event.{Event}
+use Rattle.xa_server.specs.xa_events.Board.{boot, published}
+use Rattle.xa_server.specs.xa_events.Homes.{Home, home_of}
+use Rattle.xa_server.specs.xa_events.Homes.Home.{BoardHome, QueueHome}
+use Rattle.xa_server.specs.xa_events.Local.{worker_events}
+use Rattle.xa_server.specs.xa_events.Words.{AtEach}
+use Rattle.xa_server.specs.xa_stamp.declared.home.Stamped.{Stamped}
+use Rattle.xa_server.specs.xa_lock.declared.makers.Made.{Made}
+use Rattle.xa_server.specs.xa_lock.declared.guarded.Guarded.{Guarded}
+use Rattle.xa_server.specs.xa_lock.declared.pass.LockPass.{LockPass}
+use Rattle.xa_server.specs.xa_lock.declared.pass.Page.{Page}
+use Rattle.xa_server.specs.xa_lock.Known.{known as page_of, IsPassOf}
+use Rattle.xa_server.specs.xa_lock.Pages.{StartsWith, page}
+use Rattle.xa_server.specs.xa_lock.Makers.{noted_in}
+use Rattle.xa_server.specs.xa_worker.Crew.{MayNote, MetAmong, stands_at}
+use Rattle.xa_server.specs.xa_worker.Seen.{past_in, IsBehind, SawFronts, WasTold}
+use Rattle.xa_server.specs.xa_cell.Known.{known, IsSeatOf}
+use Rattle.xa_server.specs.xa_cell.Views.{at}
+use Rattle.xa_server.specs.xa_held.declared.kept_board.BoardNote.{BoardNote}
+use Rattle.xa_server.specs.xa_held.declared.kept_board.BoardNote.TheVariants.{Looked}
+use Rattle.xa_server.specs.xa_held.declared.kept_queue.KeptQueue.{KeptQueue}
+use Rattle.xa_server.specs.xa_held.declared.kept_queue.QueueNote.{QueueNote}
+use Rattle.xa_server.specs.xa_held.declared.kept_queue.Setting.{Setting}
+use Rattle.xa_server.specs.xa_held.Board.{IsSoundBoard}
+use Rattle.xa_server.specs.xa_held.BoardVisits.{SeesBoard}
+use Rattle.xa_server.specs.xa_held.Joins.{HasServers, changes_page, changes_at, events_at}
+use Rattle.xa_server.specs.xa_held.Kept.{notes_of}
+use Rattle.xa_server.specs.xa_held.Notes.{made_page}
+use Rattle.xa_server.specs.xa_held.Visits.{Sees}
+use Rattle.xa_server.specs.xa_worker.Work.{Standing as Working}
+use Rattle.xa_server.specs.xa_worker.Going.{FitEach}
+use Rattle.xa_server.specs.xa_caller.declared.cargo.Filling.{Filling}
+use Rattle.xa_server.specs.Told.{HasStamp, FilledByEnds}
+use Rattle.xa_server.specs.Fillings.{AnswersTaken, HasEnd, StandAt}
 use Rattle.xa_desk.specs.declared.domain.Domain.{Domain}
 use Rattle.xa_desk.specs.declared.desk.Desk.{Desk}
 use Rattle.xa_desk.specs.Deserted.{ClearsBehind}

@@ -1,30 +1,30 @@
 -- What a look-up found, as a worker may show it (XATMI, tpcall; versions of the board are this project's own).
 use Rattle.std.specs.Prelude.{◌≡◌, ℕ, ◌+◌, ◌<◌, ◌≤◌, ◌^◌, true, false, List, length}
 use Rattle.std.specs.List.{All, Contains}
-use Rattle.xa_told.specs.xa_types.declared.data.Data.{Data}
-use Rattle.xa_told.specs.xa_types.declared.row.Row.{Row}
-use Rattle.xa_told.specs.xa_types.declared.stamp.Stamp.{Stamp}
-use Rattle.xa_told.specs.xa_types.Found.{FoundRows}
-use Rattle.xa_told.specs.xa_types.Kind.{is_accepted, kind_of, is_sound}
-use Rattle.xa_told.specs.xa_types.Setup.{capacity_of}
-use Rattle.xa_told.specs.xa_events.declared.event.Event.{Event}
-use Rattle.xa_told.specs.xa_events.declared.event.Event.TheVariants.{Accept}
-use Rattle.xa_told.specs.xa_events.Board.{boot, published, listed_in}
-use Rattle.xa_told.specs.xa_events.Homes.Home.{BoardHome, QueueHome}
-use Rattle.xa_told.specs.xa_events.Queue.{is_down, is_closed, waiting}
-use Rattle.xa_told.specs.xa_events.Cases.{RowStands, RowAdmits}
-use Rattle.xa_told.specs.xa_crew.Seen.{past_in, SawFront, SawQueue, SawSince}
-use Rattle.xa_told.specs.xa_queue.declared.entry.Entry.{Entry}
-use Rattle.xa_told.specs.xa_queue.declared.queue.Refusal.{Refusal}
-use Rattle.xa_told.specs.xa_queue.declared.queue.Refusal.TheVariants as refusals
-use Rattle.xa_told.specs.xa_held.Joins.{changes_at}
-use Rattle.xa_told.specs.xa_held.Kept.{IsRight}
-use Rattle.xa_told.specs.xa_caller.declared.outcomes.Aimed.{Aimed}
-use Rattle.xa_told.specs.xa_caller.declared.outcomes.Aimed.TheVariants as aims
-use Rattle.xa_told.specs.xa_caller.declared.phase.Draft.{Draft}
-use Rattle.xa_told.specs.xa_caller.declared.phase.Phase.TheVariants.{Prepared}
-use Rattle.xa_told.specs.xa_caller.Caller.{AreRowsOf}
-use Rattle.xa_told.specs.xa_caller.Drafts.{Cargo, accepted_by, entry_by}
+use Rattle.xa_server.specs.xa_types.declared.data.Data.{Data}
+use Rattle.xa_server.specs.xa_types.declared.row.Row.{Row}
+use Rattle.xa_server.specs.xa_types.declared.stamp.Stamp.{Stamp}
+use Rattle.xa_server.specs.xa_types.Found.{FoundRows}
+use Rattle.xa_server.specs.xa_types.Kind.{is_accepted, kind_of, is_sound}
+use Rattle.xa_server.specs.xa_types.Setup.{capacity_of}
+use Rattle.xa_server.specs.xa_events.declared.event.Event.{Event}
+use Rattle.xa_server.specs.xa_events.declared.event.Event.TheVariants.{Accept}
+use Rattle.xa_server.specs.xa_events.Board.{boot, published, listed_in}
+use Rattle.xa_server.specs.xa_events.Homes.Home.{BoardHome, QueueHome}
+use Rattle.xa_server.specs.xa_events.Queue.{is_down, is_closed, waiting}
+use Rattle.xa_server.specs.xa_events.Cases.{RowStands, RowAdmits}
+use Rattle.xa_server.specs.xa_worker.Seen.{past_in, SawFront, SawQueue, SawSince}
+use Rattle.xa_server.specs.xa_queue.declared.entry.Entry.{Entry}
+use Rattle.xa_server.specs.xa_queue.declared.queue.Refusal.{Refusal}
+use Rattle.xa_server.specs.xa_queue.declared.queue.Refusal.TheVariants as refusals
+use Rattle.xa_server.specs.xa_held.Joins.{changes_at}
+use Rattle.xa_server.specs.xa_held.Kept.{IsRight}
+use Rattle.xa_server.specs.xa_caller.declared.outcomes.Aimed.{Aimed}
+use Rattle.xa_server.specs.xa_caller.declared.outcomes.Aimed.TheVariants as aims
+use Rattle.xa_server.specs.xa_caller.declared.phase.Draft.{Draft}
+use Rattle.xa_server.specs.xa_caller.declared.phase.Phase.TheVariants.{Prepared}
+use Rattle.xa_server.specs.xa_caller.Caller.{AreRowsOf}
+use Rattle.xa_server.specs.xa_caller.Drafts.{Cargo, accepted_by, entry_by}
 use Rattle.xa_desk.specs.declared.domain.Domain.{Domain}
 use Rattle.xa_desk.specs.declared.desk.Desk.{Desk}
 use Rattle.xa_desk.specs.Whole.{Whole, entries_of}

@@ -1,7 +1,7 @@
 -- Why a worker halts, by its desk (this project's own).
 use Rattle.std.specs.Prelude.{◌≡◌, ◌^◌}
-use Rattle.xa_told.specs.xa_work.declared.work.Halt.{Halt}
-use Rattle.xa_told.specs.xa_work.declared.work.Halt.TheVariants.{NoMemory, Worn}
+use Rattle.xa_server.specs.xa_worker.declared.work.Halt.{Halt}
+use Rattle.xa_server.specs.xa_worker.declared.work.Halt.TheVariants.{NoMemory, Worn}
 use Rattle.xa_desk.specs.declared.desk.Desk.{Desk}
 use Rattle.xa_desk.specs.declared.stopped.Stopped.{Stopped}
 use Rattle.xa_desk.specs.declared.stopped.Stopped.TheVariants.{Here, Elsewhere}

@@ -1,18 +1,18 @@
 -- What a worker looked at behind a desk that it had (this project's own).
 use Rattle.std.specs.Prelude.{◌≡◌, ℕ, List, ◌∷◌, ◌++◌, length}
-use Rattle.xa_told.specs.xa_events.declared.event.Event.{Event}
-use Rattle.xa_told.specs.xa_events.Board.{published}
-use Rattle.xa_told.specs.xa_events.Queue.{waiting}
-use Rattle.xa_told.specs.xa_lock.Pages.{StartsWith}
-use Rattle.xa_told.specs.xa_crew.Seen.{past_in, IfNew}
-use Rattle.xa_told.specs.xa_queue.declared.queue.Refusal.{Refusal}
-use Rattle.xa_told.specs.xa_queue.declared.queue.Refusal.TheVariants as refusals
-use Rattle.xa_told.specs.xa_held.declared.kept_board.BoardNote.{BoardNote}
-use Rattle.xa_told.specs.xa_held.declared.kept_board.BoardNote.TheVariants.{Looked}
-use Rattle.xa_told.specs.xa_held.declared.kept_board.Look.{Look}
-use Rattle.xa_told.specs.xa_held.declared.kept_queue.QueueNote.{QueueNote}
-use Rattle.xa_told.specs.xa_held.Joins.{changes_at, events_at}
-use Rattle.xa_told.specs.xa_caller.declared.cargo.Filling.{Filling}
+use Rattle.xa_server.specs.xa_events.declared.event.Event.{Event}
+use Rattle.xa_server.specs.xa_events.Board.{published}
+use Rattle.xa_server.specs.xa_events.Queue.{waiting}
+use Rattle.xa_server.specs.xa_lock.Pages.{StartsWith}
+use Rattle.xa_server.specs.xa_worker.Seen.{past_in, IfNew}
+use Rattle.xa_server.specs.xa_queue.declared.queue.Refusal.{Refusal}
+use Rattle.xa_server.specs.xa_queue.declared.queue.Refusal.TheVariants as refusals
+use Rattle.xa_server.specs.xa_held.declared.kept_board.BoardNote.{BoardNote}
+use Rattle.xa_server.specs.xa_held.declared.kept_board.BoardNote.TheVariants.{Looked}
+use Rattle.xa_server.specs.xa_held.declared.kept_board.Look.{Look}
+use Rattle.xa_server.specs.xa_held.declared.kept_queue.QueueNote.{QueueNote}
+use Rattle.xa_server.specs.xa_held.Joins.{changes_at, events_at}
+use Rattle.xa_server.specs.xa_caller.declared.cargo.Filling.{Filling}
 use Rattle.xa_desk.specs.declared.domain.Domain.{Domain}
 use Rattle.xa_desk.specs.declared.desk.Desk.{Desk}
 use Rattle.xa_desk.specs.Desks.{board_page, queue_page}

@@ -1,13 +1,13 @@
 -- The events that the workers of a domain make: those of tpcall, of tpsprio and tpforward (after Tuxedo), and of servers' lives. The machine has others,
 -- of which none is made here (this project's own).
 use Rattle.std.specs.Prelude.{◌≡◌}
-use Rattle.xa_told.specs.xa_types.declared.call.Mode.TheVariants.{Reply}
-use Rattle.xa_told.specs.xa_types.declared.fault.Fault.{Fault}
-use Rattle.xa_told.specs.xa_types.declared.fault.Fault.TheVariants.{Inval, NoEnt, IType, Limit, System, Block}
-use Rattle.xa_told.specs.xa_events.declared.event.Event.{Event}
-use Rattle.xa_told.specs.xa_events.declared.event.Event.TheVariants.{Advertise, Withdraw, Accept, Take, Forward, Sweep, Gone, Down, Close, Start, StartFailed, End, Stop, Answer, Refuse, Leave, Priority}
-use Rattle.xa_told.specs.xa_events.declared.event.Evidence.{Evidence}
-use Rattle.xa_told.specs.xa_events.declared.event.Evidence.TheVariants.{Argument, Version, Cells, AllDown, Queue}
+use Rattle.xa_server.specs.xa_types.declared.call.Mode.TheVariants.{Reply}
+use Rattle.xa_server.specs.xa_types.declared.fault.Fault.{Fault}
+use Rattle.xa_server.specs.xa_types.declared.fault.Fault.TheVariants.{Inval, NoEnt, IType, Limit, System, Block}
+use Rattle.xa_server.specs.xa_events.declared.event.Event.{Event}
+use Rattle.xa_server.specs.xa_events.declared.event.Event.TheVariants.{Advertise, Withdraw, Accept, Take, Forward, Sweep, Gone, Down, Close, Start, StartFailed, End, Stop, Answer, Refuse, Leave, Priority}
+use Rattle.xa_server.specs.xa_events.declared.event.Evidence.{Evidence}
+use Rattle.xa_server.specs.xa_events.declared.event.Evidence.TheVariants.{Argument, Version, Cells, AllDown, Queue}
 
 -- a tpcall is refused by itself, by a version of the board, for want of a cell, or by queues that are down, closed or full
 abbrev pub IsRefusal : Fault → Evidence → Type 0

@@ -1,7 +1,7 @@
 -- What a worker leaves behind, as its desk is then (this project's own).
 use Rattle.std.specs.Prelude.{◌≡◌, List}
-use Rattle.xa_told.specs.xa_types.declared.call.Op.{Op}
-use Rattle.xa_told.specs.xa_cell.Places.{IsShut}
+use Rattle.xa_server.specs.xa_types.declared.call.Op.{Op}
+use Rattle.xa_server.specs.xa_cell.Places.{IsShut}
 use Rattle.xa_desk.specs.declared.domain.Domain.{Domain}
 use Rattle.xa_desk.specs.declared.desk.Desk.{Desk}
 use Rattle.xa_desk.specs.declared.departure.Done.{Done}

@@ -1,21 +1,21 @@
 -- A server's worker that passes its request on to another service (after Tuxedo, tpforward).
 use Rattle.std.specs.Prelude.{◌≡◌, ℕ, true, List, Some, IsSomeAnd}
 use Rattle.std.specs.List.{Contains}
-use Rattle.xa_told.specs.xa_types.declared.row.Row.{Row}
-use Rattle.xa_told.specs.xa_types.Kind.{is_accepted, kind_of}
-use Rattle.xa_told.specs.xa_events.declared.event.Event.{Event}
-use Rattle.xa_told.specs.xa_events.declared.event.Event.TheVariants.{Forward}
-use Rattle.xa_told.specs.xa_events.Local.{Forwardable}
-use Rattle.xa_told.specs.xa_events.Request.{is_entry_of}
-use Rattle.xa_told.specs.xa_events.Words.{latest}
-use Rattle.xa_told.specs.xa_queue.declared.entry.Entry.{Entry}
-use Rattle.xa_told.specs.xa_caller.declared.outcomes.Aimed.{Aimed}
-use Rattle.xa_told.specs.xa_caller.declared.outcomes.Aimed.TheVariants as aims
-use Rattle.xa_told.specs.xa_caller.Drafts.{Cargo, entry_behind}
-use Rattle.xa_told.specs.xa_server.declared.forwarding.Forwarding.{Forwarding}
-use Rattle.xa_told.specs.xa_server.declared.forwarding.Forwarding.TheVariants.{On, Failed}
-use Rattle.xa_told.specs.xa_server.declared.slot.ServerSlot.{ServerSlot}
-use Rattle.xa_told.specs.xa_server.Forwarding.{IsOnWay, forwarded_by}
+use Rattle.xa_server.specs.xa_types.declared.row.Row.{Row}
+use Rattle.xa_server.specs.xa_types.Kind.{is_accepted, kind_of}
+use Rattle.xa_server.specs.xa_events.declared.event.Event.{Event}
+use Rattle.xa_server.specs.xa_events.declared.event.Event.TheVariants.{Forward}
+use Rattle.xa_server.specs.xa_events.Local.{Forwardable}
+use Rattle.xa_server.specs.xa_events.Request.{is_entry_of}
+use Rattle.xa_server.specs.xa_events.Words.{latest}
+use Rattle.xa_server.specs.xa_queue.declared.entry.Entry.{Entry}
+use Rattle.xa_server.specs.xa_caller.declared.outcomes.Aimed.{Aimed}
+use Rattle.xa_server.specs.xa_caller.declared.outcomes.Aimed.TheVariants as aims
+use Rattle.xa_server.specs.xa_caller.Drafts.{Cargo, entry_behind}
+use Rattle.xa_server.specs.declared.forwarding.Forwarding.{Forwarding}
+use Rattle.xa_server.specs.declared.forwarding.Forwarding.TheVariants.{On, Failed}
+use Rattle.xa_server.specs.declared.slot.ServerSlot.{ServerSlot}
+use Rattle.xa_server.specs.Forwarding.{IsOnWay, forwarded_by}
 use Rattle.xa_desk.specs.declared.domain.Domain.{Domain}
 use Rattle.xa_desk.specs.declared.desk.Desk.{Desk}
 use Rattle.xa_desk.specs.Found.{HasFound, SawItsOwnAt}

@@ -1,48 +1,48 @@
 -- A server's worker at its desk, and what its steps leave (this project's own).
 use Rattle.std.specs.Prelude.{◌≡◌, ℕ, ◌+◌, ◌<◌, ◌≤◌, ◌^◌, Bool, true, false, List, [], ◌∷◌, ◌++◌, length, Option, Some, None, IfSome, IsSome, IsSomeAnd, Result, Ok, Err}
 use Rattle.std.specs.List.{All}
-use Rattle.xa_told.specs.xa_types.declared.stamp.Stamp.{Stamp}
-use Rattle.xa_told.specs.xa_types.declared.stamp.Worn.{Worn}
-use Rattle.xa_told.specs.xa_types.declared.ids.RequestId.{RequestId}
-use Rattle.xa_told.specs.xa_types.declared.setup.Setup.{Setup}
-use Rattle.xa_told.specs.xa_types.Setup.{queue_of}
-use Rattle.xa_told.specs.xa_events.declared.event.Event.{Event}
-use Rattle.xa_told.specs.xa_events.declared.event.Event.TheVariants.{Take, Gone, Sweep}
-use Rattle.xa_told.specs.xa_events.declared.event.Doing.TheVariants.{Busy}
-use Rattle.xa_told.specs.xa_events.declared.event.Taken.{Taken}
-use Rattle.xa_told.specs.xa_events.Answers.{reply_of}
-use Rattle.xa_told.specs.xa_events.Cases.{IsShut}
-use Rattle.xa_told.specs.xa_events.Request.{is_entry_of}
-use Rattle.xa_told.specs.xa_events.Request.Settlement.{SweptAway}
-use Rattle.xa_told.specs.xa_events.Words.{latest}
-use Rattle.xa_told.specs.xa_events.Queue.{is_closed, is_down, waiting}
-use Rattle.xa_told.specs.xa_events.Server.{is_gone, AllGone}
-use Rattle.xa_told.specs.xa_events.Homes.Home.{BoardHome, QueueHome}
-use Rattle.xa_told.specs.xa_stamp.Home.{last_stamp}
-use Rattle.xa_told.specs.xa_crew.Crew.{IsOfDomain, no_stamp}
-use Rattle.xa_told.specs.xa_crew.Seen.{past_in, IfNew, SawDeserted}
-use Rattle.xa_told.specs.xa_cell.Known.{IsTicketOf}
+use Rattle.xa_server.specs.xa_types.declared.stamp.Stamp.{Stamp}
+use Rattle.xa_server.specs.xa_types.declared.stamp.Worn.{Worn}
+use Rattle.xa_server.specs.xa_types.declared.ids.RequestId.{RequestId}
+use Rattle.xa_server.specs.xa_types.declared.setup.Setup.{Setup}
+use Rattle.xa_server.specs.xa_types.Setup.{queue_of}
+use Rattle.xa_server.specs.xa_events.declared.event.Event.{Event}
+use Rattle.xa_server.specs.xa_events.declared.event.Event.TheVariants.{Take, Gone, Sweep}
+use Rattle.xa_server.specs.xa_events.declared.event.Doing.TheVariants.{Busy}
+use Rattle.xa_server.specs.xa_events.declared.event.Taken.{Taken}
+use Rattle.xa_server.specs.xa_events.Answers.{reply_of}
+use Rattle.xa_server.specs.xa_events.Cases.{IsShut}
+use Rattle.xa_server.specs.xa_events.Request.{is_entry_of}
+use Rattle.xa_server.specs.xa_events.Request.Settlement.{SweptAway}
+use Rattle.xa_server.specs.xa_events.Words.{latest}
+use Rattle.xa_server.specs.xa_events.Queue.{is_closed, is_down, waiting}
+use Rattle.xa_server.specs.xa_events.Server.{is_gone, AllGone}
+use Rattle.xa_server.specs.xa_events.Homes.Home.{BoardHome, QueueHome}
+use Rattle.xa_server.specs.xa_stamp.Home.{last_stamp}
+use Rattle.xa_server.specs.xa_worker.Crew.{IsOfDomain, no_stamp}
+use Rattle.xa_server.specs.xa_worker.Seen.{past_in, IfNew, SawDeserted}
+use Rattle.xa_server.specs.xa_cell.Known.{IsTicketOf}
 use Rattle.xa_board.specs.declared.board.BoardRefused.{BoardRefused}
 use Rattle.xa_board.specs.declared.board.BoardRefused.TheVariants as refusals
-use Rattle.xa_told.specs.xa_held.Joins.{SawLeft}
-use Rattle.xa_told.specs.xa_stamp.declared.home.Stamped.{Stamped}
-use Rattle.xa_told.specs.xa_queue.declared.entry.Entry.{Entry}
-use Rattle.xa_told.specs.xa_held.declared.cargo.Invocation.{Invocation}
-use Rattle.xa_told.specs.xa_held.Kept.{IsRight, Brings}
-use Rattle.xa_told.specs.xa_held.Notes.{IsOther, is_down_in}
-use Rattle.xa_told.specs.xa_work.Work.{seeing}
-use Rattle.xa_told.specs.xa_work.declared.work.Halt.{Halt}
-use Rattle.xa_told.specs.xa_work.declared.work.Halt.TheVariants as halts
-use Rattle.xa_told.specs.xa_caller.declared.phase.Phase.TheVariants.{Idle}
-use Rattle.xa_told.specs.xa_caller.Caller.{Standing as Caller}
-use Rattle.xa_told.specs.xa_caller.Drafts.{Cargo}
-use Rattle.xa_told.specs.xa_caller.Serving.{noted_off}
-use Rattle.xa_told.specs.xa_server.declared.closing.Closing.{Closing}
-use Rattle.xa_told.specs.xa_server.declared.slot.ServerSlot.{ServerSlot}
-use Rattle.xa_told.specs.xa_server.declared.slot.Last.TheVariants.{Nothing as NoLast}
-use Rattle.xa_told.specs.xa_server.Doings.{life_in}
-use Rattle.xa_told.specs.xa_server.Slot.{Stands}
-use Rattle.xa_told.specs.xa_server.Told.{IsBacked}
+use Rattle.xa_server.specs.xa_held.Joins.{SawLeft}
+use Rattle.xa_server.specs.xa_stamp.declared.home.Stamped.{Stamped}
+use Rattle.xa_server.specs.xa_queue.declared.entry.Entry.{Entry}
+use Rattle.xa_server.specs.xa_held.declared.cargo.Invocation.{Invocation}
+use Rattle.xa_server.specs.xa_held.Kept.{IsRight, Brings}
+use Rattle.xa_server.specs.xa_held.Notes.{IsOther, is_down_in}
+use Rattle.xa_server.specs.xa_worker.Work.{seeing}
+use Rattle.xa_server.specs.xa_worker.declared.work.Halt.{Halt}
+use Rattle.xa_server.specs.xa_worker.declared.work.Halt.TheVariants as halts
+use Rattle.xa_server.specs.xa_caller.declared.phase.Phase.TheVariants.{Idle}
+use Rattle.xa_server.specs.xa_caller.Caller.{Standing as Caller}
+use Rattle.xa_server.specs.xa_caller.Drafts.{Cargo}
+use Rattle.xa_server.specs.xa_caller.Serving.{noted_off}
+use Rattle.xa_server.specs.declared.closing.Closing.{Closing}
+use Rattle.xa_server.specs.declared.slot.ServerSlot.{ServerSlot}
+use Rattle.xa_server.specs.declared.slot.Last.TheVariants.{Nothing as NoLast}
+use Rattle.xa_server.specs.Doings.{life_in}
+use Rattle.xa_server.specs.Slot.{Stands}
+use Rattle.xa_server.specs.Told.{IsBacked}
 use Rattle.xa_desk.specs.declared.domain.Domain.{Domain}
 use Rattle.xa_desk.specs.declared.desk.Desk.{Desk}
 use Rattle.xa_desk.specs.declared.serving.Took.{Took}

@@ -1,17 +1,17 @@
 -- What a call of a desk leaves, beside what its caller's contract says (this project's own).
 use Rattle.std.specs.Prelude.{◌≡◌, ◌⊎◌, ℕ, ◌<◌, true, List, [], length, Option, Some, None, IfSome}
 use Rattle.std.specs.List.{All, Contains}
-use Rattle.xa_told.specs.xa_types.declared.call.Ask.{Ask}
-use Rattle.xa_told.specs.xa_types.declared.call.Op.{Op}
-use Rattle.xa_told.specs.xa_types.declared.call.Op.TheVariants.{Call}
-use Rattle.xa_told.specs.xa_types.declared.ids.QueueId.{QueueId}
-use Rattle.xa_told.specs.xa_types.declared.row.Row.{Row}
-use Rattle.xa_told.specs.xa_types.Found.{FoundRows}
-use Rattle.xa_told.specs.xa_types.Setup.{numbered, capacity_of}
-use Rattle.xa_told.specs.xa_events.Queue.{is_down, is_closed, waiting}
-use Rattle.xa_told.specs.xa_events.Calls.{IsShutOut}
-use Rattle.xa_told.specs.xa_caller.declared.outcomes.Why.{Why}
-use Rattle.xa_told.specs.xa_caller.declared.outcomes.Why.TheVariants as reasons
+use Rattle.xa_server.specs.xa_types.declared.call.Ask.{Ask}
+use Rattle.xa_server.specs.xa_types.declared.call.Op.{Op}
+use Rattle.xa_server.specs.xa_types.declared.call.Op.TheVariants.{Call}
+use Rattle.xa_server.specs.xa_types.declared.ids.QueueId.{QueueId}
+use Rattle.xa_server.specs.xa_types.declared.row.Row.{Row}
+use Rattle.xa_server.specs.xa_types.Found.{FoundRows}
+use Rattle.xa_server.specs.xa_types.Setup.{numbered, capacity_of}
+use Rattle.xa_server.specs.xa_events.Queue.{is_down, is_closed, waiting}
+use Rattle.xa_server.specs.xa_events.Calls.{IsShutOut}
+use Rattle.xa_server.specs.xa_caller.declared.outcomes.Why.{Why}
+use Rattle.xa_server.specs.xa_caller.declared.outcomes.Why.TheVariants as reasons
 use Rattle.xa_desk.specs.declared.domain.Domain.{Domain}
 use Rattle.xa_desk.specs.declared.desk.Desk.{Desk}
 use Rattle.xa_desk.specs.Desks.{FitsCalls}

@@ -1,17 +1,17 @@
 -- What all homes of a domain hold in the end, once every worker has left (this project's own).
 use Rattle.std.specs.Prelude.{◌≡◌, ◌⊎◌, ℕ, List, []}
 use Rattle.std.specs.List.{Contains}
-use Rattle.xa_told.specs.xa_types.declared.stamp.Stamp.{Stamp}
-use Rattle.xa_told.specs.xa_events.Homes.{Home}
-use Rattle.xa_told.specs.xa_events.Homes.Home.{BoardHome, QueueHome, ClockHome, CallerHome}
-use Rattle.xa_told.specs.xa_stamp.declared.home.Stamped.{Stamped}
-use Rattle.xa_told.specs.xa_lock.Makers.{noted_in}
-use Rattle.xa_told.specs.xa_held.declared.kept_board.Look.{Look}
-use Rattle.xa_told.specs.xa_held.declared.kept_board.BoardNote.TheVariants.{Looked}
-use Rattle.xa_told.specs.xa_held.Board.{Held, made_in}
-use Rattle.xa_told.specs.xa_held.Kept.{Kept}
-use Rattle.xa_told.specs.xa_caller.declared.cargo.Filling.{Filling}
-use Rattle.xa_told.specs.xa_server.Told.{HasStamp}
+use Rattle.xa_server.specs.xa_types.declared.stamp.Stamp.{Stamp}
+use Rattle.xa_server.specs.xa_events.Homes.{Home}
+use Rattle.xa_server.specs.xa_events.Homes.Home.{BoardHome, QueueHome, ClockHome, CallerHome}
+use Rattle.xa_server.specs.xa_stamp.declared.home.Stamped.{Stamped}
+use Rattle.xa_server.specs.xa_lock.Makers.{noted_in}
+use Rattle.xa_server.specs.xa_held.declared.kept_board.Look.{Look}
+use Rattle.xa_server.specs.xa_held.declared.kept_board.BoardNote.TheVariants.{Looked}
+use Rattle.xa_server.specs.xa_held.Board.{Held, made_in}
+use Rattle.xa_server.specs.xa_held.Kept.{Kept}
+use Rattle.xa_server.specs.xa_caller.declared.cargo.Filling.{Filling}
+use Rattle.xa_server.specs.Told.{HasStamp}
 
 -- the board, the queues by their numbers, and what each caller noted at its own home
 pub record Whole : Type 0 where

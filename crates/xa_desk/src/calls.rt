@@ -1,15 +1,15 @@
 // The steps of a tpcall.
 ghost use Rattle.std.specs.Prelude.{◌≡◌, ℕ, List, ◌+◌, ◌≤◌, ◌<◌, ◌^◌, true, false, IfOk, IfErr, OnOk, OnErr};
-ghost use Rattle.xa_told.specs.xa_types.declared.call.Ask.{Ask as Asked};
-ghost use Rattle.xa_told.specs.xa_events.Calls.{is_invalid_call};
-ghost use Rattle.xa_told.specs.xa_types.declared.stamp.Stamp.{Stamp};
-ghost use Rattle.xa_told.specs.xa_events.declared.event.Event.{Event as Accepting};
-ghost use Rattle.xa_told.specs.xa_caller.declared.phase.Phase.TheVariants as phases;
-ghost use Rattle.xa_told.specs.xa_caller.Caller.{MayCall};
-ghost use Rattle.xa_told.specs.xa_caller.Changes.{Prepares, StopsAs, Sends, StepsAs};
-ghost use Rattle.xa_told.specs.xa_caller.Phases.{IsSent};
-ghost use Rattle.xa_told.specs.xa_caller.Unsent.{ChecksAs, AimsAs, UnsentAs};
-ghost use Rattle.xa_told.specs.xa_work.Work.{seeing};
+ghost use Rattle.xa_server.specs.xa_types.declared.call.Ask.{Ask as Asked};
+ghost use Rattle.xa_server.specs.xa_events.Calls.{is_invalid_call};
+ghost use Rattle.xa_server.specs.xa_types.declared.stamp.Stamp.{Stamp};
+ghost use Rattle.xa_server.specs.xa_events.declared.event.Event.{Event as Accepting};
+ghost use Rattle.xa_server.specs.xa_caller.declared.phase.Phase.TheVariants as phases;
+ghost use Rattle.xa_server.specs.xa_caller.Caller.{MayCall};
+ghost use Rattle.xa_server.specs.xa_caller.Changes.{Prepares, StopsAs, Sends, StepsAs};
+ghost use Rattle.xa_server.specs.xa_caller.Phases.{IsSent};
+ghost use Rattle.xa_server.specs.xa_caller.Unsent.{ChecksAs, AimsAs, UnsentAs};
+ghost use Rattle.xa_server.specs.xa_worker.Work.{seeing};
 ghost use Rattle.xa_desk.specs.Desks.{IsDomain, IsDesk, Leads};
 ghost use Rattle.xa_desk.specs.Found.{HasFound, IsAimed, StillAimed, ShowsWhy, IsAccept, queue_in};
 ghost use Rattle.xa_desk.specs.Looks.{SeesWhy};
@@ -19,11 +19,11 @@ use crate::desk::{Desk, put_back, take_from};
 use crate::domain::Domain;
 use std::alloc::Global;
 use std::sync::Wait;
-use xa_told::caller::{Aimed, Cargo, Note, Prepared, Step, Stop, Why};
-use xa_told::events::Event;
-use xa_told::held::{AtQueue, put_at};
-use xa_told::queue::{Entry, PutRefused, Refusal};
-use xa_told::types::{Ask, Kind, Name, QueueId};
+use xa_server::caller::{Aimed, Cargo, Note, Prepared, Step, Stop, Why};
+use xa_server::events::Event;
+use xa_server::held::{AtQueue, put_at};
+use xa_server::queue::{Entry, PutRefused, Refusal};
+use xa_server::types::{Ask, Kind, Name, QueueId};
 
 // The queue that the event sends a request to.
 fn queue_of(event: &Event) -> QueueId

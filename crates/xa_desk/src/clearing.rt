@@ -1,6 +1,6 @@
 // The steps by which a server's worker clears the board of a queue without servers.
 ghost use Rattle.std.specs.Prelude.{◌≡◌, false, true, IfOk, IfErr, OnOk};
-ghost use Rattle.xa_told.specs.xa_server.Told.{HasStamp};
+ghost use Rattle.xa_server.specs.Told.{HasStamp};
 ghost use Rattle.xa_desk.specs.Desks.{IsDomain, IsDesk, Leads};
 ghost use Rattle.xa_desk.specs.Serving.{IsDeserted, IsCleared, OfDomain, IsHaltNear, halt_by, seen_by};
 
@@ -8,10 +8,10 @@ use crate::desk::{Desk, take_out};
 use crate::domain::Domain;
 use std::sync::Wait;
 use xa_board::BoardRefused;
-use xa_told::held::{AtBoard, Clearing, clear_at};
-use xa_told::stamp::Noted;
-use xa_told::types::{QueueId, Stamp};
-use xa_told::work::Halt;
+use xa_server::held::{AtBoard, Clearing, clear_at};
+use xa_server::stamp::Noted;
+use xa_server::types::{QueueId, Stamp};
+use xa_server::work::Halt;
 
 // How it halts where a row that stands isn't withdrawn.
 fn halt_by(refused: BoardRefused) -> Halt

@@ -1,8 +1,8 @@
 // How a worker leaves its desk.
 ghost use Rattle.std.specs.Prelude.{◌≡◌, None};
-ghost use Rattle.xa_told.specs.xa_caller.declared.phase.Phase.TheVariants as phases;
-ghost use Rattle.xa_told.specs.xa_caller.Changes.{LeavesAs};
-ghost use Rattle.xa_told.specs.xa_caller.Phases.{IsPrepared};
+ghost use Rattle.xa_server.specs.xa_caller.declared.phase.Phase.TheVariants as phases;
+ghost use Rattle.xa_server.specs.xa_caller.Changes.{LeavesAs};
+ghost use Rattle.xa_server.specs.xa_caller.Phases.{IsPrepared};
 ghost use Rattle.xa_desk.specs.declared.desk.Desk.{Desk as Ended};
 ghost use Rattle.xa_desk.specs.Desks.{IsDomain, IsDesk, Leads};
 ghost use Rattle.xa_desk.specs.Parting.{IsLeft, FitsStill};
@@ -10,9 +10,9 @@ ghost use Rattle.xa_desk.specs.Parting.{IsLeft, FitsStill};
 use crate::desk::Desk;
 use crate::domain::Domain;
 use xa_board::Reader;
-use xa_told::caller::{Filling, Left};
-use xa_told::held::{BoardNote, QueueNote};
-use xa_told::lock::LockPass;
+use xa_server::caller::{Filling, Left};
+use xa_server::held::{BoardNote, QueueNote};
+use xa_server::lock::LockPass;
 
 /// What a worker leaves behind: what its caller does, and its reader and passes.
 pub struct Done {

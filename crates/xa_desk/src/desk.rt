@@ -1,7 +1,7 @@
 // A worker's desk, and its look at the board.
 ghost use Rattle.std.specs.Prelude.{◌≡◌, ◌<◌, ◌≤◌, None, Some, IsSome, length, slice_index_or, slice_set};
-ghost use Rattle.xa_told.specs.xa_types.declared.stamp.Stamp.{Stamp};
-ghost use Rattle.xa_told.specs.xa_work.Work.{seeing};
+ghost use Rattle.xa_server.specs.xa_types.declared.stamp.Stamp.{Stamp};
+ghost use Rattle.xa_server.specs.xa_worker.Work.{seeing};
 ghost use Rattle.xa_desk.specs.Desks.{IsDomain, IsDesk, Leads};
 ghost use Rattle.xa_desk.specs.Found.{HasFound};
 ghost use Rattle.xa_desk.specs.Looks.{LookShowed};
@@ -10,10 +10,10 @@ use crate::domain::Domain;
 use std::mem;
 use std::sync::Wait;
 use xa_board::Reader;
-use xa_told::caller::{Caller, Filling};
-use xa_told::held::{AtBoard, BoardNote, QueueNote, look_up_at};
-use xa_told::lock::LockPass;
-use xa_told::types::Name;
+use xa_server::caller::{Caller, Filling};
+use xa_server::held::{AtBoard, BoardNote, QueueNote, look_up_at};
+use xa_server::lock::LockPass;
+use xa_server::types::Name;
 
 /// What a worker has: its caller, its reader of the board, and its passes of the board and of each queue, which are there
 /// between its steps.

@@ -7,13 +7,13 @@ use crossbeam_utils::sync::EventCount;
 use std::sync::Wait;
 use std::sync::atomic::AtomicU64;
 use std::sync::atomic::Ordering::SeqCst;
-use xa_told::buffer::Shapes;
-use xa_told::caller::Filling;
-use xa_told::cell::Cells;
-use xa_told::held::{KeptBoard, KeptQueue};
-use xa_told::lock::Guarded;
-use xa_told::types::{CallerId, QueueId, Setup, Stamp};
-use xa_told::work::Halt;
+use xa_server::buffer::Shapes;
+use xa_server::caller::Filling;
+use xa_server::cell::Cells;
+use xa_server::held::{KeptBoard, KeptQueue};
+use xa_server::lock::Guarded;
+use xa_server::types::{CallerId, QueueId, Setup, Stamp};
+use xa_server::work::Halt;
 
 /// What workers wait for: the servers of each queue, by its number, that something waits there or it is closed; callers, that
 /// a queue has room or isn't up any more; each caller, by its number, that it is answered; and clients before their first

@@ -1,8 +1,8 @@
 // How each worker sees that the run halts.
 use std::sync::atomic::AtomicU64;
 use std::sync::atomic::Ordering::SeqCst;
-use xa_told::types::Stamp;
-use xa_told::work::Halt;
+use xa_server::types::Stamp;
+use xa_server::work::Halt;
 
 /// A word that each worker sees: why the run halts, if it does. The first that halts it is told to all. No clause says what
 /// a worker sees there: each answers for its own halt.

@@ -26,11 +26,15 @@ pub use signal::Signals;
 pub use stopped::Stopped;
 
 // What crates above name of those below.
-pub use xa_told::{
-    buffer, caller, cell, events, held, link, lock, pipe, queue, restart, route, server, stamp,
-    types, work,
+pub use xa_server::{
+    buffer, caller, cell, events, held, link, lock, pipe, queue, restart, route, stamp, types, work,
 };
 
 pub mod board {
     pub use xa_board::{Board, Reader};
+}
+
+// What xa_server itself has.
+pub mod server {
+    pub use xa_server::{Closing, Forwarding, Given, Last, Served, ServerSlot};
 }

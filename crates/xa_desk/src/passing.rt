@@ -1,13 +1,13 @@
 // A server's worker that passes its request on.
 ghost use Rattle.std.specs.Prelude.{◌≡◌, ◌<◌, ℕ, true, Some, None, IfOk, IfErr, IfSome, OnOk, OnErr};
-ghost use Rattle.xa_told.specs.xa_types.Name.{is_name};
-ghost use Rattle.xa_told.specs.xa_types.declared.stamp.Stamp.{Stamp};
-ghost use Rattle.xa_told.specs.xa_events.declared.event.Event.{Event as Passed};
-ghost use Rattle.xa_told.specs.xa_events.declared.event.Taken.{Taken};
-ghost use Rattle.xa_told.specs.xa_work.Work.{seeing};
-ghost use Rattle.xa_told.specs.xa_server.Doings.{IsBusy};
-ghost use Rattle.xa_told.specs.xa_server.Forwarding.{way_of, hop_in, Fails, ForwardsAs, AimsOn, GoesOn};
-ghost use Rattle.xa_told.specs.xa_server.Noting.{HaltsWith};
+ghost use Rattle.xa_server.specs.xa_types.Name.{is_name};
+ghost use Rattle.xa_server.specs.xa_types.declared.stamp.Stamp.{Stamp};
+ghost use Rattle.xa_server.specs.xa_events.declared.event.Event.{Event as Passed};
+ghost use Rattle.xa_server.specs.xa_events.declared.event.Taken.{Taken};
+ghost use Rattle.xa_server.specs.xa_worker.Work.{seeing};
+ghost use Rattle.xa_server.specs.Doings.{IsBusy};
+ghost use Rattle.xa_server.specs.Forwarding.{way_of, hop_in, Fails, ForwardsAs, AimsOn, GoesOn};
+ghost use Rattle.xa_server.specs.Noting.{HaltsWith};
 ghost use Rattle.xa_desk.specs.Desks.{IsDomain, IsDesk, Leads};
 ghost use Rattle.xa_desk.specs.Found.{HasFound, ShowsWhy};
 ghost use Rattle.xa_desk.specs.Serving.{IsServing, IsTaken, IsToTell};
@@ -18,13 +18,13 @@ use crate::domain::Domain;
 use std::alloc::Global;
 use std::snapshot::Snapshot;
 use std::sync::Wait;
-use xa_told::caller::{Aimed, Cargo};
-use xa_told::events::Event;
-use xa_told::held::{AtQueue, put_at};
-use xa_told::queue::{Entry, PutRefused, Refusal};
-use xa_told::server::{Closing, Forwarding, ServerSlot};
-use xa_told::types::{Data, Octets, QueueId};
-use xa_told::work::Halt;
+use xa_server::caller::{Aimed, Cargo};
+use xa_server::events::Event;
+use xa_server::held::{AtQueue, put_at};
+use xa_server::queue::{Entry, PutRefused, Refusal};
+use xa_server::types::{Data, Octets, QueueId};
+use xa_server::work::Halt;
+use xa_server::{Closing, Forwarding, ServerSlot};
 
 // The queue that the event sends a request to.
 fn queue_of(event: &Event) -> QueueId

@@ -1,17 +1,17 @@
 // A caller sets the priority of its next request.
 ghost use Rattle.std.specs.Prelude.{◌≡◌, ◌+◌, IfOk, IfErr, OnErr};
-ghost use Rattle.xa_told.specs.xa_types.declared.call.Op.TheVariants.{Priority};
-ghost use Rattle.xa_told.specs.xa_caller.declared.phase.Phase.TheVariants as phases;
-ghost use Rattle.xa_told.specs.xa_caller.Caller.{MayCall};
-ghost use Rattle.xa_told.specs.xa_caller.Changes.{SetsPriority};
-ghost use Rattle.xa_told.specs.xa_work.Work.{HaltsAt};
+ghost use Rattle.xa_server.specs.xa_types.declared.call.Op.TheVariants.{Priority};
+ghost use Rattle.xa_server.specs.xa_caller.declared.phase.Phase.TheVariants as phases;
+ghost use Rattle.xa_server.specs.xa_caller.Caller.{MayCall};
+ghost use Rattle.xa_server.specs.xa_caller.Changes.{SetsPriority};
+ghost use Rattle.xa_server.specs.xa_worker.Work.{HaltsAt};
 ghost use Rattle.xa_desk.specs.Desks.{IsDomain, IsDesk, Leads};
 ghost use Rattle.xa_desk.specs.Steps.{FitsOp};
 
 use crate::desk::Desk;
 use crate::domain::Domain;
-use xa_told::types::Stamp;
-use xa_told::work::Halt;
+use xa_server::types::Stamp;
+use xa_server::work::Halt;
 
 impl Desk {
     /// Its caller sets the priority of its next request, as `set_priority` of a caller.

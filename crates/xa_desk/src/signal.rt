@@ -5,7 +5,7 @@ use std::sync::Wait;
 use std::sync::atomic::AtomicU64;
 use std::sync::atomic::Ordering::SeqCst;
 use std::thread;
-use xa_told::types::NoMemory;
+use xa_server::types::NoMemory;
 
 // How often who waits looks before it sleeps. Others run between two looks.
 const LOOKS: u32 = 100;

@@ -6,37 +6,37 @@ use Rattle.std.specs.declared.vec.Vec.{Vec}
 use Rattle.std.specs.declared.alloc.Global.{Global}
 use Rattle.std.proofs.lemmas.List.{length-map}
 use Rattle.std.proofs.lemmas.List.Elements.{All-nil, All-cons}
-use Rattle.xa_ending.specs.xa_types.Setup.{numbered, queue_of}
-use Rattle.xa_ending.specs.xa_events.declared.event.Event.{Event}
-use Rattle.xa_ending.specs.xa_events.Run.{Run}
-use Rattle.xa_ending.specs.xa_events.State.{opening}
-use Rattle.xa_ending.specs.xa_events.Words.{EachNumbered}
-use Rattle.xa_ending.specs.xa_stamp.Home.{Notes}
-use Rattle.xa_ending.specs.xa_stamp.Merge.{IsMerged, stamps_of}
-use Rattle.xa_ending.specs.xa_work.declared.work.Halt.{Halt}
-use Rattle.xa_ending.specs.xa_work.declared.work.Halt.TheVariants as halts
-use Rattle.xa_ending.specs.xa_pipe.Standing.{Standing as Life, Ending}
-use Rattle.xa_ending.specs.xa_script.declared.script.Client.{Client}
-use Rattle.xa_ending.specs.xa_server.Served.{StarterShows}
-use Rattle.xa_ending.specs.xa_links.Lives.{ServerShows}
-use Rattle.xa_ending.specs.xa_links.Working.{cut_in}
-use Rattle.xa_ending.specs.xa_links.declared.working.ServerWorker.{ServerWorker}
-use Rattle.xa_ending.specs.xa_desk.declared.domain.Domain.{Domain}
-use Rattle.xa_ending.specs.xa_desk.declared.desk.Desk.{Desk}
-use Rattle.xa_ending.specs.xa_boot.declared.booting.Booted.{Booted}
-use Rattle.xa_ending.specs.xa_joined.Ended.{ServerEnd, Ends, EndsWhole}
-use Rattle.xa_ending.specs.xa_joined.Served.{IsRecorded, IsWorn, IsLifeOf, AreLives, AreLivesSoFar, IsStarterOf, IsStarterSoFar, HasStarters}
-use Rattle.xa_ending.proofs.xa_joined.Behind.{ends_recorded}
-use Rattle.xa_ending.proofs.xa_joined.Lawful.{lawful_run}
-use Rattle.xa_ending.proofs.xa_joined.Recorded.{dense, known_noted, worn_noted}
-use Rattle.xa_ending.proofs.xa_joined.Merged.{merged_run, merged_made}
-use Rattle.xa_ending.proofs.xa_joined.History.{ends_history}
-use Rattle.xa_carried.proofs.SoFar.{lives_so_far, starters_so_far}
-use Rattle.xa_carried.proofs.Lives.{carried}
-use Rattle.xa_ending.specs.declared.handing.Handed.{Handed}
-use Rattle.xa_ending.specs.Gathered.{IsHaltAmong}
-use Rattle.xa_ending.specs.Handed.{HandsBack}
-use Rattle.xa_ending.specs.Joined.{end_of}
+use Rattle.xa_boot.specs.xa_types.Setup.{numbered, queue_of}
+use Rattle.xa_boot.specs.xa_events.declared.event.Event.{Event}
+use Rattle.xa_boot.specs.xa_events.Run.{Run}
+use Rattle.xa_boot.specs.xa_events.State.{opening}
+use Rattle.xa_boot.specs.xa_events.Words.{EachNumbered}
+use Rattle.xa_boot.specs.xa_stamp.Home.{Notes}
+use Rattle.xa_boot.specs.xa_stamp.Merge.{IsMerged, stamps_of}
+use Rattle.xa_boot.specs.xa_worker.declared.work.Halt.{Halt}
+use Rattle.xa_boot.specs.xa_worker.declared.work.Halt.TheVariants as halts
+use Rattle.xa_boot.specs.xa_pipe.Standing.{Standing as Life, Ending}
+use Rattle.xa_history.specs.xa_script.declared.script.Client.{Client}
+use Rattle.xa_boot.specs.xa_server.Served.{StarterShows}
+use Rattle.xa_boot.specs.xa_server_worker.Lives.{ServerShows}
+use Rattle.xa_boot.specs.xa_server_worker.Working.{cut_in}
+use Rattle.xa_boot.specs.xa_server_worker.declared.working.ServerWorker.{ServerWorker}
+use Rattle.xa_boot.specs.xa_desk.declared.domain.Domain.{Domain}
+use Rattle.xa_boot.specs.xa_desk.declared.desk.Desk.{Desk}
+use Rattle.xa_boot.specs.declared.booting.Booted.{Booted}
+use Rattle.xa_history.specs.Ended.{ServerEnd, Ends, EndsWhole}
+use Rattle.xa_history.specs.Served.{IsRecorded, IsWorn, IsLifeOf, AreLives, AreLivesSoFar, IsStarterOf, IsStarterSoFar, HasStarters}
+use Rattle.xa_history.proofs.Behind.{ends_recorded}
+use Rattle.xa_history.proofs.Lawful.{lawful_run}
+use Rattle.xa_history.proofs.Recorded.{dense, known_noted, worn_noted}
+use Rattle.xa_history.proofs.Merged.{merged_run, merged_made}
+use Rattle.xa_history.proofs.History.{ends_history}
+use Rattle.xa_history.proofs.SoFar.{lives_so_far, starters_so_far}
+use Rattle.xa_history.proofs.Lives.{carried}
+use Rattle.xa_domain.specs.declared.handing.Handed.{Handed}
+use Rattle.xa_domain.specs.Gathered.{IsHaltAmong}
+use Rattle.xa_domain.specs.Handed.{HandsBack}
+use Rattle.xa_domain.specs.Joined.{end_of}
 use Rattle.xa_domain.specs.Serving.{HasAll, HasHomes, IsNoneCut, ComesTo, ServeEnds}
 
 -- ---- where the run came to its end

@@ -1,19 +1,19 @@
 -- A domain that was booted, and what its workers leave.
 use Rattle.std.proofs.Common.{◌≡◌, ℕ, suc, ◌+◌, List, [], ◌∷◌, length, map, refl, sym, ◌∙◌, ap, subst}
-use Rattle.xa_ending.specs.xa_types.declared.setup.Setup.{Setup}
-use Rattle.xa_ending.specs.xa_types.declared.setup.ServerSetup.{ServerSetup}
-use Rattle.xa_ending.specs.xa_events.Words.{EachNumbered}
-use Rattle.xa_ending.specs.xa_script.declared.script.Client.{Client}
-use Rattle.xa_ending.specs.xa_server.Served.{StarterShows}
-use Rattle.xa_ending.specs.xa_desk.declared.domain.Domain.{Domain}
-use Rattle.xa_ending.specs.xa_desk.Desks.{IsDomain}
-use Rattle.xa_ending.specs.xa_clients.declared.working.ClientWorker.{ClientWorker}
-use Rattle.xa_ending.specs.xa_links.declared.working.ServerWorker.{ServerWorker}
-use Rattle.xa_ending.specs.xa_boot.declared.booting.Booted.{Booted}
-use Rattle.xa_ending.specs.xa_boot.Booting.{HasBooted, IsDealt}
-use Rattle.xa_ending.specs.xa_workers.Working.{EachDone, IsOver}
-use Rattle.xa_ending.specs.xa_workers.Closing.{HasClosed}
-use Rattle.xa_ending.specs.Joined.{IsJoined}
+use Rattle.xa_boot.specs.xa_types.declared.setup.Setup.{Setup}
+use Rattle.xa_boot.specs.xa_types.declared.setup.ServerSetup.{ServerSetup}
+use Rattle.xa_boot.specs.xa_events.Words.{EachNumbered}
+use Rattle.xa_history.specs.xa_script.declared.script.Client.{Client}
+use Rattle.xa_boot.specs.xa_server.Served.{StarterShows}
+use Rattle.xa_boot.specs.xa_desk.declared.domain.Domain.{Domain}
+use Rattle.xa_boot.specs.xa_desk.Desks.{IsDomain}
+use Rattle.xa_boot.specs.xa_client_worker.declared.working.ClientWorker.{ClientWorker}
+use Rattle.xa_boot.specs.xa_server_worker.declared.working.ServerWorker.{ServerWorker}
+use Rattle.xa_boot.specs.declared.booting.Booted.{Booted}
+use Rattle.xa_boot.specs.Booting.{HasBooted, IsDealt}
+use Rattle.xa_domain.specs.Working.{EachDone, IsOver}
+use Rattle.xa_domain.specs.Closing.{HasClosed}
+use Rattle.xa_domain.specs.Joined.{IsJoined}
 
 all_done : (d : Domain) (n : ℕ) (scripts : List Client) (workers : List ClientWorker) → EachDone d n scripts workers → length workers ≡ length scripts
 all_done d n [] [] done = refl

@@ -1,6 +1,22 @@
+mod Leaving
+mod Stepping
+mod Numbered
+mod Working
+mod Sending
+mod Sharing
+mod Served
+mod Groups
+pub mod Listed
+pub mod Silent
+pub mod Queues
+pub mod GivenBack
+pub mod Adding
+pub mod Taking
+pub mod Itself
+pub mod Back
 pub mod Ends
 pub mod Nothing
 pub mod Joining
 -- what crates above cite of the lemmas of those below
-pub use Rattle.xa_ending.proofs.xa_script
-pub use Rattle.xa_carried.proofs as xa_carried
+pub use Rattle.xa_history.proofs.xa_script
+pub use Rattle.xa_history.proofs as xa_history

@@ -5,28 +5,28 @@ use Rattle.std.specs.List.{All}
 use Rattle.std.proofs.lemmas.List.{length-map}
 use Rattle.std.proofs.lemmas.List.Elements.{All-nil, All-head, All-tail}
 use Rattle.std.proofs.lemmas.List.Sorted.{IsPermutation-refl}
-use Rattle.xa_ending.specs.xa_types.declared.setup.Setup.{Setup}
-use Rattle.xa_ending.specs.xa_types.declared.setup.ServerSetup.{ServerSetup}
-use Rattle.xa_ending.specs.xa_types.Setup.{numbered}
-use Rattle.xa_ending.specs.xa_events.declared.event.Event.{Event}
-use Rattle.xa_ending.specs.xa_events.Server.{starts}
-use Rattle.xa_ending.specs.xa_events.Words.{EachNumbered}
-use Rattle.xa_ending.specs.xa_stamp.Home.{Notes}
-use Rattle.xa_ending.specs.xa_stamp.Merge.{IsDense, IsMerged}
-use Rattle.xa_ending.proofs.xa_stamp.Places.{one_merge}
-use Rattle.xa_ending.specs.xa_crew.Ending.{list_in}
-use Rattle.xa_ending.specs.xa_work.declared.work.Halt.{Halt}
-use Rattle.xa_ending.specs.xa_work.declared.work.Halt.TheVariants.{NoMemory}
-use Rattle.xa_ending.specs.xa_script.declared.script.Client.{Client}
-use Rattle.xa_ending.specs.xa_pipe.Standing.{Standing as Life, Ending}
-use Rattle.xa_ending.specs.xa_server.Served.{StarterShows}
-use Rattle.xa_ending.specs.xa_desk.Made.{IsMade}
-use Rattle.xa_ending.specs.xa_links.Lives.{HasStarted, IsCut}
-use Rattle.xa_ending.specs.xa_events.State.{opening}
-use Rattle.xa_ending.proofs.xa_joined.Lawful.{lawful_run}
-use Rattle.xa_ending.specs.xa_joined.Served.{server_name_in, name_of, IsAsked, AreLivesOf, HasStarters, IsStarterSoFar, IsServedSoFar}
-use Rattle.xa_ending.proofs.xa_joined.Listed.{numbered_map}
-use Rattle.xa_carried.proofs.Numbered.{each_at, each_from}
+use Rattle.xa_boot.specs.xa_types.declared.setup.Setup.{Setup}
+use Rattle.xa_boot.specs.xa_types.declared.setup.ServerSetup.{ServerSetup}
+use Rattle.xa_boot.specs.xa_types.Setup.{numbered}
+use Rattle.xa_boot.specs.xa_events.declared.event.Event.{Event}
+use Rattle.xa_boot.specs.xa_events.Server.{starts}
+use Rattle.xa_boot.specs.xa_events.Words.{EachNumbered}
+use Rattle.xa_boot.specs.xa_stamp.Home.{Notes}
+use Rattle.xa_boot.specs.xa_stamp.Merge.{IsDense, IsMerged}
+use Rattle.xa_boot.proofs.xa_stamp.Places.{one_merge}
+use Rattle.xa_boot.specs.xa_worker.Ending.{list_in}
+use Rattle.xa_boot.specs.xa_worker.declared.work.Halt.{Halt}
+use Rattle.xa_boot.specs.xa_worker.declared.work.Halt.TheVariants.{NoMemory}
+use Rattle.xa_history.specs.xa_script.declared.script.Client.{Client}
+use Rattle.xa_boot.specs.xa_pipe.Standing.{Standing as Life, Ending}
+use Rattle.xa_boot.specs.xa_server.Served.{StarterShows}
+use Rattle.xa_boot.specs.xa_desk.Made.{IsMade}
+use Rattle.xa_boot.specs.xa_server_worker.Lives.{HasStarted, IsCut}
+use Rattle.xa_boot.specs.xa_events.State.{opening}
+use Rattle.xa_history.proofs.Lawful.{lawful_run}
+use Rattle.xa_history.specs.Served.{server_name_in, name_of, IsAsked, AreLivesOf, HasStarters, IsStarterSoFar, IsServedSoFar}
+use Rattle.xa_history.proofs.Listed.{numbered_map}
+use Rattle.xa_history.proofs.Numbered.{each_at, each_from}
 use Rattle.xa_domain.specs.Serving.{ServeEnds}
 
 no_starts : (server : ℕ) → starts server [] ≡ []

@@ -1,18 +1,18 @@
 -- What serving a script comes to (this project's own).
 use Rattle.std.specs.Prelude.{◌≡◌, ◌⊎◌, ℕ, ◌≤◌, List, [], length, Option, Some, None, IfSome}
 use Rattle.std.specs.List.{All}
-use Rattle.xa_ending.specs.xa_types.declared.setup.Setup.{Setup}
-use Rattle.xa_ending.specs.xa_events.declared.event.Event.{Event}
-use Rattle.xa_ending.specs.xa_stamp.Home.{Notes}
-use Rattle.xa_ending.specs.xa_stamp.Merge.{IsDense, IsMerged}
-use Rattle.xa_ending.specs.xa_work.declared.work.Halt.{Halt}
-use Rattle.xa_ending.specs.xa_work.declared.work.Halt.TheVariants.{NoMemory}
-use Rattle.xa_ending.specs.xa_script.declared.script.Client.{Client}
-use Rattle.xa_ending.specs.xa_pipe.Standing.{Standing as Life, Ending}
-use Rattle.xa_ending.specs.xa_server.Served.{StarterShows}
-use Rattle.xa_ending.specs.xa_links.Lives.{HasStarted}
-use Rattle.xa_ending.specs.xa_workers.Working.{IsBuiltClient}
-use Rattle.xa_ending.specs.xa_joined.Served.{IsRecorded, IsServedWhole, IsServedSoFar, IsWorn}
+use Rattle.xa_boot.specs.xa_types.declared.setup.Setup.{Setup}
+use Rattle.xa_boot.specs.xa_events.declared.event.Event.{Event}
+use Rattle.xa_boot.specs.xa_stamp.Home.{Notes}
+use Rattle.xa_boot.specs.xa_stamp.Merge.{IsDense, IsMerged}
+use Rattle.xa_boot.specs.xa_worker.declared.work.Halt.{Halt}
+use Rattle.xa_boot.specs.xa_worker.declared.work.Halt.TheVariants.{NoMemory}
+use Rattle.xa_history.specs.xa_script.declared.script.Client.{Client}
+use Rattle.xa_boot.specs.xa_pipe.Standing.{Standing as Life, Ending}
+use Rattle.xa_boot.specs.xa_server.Served.{StarterShows}
+use Rattle.xa_boot.specs.xa_server_worker.Lives.{HasStarted}
+use Rattle.xa_domain.specs.Working.{IsBuiltClient}
+use Rattle.xa_history.specs.Served.{IsRecorded, IsServedWhole, IsServedSoFar, IsWorn}
 
 -- at most 64 clients, each with fewer than 2^32 calls, of which each is a tpcall or sets a priority
 pub record IsBuilt (clients : List Client) : Type 0 where

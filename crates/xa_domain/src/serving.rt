@@ -1,27 +1,28 @@
 // A script is served.
 ghost use Rattle.std.specs.Prelude.{◌≡◌, ◌⊎◌, Some, [], length, map, true};
 ghost use Rattle.std.specs.List.{All};
-ghost use Rattle.xa_ending.specs.xa_types.Configured.{is_configured};
-ghost use Rattle.xa_ending.specs.xa_link.Starts.{AsksStarters};
-ghost use Rattle.xa_ending.specs.xa_links.Lives.{HasStarted};
-ghost use Rattle.xa_ending.specs.xa_links.Working.{cut_in};
-ghost use Rattle.xa_ending.specs.xa_boot.Booting.{HasBooted};
-ghost use Rattle.xa_ending.specs.Room.{HasRoom};
+ghost use Rattle.xa_boot.specs.xa_types.Configured.{is_configured};
+ghost use Rattle.xa_boot.specs.xa_link.Starts.{AsksStarters};
+ghost use Rattle.xa_boot.specs.xa_server_worker.Lives.{HasStarted};
+ghost use Rattle.xa_boot.specs.xa_server_worker.Working.{cut_in};
+ghost use Rattle.xa_boot.specs.Booting.{HasBooted};
+ghost use Rattle.xa_domain.specs.Room.{HasRoom};
 ghost use Rattle.xa_domain.specs.Serving.{IsBuilt, ServeEnds};
 
+use crate::crew::run_all;
+use crate::handing::{Handed, hand_back};
+use crate::room::Room;
 use std::alloc::Global;
 use std::sync::Wait;
 use std::thread::Threads;
-use xa_ending::boot::{Booted, NotBooted, boot};
-use xa_ending::link::{Gate, Link, Starter, Yard};
-use xa_ending::links::CutLife;
-use xa_ending::pipe::EndedLife;
-use xa_ending::script::{Client, Script};
-use xa_ending::stamp::Record;
-use xa_ending::types::{Sequence, Setup};
-use xa_ending::work::Halt;
-use xa_ending::workers::run_all;
-use xa_ending::{Handed, Room, hand_back};
+use xa_boot::link::{Gate, Link, Starter, Yard};
+use xa_boot::links::CutLife;
+use xa_boot::pipe::EndedLife;
+use xa_boot::stamp::Record;
+use xa_boot::types::{Sequence, Setup};
+use xa_boot::work::Halt;
+use xa_boot::{Booted, NotBooted, boot};
+use xa_history::script::{Client, Script};
 
 /// How a script was served: why the run halted, if it did; the homes of the board, the queues, the clock and the callers,
 /// in this order; and by server its lives that ended, the one that went on at a halt, and its starter. Where memory ran out

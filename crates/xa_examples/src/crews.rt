@@ -1,8 +1,8 @@
 // Homes and their merge, and workers that noted their events beside each other.
 ghost use Rattle.std.specs.Prelude.{[], ◌∷◌};
 ghost use Rattle.xa_stamp.specs.Merge.{IsMerged, IsDense};
-ghost use Rattle.xa_crew.specs.Crew.{AllMet, TellsEach};
-ghost use Rattle.xa_crew.specs.Ending.{kept_at, AllJoined};
+ghost use Rattle.xa_worker.specs.Crew.{AllMet, TellsEach};
+ghost use Rattle.xa_worker.specs.Ending.{kept_at, AllJoined};
 ghost use Rattle.xa_examples.specs.Setting.{echoing};
 ghost use Rattle.xa_examples.specs.Calling.{passing};
 ghost use Rattle.xa_examples.specs.Conversations.{lounge};

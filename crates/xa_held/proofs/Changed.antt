@@ -22,8 +22,8 @@ use Rattle.xa_lock.specs.declared.makers.Made.{Made}
 use Rattle.xa_lock.specs.declared.pass.Page.{Page}
 use Rattle.xa_lock.specs.Makers.{noted_in}
 use Rattle.xa_lock.specs.Pages.{StartsWith}
-use Rattle.xa_crew.specs.Crew.{MetAmong}
-use Rattle.xa_crew.specs.Seen.{past_in}
+use Rattle.xa_worker.specs.Crew.{MetAmong}
+use Rattle.xa_worker.specs.Seen.{past_in}
 use Rattle.xa_board.specs.declared.board.Changed.{Changed}
 use Rattle.xa_board.specs.Board.{past_of, version_of, put_of}
 use Rattle.xa_board.specs.Changes.{is_on}

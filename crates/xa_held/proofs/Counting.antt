@@ -13,9 +13,9 @@ use Rattle.xa_lock.specs.declared.makers.Made.{Made}
 use Rattle.xa_lock.specs.declared.pass.Page.{Page}
 use Rattle.xa_lock.specs.Makers.{maker_of as made_maker, noted_in}
 use Rattle.xa_lock.specs.Pages.{Knows, entries_by}
-use Rattle.xa_crew.specs.Crew.{stands_at}
-use Rattle.xa_crew.specs.Seen.{past_in}
-use Rattle.xa_crew.proofs.Lists.{filter-yes, filter-no, past_in-append, past_in-filter, count_part}
+use Rattle.xa_worker.specs.Crew.{stands_at}
+use Rattle.xa_worker.specs.Seen.{past_in}
+use Rattle.xa_worker.proofs.Lists.{filter-yes, filter-no, past_in-append, past_in-filter, count_part}
 
 count_append : {X : Type 0} (p : X → Bool) (xs ys : List X) → count p (xs ++ ys) ≡ count p xs + count p ys
 count_append p [] ys = omega arith

@@ -19,8 +19,8 @@ use Rattle.xa_lock.specs.declared.makers.Made.{Made}
 use Rattle.xa_lock.specs.declared.pass.Page.{Page}
 use Rattle.xa_lock.specs.Makers.{noted_in, maker_of as made_maker}
 use Rattle.xa_lock.specs.Pages.{StartsWith, Knows, entries_by}
-use Rattle.xa_crew.specs.Seen.{past_in, SawDeserted}
-use Rattle.xa_crew.proofs.Lists.{past_in-append}
+use Rattle.xa_worker.specs.Seen.{past_in, SawDeserted}
+use Rattle.xa_worker.proofs.Lists.{past_in-append}
 use Rattle.xa_board.specs.Board.{Standing, ReadsAsNoted, past_of, version_of, put_of}
 use Rattle.xa_board.specs.Changes.{is_on, rows_on}
 use Rattle.xa_held.specs.declared.kept_board.BoardNote.{BoardNote}

@@ -4,7 +4,7 @@ use Rattle.xa_held.proofs.Seen.{events_kept, events_more, sees_left, gone_seen}
 use Rattle.xa_held.specs.Visits.{Visits}
 use Rattle.xa_held.specs.Steps.{GaveUpAs}
 use Rattle.xa_queue.specs.declared.told.GivenUp.{GivenUp}
-use Rattle.xa_crew.proofs.Lists.{past_in-append}
+use Rattle.xa_worker.proofs.Lists.{past_in-append}
 use Rattle.xa_types.specs.declared.ids.CallerId.{CallerId}
 use Rattle.std.specs.List.{flat_map, list_any, All}
 use Rattle.std.specs.Cmp.Derive.{both_true}
@@ -25,7 +25,7 @@ use Rattle.xa_lock.specs.declared.makers.Made.{Made}
 use Rattle.xa_lock.specs.declared.pass.Page.{Page}
 use Rattle.xa_lock.specs.Pages.{StartsWith}
 use Rattle.xa_lock.specs.Makers.{noted_in}
-use Rattle.xa_crew.specs.Seen.{past_in, SawFront}
+use Rattle.xa_worker.specs.Seen.{past_in, SawFront}
 use Rattle.xa_queue.specs.Queue.{IsSound, gives_up, has_server, all_gone, none_left}
 use Rattle.xa_queue.proofs.Ending.{is_among}
 use Rattle.xa_queue.proofs.Waiting.{eqb-flips, list_any-reverse}

@@ -10,7 +10,7 @@ use Rattle.xa_stamp.specs.declared.home.Stamped.{Stamped}
 use Rattle.xa_lock.specs.declared.makers.Made.{Made}
 use Rattle.xa_lock.specs.declared.pass.Page.{Page}
 use Rattle.xa_lock.specs.Makers.{noted_in}
-use Rattle.xa_crew.specs.Crew.{stands_at}
+use Rattle.xa_worker.specs.Crew.{stands_at}
 use Rattle.xa_held.specs.declared.kept_board.BoardNote.{BoardNote}
 use Rattle.xa_held.specs.declared.kept_queue.QueueNote.{QueueNote}
 use Rattle.xa_held.specs.Board.{made_in, made_of as changes_of}

@@ -25,7 +25,7 @@ use Rattle.xa_stamp.specs.declared.home.Stamped.{Stamped}
 use Rattle.xa_stamp.specs.Home.{last_stamp}
 use Rattle.xa_lock.specs.declared.pass.Page.{Page}
 use Rattle.xa_lock.specs.Pages.{StartsWith}
-use Rattle.xa_crew.specs.Seen.{past_in, SawFront}
+use Rattle.xa_worker.specs.Seen.{past_in, SawFront}
 use Rattle.xa_cell.proofs.Lists.{below}
 use Rattle.xa_board.specs.Board.{Standing, ReadsAsNoted, IsAsConfigured, past_of, version_of, stamp_of, put_of, rows_seen}
 use Rattle.xa_board.specs.Reader.{Finds}

@@ -8,8 +8,8 @@ use Rattle.xa_domain.specs.xa_types.declared.setup.Setup.{Setup}
 use Rattle.xa_domain.specs.xa_types.declared.call.Op.{Op}
 use Rattle.xa_domain.specs.xa_types.declared.call.Op.TheVariants.{Call, Priority}
 use Rattle.xa_domain.specs.xa_script.declared.script.Client.{Client}
-use Rattle.xa_domain.specs.xa_clients.Going.{IsCall, AllCalls}
-use Rattle.xa_domain.specs.xa_workers.Working.{IsBuiltClient}
+use Rattle.xa_domain.specs.xa_client_worker.Going.{IsCall, AllCalls}
+use Rattle.xa_domain.specs.Working.{IsBuiltClient}
 use Rattle.xa_domain.specs.Serving.{IsBuilt}
 use Rattle.xa_domain.specs.xa_script.Served.{is_served}
 use Rattle.xa_domain.specs.xa_script.Script.{IsScriptOf}

@@ -8,9 +8,9 @@ use Rattle.xa_domain.specs.xa_link.Starts.{ShelfShows}
 use Rattle.xa_domain.specs.xa_script.declared.script.Client.{Client}
 use Rattle.xa_text.specs.InTurn.{AllInTurn}
 use Rattle.xa_text.proofs.InTurn.{run_in_turn}
-use Rattle.xa_domain.specs.xa_work.declared.work.Halt.{Halt}
-use Rattle.xa_domain.specs.xa_work.declared.work.Halt.TheVariants as halts
-use Rattle.xa_domain.specs.xa_joined.Served.{IsServedSoFar, IsWorn}
+use Rattle.xa_domain.specs.xa_worker.declared.work.Halt.{Halt}
+use Rattle.xa_domain.specs.xa_worker.declared.work.Halt.TheVariants as halts
+use Rattle.xa_domain.specs.xa_history.Served.{IsServedSoFar, IsWorn}
 use Rattle.xa_domain.specs.Serving.{HasHomes, ServeEnds}
 use Rattle.xa_program.specs.declared.words.Command.{Command}
 use Rattle.xa_program.specs.declared.words.Command.TheVariants.{Run}

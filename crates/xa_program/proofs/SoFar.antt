@@ -9,14 +9,14 @@ use Rattle.xa_domain.specs.xa_types.declared.setup.Setup.{Setup}
 use Rattle.xa_domain.specs.xa_types.Setup.{numbered}
 use Rattle.xa_domain.specs.xa_events.declared.event.Event.{Event}
 use Rattle.xa_domain.specs.xa_events.Words.{EachNumbered}
-use Rattle.xa_domain.specs.xa_crew.Ending.{list_in}
-use Rattle.xa_domain.specs.xa_work.declared.work.Halt.TheVariants as halts
+use Rattle.xa_domain.specs.xa_worker.Ending.{list_in}
+use Rattle.xa_domain.specs.xa_worker.declared.work.Halt.TheVariants as halts
 use Rattle.xa_domain.specs.xa_script.declared.script.Client.{Client}
 use Rattle.xa_domain.specs.xa_pipe.Standing.{Standing as Life, Ending}
 use Rattle.xa_domain.specs.xa_server.Served.{StarterShows}
-use Rattle.xa_domain.specs.xa_links.Lives.{lives_in, IsCut}
-use Rattle.xa_domain.specs.xa_joined.Served.{IsServedSoFar, AreLives, AreLivesOf, AreLivesSoFar, IsAsked, IsStarterOf, IsStarterSoFar, generations_of, lives_of, name_of}
-use Rattle.xa_domain.proofs.xa_carried.Numbered.{each_at, numbered_there}
+use Rattle.xa_domain.specs.xa_server_worker.Lives.{lives_in, IsCut}
+use Rattle.xa_domain.specs.xa_history.Served.{IsServedSoFar, AreLives, AreLivesOf, AreLivesSoFar, IsAsked, IsStarterOf, IsStarterSoFar, generations_of, lives_of, name_of}
+use Rattle.xa_domain.proofs.xa_history.Numbered.{each_at, numbered_there}
 use Rattle.xa_domain.specs.Serving.{IsNoneCut, ComesTo}
 
 -- of no server a life was cut

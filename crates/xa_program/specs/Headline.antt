@@ -11,13 +11,13 @@ use Rattle.xa_domain.specs.xa_stamp.Merge.{IsMerged, IsDense}
 use Rattle.xa_domain.specs.xa_script.declared.script.Client.{Client}
 use Rattle.xa_domain.specs.xa_script.Script.{IsScript, IsFirstFault}
 use Rattle.xa_text.specs.Transcript.{transcript}
-use Rattle.xa_domain.specs.xa_work.declared.work.Halt.{Halt}
-use Rattle.xa_domain.specs.xa_work.declared.work.Halt.TheVariants as halts
+use Rattle.xa_domain.specs.xa_worker.declared.work.Halt.{Halt}
+use Rattle.xa_domain.specs.xa_worker.declared.work.Halt.TheVariants as halts
 use Rattle.xa_domain.specs.xa_pipe.Standing.{Standing as Life, Ending}
 use Rattle.xa_domain.specs.xa_server.Served.{StarterShows}
-use Rattle.xa_domain.specs.xa_joined.Served.{IsRecorded, IsServedWhole, IsServedSoFar, IsWorn}
+use Rattle.xa_domain.specs.xa_history.Served.{IsRecorded, IsServedWhole, IsServedSoFar, IsWorn}
 use Rattle.xa_domain.specs.Serving.{HasHomes, IsNoneCut}
-use Rattle.xa_domain.specs.xa_links.Working.{cut_in}
+use Rattle.xa_domain.specs.xa_server_worker.Working.{cut_in}
 use Rattle.xa_program.specs.declared.outcome.Outcome.{Outcome}
 use Rattle.xa_program.specs.declared.words.Command.{Command}
 use Rattle.xa_program.specs.declared.words.Command.TheVariants.{Play, Server}

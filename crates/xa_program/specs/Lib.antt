@@ -9,4 +9,3 @@ pub mod Words
 pub mod Yard
 -- what crates above cite of the definitions of those below
 pub use Rattle.xa_domain.specs.xa_types
-pub use Rattle.xa_domain.specs.xa_events

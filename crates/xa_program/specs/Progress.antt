@@ -10,8 +10,8 @@ use Rattle.xa_domain.specs.xa_stamp.Home.{Notes}
 use Rattle.xa_domain.specs.xa_stamp.Merge.{IsMerged}
 use Rattle.xa_domain.specs.xa_script.declared.script.Client.{Client}
 use Rattle.xa_text.specs.Transcript.{transcript}
-use Rattle.xa_domain.specs.xa_work.declared.work.Halt.{Halt}
-use Rattle.xa_domain.specs.xa_work.declared.work.Halt.TheVariants as halts
+use Rattle.xa_domain.specs.xa_worker.declared.work.Halt.{Halt}
+use Rattle.xa_domain.specs.xa_worker.declared.work.Halt.TheVariants as halts
 use Rattle.xa_program.specs.declared.words.Command.{Command}
 use Rattle.xa_program.specs.declared.words.Command.TheVariants.{Run}
 use Rattle.xa_program.specs.declared.status.Status.{Status}

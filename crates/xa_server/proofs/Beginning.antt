@@ -12,9 +12,9 @@ use Rattle.xa_caller.specs.xa_events.Caller.{open_descriptors}
 use Rattle.xa_caller.specs.xa_events.Conversation.{connections}
 use Rattle.xa_caller.specs.xa_events.Views.{server_view}
 use Rattle.xa_caller.specs.xa_stamp.declared.home.Stamped.{Stamped}
-use Rattle.xa_caller.specs.xa_crew.Seen.{past_in}
+use Rattle.xa_caller.specs.xa_worker.Seen.{past_in}
 use Rattle.xa_restart.specs.Rule.{Standing as Restarts, IsRuleOf}
-use Rattle.xa_caller.specs.xa_work.Work.{Standing, theirs}
+use Rattle.xa_caller.specs.xa_worker.Work.{Standing, theirs}
 use Rattle.xa_server.specs.Changes.{new_slot}
 use Rattle.xa_server.specs.Doings.{last_of}
 use Rattle.xa_server.specs.Slot.{Stands}

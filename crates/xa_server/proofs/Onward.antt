@@ -28,7 +28,7 @@ use Rattle.xa_caller.specs.xa_events.Views.{newer, ServerView, server_view, serv
 use Rattle.xa_caller.specs.xa_held.Kept.{Brings}
 use Rattle.xa_caller.specs.xa_queue.declared.entry.Entry.{Entry}
 use Rattle.xa_caller.specs.xa_stamp.declared.home.Stamped.{Stamped}
-use Rattle.xa_caller.specs.xa_work.Work.{Standing, IsNext, theirs, noted}
+use Rattle.xa_caller.specs.xa_worker.Work.{Standing, IsNext, theirs, noted}
 use Rattle.xa_caller.specs.Caller.{Standing as Caller, IsSound, AreRowsOf}
 use Rattle.xa_caller.specs.Drafts.{Cargo}
 use Rattle.xa_caller.proofs.Next.{row-priority, found-all}

@@ -39,8 +39,8 @@ use Rattle.xa_caller.proofs.xa_events.Owns.{server_more}
 use Rattle.xa_caller.specs.xa_stamp.declared.home.Stamped.{Stamped}
 use Rattle.xa_restart.specs.Rule.{Standing as Restarts, IsRuleOf, IsLast, may_start_by}
 use Rattle.xa_restart.proofs.Recalling.{rule_is, no_earlier}
-use Rattle.xa_caller.specs.xa_work.Work.{Standing, IsNext, theirs, noted, noted_here}
-use Rattle.xa_caller.proofs.xa_work.Noting.{theirs-more}
+use Rattle.xa_caller.specs.xa_worker.Work.{Standing, IsNext, theirs, noted, noted_here}
+use Rattle.xa_caller.proofs.xa_worker.Noting.{theirs-more}
 use Rattle.xa_server.specs.declared.slot.ServerSlot.{ServerSlot}
 use Rattle.xa_server.specs.declared.slot.Last.{Last}
 use Rattle.xa_server.specs.declared.slot.Last.TheVariants as lasts

@@ -21,7 +21,7 @@ use Rattle.xa_caller.proofs.xa_events.WordsLemmas.{same_request_of}
 use Rattle.xa_caller.specs.xa_stamp.declared.home.Stamped.{Stamped}
 use Rattle.xa_caller.specs.xa_stamp.Home.{last_stamp}
 use Rattle.xa_caller.proofs.xa_stamp.Stamps.{last_stamp-push}
-use Rattle.xa_caller.specs.xa_crew.Crew.{no_stamp}
+use Rattle.xa_caller.specs.xa_worker.Crew.{no_stamp}
 use Rattle.xa_caller.specs.xa_queue.declared.entry.Entry.{Entry}
 use Rattle.xa_caller.specs.xa_cell.declared.tokens.Ticket.{Ticket}
 use Rattle.xa_caller.specs.xa_cell.declared.view.Opening.{Opening}
@@ -34,7 +34,7 @@ use Rattle.xa_caller.specs.xa_cell.Known.{named}
 use Rattle.xa_caller.specs.xa_cell.Calls.{Settles as SettlesCell}
 use Rattle.xa_caller.specs.Drafts.{Cargo}
 use Rattle.xa_caller.specs.declared.cargo.Filling.{Filling}
-use Rattle.xa_caller.specs.xa_work.Work.{Standing}
+use Rattle.xa_caller.specs.xa_worker.Work.{Standing}
 use Rattle.xa_server.specs.declared.slot.ServerSlot.{ServerSlot}
 use Rattle.xa_server.specs.declared.closing.Closing.{Closing}
 use Rattle.xa_server.specs.declared.closing.Given.{Given}

@@ -21,7 +21,7 @@ use Rattle.xa_caller.specs.Drafts.{Cargo}
 use Rattle.xa_caller.specs.xa_held.declared.cargo.Invocation.{Invocation}
 use Rattle.xa_server.specs.declared.closing.Closing.{Closing}
 use Rattle.xa_restart.specs.Rule.{Standing as Restarts, may_start_by}
-use Rattle.xa_caller.specs.xa_work.Work.{Standing, theirs}
+use Rattle.xa_caller.specs.xa_worker.Work.{Standing, theirs}
 use Rattle.xa_server.specs.Noting.{Notes, IsWorn, with_room}
 use Rattle.xa_server.specs.declared.slot.ServerSlot.{ServerSlot}
 use Rattle.xa_server.specs.declared.slot.Last.TheVariants.{Nothing}

@@ -20,7 +20,7 @@ use Rattle.xa_caller.specs.xa_events.Caller.{version_of}
 use Rattle.xa_caller.specs.xa_events.Cases.{priority_by}
 use Rattle.xa_caller.specs.xa_held.Kept.{Brings}
 use Rattle.xa_caller.specs.xa_queue.declared.entry.Entry.{Entry}
-use Rattle.xa_caller.specs.xa_work.declared.work.Halt.{Halt}
+use Rattle.xa_caller.specs.xa_worker.declared.work.Halt.{Halt}
 use Rattle.xa_caller.specs.declared.outcomes.Aimed.{Aimed}
 use Rattle.xa_caller.specs.declared.outcomes.Aimed.TheVariants as aims
 use Rattle.xa_caller.specs.Caller.{Standing as Caller}

@@ -3,9 +3,9 @@ use Rattle.std.specs.Prelude.{◌≡◌, ℕ, ◌+◌, ◌≤◌, ◌^◌, max}
 use Rattle.xa_caller.specs.xa_types.declared.stamp.Stamp.{Stamp}
 use Rattle.xa_caller.specs.xa_types.declared.stamp.Worn.{Worn as Last}
 use Rattle.xa_caller.specs.xa_events.declared.event.Event.{Event}
-use Rattle.xa_caller.specs.xa_work.declared.work.Halt.{Halt}
-use Rattle.xa_caller.specs.xa_work.declared.work.Halt.TheVariants.{NoMemory, Worn}
-use Rattle.xa_caller.specs.xa_work.Work.{Standing, noted_here}
+use Rattle.xa_caller.specs.xa_worker.declared.work.Halt.{Halt}
+use Rattle.xa_caller.specs.xa_worker.declared.work.Halt.TheVariants.{NoMemory, Worn}
+use Rattle.xa_caller.specs.xa_worker.Work.{Standing, noted_here}
 
 -- the work with room for so many events at least
 abbrev pub with_room : ℕ → Standing → Standing

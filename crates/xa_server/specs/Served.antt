@@ -7,9 +7,9 @@ pub use Rattle.xa_link.specs.Starts.{StarterShows}
 use Rattle.xa_link.specs.Told.{Rose}
 use Rattle.xa_pipe.specs.Standing.{Standing as Life}
 use Rattle.xa_pipe.specs.Changes.{begun}
-use Rattle.xa_caller.specs.xa_work.Work.{Standing}
-use Rattle.xa_caller.specs.xa_work.declared.work.Halt.{Halt}
-use Rattle.xa_caller.specs.xa_work.declared.work.Halt.TheVariants.{NoMemory}
+use Rattle.xa_caller.specs.xa_worker.Work.{Standing}
+use Rattle.xa_caller.specs.xa_worker.declared.work.Halt.{Halt}
+use Rattle.xa_caller.specs.xa_worker.declared.work.Halt.TheVariants.{NoMemory}
 use Rattle.xa_server.specs.Noting.{HaltsWith}
 use Rattle.xa_server.specs.declared.slot.ServerSlot.{ServerSlot}
 use Rattle.xa_server.specs.Changes.{Starts, FailsToStart, next_life}

@@ -9,7 +9,7 @@ use Rattle.xa_caller.specs.xa_events.Conversation.{connections}
 use Rattle.xa_caller.specs.xa_events.State.{caller_of}
 use Rattle.xa_caller.specs.xa_events.Views.{ServerView, server_view}
 use Rattle.xa_restart.specs.Rule.{Standing as Restarts, IsRuleOf}
-use Rattle.xa_caller.specs.xa_work.Work.{Standing, theirs}
+use Rattle.xa_caller.specs.xa_worker.Work.{Standing, theirs}
 use Rattle.xa_server.specs.declared.slot.ServerSlot.{ServerSlot}
 use Rattle.xa_server.specs.declared.slot.Last.{Last}
 use Rattle.xa_server.specs.Doings.{last_of, room_for, InHand}

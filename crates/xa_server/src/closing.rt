@@ -3,7 +3,7 @@ ghost use Rattle.std.specs.Prelude.{◌≡◌, ◌≤◌, IfOk, IfSome};
 ghost use Rattle.xa_caller.specs.xa_events.Answers.{reply_of};
 ghost use Rattle.xa_caller.specs.xa_events.Request.Settlement.{EndedBy};
 ghost use Rattle.xa_caller.specs.xa_stamp.Home.{last_stamp};
-ghost use Rattle.xa_caller.specs.xa_crew.Crew.{no_stamp};
+ghost use Rattle.xa_caller.specs.xa_worker.Crew.{no_stamp};
 ghost use Rattle.xa_caller.specs.xa_cell.Known.{known, IsSeatOf, IsTicketOf, SameSeat};
 ghost use Rattle.xa_server.specs.Changes.{closing_of};
 ghost use Rattle.xa_server.specs.Told.{GivenAs};

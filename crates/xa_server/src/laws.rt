@@ -1,5 +1,5 @@
 //! What holds of slots and closings.
-ghost use Rattle.xa_caller.specs.xa_work.Work.{Standing};
+ghost use Rattle.xa_caller.specs.xa_worker.Work.{Standing};
 ghost use Rattle.xa_server.specs.declared.slot.ServerSlot.{ServerSlot};
 ghost use Rattle.xa_server.specs.Slot.{Stands, SameWork};
 ghost use Rattle.std.specs.Prelude.{◌≡◌, ◌≤◌, List, [], ◌++◌, Some, IsSome, IsSomeAnd};
@@ -21,7 +21,7 @@ ghost use Rattle.xa_caller.specs.xa_events.Answers.{reply_of};
 ghost use Rattle.xa_caller.specs.xa_events.Request.Settlement.{EndedBy, SweptAway};
 ghost use Rattle.xa_caller.specs.xa_stamp.declared.home.Stamped.{Stamped};
 ghost use Rattle.xa_caller.specs.xa_stamp.Home.{last_stamp};
-ghost use Rattle.xa_caller.specs.xa_crew.Crew.{no_stamp};
+ghost use Rattle.xa_caller.specs.xa_worker.Crew.{no_stamp};
 ghost use Rattle.xa_caller.specs.xa_cell.declared.view.View.{View};
 ghost use Rattle.xa_caller.specs.declared.cargo.Filling.{Filling};
 ghost use Rattle.xa_server.specs.declared.closing.Closing.{Closing};

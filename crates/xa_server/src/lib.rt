@@ -1,8 +1,9 @@
 //! A server's slot: it takes requests and ends them, and is started again as its rule says. Its contracts speak of its own
-//! worker's events alone.
+//! worker's events alone. Beside it stands what the seats of all workers show of answers.
 #![tactic(auto)]
 
 mod closing;
+pub mod fillings;
 mod forwarding;
 pub mod laws;
 mod noting;

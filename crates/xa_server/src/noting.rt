@@ -1,6 +1,6 @@
 // An event at the own home of the server's caller, with the room that it needs.
 ghost use Rattle.std.specs.Prelude.{◌≡◌, ◌<◌, None, IfOk, IfErr, OnOk, OnErr};
-ghost use Rattle.xa_caller.specs.xa_work.Work.{IsNext};
+ghost use Rattle.xa_caller.specs.xa_worker.Work.{IsNext};
 ghost use Rattle.xa_caller.specs.declared.phase.Phase.TheVariants as phases;
 ghost use Rattle.xa_caller.specs.Serving.{IsOfServer, version_ended, raised};
 ghost use Rattle.xa_server.specs.Noting.{Notes, IsWorn, HaltsWith, with_room};

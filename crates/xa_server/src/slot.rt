@@ -2,7 +2,7 @@
 ghost use Rattle.std.specs.Prelude.{◌≡◌, ◌+◌, ◌≤◌, ◌<◌, ◌^◌, ◌∷◌, [], Some, None, IfOk, IfErr, OnErr, IsSome, MatchOption, option_map, if◌then◌else◌};
 ghost use Rattle.xa_restart.specs.Rule.{may_start_by, IsLast};
 ghost use Rattle.xa_caller.specs.xa_events.declared.event.Doing.TheVariants as doings;
-ghost use Rattle.xa_caller.specs.xa_work.Work.{noted, theirs};
+ghost use Rattle.xa_caller.specs.xa_worker.Work.{noted, theirs};
 ghost use Rattle.xa_caller.specs.declared.phase.Phase.TheVariants as phases;
 ghost use Rattle.xa_caller.specs.xa_types.Kind.{is_sound};
 ghost use Rattle.xa_caller.specs.xa_events.declared.event.Outcome.TheVariants.{BadReturn};

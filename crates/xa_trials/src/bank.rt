@@ -1,7 +1,7 @@
 //! The example of the guide: the configuration and the script of examples/, and the transcript that the guide shows, with
 //! servers in memory. `tools/examples` sees that they are the same.
 use crate::running::{End, Runtime, runs};
-use xa_report::program::LocalYard;
+use xa_program::LocalYard;
 
 const CONFIG: &[u8] = b"\
     # A bank. Transfers are checked at the queue QT by one server, and accounts are kept at the queue QA by two.\n\

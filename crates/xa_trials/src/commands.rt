@@ -1,7 +1,7 @@
 //! Commands by their words, and the program's own server in memory.
 use crate::rows::none_fails;
 use crate::running::{End, Runtime, Script, runs};
-use xa_report::program::LocalYard;
+use xa_program::LocalYard;
 
 const CALL: &[u8] = b"client a\ncall ECHO none\n";
 

@@ -2,8 +2,8 @@
 use crate::lives::{NEXT, READY, SOUND, SUCCESS, yard_of};
 use crate::rows::none_fails;
 use crate::running::{End, Runtime, Script, run_of};
-use xa_report::link::{Gate, OpenGate, Yard};
-use xa_report::program::LocalYard;
+use xa_program::LocalYard;
+use xa_program::link::{Gate, OpenGate, Yard};
 
 // One queue with one server.
 const ONE: &[u8] = b"[[queue]]\nname = \"Q\"\n\

@@ -4,7 +4,7 @@ use crate::lives::{Life, NEXT, READY, SOUND};
 use crate::restarts::{NONE, Noted, ONE, TWO, serves_one_of};
 use crate::rows::none_fails;
 use crate::running::Runtime;
-use xa_report::events::StopCause;
+use xa_program::events::StopCause;
 
 const ONE_LIFE: &[u8] = b"[[queue]]\nname = \"Q\"\n\
     [[server]]\nname = \"S\"\nqueue = \"Q\"\nrestart = true\ngrace = 10\n\

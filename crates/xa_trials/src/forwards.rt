@@ -5,9 +5,9 @@ use crate::restarts::{NO_RESTART, NONE, Noted, ONE, Row as Lives, TWO, TWO_START
 use crate::rows::none_fails;
 use crate::running::Runtime;
 use std::sync::atomic::{AtomicBool, Ordering};
-use xa_report::events::{Ended, Event, Outcome, StopCause};
-use xa_report::link::{Gate, OpenGate, Point};
-use xa_report::types::ServerId;
+use xa_program::events::{Ended, Event, Outcome, StopCause};
+use xa_program::link::{Gate, OpenGate, Point};
+use xa_program::types::ServerId;
 
 // ---- the monitor's own servers, in memory
 

@@ -1,10 +1,10 @@
 //! Runs in which a gate says what happens first.
 use crate::running::{End, Runtime, run_of};
 use std::sync::atomic::{AtomicU32, Ordering};
-use xa_report::events::{Event, Evidence, Refused};
-use xa_report::link::{Gate, HoldUntil, MeetAt, Point};
-use xa_report::program::LocalYard;
-use xa_report::types::{CallerId, QueueId, ServerId};
+use xa_program::LocalYard;
+use xa_program::events::{Event, Evidence, Refused};
+use xa_program::link::{Gate, HoldUntil, MeetAt, Point};
+use xa_program::types::{CallerId, QueueId, ServerId};
 
 // One queue, where one request may wait, with one server.
 const ONE: &[u8] = b"[[queue]]\nname = \"Q1\"\ncapacity = 1\n\

@@ -2,7 +2,7 @@
 use crate::rows::none_fails;
 use crate::running::{End, Runtime, run_of, sink_of, source_of};
 use std::alloc::Global;
-use xa_report::link::{MemoryLink, MemoryYard, OpenGate};
+use xa_program::link::{MemoryLink, MemoryYard, OpenGate};
 
 /// What a server's program says: READY, NEXT, and RETURNs to the first invocation, of which the last is cut short.
 pub const READY: &[u8] = b"XA\x01\x01\0\0\0\x02\0\0\0\0\x01S";

@@ -3,9 +3,9 @@ use crate::gated::history_of;
 use crate::rows::none_fails;
 use crate::running::Runtime;
 use std::sync::atomic::{AtomicBool, AtomicU32, Ordering};
-use xa_report::events::Event;
-use xa_report::link::{Gate, OpenGate, Point};
-use xa_report::types::{QueueId, RequestId, ServerId};
+use xa_program::events::Event;
+use xa_program::link::{Gate, OpenGate, Point};
+use xa_program::types::{QueueId, RequestId, ServerId};
 
 // One queue, where three requests may wait, with one server and three services, of which one has a priority of its own,
 // and one takes no data.

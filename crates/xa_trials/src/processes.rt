@@ -1,13 +1,13 @@
 //! What the processes of servers do: how they are started, what their pipes carry, and that nothing is left of them.
 ghost use Rattle.std.specs.Prelude.{◌≡◌, true, IfOk, codes};
-ghost use Rattle.xa_report.specs.xa_types.Configured.{is_configured, is_valid_program};
+ghost use Rattle.xa_program.specs.xa_types.Configured.{is_configured, is_valid_program};
 
 use crate::rows::none_fails;
 use crate::served::{has, remove};
 use std::alloc::Global;
 use std::fs;
-use xa_report::link::{ChildStarter, ChildYard, Link, Source, StartRefused, Starter, Yard, put};
-use xa_report::types::{
+use xa_program::link::{ChildStarter, ChildYard, Link, Source, StartRefused, Starter, Yard, put};
+use xa_program::types::{
     Generation, Name, NoMemory, Octets, QueueSetup, Sequence, ServerSetup, Setup,
 };
 

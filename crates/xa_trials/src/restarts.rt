@@ -4,9 +4,9 @@ use crate::lives::{Life, NEXT, READY, SOUND, SUCCESS, lives_of};
 use crate::rows::none_fails;
 use crate::running::{End, Runtime, run_of};
 use std::sync::atomic::{AtomicU32, Ordering};
-use xa_report::events::{Event, StopCause};
-use xa_report::link::{Gate, MemoryYard, OpenGate, Point};
-use xa_report::types::{CallerId, ServerId};
+use xa_program::events::{Event, StopCause};
+use xa_program::link::{Gate, MemoryYard, OpenGate, Point};
+use xa_program::types::{CallerId, ServerId};
 
 // The clock stands at 0, so each start counts by each GRACE.
 pub const TWO_STARTS: &[u8] = b"[[queue]]\nname = \"Q\"\n\

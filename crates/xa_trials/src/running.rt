@@ -4,10 +4,10 @@ ghost use Rattle.std.specs.Prelude.{◌<◌};
 use std::alloc::Global;
 use std::sync::Wait;
 use std::thread::Threads;
-use xa_report::events::Event;
-use xa_report::link::{Gate, MemoryShelf, MemorySink, MemorySource, OpenGate, Yard};
-use xa_report::program::{EndedLife, Input, Outcome, Status, run};
-use xa_report::types::Octets;
+use xa_program::events::Event;
+use xa_program::link::{Gate, MemoryShelf, MemorySink, MemorySource, OpenGate, Yard};
+use xa_program::types::Octets;
+use xa_program::{EndedLife, Input, Outcome, Status, run};
 
 /// What a run asks of the runtime: memory, and threads that may wait for each other.
 pub trait Runtime: Threads + Wait + Sync + AllocGlobal {}

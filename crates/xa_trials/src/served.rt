@@ -5,12 +5,12 @@ use crate::running::{Runtime, is_among, source_of, words_of};
 use crate::statuses::are_lives_told;
 use std::alloc::Global;
 use std::fs;
-use xa_report::events::Event;
-use xa_report::link::{
+use xa_program::events::Event;
+use xa_program::link::{
     ChildYard, FileShelf, Gate, HoldUntil, Link, MemorySink, MemorySource, OpenGate, Point,
 };
-use xa_report::program::{EndedLife, Outcome, run};
-use xa_report::types::{CallerId, Name, Octets, ServerId};
+use xa_program::types::{CallerId, Name, Octets, ServerId};
+use xa_program::{EndedLife, Outcome, run};
 
 // The shell's words for a server. One is started with the words `server` and its name, so `sh` reads its script from the
 // file `server`, and has the name, of one octet, as `$1`. It greets with READY and NEXT, takes an INVOKE of `ECHO`

@@ -3,7 +3,7 @@ use crate::rows::none_fails;
 use crate::running::{End, Runtime, runs};
 use std::alloc::Global;
 use std::io::Write;
-use xa_report::program::{Input, LocalYard};
+use xa_program::{Input, LocalYard};
 
 // What the octets begin with, what comes again and again, and their end.
 type Long = (&'static [u8], &'static [u8], &'static [u8]);

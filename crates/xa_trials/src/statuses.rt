@@ -3,11 +3,10 @@ use crate::rows::none_fails;
 use std::alloc::Global;
 use std::fmt::Display;
 use std::io;
-use xa_report::events::{Event, StopCause, Stopped};
-use xa_report::link::{Link, MemoryArguments, MemoryLink};
-use xa_report::program::{EndedLife, Input, Status, all_words, words_behind};
-use xa_report::types::{Generation, Name, Octets, ServerId, Stamp};
-use xa_report::{report, report_lives};
+use xa_program::events::{Event, StopCause, Stopped};
+use xa_program::link::{Link, MemoryArguments, MemoryLink};
+use xa_program::types::{Generation, Name, Octets, ServerId, Stamp};
+use xa_program::{EndedLife, Input, Status, all_words, report, report_lives, words_behind};
 
 const LINES: [(Status, u8, &str); 11] = [
     (Status::Done, 0, ""),

@@ -2,9 +2,9 @@
 use crate::lives::{NEXT, SOUND, yard_of};
 use crate::rows::none_fails;
 use crate::running::{End, Runtime, run_of};
-use xa_report::events::{Event, Evidence, Refused};
-use xa_report::link::{MemoryLink, MemoryYard, OpenGate};
-use xa_report::program::{EndedLife, Pipes};
+use xa_program::events::{Event, Evidence, Refused};
+use xa_program::link::{MemoryLink, MemoryYard, OpenGate};
+use xa_program::{EndedLife, Pipes};
 
 // One queue with one server, and six services.
 const CONFIG: &[u8] = b"[[queue]]\nname = \"Q1\"\n\

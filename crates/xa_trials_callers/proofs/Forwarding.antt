@@ -22,7 +22,7 @@ use Rattle.xa_cell.specs.declared.cells.Cells.{Cells}
 use Rattle.xa_cell.specs.Known.{IsSeatOf, IsTicketOf}
 use Rattle.xa_queue.specs.declared.entry.Entry.{Entry}
 use Rattle.xa_stamp.specs.declared.home.Stamped.{Stamped}
-use Rattle.xa_work.specs.Work.{Standing, theirs, noted}
+use Rattle.xa_worker.specs.Work.{Standing, theirs, noted}
 use Rattle.xa_caller.specs.declared.cargo.Filling.{Filling}
 use Rattle.xa_caller.specs.declared.outcomes.Aimed.{Aimed}
 use Rattle.xa_caller.specs.declared.outcomes.Aimed.TheVariants.{At, Past}

@@ -11,11 +11,11 @@ use Rattle.xa_events.specs.Request.Settlement.{EndedBy}
 use Rattle.xa_stamp.specs.declared.home.Stamped.{Stamped}
 use Rattle.xa_stamp.specs.Home.{last_stamp}
 use Rattle.xa_stamp.proofs.Stamps.{last_stamp-push}
-use Rattle.xa_crew.specs.Crew.{no_stamp}
+use Rattle.xa_worker.specs.Crew.{no_stamp}
 use Rattle.xa_queue.specs.declared.entry.Entry.{Entry}
 use Rattle.xa_caller.specs.Caller.{Standing as Calling}
 use Rattle.xa_caller.specs.Drafts.{Cargo}
-use Rattle.xa_work.specs.Work.{Standing}
+use Rattle.xa_worker.specs.Work.{Standing}
 use Rattle.xa_server.specs.declared.closing.Closing.{Closing}
 use Rattle.xa_server.specs.declared.slot.ServerSlot.{ServerSlot}
 use Rattle.xa_server.specs.Changes.{Closes, Finishes, DiesBusy, DiesIdle, DiesFrom}

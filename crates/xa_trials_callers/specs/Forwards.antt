@@ -6,7 +6,7 @@ use Rattle.xa_types.specs.Name.{is_name}
 use Rattle.xa_events.specs.declared.event.Doing.TheVariants.{Off}
 use Rattle.xa_events.specs.declared.event.Event.{Event}
 use Rattle.xa_stamp.specs.Home.{last_stamp}
-use Rattle.xa_crew.specs.Crew.{no_stamp}
+use Rattle.xa_worker.specs.Crew.{no_stamp}
 use Rattle.xa_queue.specs.declared.entry.Entry.{Entry}
 use Rattle.xa_cell.specs.declared.cells.Cells.{Cells}
 use Rattle.xa_cell.specs.declared.tokens.Seat.{Seat}

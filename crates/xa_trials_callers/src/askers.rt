@@ -2,7 +2,7 @@
 ghost use Rattle.std.specs.Prelude.{◌≡◌, ◌≤◌, IfSome};
 ghost use Rattle.xa_types.specs.declared.data.Data.TheVariants as kinds;
 ghost use Rattle.xa_stamp.specs.Home.{last_stamp};
-ghost use Rattle.xa_crew.specs.Crew.{no_stamp};
+ghost use Rattle.xa_worker.specs.Crew.{no_stamp};
 ghost use Rattle.xa_cell.specs.Known.{known, callers_of, IsNew, IsSeatOf, IsTicketOf};
 ghost use Rattle.xa_cell.specs.Places.{IsShut};
 ghost use Rattle.xa_trials_callers.specs.Forwards.{IsWaiting};

@@ -21,7 +21,7 @@ use xa_route::row_for;
 use xa_types::{
     Answer, Ask, CallerId, Fault, Found, Kind, Name, QueueId, RequestId, Row, Setup, Stamp,
 };
-use xa_work::{Halt, Work};
+use xa_worker::{Halt, Work};
 
 /// What a queue does with a request: it takes it, it is down, closed or full, or memory runs out there.
 #[derive(Clone, Copy)]

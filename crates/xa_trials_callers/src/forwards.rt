@@ -27,7 +27,7 @@ use xa_restart::Lives;
 use xa_server::{Closing, Forwarding, Given, ServerSlot};
 use xa_stamp::Home;
 use xa_types::{CallerId, Found, Generation, Name, Octets, ServerId, Setup, Stamp};
-use xa_work::Work;
+use xa_worker::Work;
 
 const SETUP: &[u8] = b"
 shape = [{ name = 'pair', fields = ['number short', 'letter char'] }]

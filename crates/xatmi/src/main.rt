@@ -3,7 +3,7 @@
 
 ghost use Rattle.std.specs.Prelude.{◌≡◌};
 ghost use Rattle.std.specs.Process.{exit_status};
-ghost use Rattle.xa_report.specs.xa_program.Status.{number_of};
+ghost use Rattle.xa_program.specs.Status.{number_of};
 
 use std::alloc::Global;
 use std::mem::forget;
@@ -11,12 +11,11 @@ use std::process::ExitCode;
 use std::rt::Env;
 use std::sync::Wait;
 use std::thread::Threads;
-use xa_report::link::{
+use xa_program::link::{
     ChildStarter, ChildYard, FileShelf, OpenGate, ReadSource, Starter, SystemArguments, WriteSink,
 };
-use xa_report::program::{Outcome, Status, all_words, own_word, run, words_behind};
-use xa_report::types::{Name, NoMemory, Octets};
-use xa_report::{report, report_lives};
+use xa_program::types::{Name, NoMemory, Octets};
+use xa_program::{Outcome, Status, all_words, own_word, report, report_lives, run, words_behind};
 
 // The first of all words, by which this program was started, and the words behind it.
 fn split_words(alloc: Global, all: &[Octets]) -> Result<(Octets, Vec<String>), Status> {

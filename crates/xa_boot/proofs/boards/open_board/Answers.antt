@@ -1,8 +1,8 @@
 use Rattle.std.proofs.Common.{◌≡◌, ◌∙◌, sym, ap, subst, arith}
 use Rattle.std.specs.List.{All}
-use Rattle.xa_clients.specs.xa_lock.Pages.{first_page}
-use Rattle.xa_clients.specs.xa_held.declared.kept_board.BoardNote.{BoardNote}
-use Rattle.xa_clients.specs.xa_held.Board.{maker_of}
+use Rattle.xa_client_worker.specs.xa_lock.Pages.{first_page}
+use Rattle.xa_client_worker.specs.xa_held.declared.kept_board.BoardNote.{BoardNote}
+use Rattle.xa_client_worker.specs.xa_held.Board.{maker_of}
 use Rattle.xa_boot.specs.Opening.{opening}
 use Rattle.xa_boot.specs.Supplies.{IsBoardFor}
 use Rattle.xa_boot.proofs.Opened.{opening_makers, last_is, versions, is_boot}

@@ -1,7 +1,7 @@
 use Rattle.std.proofs.Common.{◌≡◌, ◌+◌, ℕ, List, length, map, refl, ◌∙◌, ap, subst, arith}
 use Rattle.std.proofs.lemmas.List.{length-map}
-use Rattle.xa_clients.specs.xa_types.declared.setup.ServerSetup.{ServerSetup}
-use Rattle.xa_clients.specs.xa_server.Served.{StarterShows}
+use Rattle.xa_client_worker.specs.xa_types.declared.setup.ServerSetup.{ServerSetup}
+use Rattle.xa_client_worker.specs.xa_server.Served.{StarterShows}
 use Rattle.xa_boot.specs.Hiring.{AreLeft}
 use Rattle.xa_boot.proofs.Manned.{names_of}
 use Rattle.xa_boot.proofs.booting.hire.Goals as goal

@@ -1,7 +1,7 @@
 use Rattle.std.proofs.Common.{◌≡◌, ◌∷◌, [], length, reverse, sym, ◌∙◌, ap, subst, arith, length-append}
 use Rattle.std.proofs.lemmas.List.{reverse-append, length-reverse}
-use Rattle.xa_clients.specs.xa_events.Words.{EachNumbered}
-use Rattle.xa_clients.specs.declared.working.ClientWorker.TheVariants.{Ready}
+use Rattle.xa_client_worker.specs.xa_events.Words.{EachNumbered}
+use Rattle.xa_client_worker.specs.declared.working.ClientWorker.TheVariants.{Ready}
 use Rattle.xa_boot.specs.Booting.{IsNewClient}
 use Rattle.xa_boot.proofs.Hired.{new_client}
 use Rattle.xa_boot.proofs.hiring.hire_clients.Goals as goal

@@ -1,5 +1,5 @@
 use Rattle.std.proofs.Common.{◌≡◌, ◌+◌, ◌≤◌, length, reverse, vec_capacity}
-use Rattle.xa_clients.specs.xa_events.Words.{EachNumbered}
+use Rattle.xa_client_worker.specs.xa_events.Words.{EachNumbered}
 use Rattle.xa_boot.specs.Booting.{IsNewClient}
 use Rattle.xa_boot.specs.Staffing.{IsFull, IsStaff}
 use Rattle.xa_boot.proofs.hiring.hire_clients.Given as goal

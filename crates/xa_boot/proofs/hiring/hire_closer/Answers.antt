@@ -1,5 +1,5 @@
 use Rattle.std.proofs.Common.{◌≡◌, sym, subst, arith}
-use Rattle.xa_clients.specs.xa_work.declared.own.Own.{Own}
+use Rattle.xa_client_worker.specs.xa_worker.declared.own.Own.{Own}
 use Rattle.xa_boot.specs.Staffing.{IsPost}
 use Rattle.xa_boot.proofs.Seated.{new_closer}
 use Rattle.xa_boot.proofs.hiring.hire_closer.Goals as goal

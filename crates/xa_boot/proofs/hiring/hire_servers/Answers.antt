@@ -1,9 +1,9 @@
 use Rattle.std.proofs.Common.{◌≡◌, ◌+◌, ◌<◌, ℕ, [], ◌∷◌, ◌++◌, List, length, map, reverse, refl, sym, ◌∙◌, ap, subst, arith, length-append}
 use Rattle.std.specs.Prelude.{slice_get}
 use Rattle.std.proofs.lemmas.List.{nil_from_length}
-use Rattle.xa_clients.specs.xa_types.declared.setup.ServerSetup.{ServerSetup}
-use Rattle.xa_clients.specs.xa_server.Served.{StarterShows}
-use Rattle.xa_links.specs.Lives.{HasStarted}
+use Rattle.xa_client_worker.specs.xa_types.declared.setup.ServerSetup.{ServerSetup}
+use Rattle.xa_client_worker.specs.xa_server.Served.{StarterShows}
+use Rattle.xa_server_worker.specs.Lives.{HasStarted}
 use Rattle.xa_boot.specs.Booting.{IsNewServer}
 use Rattle.xa_boot.specs.Hiring.{AreLeft, AreHired, HasServers}
 use Rattle.xa_boot.specs.Supplies.{restarts_of}

@@ -1,8 +1,8 @@
 use Rattle.std.proofs.Common.{◌≡◌, ◌+◌, ℕ, List, Some, refl, sym, ◌∙◌, ap, subst, arith, length, get_or}
 use Rattle.std.specs.Prelude.{slice_get, option_map}
 use Rattle.std.proofs.lemmas.Option.{same_Some, slice_get_read, slice_get-map}
-use Rattle.xa_clients.specs.xa_types.declared.setup.ServerSetup.{ServerSetup}
-use Rattle.xa_links.specs.Lives.{HasStarted}
+use Rattle.xa_client_worker.specs.xa_types.declared.setup.ServerSetup.{ServerSetup}
+use Rattle.xa_server_worker.specs.Lives.{HasStarted}
 use Rattle.xa_boot.specs.Staffing.{IsNewDesk}
 use Rattle.xa_boot.specs.Supplies.{restarts_of}
 use Rattle.xa_boot.proofs.Hired.{new_server}

@@ -1,10 +1,10 @@
 use Rattle.std.proofs.Common.{◌≡◌, ◌≤◌, ◌∙◌, List, length, get_or, ◌+◌, sym, ap, ap₂, subst, arith}
 use Rattle.std.specs.List.{All}
 use Rattle.std.proofs.lemmas.Result.{IfOk-weaker}
-use Rattle.xa_clients.specs.xa_types.declared.setup.QueueSetup.{QueueSetup}
-use Rattle.xa_clients.specs.xa_types.declared.ids.ServerId.{ServerId}
-use Rattle.xa_clients.specs.xa_types.Setup.{capacity_of}
-use Rattle.xa_clients.specs.xa_queue.Changes.{opened}
+use Rattle.xa_client_worker.specs.xa_types.declared.setup.QueueSetup.{QueueSetup}
+use Rattle.xa_client_worker.specs.xa_types.declared.ids.ServerId.{ServerId}
+use Rattle.xa_client_worker.specs.xa_types.Setup.{capacity_of}
+use Rattle.xa_client_worker.specs.xa_queue.Changes.{opened}
 use Rattle.xa_boot.specs.Locking.{IsPlain}
 use Rattle.xa_boot.proofs.Settings.{good}
 use Rattle.xa_boot.proofs.Locks.{capacity-at}

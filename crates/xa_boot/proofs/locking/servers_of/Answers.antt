@@ -1,7 +1,7 @@
 use Rattle.std.proofs.Common.{◌≡◌, ◌+◌, ◌++◌, ℕ, List, [], ◌∷◌, length, drop, refl, sym, ◌∙◌, ap, subst, arith, append-nil, length-append, vec_capacity}
-use Rattle.xa_clients.specs.xa_types.declared.ids.ServerId.{ServerId}
-use Rattle.xa_clients.specs.xa_types.declared.setup.ServerSetup.{ServerSetup}
-use Rattle.xa_clients.specs.xa_held.Joins.{HasServers}
+use Rattle.xa_client_worker.specs.xa_types.declared.ids.ServerId.{ServerId}
+use Rattle.xa_client_worker.specs.xa_types.declared.setup.ServerSetup.{ServerSetup}
+use Rattle.xa_client_worker.specs.xa_held.Joins.{HasServers}
 use Rattle.xa_boot.specs.Locking.{servers_at}
 use Rattle.xa_boot.proofs.Noting.{drop_all}
 use Rattle.xa_boot.proofs.Settings.{good}

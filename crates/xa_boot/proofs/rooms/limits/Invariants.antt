@@ -1,5 +1,5 @@
 use Rattle.std.proofs.Common.{◌≡◌, length, vec_capacity}
-use Rattle.xa_clients.specs.xa_events.Words.{EachNumbered}
+use Rattle.xa_client_worker.specs.xa_events.Words.{EachNumbered}
 use Rattle.xa_boot.specs.Supplies.{limit_of}
 use Rattle.xa_boot.proofs.rooms.limits.Given as goal
 

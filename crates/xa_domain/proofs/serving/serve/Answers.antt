@@ -1,5 +1,5 @@
 use Rattle.std.proofs.Common.{map, subst}
-use Rattle.xa_ending.specs.xa_links.Working.{cut_in}
+use Rattle.xa_boot.specs.xa_server_worker.Working.{cut_in}
 use Rattle.xa_domain.specs.Serving.{ServeEnds}
 use Rattle.xa_domain.proofs.serving.serve.Goals as goal
 

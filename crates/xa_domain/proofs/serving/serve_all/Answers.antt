@@ -1,8 +1,8 @@
 use Rattle.std.proofs.Common.{ℕ, List, [], map, inr, refl, sym, ◌∙◌, ap, subst}
 use Rattle.std.proofs.lemmas.List.Elements.{All-nil}
-use Rattle.xa_ending.specs.xa_links.Lives.{HasStarted}
-use Rattle.xa_ending.specs.xa_server.Served.{StarterShows}
-use Rattle.xa_ending.specs.xa_links.Working.{cut_in}
+use Rattle.xa_boot.specs.xa_server_worker.Lives.{HasStarted}
+use Rattle.xa_boot.specs.xa_server.Served.{StarterShows}
+use Rattle.xa_boot.specs.xa_server_worker.Working.{cut_in}
 use Rattle.xa_domain.specs.Serving.{ServeEnds}
 use Rattle.xa_domain.proofs.Nothing.{none_ends}
 use Rattle.xa_domain.proofs.serving.serve_all.Goals as goal

@@ -1,7 +1,7 @@
 use Rattle.std.proofs.Common.{List, ℕ, map, ◌∙◌, ap, subst}
-use Rattle.xa_ending.specs.xa_server.Served.{StarterShows}
-use Rattle.xa_ending.specs.xa_links.Working.{cut_in}
-use Rattle.xa_ending.specs.xa_desk.declared.domain.Domain.{Domain}
+use Rattle.xa_boot.specs.xa_server.Served.{StarterShows}
+use Rattle.xa_boot.specs.xa_server_worker.Working.{cut_in}
+use Rattle.xa_boot.specs.xa_desk.declared.domain.Domain.{Domain}
 use Rattle.xa_domain.specs.Serving.{ServeEnds}
 use Rattle.xa_domain.proofs.Ends.{serve_ends}
 use Rattle.xa_domain.proofs.Joining.{joined}

@@ -1,7 +1,7 @@
 use Rattle.std.proofs.Common.{ℕ, List, map, ap, ◌∙◌, sym, subst}
-use Rattle.xa_ending.specs.xa_types.declared.setup.Setup.{Setup}
-use Rattle.xa_ending.specs.xa_server.Served.{StarterShows}
-use Rattle.xa_ending.specs.xa_links.Working.{cut_in}
+use Rattle.xa_boot.specs.xa_types.declared.setup.Setup.{Setup}
+use Rattle.xa_boot.specs.xa_server.Served.{StarterShows}
+use Rattle.xa_boot.specs.xa_server_worker.Working.{cut_in}
 use Rattle.xa_domain.specs.Serving.{ServeEnds}
 use Rattle.xa_domain.proofs.Joining.{by_itself}
 use Rattle.xa_domain.proofs.Nothing.{unasked, each_there, none_ends}

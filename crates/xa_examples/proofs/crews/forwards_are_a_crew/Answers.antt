@@ -21,9 +21,9 @@ use Rattle.xa_lock.specs.declared.makers.Made.{Made}
 use Rattle.xa_lock.specs.declared.pass.Page.{Page}
 use Rattle.xa_lock.specs.Pages.{entries_by}
 use Rattle.xa_lock.specs.Makers.{maker_of, noted_in}
-use Rattle.xa_crew.specs.Seen.{past_in, SawFront, SawEntry, SawFronts, IsBehind}
-use Rattle.xa_crew.specs.Crew.{no_stamp, stands_at, MayNote, IsHomeOf, IsWork, IsBooted, TellsEach}
-use Rattle.xa_crew.specs.Ending.{list_in, kept_at, HasPage, IsJoined, seen_at}
+use Rattle.xa_worker.specs.Seen.{past_in, SawFront, SawEntry, SawFronts, IsBehind}
+use Rattle.xa_worker.specs.Crew.{no_stamp, stands_at, MayNote, IsHomeOf, IsWork, IsBooted, TellsEach}
+use Rattle.xa_worker.specs.Ending.{list_in, kept_at, HasPage, IsJoined, seen_at}
 use Rattle.xa_examples.specs.Calling.{passing}
 use Rattle.xa_examples.specs.Forwards.{first_put, second_put, third_put, asked, taken, passed, taken_again, passed_again, taken_last, ended, parting, shut, noted_by, on_board, in_queue, alone}
 use Rattle.xa_examples.proofs.crews.forwards_are_a_crew.Goals as goal

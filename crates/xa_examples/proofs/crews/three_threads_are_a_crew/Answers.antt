@@ -21,9 +21,9 @@ use Rattle.xa_lock.specs.declared.makers.Made.{Made}
 use Rattle.xa_lock.specs.declared.pass.Page.{Page}
 use Rattle.xa_lock.specs.Pages.{entries_by}
 use Rattle.xa_lock.specs.Makers.{maker_of, noted_in}
-use Rattle.xa_crew.specs.Seen.{past_in, SawFront, SawEntry, SawDeserted, SawFronts, IsBehind}
-use Rattle.xa_crew.specs.Crew.{no_stamp, stands_at, MayNote, IsHomeOf, IsWork, IsBooted, TellsEach}
-use Rattle.xa_crew.specs.Ending.{list_in, kept_at, HasPage, IsJoined, seen_at}
+use Rattle.xa_worker.specs.Seen.{past_in, SawFront, SawEntry, SawDeserted, SawFronts, IsBehind}
+use Rattle.xa_worker.specs.Crew.{no_stamp, stands_at, MayNote, IsHomeOf, IsWork, IsBooted, TellsEach}
+use Rattle.xa_worker.specs.Ending.{list_in, kept_at, HasPage, IsJoined, seen_at}
 use Rattle.xa_examples.specs.Setting.{echoing}
 use Rattle.xa_examples.specs.Crew.{put, asked, taken, ended, given_up, taken_off, went_down, parting, shut, noted_by, on_board, in_queue, alone}
 use Rattle.xa_examples.proofs.crews.three_threads_are_a_crew.Goals as goal

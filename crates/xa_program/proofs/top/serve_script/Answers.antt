@@ -1,6 +1,6 @@
 use Rattle.std.proofs.Common.{List, [], map, subst}
 use Rattle.xa_domain.specs.xa_script.declared.script.Client.{Client}
-use Rattle.xa_domain.specs.xa_links.Working.{cut_in}
+use Rattle.xa_domain.specs.xa_server_worker.Working.{cut_in}
 use Rattle.xa_program.specs.Progress.{TellingEnds}
 use Rattle.xa_program.proofs.Ending.{served_ends, turns}
 use Rattle.xa_program.proofs.top.serve_script.Goals as goal

@@ -4,7 +4,7 @@ use Rattle.xa_events.specs.Board.{boot}
 use Rattle.xa_cell.specs.declared.tokens.Seat.{Seat}
 use Rattle.xa_cell.specs.Known.{known, IsNew, IsSeatOf}
 use Rattle.xa_caller.specs.declared.cargo.Filling.{Filling}
-use Rattle.xa_work.specs.Work.{Standing as Working}
+use Rattle.xa_worker.specs.Work.{Standing as Working}
 use Rattle.xa_caller.specs.Caller.{Standing}
 use Rattle.xa_trials_callers.specs.Callers.{IsClient, Rests}
 use Rattle.xa_trials_callers.proofs.Calling.{boot_few}

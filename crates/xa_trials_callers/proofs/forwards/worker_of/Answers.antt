@@ -4,7 +4,7 @@ use Rattle.xa_types.specs.declared.setup.ServerSetup.{ServerSetup}
 use Rattle.xa_types.specs.declared.setup.Setup.{Setup}
 use Rattle.xa_types.specs.Setup.{numbered}
 use Rattle.xa_events.specs.Board.{boot}
-use Rattle.xa_work.specs.Work.{Standing as Working}
+use Rattle.xa_worker.specs.Work.{Standing as Working}
 use Rattle.xa_caller.specs.Caller.{Standing}
 use Rattle.xa_trials_callers.proofs.Calling.{boot_few}
 use Rattle.xa_trials_callers.proofs.Forwarding.{first_stands, first_may}

@@ -1,6 +1,6 @@
 use Rattle.std.proofs.Common.{sym, subst}
-use Rattle.xa_clients.specs.xa_types.declared.setup.Setup.{Setup}
-use Rattle.xa_clients.specs.xa_held.Board.{IsPlaced}
+use Rattle.xa_client_worker.specs.xa_types.declared.setup.Setup.{Setup}
+use Rattle.xa_client_worker.specs.xa_held.Board.{IsPlaced}
 use Rattle.xa_boot.proofs.Noting.{is_placed, passed}
 use Rattle.xa_boot.proofs.advertising.Opening.advertise.Goals as goal
 

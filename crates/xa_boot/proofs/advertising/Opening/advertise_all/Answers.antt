@@ -1,8 +1,8 @@
 use Rattle.std.proofs.Common.{◌≡◌, ◌+◌, true, List, drop, sym, subst, arith}
 use Rattle.std.specs.List.{All, flat_map}
-use Rattle.xa_clients.specs.xa_types.declared.setup.ServiceSetup.{ServiceSetup}
-use Rattle.xa_clients.specs.xa_types.Configured.{is_among, queue_names}
-use Rattle.xa_clients.specs.xa_types.Rows.{changes_of}
+use Rattle.xa_client_worker.specs.xa_types.declared.setup.ServiceSetup.{ServiceSetup}
+use Rattle.xa_client_worker.specs.xa_types.Configured.{is_among, queue_names}
+use Rattle.xa_client_worker.specs.xa_types.Rows.{changes_of}
 use Rattle.xa_boot.specs.Opening.{Remain}
 use Rattle.xa_boot.proofs.Settings.{good}
 use Rattle.xa_boot.proofs.Noting.{drop_all, first_service}

@@ -1,6 +1,6 @@
 use Rattle.std.proofs.Common.{◌≡◌, ◌+◌, ◌<◌, ℕ, true, List, ◌++◌, length, drop, sym, subst, arith}
 use Rattle.std.specs.List.{All}
-use Rattle.xa_clients.specs.xa_types.Configured.{is_among, queue_names}
+use Rattle.xa_client_worker.specs.xa_types.Configured.{is_among, queue_names}
 use Rattle.xa_boot.specs.Opening.{Remain, puts}
 use Rattle.xa_boot.proofs.Settings.{placed}
 use Rattle.xa_boot.proofs.Noting.{drop_all, first_put}

@@ -1,5 +1,5 @@
 use Rattle.std.proofs.Common.{List, ◌++◌, drop}
-use Rattle.xa_clients.specs.xa_types.Rows.{Change, changes_of}
+use Rattle.xa_client_worker.specs.xa_types.Rows.{Change, changes_of}
 use Rattle.xa_boot.specs.Opening.{Remain, puts}
 use Rattle.xa_boot.proofs.advertising.Opening.advertise_service.Given as goal
 

@@ -1,7 +1,7 @@
 use Rattle.std.proofs.Common.{List, None, length, ap, ◌∙◌, arith}
-use Rattle.xa_clients.specs.xa_stamp.declared.home.Stamped.{Stamped}
-use Rattle.xa_clients.specs.xa_work.Work.{Standing as Working}
-use Rattle.xa_clients.specs.xa_caller.declared.phase.Phase.TheVariants.{Idle}
+use Rattle.xa_client_worker.specs.xa_stamp.declared.home.Stamped.{Stamped}
+use Rattle.xa_client_worker.specs.xa_worker.Work.{Standing as Working}
+use Rattle.xa_client_worker.specs.xa_caller.declared.phase.Phase.TheVariants.{Idle}
 use Rattle.xa_boot.proofs.Seated.{new_desk}
 use Rattle.xa_boot.proofs.staff.Staff.desk.Goals as goal
 

@@ -8,7 +8,7 @@ use Rattle.xa_events.specs.declared.event.Accepted.{Accepted}
 use Rattle.xa_events.specs.declared.event.Event.TheVariants.{Accept}
 use Rattle.xa_cell.specs.Known.{known}
 use Rattle.xa_cell.specs.Places.{OpenAre}
-use Rattle.xa_work.specs.Work.{Standing as Working}
+use Rattle.xa_worker.specs.Work.{Standing as Working}
 use Rattle.xa_caller.specs.declared.phase.Draft.{Draft}
 use Rattle.xa_caller.specs.declared.phase.Phase.{Phase}
 use Rattle.xa_caller.specs.declared.phase.Phase.TheVariants.{Prepared}

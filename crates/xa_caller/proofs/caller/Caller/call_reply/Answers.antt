@@ -7,7 +7,7 @@ use Rattle.xa_stamp.specs.declared.home.Stamped.{Stamped}
 use Rattle.xa_cell.specs.Known.{known}
 use Rattle.xa_cell.specs.Places.{OpenAre}
 use Rattle.xa_cell.proofs.OpenPlaces.{still_open, one_less_open}
-use Rattle.xa_work.specs.Work.{Standing as Working, noted, seeing}
+use Rattle.xa_worker.specs.Work.{Standing as Working, noted, seeing}
 use Rattle.xa_caller.specs.declared.phase.Open.{Open}
 use Rattle.xa_caller.specs.declared.phase.Phase.{Phase}
 use Rattle.xa_caller.specs.declared.phase.Phase.TheVariants.{Idle, Sent, Lost}
@@ -17,12 +17,12 @@ use Rattle.xa_caller.specs.Kept.{standing_of, Holds, IsSeated}
 use Rattle.xa_caller.proofs.Keeping.{seated-stand, seated-but, settled-took}
 use Rattle.xa_caller.proofs.Reading.{view-more, reads_answered, reads_lost}
 use Rattle.std.proofs.Common.{◌-◌, cond, eq-eqb}
-use Rattle.xa_work.specs.Work.{noted_here}
+use Rattle.xa_worker.specs.Work.{noted_here}
 use Rattle.xa_types.specs.declared.ids.CallerId.{CallerId}
 use Rattle.xa_types.specs.declared.reply.Answer.{Answer as Reply}
 use Rattle.xa_cell.specs.Calls.{TookAs}
 use Rattle.xa_caller.specs.declared.cargo.Filling.{Filling}
-use Rattle.xa_work.specs.declared.work.Halt.TheVariants.{Worn}
+use Rattle.xa_worker.specs.declared.work.Halt.TheVariants.{Worn}
 use Rattle.xa_caller.specs.Changes.{Answers, Loses, Abandons}
 use Rattle.xa_caller.proofs.caller.Caller.call_reply.Goals as goal
 

@@ -2,7 +2,7 @@ use Rattle.std.proofs.Common.{◌≡◌, [], ◌∷◌, cond, refl, sym, ◌∙�
 use Rattle.xa_cell.specs.Known.{known}
 use Rattle.xa_cell.specs.Places.{OpenAre}
 use Rattle.xa_cell.proofs.OpenPlaces.{one_less_open}
-use Rattle.xa_work.specs.Work.{Standing as Working}
+use Rattle.xa_worker.specs.Work.{Standing as Working}
 use Rattle.xa_caller.specs.declared.phase.Draft.{Draft}
 use Rattle.xa_caller.specs.declared.phase.Phase.TheVariants.{Idle, Prepared}
 use Rattle.xa_caller.specs.Phases.{places_in}

@@ -2,7 +2,7 @@ use Rattle.std.proofs.Common.{◌≡◌, ◌<◌, sym, ap, subst, arith}
 use Rattle.xa_events.specs.declared.event.Event.{Event}
 use Rattle.xa_events.specs.Views.{CallerView}
 use Rattle.xa_stamp.specs.declared.home.Stamped.{Stamped}
-use Rattle.xa_work.specs.Work.{Standing as Working, IsNext, noted}
+use Rattle.xa_worker.specs.Work.{Standing as Working, IsNext, noted}
 use Rattle.xa_caller.specs.Caller.{Standing, Reads, IsSound, view_of}
 use Rattle.xa_caller.specs.Kept.{standing_of, Holds, IsSeated}
 use Rattle.xa_caller.proofs.Reading.{view-more, reads_aside}

@@ -5,7 +5,7 @@ use Rattle.xa_events.specs.declared.event.Event.TheVariants.{Accept}
 use Rattle.xa_cell.specs.Known.{known}
 use Rattle.xa_cell.specs.Places.{OpenAre}
 use Rattle.xa_cell.proofs.OpenPlaces.{still_open}
-use Rattle.xa_work.specs.Work.{Standing as Working}
+use Rattle.xa_worker.specs.Work.{Standing as Working}
 use Rattle.xa_caller.specs.declared.phase.Phase.{Phase}
 use Rattle.xa_caller.specs.declared.phase.Phase.TheVariants.{Idle, Prepared}
 use Rattle.xa_caller.specs.Phases.{places_in}
@@ -19,7 +19,7 @@ use Rattle.xa_types.specs.Rows.{row_for}
 use Rattle.xa_events.specs.Cases.{priority_by}
 use Rattle.xa_caller.proofs.Next.{row-priority, found-all, sound_ask}
 use Rattle.xa_events.specs.declared.event.Accepted.{Accepted}
-use Rattle.xa_work.proofs.Noting.{on_ok}
+use Rattle.xa_worker.proofs.Noting.{on_ok}
 use Rattle.xa_cell.proofs.OpenPlaces.{one_more_open}
 use Rattle.xa_types.specs.declared.data.Data.{Data}
 use Rattle.xa_types.specs.declared.setup.Setup.{Setup}

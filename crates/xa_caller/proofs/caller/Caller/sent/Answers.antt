@@ -6,7 +6,7 @@ use Rattle.xa_events.specs.Views.{CallerView}
 use Rattle.xa_stamp.specs.declared.home.Stamped.{Stamped}
 use Rattle.xa_cell.specs.Known.{known}
 use Rattle.xa_cell.specs.Places.{OpenAre}
-use Rattle.xa_work.specs.Work.{Standing as Working, IsNext, noted}
+use Rattle.xa_worker.specs.Work.{Standing as Working, IsNext, noted}
 use Rattle.xa_caller.specs.declared.phase.Phase.TheVariants.{Prepared, Sent}
 use Rattle.xa_caller.specs.Phases.{open_in, places_in}
 use Rattle.xa_caller.specs.Caller.{Standing, Reads, IsSound, MayCall, view_of}

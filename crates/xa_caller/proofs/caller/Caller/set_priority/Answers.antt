@@ -3,7 +3,7 @@ use Rattle.xa_events.specs.declared.event.Event.TheVariants.{Priority}
 use Rattle.xa_events.specs.declared.event.Prioritized.{Prioritized}
 use Rattle.xa_events.specs.Views.{CallerView}
 use Rattle.xa_stamp.specs.declared.home.Stamped.{Stamped}
-use Rattle.xa_work.specs.Work.{Standing as Working, noted}
+use Rattle.xa_worker.specs.Work.{Standing as Working, noted}
 use Rattle.xa_caller.specs.declared.phase.Phase.TheVariants.{Idle}
 use Rattle.xa_caller.specs.Caller.{Standing, Reads, IsSound, MayCall, view_of}
 use Rattle.xa_caller.specs.Kept.{standing_of, Holds, IsSeated}

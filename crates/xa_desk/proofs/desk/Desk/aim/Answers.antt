@@ -1,8 +1,8 @@
 use Rattle.std.proofs.Common.{refl, sym, subst}
-use Rattle.xa_told.specs.xa_types.Found.{FoundRows}
-use Rattle.xa_told.specs.xa_caller.Caller.{AreRowsOf}
-use Rattle.xa_told.specs.xa_caller.Phases.{IsOfVersion}
-use Rattle.xa_told.specs.xa_caller.Unsent.{AimsAs}
+use Rattle.xa_server.specs.xa_types.Found.{FoundRows}
+use Rattle.xa_server.specs.xa_caller.Caller.{AreRowsOf}
+use Rattle.xa_server.specs.xa_caller.Phases.{IsOfVersion}
+use Rattle.xa_server.specs.xa_caller.Unsent.{AimsAs}
 use Rattle.xa_desk.proofs.Aiming.{aim_goes, aim_aims, aim_requires}
 use Rattle.xa_desk.proofs.desk.Desk.aim.Goals as goal
 

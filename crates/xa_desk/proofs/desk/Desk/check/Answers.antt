@@ -1,8 +1,8 @@
 use Rattle.std.proofs.Common.{◌≡◌, false, refl, sym, ◌∙◌, ap, subst}
 use Rattle.std.specs.Prelude.{IfOk}
-use Rattle.xa_told.specs.xa_types.declared.setup.Setup.{Setup}
-use Rattle.xa_told.specs.xa_events.Calls.{is_invalid_call}
-use Rattle.xa_told.specs.xa_caller.Phases.{just_in}
+use Rattle.xa_server.specs.xa_types.declared.setup.Setup.{Setup}
+use Rattle.xa_server.specs.xa_events.Calls.{is_invalid_call}
+use Rattle.xa_server.specs.xa_caller.Phases.{just_in}
 use Rattle.xa_desk.proofs.Fitting.{is_read}
 use Rattle.xa_desk.proofs.Preparing.{checked_goes}
 use Rattle.xa_desk.proofs.desk.Desk.check.Goals as goal

@@ -1,5 +1,5 @@
 use Rattle.std.proofs.Common.{◌≡◌}
-use Rattle.xa_told.specs.xa_server.Told.{HasStamp}
+use Rattle.xa_server.specs.Told.{HasStamp}
 use Rattle.xa_desk.specs.Desks.{Leads}
 use Rattle.xa_desk.specs.Serving.{IsDeserted, OfDomain}
 use Rattle.xa_desk.proofs.desk.Desk.clear.Given as goal

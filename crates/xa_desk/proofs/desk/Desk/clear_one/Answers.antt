@@ -1,13 +1,13 @@
 use Rattle.std.proofs.Common.{Ok, Some, refl, sym, ◌∙◌, ap, subst}
-use Rattle.xa_told.specs.xa_types.declared.stamp.Stamp.{Stamp}
-use Rattle.xa_told.specs.xa_stamp.declared.told.Noted.{Noted}
-use Rattle.xa_told.specs.xa_lock.Known.{known as page_of}
-use Rattle.xa_told.specs.xa_held.declared.kept_board.Look.{Look}
-use Rattle.xa_told.specs.xa_held.BoardSteps.{ClearedAs}
-use Rattle.xa_told.specs.xa_held.BoardVisits.{BoardVisits}
-use Rattle.xa_told.specs.xa_work.Work.{seeing}
-use Rattle.xa_told.specs.xa_work.declared.work.Halt.{Halt}
-use Rattle.xa_told.specs.xa_caller.Serving.{noted_off}
+use Rattle.xa_server.specs.xa_types.declared.stamp.Stamp.{Stamp}
+use Rattle.xa_server.specs.xa_stamp.declared.told.Noted.{Noted}
+use Rattle.xa_server.specs.xa_lock.Known.{known as page_of}
+use Rattle.xa_server.specs.xa_held.declared.kept_board.Look.{Look}
+use Rattle.xa_server.specs.xa_held.BoardSteps.{ClearedAs}
+use Rattle.xa_server.specs.xa_held.BoardVisits.{BoardVisits}
+use Rattle.xa_server.specs.xa_worker.Work.{seeing}
+use Rattle.xa_server.specs.xa_worker.declared.work.Halt.{Halt}
+use Rattle.xa_server.specs.xa_caller.Serving.{noted_off}
 use Rattle.xa_desk.specs.declared.desk.Desk.{Desk}
 use Rattle.xa_desk.specs.Serving.{IsHaltNear, seen_by}
 use Rattle.xa_desk.proofs.Boarding.{BoardStep}

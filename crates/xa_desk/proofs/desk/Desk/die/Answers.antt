@@ -1,6 +1,6 @@
 use Rattle.std.proofs.Common.{refl, sym, ap, subst}
 use Rattle.std.specs.Prelude.{IfOk}
-use Rattle.xa_told.specs.xa_caller.Caller.{Standing}
+use Rattle.xa_server.specs.xa_caller.Caller.{Standing}
 use Rattle.xa_desk.specs.Desks.{Leads}
 use Rattle.xa_desk.specs.Serving.{IsServing, IsToTell}
 use Rattle.xa_desk.proofs.Dying.{died_leads, died_told, died_serving}

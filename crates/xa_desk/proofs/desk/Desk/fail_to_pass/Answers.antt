@@ -1,7 +1,7 @@
 use Rattle.std.proofs.Common.{◌∙◌, subst}
 use Rattle.std.specs.Prelude.{IfOk}
-use Rattle.xa_told.specs.xa_types.Found.{FoundRows}
-use Rattle.xa_told.specs.xa_server.Forwarding.{Fails}
+use Rattle.xa_server.specs.xa_types.Found.{FoundRows}
+use Rattle.xa_server.specs.Forwarding.{Fails}
 use Rattle.xa_desk.specs.Passing.{holding}
 use Rattle.xa_desk.proofs.Passes.{refused_leads, refused_told}
 use Rattle.xa_desk.proofs.desk.Desk.fail_to_pass.Goals as goal

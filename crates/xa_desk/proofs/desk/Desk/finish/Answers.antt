@@ -1,6 +1,6 @@
 use Rattle.std.proofs.Common.{sym, subst}
 use Rattle.std.specs.Prelude.{IfOk}
-use Rattle.xa_told.specs.xa_caller.Caller.{Standing}
+use Rattle.xa_server.specs.xa_caller.Caller.{Standing}
 use Rattle.xa_desk.specs.Desks.{Leads}
 use Rattle.xa_desk.specs.Serving.{IsToTell}
 use Rattle.xa_desk.proofs.Ending.{finish_leads, finish_told}

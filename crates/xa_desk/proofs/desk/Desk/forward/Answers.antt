@@ -1,7 +1,7 @@
 use Rattle.std.proofs.Common.{refl, subst}
 use Rattle.std.specs.Prelude.{IfOk}
-use Rattle.xa_told.specs.xa_types.Found.{FoundRows}
-use Rattle.xa_told.specs.xa_server.Forwarding.{way_of, hop_in, ForwardsAs}
+use Rattle.xa_server.specs.xa_types.Found.{FoundRows}
+use Rattle.xa_server.specs.Forwarding.{way_of, hop_in, ForwardsAs}
 use Rattle.xa_desk.proofs.Passes.{forward_leads, forward_leaves, forward_seat}
 use Rattle.xa_desk.proofs.desk.Desk.forward.Goals as goal
 

@@ -1,5 +1,5 @@
 use Rattle.std.proofs.Common.{sym, subst}
-use Rattle.xa_told.specs.xa_caller.Caller.{Standing}
+use Rattle.xa_server.specs.xa_caller.Caller.{Standing}
 use Rattle.xa_desk.specs.Desks.{Leads}
 use Rattle.xa_desk.proofs.Telling.{give_leads}
 use Rattle.xa_desk.proofs.desk.Desk.give.Goals as goal

@@ -1,8 +1,8 @@
 use Rattle.std.proofs.Common.{refl, ◌∙◌, ap, subst}
-use Rattle.xa_told.specs.xa_lock.Known.{known as page_of}
-use Rattle.xa_told.specs.xa_held.Steps.{GaveUpAs}
-use Rattle.xa_told.specs.xa_held.Visits.{Visits}
-use Rattle.xa_told.specs.xa_work.Work.{Standing as Working}
+use Rattle.xa_server.specs.xa_lock.Known.{known as page_of}
+use Rattle.xa_server.specs.xa_held.Steps.{GaveUpAs}
+use Rattle.xa_server.specs.xa_held.Visits.{Visits}
+use Rattle.xa_server.specs.xa_worker.Work.{Standing as Working}
 use Rattle.xa_desk.specs.declared.desk.Desk.{Desk}
 use Rattle.xa_desk.proofs.Leaving.{leaves}
 use Rattle.xa_desk.proofs.Taking.{its_setting, its_left, looks_serve}

@@ -1,10 +1,10 @@
 use Rattle.std.proofs.Common.{refl, sym, ◌∙◌, subst}
-use Rattle.xa_told.specs.xa_types.Found.{FoundRows}
-use Rattle.xa_told.specs.xa_events.declared.event.Event.{Event}
-use Rattle.xa_told.specs.xa_lock.Known.{known as page_of}
-use Rattle.xa_told.specs.xa_held.Steps.{PutAs}
-use Rattle.xa_told.specs.xa_held.Visits.{Visits}
-use Rattle.xa_told.specs.xa_server.Forwarding.{IsOnWay, GoesOn}
+use Rattle.xa_server.specs.xa_types.Found.{FoundRows}
+use Rattle.xa_server.specs.xa_events.declared.event.Event.{Event}
+use Rattle.xa_server.specs.xa_lock.Known.{known as page_of}
+use Rattle.xa_server.specs.xa_held.Steps.{PutAs}
+use Rattle.xa_server.specs.xa_held.Visits.{Visits}
+use Rattle.xa_server.specs.Forwarding.{IsOnWay, GoesOn}
 use Rattle.xa_desk.specs.declared.desk.Desk.{Desk}
 use Rattle.xa_desk.specs.Passing.{forwarded_to}
 use Rattle.xa_desk.proofs.Passes.{place_in, in_range, put_setting, more, passed_leads, passed_serves, still_passing}

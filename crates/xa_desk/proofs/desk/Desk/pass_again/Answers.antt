@@ -1,7 +1,7 @@
 use Rattle.std.proofs.Common.{◌≤◌, sym, subst}
-use Rattle.xa_told.specs.xa_types.Found.{FoundRows}
-use Rattle.xa_told.specs.xa_caller.Caller.{AreRowsOf}
-use Rattle.xa_told.specs.xa_server.Forwarding.{AimsOn}
+use Rattle.xa_server.specs.xa_types.Found.{FoundRows}
+use Rattle.xa_server.specs.xa_caller.Caller.{AreRowsOf}
+use Rattle.xa_server.specs.Forwarding.{AimsOn}
 use Rattle.xa_desk.proofs.Passes.{rows_are, again}
 use Rattle.xa_desk.proofs.desk.Desk.pass_again.Goals as goal
 

@@ -1,8 +1,8 @@
 use Rattle.std.proofs.Common.{sym, ap, subst, refl}
 use Rattle.std.specs.Prelude.{IfOk, IfErr}
-use Rattle.xa_told.specs.xa_types.Found.{FoundRows}
-use Rattle.xa_told.specs.xa_caller.Changes.{Prepares, StopsAs}
-use Rattle.xa_told.specs.xa_caller.Phases.{just_in}
+use Rattle.xa_server.specs.xa_types.Found.{FoundRows}
+use Rattle.xa_server.specs.xa_caller.Changes.{Prepares, StopsAs}
+use Rattle.xa_server.specs.xa_caller.Phases.{just_in}
 use Rattle.xa_desk.proofs.Fitting.{is_read}
 use Rattle.xa_desk.proofs.Preparing.{prepared_goes}
 use Rattle.xa_desk.proofs.desk.Desk.prepare.Goals as goal

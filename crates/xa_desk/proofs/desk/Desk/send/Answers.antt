@@ -1,7 +1,7 @@
 use Rattle.std.proofs.Common.{◌+◌, refl, ◌∙◌, subst}
-use Rattle.xa_told.specs.xa_lock.Known.{known as page_of}
-use Rattle.xa_told.specs.xa_held.Steps.{PutAs}
-use Rattle.xa_told.specs.xa_held.Visits.{Visits}
+use Rattle.xa_server.specs.xa_lock.Known.{known as page_of}
+use Rattle.xa_server.specs.xa_held.Steps.{PutAs}
+use Rattle.xa_server.specs.xa_held.Visits.{Visits}
 use Rattle.xa_desk.specs.declared.desk.Desk.{Desk}
 use Rattle.xa_desk.specs.Found.{queue_in}
 use Rattle.xa_desk.proofs.Fitting.{is_read, no_more_fits}

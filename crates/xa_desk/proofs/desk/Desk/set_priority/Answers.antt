@@ -1,8 +1,8 @@
 use Rattle.std.proofs.Common.{ℤ, subst, ap, refl}
 use Rattle.std.proofs.Math.Facts.{to_z-of_z}
 use Rattle.std.specs.Prelude.{IfOk}
-use Rattle.xa_told.specs.xa_caller.Changes.{SetsPriority}
-use Rattle.xa_told.specs.xa_caller.Phases.{just_in}
+use Rattle.xa_server.specs.xa_caller.Changes.{SetsPriority}
+use Rattle.xa_server.specs.xa_caller.Phases.{just_in}
 use Rattle.xa_desk.proofs.Fitting.{is_read}
 use Rattle.xa_desk.proofs.Prioritizing.{set_goes}
 use Rattle.xa_desk.proofs.desk.Desk.set_priority.Goals as goal

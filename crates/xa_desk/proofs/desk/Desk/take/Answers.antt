@@ -1,10 +1,10 @@
 use Rattle.std.proofs.Common.{Ok, refl, ◌∙◌, ap, subst}
-use Rattle.xa_told.specs.xa_lock.Known.{known as page_of}
-use Rattle.xa_told.specs.xa_held.Kept.{Kept}
-use Rattle.xa_told.specs.xa_held.Steps.{TookAs}
-use Rattle.xa_told.specs.xa_held.Visits.{Visits}
-use Rattle.xa_told.specs.xa_work.Work.{Standing as Working}
-use Rattle.xa_told.specs.xa_caller.declared.cargo.Filling.{Filling}
+use Rattle.xa_server.specs.xa_lock.Known.{known as page_of}
+use Rattle.xa_server.specs.xa_held.Kept.{Kept}
+use Rattle.xa_server.specs.xa_held.Steps.{TookAs}
+use Rattle.xa_server.specs.xa_held.Visits.{Visits}
+use Rattle.xa_server.specs.xa_worker.Work.{Standing as Working}
+use Rattle.xa_server.specs.xa_caller.declared.cargo.Filling.{Filling}
 use Rattle.xa_desk.specs.declared.desk.Desk.{Desk}
 use Rattle.xa_desk.proofs.Requests.{took_goes}
 use Rattle.xa_desk.proofs.Taking.{its_setting, its_left, looks_serve, looks_shut, looks_empty}

@@ -1,9 +1,9 @@
 use Rattle.std.proofs.Common.{Ok, refl, ◌∙◌, ap, subst}
-use Rattle.xa_told.specs.xa_lock.Known.{known as page_of}
-use Rattle.xa_told.specs.xa_held.Kept.{Kept}
-use Rattle.xa_told.specs.xa_held.Steps.{WentDownAs}
-use Rattle.xa_told.specs.xa_held.Visits.{Visits}
-use Rattle.xa_told.specs.xa_caller.declared.cargo.Filling.{Filling}
+use Rattle.xa_server.specs.xa_lock.Known.{known as page_of}
+use Rattle.xa_server.specs.xa_held.Kept.{Kept}
+use Rattle.xa_server.specs.xa_held.Steps.{WentDownAs}
+use Rattle.xa_server.specs.xa_held.Visits.{Visits}
+use Rattle.xa_server.specs.xa_caller.declared.cargo.Filling.{Filling}
 use Rattle.xa_desk.specs.declared.desk.Desk.{Desk}
 use Rattle.xa_desk.proofs.Falling.{deserted_setting, falls, fell_goes, of_none}
 use Rattle.xa_desk.proofs.Visiting.{has_at, stepped, looked_leads, looked_last}

@@ -1,6 +1,6 @@
 use Rattle.std.proofs.Common.{refl, sym, ◌∙◌, ap, subst}
 use Rattle.xa_caller.specs.xa_stamp.Home.{last_stamp}
-use Rattle.xa_caller.specs.xa_crew.Crew.{no_stamp}
+use Rattle.xa_caller.specs.xa_worker.Crew.{no_stamp}
 use Rattle.xa_caller.specs.xa_cell.Known.{known}
 use Rattle.xa_server.specs.Told.{GivenTo, given_by}
 use Rattle.xa_server.proofs.closing.Closing.give.Goals as goal

@@ -6,7 +6,7 @@ use Rattle.xa_caller.specs.xa_events.declared.event.Event.TheVariants.{Take}
 use Rattle.xa_caller.specs.xa_events.declared.event.Doing.TheVariants.{Busy}
 use Rattle.xa_caller.specs.xa_queue.declared.entry.Entry.{Entry}
 use Rattle.xa_caller.specs.Caller.{Standing as Calling}
-use Rattle.xa_caller.specs.xa_work.Work.{Standing, IsNext, noted}
+use Rattle.xa_caller.specs.xa_worker.Work.{Standing, IsNext, noted}
 use Rattle.xa_server.specs.declared.slot.ServerSlot.{ServerSlot}
 use Rattle.xa_server.specs.declared.slot.Last.TheVariants as lasts
 use Rattle.xa_caller.specs.Drafts.{Cargo}

@@ -5,7 +5,7 @@ use Rattle.xa_caller.specs.xa_events.declared.event.Ended.{Ended}
 use Rattle.xa_caller.specs.xa_events.declared.event.Event.TheVariants.{End}
 use Rattle.xa_caller.specs.xa_events.declared.event.Outcome.TheVariants.{BadForward}
 use Rattle.xa_caller.specs.xa_queue.declared.entry.Entry.{Entry}
-use Rattle.xa_caller.specs.xa_work.Work.{Standing, IsNext, noted_here}
+use Rattle.xa_caller.specs.xa_worker.Work.{Standing, IsNext, noted_here}
 use Rattle.xa_caller.specs.Caller.{Standing as Caller}
 use Rattle.xa_caller.specs.Drafts.{Cargo}
 use Rattle.xa_caller.specs.Serving.{raised, version_ended}

@@ -14,7 +14,7 @@ use Rattle.xa_caller.specs.xa_events.Finishing.{returned, return_by}
 use Rattle.xa_caller.specs.xa_events.Request.Settlement.{EndedBy}
 use Rattle.xa_caller.specs.xa_events.Server.{after_end}
 use Rattle.xa_caller.specs.xa_queue.declared.entry.Entry.{Entry}
-use Rattle.xa_caller.specs.xa_work.Work.{Standing, IsNext, theirs, noted_here}
+use Rattle.xa_caller.specs.xa_worker.Work.{Standing, IsNext, theirs, noted_here}
 use Rattle.xa_server.specs.declared.slot.ServerSlot.{ServerSlot}
 use Rattle.xa_server.specs.declared.slot.Last.{Last}
 use Rattle.xa_caller.specs.Drafts.{Cargo}

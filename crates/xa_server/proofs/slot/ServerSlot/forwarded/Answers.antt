@@ -1,6 +1,6 @@
 use Rattle.std.proofs.Common.{sym, ap, subst}
 use Rattle.xa_caller.specs.Caller.{Standing as Caller}
-use Rattle.xa_caller.specs.xa_work.Work.{Standing, noted}
+use Rattle.xa_caller.specs.xa_worker.Work.{Standing, noted}
 use Rattle.xa_caller.specs.xa_stamp.declared.home.Stamped.{Stamped}
 use Rattle.xa_caller.specs.xa_events.declared.event.Doing.TheVariants.{Idle}
 use Rattle.xa_server.specs.declared.slot.ServerSlot.{ServerSlot}

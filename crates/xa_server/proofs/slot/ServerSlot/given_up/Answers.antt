@@ -1,7 +1,7 @@
 use Rattle.std.proofs.Common.{true, sym, ap, subst}
 use Rattle.xa_caller.specs.xa_events.declared.event.Event.{Event}
 use Rattle.xa_caller.specs.Caller.{Standing as Calling}
-use Rattle.xa_caller.specs.xa_work.Work.{Standing, IsNext, noted}
+use Rattle.xa_caller.specs.xa_worker.Work.{Standing, IsNext, noted}
 use Rattle.xa_server.specs.declared.slot.ServerSlot.{ServerSlot}
 use Rattle.xa_server.specs.Slot.{Stands}
 use Rattle.xa_server.proofs.Reading.{may_gone, gone_stands}

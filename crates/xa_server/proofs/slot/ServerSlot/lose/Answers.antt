@@ -8,7 +8,7 @@ use Rattle.xa_caller.specs.xa_events.declared.event.Outcome.{Outcome}
 use Rattle.xa_caller.specs.xa_events.Caller.{version_of}
 use Rattle.xa_caller.specs.xa_events.Cases.{may_end_so, is_starved}
 use Rattle.xa_caller.specs.xa_events.Server.{after_end}
-use Rattle.xa_caller.specs.xa_work.Work.{Standing, IsNext, noted_here}
+use Rattle.xa_caller.specs.xa_worker.Work.{Standing, IsNext, noted_here}
 use Rattle.xa_server.specs.declared.slot.ServerSlot.{ServerSlot}
 use Rattle.xa_server.specs.declared.slot.Last.{Last}
 use Rattle.xa_server.specs.Doings.{life_in, last_by, outcome_of}

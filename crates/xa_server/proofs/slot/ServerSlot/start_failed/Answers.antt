@@ -2,7 +2,7 @@ use Rattle.std.proofs.Common.{◌+◌, refl, sym, subst}
 use Rattle.xa_caller.specs.xa_events.declared.event.Started.{Started}
 use Rattle.xa_caller.specs.xa_events.declared.event.Event.TheVariants.{StartFailed}
 use Rattle.xa_restart.specs.Rule.{IsLast}
-use Rattle.xa_caller.specs.xa_work.Work.{Standing, IsNext, noted_here}
+use Rattle.xa_caller.specs.xa_worker.Work.{Standing, IsNext, noted_here}
 use Rattle.xa_server.specs.declared.slot.ServerSlot.{ServerSlot}
 use Rattle.xa_server.specs.Noting.{with_room}
 use Rattle.xa_server.specs.Slot.{Stands}

@@ -3,7 +3,7 @@ use Rattle.xa_caller.specs.xa_events.declared.event.Started.{Started}
 use Rattle.xa_caller.specs.xa_events.declared.event.Doing.TheVariants.{Idle}
 use Rattle.xa_caller.specs.xa_events.declared.event.Event.TheVariants.{Start}
 use Rattle.xa_restart.specs.Rule.{IsLast}
-use Rattle.xa_caller.specs.xa_work.Work.{Standing, IsNext, noted_here}
+use Rattle.xa_caller.specs.xa_worker.Work.{Standing, IsNext, noted_here}
 use Rattle.xa_server.specs.declared.slot.ServerSlot.{ServerSlot}
 use Rattle.xa_server.specs.Noting.{with_room}
 use Rattle.xa_server.specs.Slot.{Stands}

@@ -2,7 +2,7 @@ use Rattle.std.proofs.Common.{Bool, sym, subst}
 use Rattle.xa_caller.specs.xa_types.declared.ids.Generation.{Generation}
 use Rattle.xa_caller.specs.xa_events.declared.event.Doing.TheVariants.{Off}
 use Rattle.xa_caller.specs.xa_events.declared.event.Event.TheVariants.{Stop}
-use Rattle.xa_caller.specs.xa_work.Work.{Standing, IsNext, noted_here}
+use Rattle.xa_caller.specs.xa_worker.Work.{Standing, IsNext, noted_here}
 use Rattle.xa_server.specs.declared.slot.ServerSlot.{ServerSlot}
 use Rattle.xa_server.specs.declared.slot.Last.TheVariants as lasts
 use Rattle.xa_server.specs.Slot.{Stands}

@@ -1,5 +1,0 @@
-use Rattle.xa_joined.proofs.Recorded.{worn_noted}
-use Rattle.xa_joined.proofs.ending.worn_is_noted.Goals as goal
-
-pub returns : goal.returns
-returns c = worn_noted

@@ -1,5 +1,0 @@
-use Rattle.xa_joined.proofs.Crew.{desks_are_crew}
-use Rattle.xa_joined.proofs.laws.desks_are_crew.Goals as goal
-
-pub returns : goal.returns
-returns c = desks_are_crew

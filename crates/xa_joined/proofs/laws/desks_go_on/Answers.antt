@@ -1,5 +1,0 @@
-use Rattle.xa_joined.proofs.Going.{desks_go_on}
-use Rattle.xa_joined.proofs.laws.desks_go_on.Goals as goal
-
-pub returns : goal.returns
-returns c = desks_go_on

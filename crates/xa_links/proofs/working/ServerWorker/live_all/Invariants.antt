@@ -1,9 +1,0 @@
-use Rattle.xa_links.specs.Standing.{Goes, MayGoOn}
-use Rattle.xa_links.proofs.working.ServerWorker.live_all.Given as goal
-
--- the server is off, and may be started
-abbrev pub invariant-loop : goal.invariant-loop
-invariant-loop g l = record {
-  goes : Goes l.domain l.fn.self l.self;
-  off : MayGoOn l.domain g.T.Starter.shows l.self;
-}

@@ -1,9 +1,0 @@
-use Rattle.xa_links.specs.Standing.{Goes, IsFree}
-use Rattle.xa_links.proofs.working.ServerWorker.serve.Given as goal
-
--- the life goes on, and waits for a request
-abbrev pub invariant-loop : goal.invariant-loop
-invariant-loop g l = record {
-  goes : Goes l.domain l.fn.self l.self;
-  free : IsFree l.domain g.T.Starter.shows l.life l.self;
-}

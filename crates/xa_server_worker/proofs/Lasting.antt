@@ -1,0 +1,386 @@
+-- Where a server's worker stands, as its desk and its slot go on.
+use Rattle.std.proofs.Common.{◌≡◌, ◌<◌, ◌⊎◌, ℕ, ◌+◌, Bool, false, true, List, [], ◌∷◌, ◌++◌, map, length, Option, Some, None, inl, inr, refl, sym, ◌∙◌, ap, subst, arith}
+use Rattle.std.specs.Prelude.{IfSome, ⊤}
+use Rattle.std.specs.List.{All}
+use Rattle.std.proofs.lemmas.Bool.{false≢true}
+use Rattle.std.proofs.lemmas.List.{append-nil}
+use Rattle.std.proofs.lemmas.List.Elements.{All-nil, All-cons, All-append, All-map, All-weaker}
+use Rattle.xa_desk.specs.xa_types.declared.ids.Generation.{Generation}
+use Rattle.xa_desk.specs.xa_events.declared.event.Event.{Event}
+use Rattle.xa_desk.specs.xa_events.declared.event.Doing.{Doing}
+use Rattle.xa_desk.specs.xa_events.Words.{AtEach, count, greatest}
+use Rattle.xa_desk.specs.xa_events.Caller.{ticks, tick_floor}
+use Rattle.xa_desk.specs.xa_events.Homes.{of_worker}
+use Rattle.xa_desk.specs.xa_events.Homes.Home.{QueueHome}
+use Rattle.xa_desk.specs.xa_events.Cases.{IsShut}
+use Rattle.xa_desk.specs.xa_events.Server.{starts, is_gone, was_shut_down}
+use Rattle.xa_desk.specs.xa_stamp.declared.home.Stamped.{Stamped}
+use Rattle.xa_desk.specs.xa_worker.Seen.{past_in, SawQueue}
+use Rattle.xa_desk.proofs.xa_worker.Lists.{count_part}
+use Rattle.xa_desk.specs.xa_worker.Work.{Standing as Working, theirs}
+use Rattle.xa_desk.specs.xa_pipe.declared.turn.Turn.TheVariants.{AwaitsInvoke}
+use Rattle.xa_desk.specs.xa_pipe.declared.turn.Turn.{Turn}
+use Rattle.xa_desk.specs.xa_pipe.Life.{stops_life}
+use Rattle.xa_desk.specs.xa_pipe.Frames.{is_take_in}
+use Rattle.xa_desk.specs.xa_pipe.Standing.{Standing as Life, Ending, IsOver, cut_short}
+use Rattle.xa_desk.specs.xa_pipe.Following.{is_of, HasStopped}
+use Rattle.xa_desk.specs.xa_server.declared.slot.ServerSlot.{ServerSlot}
+use Rattle.xa_desk.specs.xa_server.declared.served.Served.{Served}
+use Rattle.xa_desk.specs.xa_server.Served.{StarterShows}
+use Rattle.xa_desk.specs.declared.domain.Domain.{Domain}
+use Rattle.xa_desk.specs.declared.desk.Desk.{Desk}
+use Rattle.xa_desk.specs.declared.stopped.Stopped.{Stopped}
+use Rattle.xa_desk.specs.Whole.{entries_of}
+use Rattle.xa_desk.specs.Desks.{IsDesk}
+use Rattle.xa_desk.specs.Found.{SawAtQueue}
+use Rattle.xa_desk.specs.xa_held.Kept.{IsRight}
+use Rattle.xa_desk.specs.Serving.{IsServing, IsSentFor, LeftOthers, IsSwept}
+use Rattle.xa_desk.proofs.Staying.{queue_stays}
+use Rattle.xa_desk.specs.xa_worker.declared.work.Halt.TheVariants.{NoMemory, Worn}
+use Rattle.xa_desk.specs.declared.stopped.Stopped.TheVariants.{Here, Elsewhere}
+use Rattle.xa_desk.proofs.xa_server.Reading.{last_by_floor}
+use Rattle.xa_desk.specs.xa_restart.Rule.{IsLast as IsLastTick, may_start_by}
+use Rattle.xa_desk.proofs.Leading.{leads_trans}
+use Rattle.xa_desk.specs.xa_server.declared.closing.Closing.{Closing}
+use Rattle.xa_server_worker.specs.Behind.{TellsLast, IsCalm}
+use Rattle.xa_server_worker.proofs.Behind.{tells_last, tells_calm, by_told}
+use Rattle.xa_server_worker.proofs.Stepping.{told_steps, serving_told}
+use Rattle.xa_server_worker.specs.declared.working.ServerWorker.{ServerWorker}
+use Rattle.xa_desk.specs.Halting.{IsStopAt}
+use Rattle.xa_server_worker.specs.Lives.{failed_starts, lives_in, HasStarted, HasStartedSoFar, IsDone, IsHanded, IsLived, EndsShut, TookEach, HandsOn, IsCut, ServerShows}
+use Rattle.xa_server_worker.specs.Working.{cut_in}
+use Rattle.xa_server_worker.specs.Steps.{Steps, Serves, Tells}
+use Rattle.xa_server_worker.specs.Standing.{Goes, HasLived, IsLast, IsGoing, IsAtWork, IsOff, IsIn, HasEnded}
+use Rattle.xa_server_worker.proofs.Keeping.{OfLife, ticks_same, failed_same, handed_led, lives_on, lives_end, lives_off, lived_one, going_on, none_counted, stops_own}
+use Rattle.xa_server_worker.specs.Reasons.{ShowsReason}
+
+-- how a server is done stays, where its worker noted nothing of its own
+pub done_on : {d : Domain} {queue : ℕ} (server : ℕ) {old new : Desk} → Steps d [] old new → IsDone d queue server old → IsDone d queue server new
+done_on {d} {queue} server {old} {new} steps done = elim done [
+  | inl (shut, saw) ↦ inl (subst (λ (own : List Event). was_shut_down server own ≡ true) (sym {A = List Event} steps.own) shut, queue_stays d old new steps.leads queue (IsShut d.setup queue) saw)
+  | inr (gone, saw) ↦ inr (
+    subst (λ (own : List Event). is_gone server own ≡ true) (sym {A = List Event} steps.own) gone,
+    elim saw [
+      | inl left ↦ inl (queue_stays d old new steps.leads queue (LeftOthers d queue server) left)
+      | inr swept ↦ inr (queue_stays d old new steps.leads queue (IsSwept d queue) swept)
+    ],
+  )
+]
+
+-- ---- what the slot counts
+
+pub number_of : {d : Domain} {queue : ℕ} {slot : ServerSlot} {desk : Desk} → IsServing d queue slot desk → desk.caller.work.clients + slot.server.0 ≡ desk.caller.work.id.0
+number_of serving = serving.stands.tables.worker.number
+
+pub starts_count : {d : Domain} {queue : ℕ} {slot : ServerSlot} {desk : Desk} → IsServing d queue slot desk → length (starts slot.server.0 (theirs desk.caller.work)) ≡ slot.made
+starts_count serving = ap length serving.stands.tables.reads.started ∙ serving.stands.tables.reads.count
+
+pub lives_moved : {d : Domain} {name : List ℕ} {queue s s' m m' : ℕ} {desk : Desk} {lives : List Ending} {going : List Generation} → s' ≡ s → m' ≡ m → HasLived d name queue s m desk lives going → HasLived d name queue s' m' desk lives going
+lives_moved {d} {name} {queue} {s} {s'} {m} {m'} {desk} {lives} {going} server made is =
+    subst (λ (n : ℕ). HasLived d name queue n m' desk lives going) (sym server) (subst (λ (n : ℕ). HasLived d name queue s n desk lives going) (sym made) is)
+
+module _ {d : Domain} {more : List Event} {old new : Desk} (steps : Steps d more old new) where
+  -- no tick was read
+  pub floor_on : (g : ℕ) → All (OfLife g) more → tick_floor new.caller.work.clients new.caller.work.id.0 (theirs new.caller.work) ≡ tick_floor old.caller.work.clients old.caller.work.id.0 (theirs old.caller.work)
+  unfolding ticks
+  floor_on g its =
+      ap (λ n. tick_floor n new.caller.work.id.0 (theirs new.caller.work)) steps.clients ∙ ap (λ i. tick_floor old.caller.work.clients i.0 (theirs new.caller.work)) steps.id ∙ ap (tick_floor old.caller.work.clients old.caller.work.id.0) steps.own
+      ∙ ap (greatest 0) (ticks_same old.caller.work.clients old.caller.work.id.0 g more (theirs old.caller.work) its)
+
+  pub failed_on : (g : ℕ) (slot slot' : ServerSlot) → slot'.server ≡ slot.server → All (OfLife g) more → failed_starts slot'.server.0 (theirs new.caller.work) ≡ failed_starts slot.server.0 (theirs old.caller.work)
+  failed_on g slot slot' server its = ap (λ s. failed_starts s.0 (theirs new.caller.work)) server ∙ ap (failed_starts slot.server.0) steps.own ∙ failed_same slot.server.0 g more (theirs old.caller.work) its
+
+pub started_on : {name : List ℕ} {n n' f f' : ℕ} {shown shown' : StarterShows} → n' ≡ n → f' ≡ f → shown' ≡ shown → HasStarted name n f shown → HasStarted name n' f' shown'
+started_on {name} {n} {n'} {f} {f'} {shown} {shown'} made failed shows is =
+    subst (λ s. HasStarted name n' f' s) (sym shows) (subst (λ (m : ℕ). HasStarted name m f' shown) (sym made) (subst (λ (m : ℕ). HasStarted name n m shown) (sym failed) is))
+
+pub last_on : (name : List ℕ) (slot slot' : ServerSlot) (life : Life) → slot'.server ≡ slot.server → slot'.made ≡ slot.made → IsLast name slot life → IsLast name slot' life
+last_on name slot slot' life server made last = record { server = last.server ∙ sym server; named = last.named; number = last.number ∙ sym made }
+
+-- ---- an INVOKE for each take
+
+pub lives_hand : {d : Domain} {name : List ℕ} {queue server : ℕ} {desk : Desk} (lives : List Ending) → All (IsLived d name queue server desk) lives → All (HandsOn d queue server desk) (map (λ (over : Ending). over.life) lives)
+lives_hand {d} {name} {queue} {server} {desk} lives each =
+    All-map (HandsOn d queue server desk) (λ (over : Ending). over.life) lives
+    (All-weaker (IsLived d name queue server desk) (λ (over : Ending). HandsOn d queue server desk over.life)
+    (λ over is. record { taken = subst (λ (s : ℕ). TookEach s (theirs desk.caller.work) over.life) is.its is.stopped.taken; handed = is.handed }) lives each)
+
+-- so it stays where the worker noted nothing of its own
+pub hands_led : {d : Domain} {queue server : ℕ} {old new : Desk} {life : Life} → Steps d [] old new → HandsOn d queue server old life → HandsOn d queue server new life
+hands_led {d} {queue} {server} {old} {new} {life} steps is = record {
+  taken = subst (λ (own : List Event). TookEach server own life) (sym {A = List Event} steps.own) is.taken;
+  handed = subst (AtEach (IsHanded server life.generation.0 life.asked (IsSentFor d queue new))) (sym {A = List Event} steps.own) (handed_led server life.generation.0 d queue old new life.asked (theirs old.caller.work) steps.leads is.handed);
+}
+
+-- with none that was cut
+pub none_cut : (P : Life → Type 0) (lives : List Life) (cut : Option Life) → cut ≡ None → All P lives → All P (lives ++ cut_in cut)
+none_cut P lives cut none all = subst (λ (o : Option Life). All P (lives ++ cut_in o)) (sym none) (subst (All P) (sym (append-nil lives)) all)
+
+pub none_off : (P : Life → Type 0) (cut : Option Life) → cut ≡ None → All P (cut_in cut)
+none_off P cut none = subst (λ (o : Option Life). All P (cut_in o)) (sym none) (All-nil P)
+
+-- the worker with another slot at another desk
+abbrev pub at_desk : {L T : Type 0} → ServerWorker L T → ServerSlot → Desk → ServerWorker L T
+at_desk w slot desk = record w { desk = desk; served = record w.served { slot = slot } }
+
+-- and with a life more that is kept
+abbrev pub at_kept : {L T : Type 0} → ServerWorker L T → Served L T → ServerSlot → Desk → ServerWorker L T
+at_kept w kept slot desk = record w { desk = desk; served = record kept { slot = slot } }
+
+module _ {L T : Type 0} {d : Domain} {shows : T → StarterShows} where
+  -- ---- in a life
+
+  pub work_on : (w : ServerWorker L T) (slot' : ServerSlot) (desk' : Desk) (more : List Event) (g : Generation) → Serves d w.queue.0 more w.served.slot slot' w.desk desk' → All (OfLife w.served.slot.made) more → (IsCalm w.desk → IsCalm desk') → IsAtWork d shows w (g ∷ [])
+      → IsAtWork d shows (at_desk w slot' desk') (g ∷ [])
+  work_on w slot' desk' more g serves its calm at = record {
+    is = serves.steps.leads.desk;
+    serving = serves.serving;
+    named_so = at.named_so;
+    started = started_on serves.made (failed_on serves.steps w.served.slot.made w.served.slot slot' serves.server its) refl at.started;
+    lived = lives_moved (ap (λ s. s.0) serves.server) serves.made (lives_on serves.steps w.name w.queue.0 w.served.slot.server.0 w.served.slot.made w.served.lives.items g (number_of at.serving) its at.lived);
+    floor = floor_on serves.steps w.served.slot.made its ∙ at.floor;
+    left = serves.gone ∙ at.left;
+    cut = at.cut;
+    told = calm at.told;
+  }
+
+  -- where nothing was noted it is in it still
+  pub in_on : (w : ServerWorker L T) (slot' : ServerSlot) (desk' : Desk) (doing : Doing) (turn : Turn) (n : ℕ) (life : Life) → Serves d w.queue.0 [] w.served.slot slot' w.desk desk' → slot' ≡ w.served.slot → (IsCalm w.desk → IsCalm desk') → IsIn d shows doing turn n life w
+      → IsIn d shows doing turn n life (at_desk w slot' desk')
+  in_on w slot' desk' doing turn n life serves same calm is = record {
+    at = work_on w slot' desk' [] life.generation serves (All-none w.served.slot.made) calm is.at;
+    last = last_on w.name w.served.slot slot' life serves.server serves.made is.last;
+    going = subst (λ (own : List Event). IsGoing d w.queue.0 desk' own life) (sym {A = List Event} serves.steps.own) (going_on serves.steps w.queue.0 (theirs w.desk.caller.work) life is.going);
+    does = ap (λ (s : ServerSlot). s.doing) same ∙ is.does;
+    turns = is.turns;
+    asked = is.asked;
+    room = is.room;
+  }
+    where
+      All-none : (g : ℕ) → All (OfLife g) []
+      All-none g = All-nil (OfLife g)
+
+  -- ---- as a life ended, and is kept
+
+  module _ (w : ServerWorker L T) (over : Ending) (at : IsAtWork d shows w (over.life.generation ∷ [])) (last : IsLast w.name w.served.slot over.life) (ended : IsOver over) (kept : Served L T) (lives : kept.lives.items ≡ w.served.lives.items ++ over ∷ []) (starter : kept.starter ≡ w.served.starter)
+      (slot' : ServerSlot) (desk' : Desk) (more : List Event) (serves : Serves d w.queue.0 more w.served.slot slot' w.desk desk') (its : All (OfLife w.served.slot.made) more) where
+    -- its queue was shut, where its end came behind that
+    pub ends_shut : (rest : List Stamped) → desk'.caller.work.own ≡ w.desk.caller.work.own ++ rest → All (λ (x : Stamped). w.desk.caller.work.stamp.0 < x.stamp.0) rest → count (stops_life over.life.server.0 over.life.generation.0) (theirs w.desk.caller.work) ≡ 0
+        → SawAtQueue d w.queue.0 w.desk (IsShut d.setup w.queue.0) → EndsShut d w.queue.0 desk' over
+    ends_shut rest own later alive saw whole on =
+        let p : Event → Bool = stops_life over.life.server.0 over.life.generation.0 in
+        let old : Working = w.desk.caller.work in
+        let P : Stamped → Type 0 = λ x. p x.event ≡ true → SawQueue d.setup w.queue.0 (entries_of whole (QueueHome w.queue.0)) x.stamp (IsShut d.setup w.queue.0) in
+        let number = ap (λ s. old.clients + s.0) last.server ∙ number_of at.serving in
+        let none : count p (past_in old.own) ≡ 0 = sym (count_part p (of_worker old.clients old.id.0) (stops_own old.clients old.id.0 over.life.server.0 over.life.generation.0 number) (past_in old.own)) ∙ alive in
+        subst (All P) (sym {A = List Stamped} own)
+        (All-append P old.own rest (All-weaker (λ (x : Stamped). p x.event ≡ false) P (λ x off is. absurd (false≢true (sym off ∙ is))) old.own (none_counted p old.own none))
+        (All-weaker (λ (x : Stamped). old.stamp.0 < x.stamp.0) P (λ x less is. saw whole (serves.steps.leads.before whole on) x.stamp less) rest later))
+
+    pub ends_lived : HasStopped d.setup (ShowsReason d desk') over (theirs desk'.caller.work) → (over.life.turn ≡ AwaitsInvoke → EndsShut d w.queue.0 desk' over) → AtEach (IsHanded over.life.server.0 over.life.generation.0 over.life.asked (IsSentFor d w.queue.0 desk')) (theirs desk'.caller.work)
+        → IsLived d w.name w.queue.0 w.served.slot.server.0 desk' over
+    ends_lived stopped shut handed =
+        let server : over.life.server.0 ≡ w.served.slot.server.0 = ap (λ s. s.0) last.server in
+        record {
+          over_is = ended;
+          its = server;
+          named = last.named;
+          stopped = stopped;
+          shut = shut;
+          handed = subst (λ n. AtEach (IsHanded n over.life.generation.0 over.life.asked (IsSentFor d w.queue.0 desk')) (theirs desk'.caller.work)) server handed;
+        }
+
+    pub ends_work : TellsLast desk' → IsLived d w.name w.queue.0 w.served.slot.server.0 desk' over → IsAtWork d shows (at_kept w kept slot' desk') []
+    ends_work told lived = record {
+      is = serves.steps.leads.desk;
+      serving = serves.serving;
+      named_so = ap (λ s. (shows s).name) starter ∙ at.named_so;
+      started = started_on serves.made (failed_on serves.steps w.served.slot.made w.served.slot slot' serves.server its) (ap shows starter) at.started;
+      lived = lives_moved (ap (λ s. s.0) serves.server) serves.made
+          (subst (λ (l : List Ending). HasLived d w.name w.queue.0 w.served.slot.server.0 w.served.slot.made desk' l []) (sym {A = List Ending} lives)
+          (lives_end serves.steps w.name w.queue.0 w.served.slot.server.0 w.served.slot.made w.served.lives.items over (number_of at.serving) its last.number lived at.lived));
+      floor = floor_on serves.steps w.served.slot.made its ∙ at.floor;
+      left = serves.gone ∙ at.left;
+      cut = at.cut;
+      told = told;
+    }
+
+  pub in_took : {w : ServerWorker L T} {doing : Doing} {turn : Turn} {n : ℕ} {life : Life} → IsIn d shows doing turn n life w → TookEach w.served.slot.server.0 (theirs w.desk.caller.work) life
+  in_took {w} {doing} {turn} {n} {life} is = subst (λ s. TookEach s.0 (theirs w.desk.caller.work) life) is.last.server is.going.follows.taken
+
+  pub in_hands : {w : ServerWorker L T} {doing : Doing} {turn : Turn} {n : ℕ} {life : Life} → IsIn d shows doing turn n life w → HandsOn d w.queue.0 w.served.slot.server.0 w.desk life
+  in_hands {w} {doing} {turn} {n} {life} is = record {
+    taken = in_took is;
+    handed = subst (λ s. AtEach (IsHanded s.0 life.generation.0 life.asked (IsSentFor d w.queue.0 w.desk)) (theirs w.desk.caller.work)) is.last.server is.going.handed;
+  }
+
+  pub in_alive : {w : ServerWorker L T} {doing : Doing} {turn : Turn} {n : ℕ} {life : Life} → IsIn d shows doing turn n life w → count (stops_life w.served.slot.server.0 life.generation.0) (theirs w.desk.caller.work) ≡ 0
+  in_alive {w} {doing} {turn} {n} {life} is = subst (λ s. count (stops_life s.0 life.generation.0) (theirs w.desk.caller.work) ≡ 0) is.last.server is.going.follows.alive
+
+  -- ---- where the worker's work is over
+
+  -- at a halt
+  pub halts : (w : ServerWorker L T) (stopped : Stopped) → IsDesk d w.desk → IsServing d w.queue.0 w.served.slot w.desk → (shows w.served.starter).name ≡ w.name → map (λ (over : Ending). over.life.generation) w.served.lives.items ++ map (λ (life : Life). life.generation) (cut_in w.cut) ≡ lives_in w.served.slot.server.0 (theirs w.desk.caller.work)
+      → All (HandsOn d w.queue.0 w.served.slot.server.0 w.desk) (map (λ (over : Ending). over.life) w.served.lives.items ++ cut_in w.cut) → All (IsCut w.name w.served.slot.server.0 (theirs w.desk.caller.work)) (cut_in w.cut)
+      → HasStartedSoFar w.name w.served.slot.made (failed_starts w.served.slot.server.0 (theirs w.desk.caller.work)) (shows w.served.starter) → TellsLast w.desk → IsStopAt w.desk stopped → HasEnded d shows (Some stopped) w
+  halts w stopped is serving named_so are taken off so_far told at_end = record {
+    is = is;
+    number = number_of serving;
+    named_so = named_so;
+    idle = serving.idle;
+    hand = serving.hand;
+    shown = record {
+      lives_are = are;
+      taken = taken;
+      cut_off = off;
+      so_far = subst (λ (n : ℕ). HasStartedSoFar w.name n (failed_starts w.served.slot.server.0 (theirs w.desk.caller.work)) (shows w.served.starter)) (sym (starts_count serving)) so_far;
+      told = told;
+      none_cut = λ whole. absurd (cc whole);
+      lived = λ whole. absurd (cc whole);
+      started = λ whole. absurd (cc whole);
+      done = λ whole. absurd (cc whole);
+    };
+    halts = at_end;
+  }
+
+  -- in a life, which is cut off
+  pub halts_at : (w : ServerWorker L T) (cut : Option Life) (going : List Generation) (stopped : Stopped) → IsAtWork d shows w going → map (λ (life : Life). life.generation) (cut_in cut) ≡ going → All (HandsOn d w.queue.0 w.served.slot.server.0 w.desk) (cut_in cut) → All (IsCut w.name w.served.slot.server.0 (theirs w.desk.caller.work)) (cut_in cut)
+      → IsStopAt w.desk stopped → HasEnded d shows (Some stopped) (record w { cut = cut })
+  halts_at w cut going stopped at is took off at_end =
+      halts (record w { cut = cut }) stopped at.is at.serving at.named_so (ap (λ (l : List Generation). map (λ (over : Ending). over.life.generation) w.served.lives.items ++ l) is ∙ at.lived.are)
+      (All-append (HandsOn d w.queue.0 w.served.slot.server.0 w.desk) (map (λ (over : Ending). over.life) w.served.lives.items) (cut_in cut) (lives_hand w.served.lives.items at.lived.each) took) off (inl at.started) (by_told going w.desk at.told) at_end
+
+  -- at its end
+  pub ends_done : (w : ServerWorker L T) → IsAtWork d shows w [] → w.served.slot.hand ≡ None → IsDone d w.queue.0 w.served.slot.server.0 w.desk → HasEnded d shows None w
+  ends_done w at hand done =
+      let started : HasStarted w.name (length (starts w.served.slot.server.0 (theirs w.desk.caller.work))) (failed_starts w.served.slot.server.0 (theirs w.desk.caller.work)) (shows w.served.starter) =
+      started_on (starts_count at.serving) refl refl at.started in
+      record {
+        is = at.is;
+        number = number_of at.serving;
+        named_so = at.named_so;
+        idle = at.serving.idle;
+        hand = subst (λ h. IfSome h (IsRight d.cells)) (sym hand) tt;
+        shown = record {
+          lives_are = ap (λ (o : Option Life). map (λ (over : Ending). over.life.generation) w.served.lives.items ++ map (λ (life : Life). life.generation) (cut_in o)) at.cut ∙ at.lived.are;
+          taken = none_cut (HandsOn d w.queue.0 w.served.slot.server.0 w.desk) (map (λ (over : Ending). over.life) w.served.lives.items) w.cut at.cut (lives_hand w.served.lives.items at.lived.each);
+          cut_off = none_off (IsCut w.name w.served.slot.server.0 (theirs w.desk.caller.work)) w.cut at.cut;
+          so_far = inl started;
+          told = at.told;
+          none_cut = λ whole. ap cut_in at.cut;
+          lived = λ whole. at.lived.each;
+          started = λ whole. started;
+          done = λ whole. done;
+        };
+        halts = tt;
+      }
+
+  -- and behind that, as somebody is told, with nothing or no more in hand
+  pub ended_tells : (w : ServerWorker L T) (slot' : ServerSlot) (desk' : Desk) (why : Option Stopped) → slot'.server ≡ w.served.slot.server → (slot'.hand ≡ None) ⊎ (slot' ≡ w.served.slot) → {closing : Option Closing} → Tells d closing w.desk desk' → HasEnded d shows why w → HasEnded d shows why (at_desk w slot' desk')
+  ended_tells w slot' desk' why server hand {closing} tells ended =
+      let steps = told_steps tells in
+      let s : ℕ = w.served.slot.server.0 in
+      let shown = ended.shown in
+      let shows_same : ServerShows d w.name w.queue.0 s desk' w.served.lives.items (cut_in w.cut) (shows w.served.starter) (why ≡ None) = record {
+        lives_are = shown.lives_are ∙ ap (lives_in s) (sym steps.own);
+        taken = All-weaker (HandsOn d w.queue.0 s w.desk) (HandsOn d w.queue.0 s desk') (λ life is. hands_led steps is) (map (λ (over : Ending). over.life) w.served.lives.items ++ cut_in w.cut) shown.taken;
+        cut_off = subst (λ (own : List Event). All (IsCut w.name s own) (cut_in w.cut)) (sym {A = List Event} steps.own) shown.cut_off;
+        so_far = subst (λ (own : List Event). HasStartedSoFar w.name (length (starts s own)) (failed_starts s own) (shows w.served.starter)) (sym {A = List Event} steps.own) shown.so_far;
+        told = tells_last w.desk desk' tells shown.told;
+        none_cut = shown.none_cut;
+        lived = λ whole. All-weaker (IsLived d w.name w.queue.0 s w.desk) (IsLived d w.name w.queue.0 s desk') (λ over is. lived_one steps w.name w.queue.0 s over ended.number (All-nil (λ (e : Event). is_of s over.life.generation.0 e ≡ false)) is) w.served.lives.items (shown.lived whole);
+        started = λ whole. subst (λ (own : List Event). HasStarted w.name (length (starts s own)) (failed_starts s own) (shows w.served.starter)) (sym {A = List Event} steps.own) (shown.started whole);
+        done = λ whole. done_on s steps (shown.done whole);
+      } in
+      record {
+        is = steps.leads.desk;
+        number = ap (λ n. n + slot'.server.0) steps.clients ∙ ap (λ x. w.desk.caller.work.clients + x.0) server ∙ ended.number ∙ ap (λ i. i.0) (sym steps.id);
+        named_so = ended.named_so;
+        idle = ap (λ (desk : Desk). desk.caller.phase) tells.rest ∙ ended.idle;
+        hand = elim hand [
+          | inl none ↦ subst (λ h. IfSome h (IsRight d.cells)) (sym none) tt
+          | inr same ↦ subst (λ (x : ServerSlot). IfSome x.hand (IsRight d.cells)) (sym same) ended.hand
+        ];
+        shown = subst (λ (x : ℕ). ServerShows d w.name w.queue.0 x desk' w.served.lives.items (cut_in w.cut) (shows w.served.starter) (why ≡ None)) (ap (λ x. x.0) (sym server)) shows_same;
+        halts = halts_on why ended.halts;
+      }
+    where
+      halts_on : (o : Option Stopped) → IfSome o (IsStopAt w.desk) → IfSome o (IsStopAt desk')
+      halts_on None is = tt
+      halts_on (Some Elsewhere) is = tt
+      halts_on (Some (Here NoMemory)) is = tt
+      halts_on (Some (Here (Worn stamp))) is = (is.0, ap (λ (desk : Desk). desk.caller.work.stamp.0) tells.rest ∙ is.1)
+
+  -- a life that goes on is cut
+  pub cut_ends : (w other : ServerWorker L T) (life : Life) (stopped : Stopped) → IsAtWork d shows w (life.generation ∷ []) → other ≡ record w { cut = Some (cut_short life) } → HandsOn d w.queue.0 w.served.slot.server.0 w.desk life → IsCut w.name w.served.slot.server.0 (theirs w.desk.caller.work) (cut_short life) → IsStopAt w.desk stopped
+      → HasEnded d shows (Some stopped) other
+  cut_ends w other life stopped at rest hands off stop =
+      let Hands : Life → Type 0 = HandsOn d w.queue.0 w.served.slot.server.0 w.desk in
+      let still : Hands (cut_short life) = record { taken = hands.taken; handed = hands.handed } in
+      let Off : Life → Type 0 = IsCut w.name w.served.slot.server.0 (theirs w.desk.caller.work) in
+      subst (HasEnded d shows (Some stopped)) (sym rest) (halts_at w (Some (cut_short life)) (life.generation ∷ []) stopped at refl (All-cons Hands (cut_short life) [] still (All-nil Hands)) (All-cons Off (cut_short life) [] off (All-nil Off)) stop)
+
+  -- somebody is told
+  pub in_told : (w : ServerWorker L T) (desk' : Desk) (doing : Doing) (turn : Turn) (n : ℕ) (life : Life) {closing : Option Closing} → Tells d closing w.desk desk' → IsIn d shows doing turn n life w → IsIn d shows doing turn n life (at_desk w w.served.slot desk')
+  in_told w desk' doing turn n life {closing} tells is = in_on w w.served.slot desk' doing turn n life (record { steps = told_steps tells; serving = serving_told tells is.at.serving; server = refl; made = refl; gone = refl }) refl (tells_calm w.desk desk' tells) is
+
+  pub off_told : (w : ServerWorker L T) (desk' : Desk) {closing : Option Closing} → Tells d closing w.desk desk' → IsOff d shows w → IsOff d shows (at_desk w w.served.slot desk')
+  off_told w desk' {closing} tells off =
+      let at = off.at in
+      let steps = told_steps tells in
+      let none : (g : ℕ) → All (OfLife g) [] = λ g. All-nil (OfLife g) in
+      record {
+        at = record {
+          is = steps.leads.desk;
+          serving = serving_told tells at.serving;
+          named_so = at.named_so;
+          started = started_on refl (failed_on steps 0 w.served.slot w.served.slot refl (none 0)) refl at.started;
+          lived = lives_off steps w.name w.queue.0 w.served.slot.server.0 w.served.slot.made w.served.lives.items (number_of at.serving) none at.lived;
+          floor = floor_on steps 0 (none 0) ∙ at.floor;
+          left = at.left;
+          cut = at.cut;
+          told = tells_last w.desk desk' tells at.told;
+        };
+        off = off.off;
+        up = off.up;
+      }
+
+  -- whether it may be started
+  pub may_be : (w : ServerWorker L T) (b : Bool) → IsOff d shows w → (IsLastTick 0 w.served.slot.restarts.starts → b ≡ may_start_by w.served.slot.restarts 0) → may_start_by w.served.slot.restarts 0 ≡ b
+  may_be w b off tells = let floor = off.at.floor in sym (tells (last_by_floor w.served.slot w.desk.caller.work off.at.serving.stands.tables 0 (omega (arith, floor))))
+
+  -- its first start is counted
+  pub in_counted : {doing : Doing} {turn : Turn} {n : ℕ} {life : Life} (w other : ServerWorker L T) → other ≡ record w { counted = other.counted } → IsIn d shows doing turn n life w → IsIn d shows doing turn n life other
+  in_counted {doing} {turn} {n} {life} w other rest is = subst (IsIn d shows doing turn n life) (sym rest) (record {
+    at = record { is = is.at.is; serving = is.at.serving; named_so = is.at.named_so; started = is.at.started; lived = is.at.lived; floor = is.at.floor; left = is.at.left; cut = is.at.cut; told = is.at.told };
+    last = is.last;
+    going = is.going;
+    does = is.does;
+    turns = is.turns;
+    asked = is.asked;
+    room = is.room;
+  })
+
+-- ---- what the worker is
+
+module _ {L T : Type 0} {d : Domain} where
+  pub goes_by : (w w' : ServerWorker L T) (more : List Event) → Steps d more w.desk w'.desk → w'.served.slot.server ≡ w.served.slot.server → w'.name ≡ w.name → w'.queue ≡ w.queue → Goes d w w'
+  goes_by w w' more steps server name queue = record { leads = steps.leads; id = steps.id; clients = steps.clients; server = server; name = name; queue = queue }
+
+  pub goes_trans : (a b c : ServerWorker L T) → Goes d a b → Goes d b c → Goes d a c
+  goes_trans a b c ab bc = record {
+    leads = leads_trans d a.desk b.desk c.desk ab.leads bc.leads;
+    id = bc.id ∙ ab.id;
+    clients = bc.clients ∙ ab.clients;
+    server = bc.server ∙ ab.server;
+    name = bc.name ∙ ab.name;
+    queue = bc.queue ∙ ab.queue;
+  }
+
+  -- a life is cut off
+  pub goes_cut : (w old other : ServerWorker L T) {cut : Option Life} → other ≡ record w { cut = cut } → Goes d old w → Goes d old other
+  goes_cut w old other {cut} rest goes = subst (Goes d old) (sym rest) (record { leads = goes.leads; id = goes.id; clients = goes.clients; server = goes.server; name = goes.name; queue = goes.queue })
+
+  -- its first start is counted
+  pub goes_counted : (w old other : ServerWorker L T) → other ≡ record w { counted = other.counted } → Goes d old w → Goes d old other
+  goes_counted w old other rest goes = subst (Goes d old) (sym rest) (record { leads = goes.leads; id = goes.id; clients = goes.clients; server = goes.server; name = goes.name; queue = goes.queue })

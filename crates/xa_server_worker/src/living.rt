@@ -1,0 +1,253 @@
+// A life of a server.
+ghost use Rattle.std.specs.Prelude.{◌≡◌, IfOk, IfErr, IfSome, Some, None};
+ghost use Rattle.xa_desk.specs.xa_types.declared.stamp.Stamp.{Stamp};
+ghost use Rattle.xa_desk.specs.xa_events.Cases.{IsShut};
+ghost use Rattle.xa_desk.specs.xa_events.Server.{is_shutdown};
+ghost use Rattle.xa_desk.specs.xa_events.declared.event.Doing.TheVariants as doings;
+ghost use Rattle.xa_desk.specs.xa_pipe.declared.turn.Turn.TheVariants.{AwaitsNext, Serving, Exited};
+ghost use Rattle.xa_desk.specs.xa_pipe.Frames.{return_frame, forward_frame};
+ghost use Rattle.xa_desk.specs.xa_pipe.Standing.{Standing as Lives, IsSound, cut_short, tag_of};
+ghost use Rattle.xa_desk.specs.xa_pipe.Changes.{Heard};
+ghost use Rattle.xa_desk.specs.xa_server.declared.slot.Last.TheVariants as lasts;
+ghost use Rattle.xa_desk.specs.xa_types.declared.ids.RequestId.{RequestId as Asked};
+ghost use Rattle.xa_desk.specs.xa_events.declared.event.Taken.{Taken};
+ghost use Rattle.xa_desk.specs.Serving.{IsTaken, IsToTell};
+ghost use Rattle.xa_desk.specs.Desks.{IsDomain};
+ghost use Rattle.xa_desk.specs.Found.{SawAtQueue};
+ghost use Rattle.xa_server_worker.specs.Behind.{ToldBefore};
+ghost use Rattle.xa_server_worker.specs.Steps.{is_exit};
+ghost use Rattle.xa_server_worker.specs.Standing.{Goes, IsIn, IsFree, HasTaken, MayDie, HasEnded, OverWith, ExchangedAs, OffAs};
+
+use crate::passing::forward;
+use crate::taking::stop_by;
+use crate::telling::{tell, tell_if};
+use crate::working::ServerWorker;
+use std::alloc::Global;
+use std::sync::Wait;
+use xa_desk::events::StopCause;
+use xa_desk::link::{Gate, Link, Starter};
+use xa_desk::pipe::{Answered, EndedLife, Finish, Forward, Life, Return};
+use xa_desk::server::Closing;
+use xa_desk::types::Rval;
+use xa_desk::{Domain, Stopped};
+
+/// What comes of a life: it goes on, or is over, and then its last request may have to be answered.
+pub(crate) enum Exchanged<L: Link> {
+    Going(Life<L>),
+    Over(Closing),
+}
+
+/// How a life came to its end: its queue was closed, or it died or left, and then a request may have to be answered.
+pub(crate) enum Off {
+    Shut,
+    Dead(Option<Closing>),
+}
+
+fn is_exit(value: Rval) -> bool
+    ensures { result ≡ is_exit value }
+{
+    matches!(value, Rval::Exit)
+}
+
+fn is_shutdown(cause: StopCause) -> bool
+    ensures { result ≡ is_shutdown cause }
+{
+    matches!(cause, StopCause::Shutdown)
+}
+
+impl<L: Link, T: Starter<L>> ServerWorker<L, T> {
+    // The life isn't gone on with.
+    pub(crate) fn cut(&mut self, life: Life<L>)
+        ensures rest { self.new ≡ record self.old { cut = Some (cut_short life) } }
+        ensures sound { IsSound life }
+    {
+        let _turn = life.turn();
+        self.cut = Some(life.abandon());
+    }
+
+    // The life ended by itself.
+    pub(crate) fn died(&mut self, domain: &Domain, over: EndedLife<L>) -> Result<Closing, Stopped>
+        requires domain { IsDomain domain.now }
+        requires may { MayDie domain.now T.shows over self.old }
+        ensures goes { Goes domain.now self.old self.new }
+        ensures over { IfOk result (λ closing. OverWith domain.now T.shows (Some closing) self.new) }
+        ensures halted { IfErr result (λ stopped. HasEnded domain.now T.shows (Some stopped) self.new) }
+    {
+        let cause = over.cause();
+        self.served.keep(over);
+        match self.desk.die(domain, &mut self.served.slot, cause) {
+            Ok(closing) => Ok(closing),
+            Err(worn) => Err(stop_by(worn)),
+        }
+    }
+
+    // The service returned with TPEXIT, which ends the life.
+    fn exit<G: Gate>(
+        &mut self,
+        domain: &Domain,
+        gate: &G,
+        life: Life<L>,
+        closing: Closing,
+    ) -> Result<Closing, Stopped>
+        requires domain { IsDomain domain.now }
+        requires life { IsIn domain.now T.shows (doings.Idle life.generation) Exited 0 life self.old }
+        requires last { self.old.served.slot.last ≡ lasts.Badly }
+        requires untold { ToldBefore self.old.desk }
+        requires told { IsToTell domain.now self.old.desk closing }
+        ensures goes { Goes domain.now self.old self.new }
+        ensures over { IfOk result (λ closing. OverWith domain.now T.shows (Some closing) self.new) }
+        ensures halted { IfErr result (λ stopped. HasEnded domain.now T.shows (Some stopped) self.new) }
+    {
+        let over = life.exit();
+        let _cause = over.cause();
+        self.served.keep(over);
+        match self
+            .desk
+            .stop(domain, &mut self.served.slot, StopCause::Exit)
+        {
+            Ok(_) => {
+                let _rises = self.desk.caller.latest();
+                Ok(closing)
+            }
+            Err(worn) => {
+                tell(domain, &mut self.desk, gate, closing);
+                Err(stop_by(worn))
+            }
+        }
+    }
+
+    // The service returned.
+    fn returned<G: Gate>(
+        &mut self,
+        alloc: Global,
+        domain: &Domain,
+        gate: &G,
+        life: Life<L>,
+        back: Return,
+    ) -> Result<Exchanged<L>, Stopped>
+        requires domain { IsDomain domain.now }
+        requires before { (old : Lives) × (request : Asked) × IsIn domain.now T.shows (doings.Busy old.generation request) Serving 1 old self.old
+            × Heard (return_frame (tag_of old) back.value back.code back.payload) life old }
+        ensures goes { Goes domain.now self.old self.new }
+        ensures exchanged { IfOk result (λ exchanged. ExchangedAs domain.now T.shows exchanged self.new) }
+        ensures halted { IfErr result (λ stopped. HasEnded domain.now T.shows (Some stopped) self.new) }
+    {
+        let exits = is_exit(back.value);
+        let finished = self.desk.finish(alloc, domain, &mut self.served.slot, back);
+        let closing = match finished {
+            Ok(closing) => closing,
+            Err(halt) => {
+                self.cut(life);
+                return Err(Stopped::Here(halt));
+            }
+        };
+        if exits {
+            return Ok(Exchanged::Over(self.exit(domain, gate, life, closing)?));
+        }
+        self.go_on(domain, gate, life, Some(closing))
+    }
+
+    // The service forwards its request.
+    fn forwarded<W: Wait, G: Gate>(
+        &mut self,
+        rt: &W,
+        alloc: Global,
+        domain: &Domain,
+        gate: &G,
+        life: Life<L>,
+        forwards: Forward,
+    ) -> Result<Exchanged<L>, Stopped>
+        requires domain { IsDomain domain.now }
+        requires before { (old : Lives) × (t : Taken) × IsIn domain.now T.shows (doings.Busy old.generation t.request) Serving 1 old self.old
+            × Heard (forward_frame (tag_of old) forwards.service forwards.payload) life old × IfSome self.old.served.slot.hand (IsTaken domain.now self.old.queue.0 t self.old.desk) }
+        ensures goes { Goes domain.now self.old self.new }
+        ensures exchanged { IfOk result (λ exchanged. ExchangedAs domain.now T.shows exchanged self.new) }
+        ensures halted { IfErr result (λ stopped. HasEnded domain.now T.shows (Some stopped) self.new) }
+    {
+        let slot = &mut self.served.slot;
+        match forward(rt, alloc, domain, &mut self.desk, slot, forwards) {
+            Ok(closing) => self.go_on(domain, gate, life, closing),
+            Err(halt) => {
+                self.cut(life);
+                Err(Stopped::Here(halt))
+            }
+        }
+    }
+
+    // The server is idle, behind a request of which somebody may have to be told.
+    fn go_on<G: Gate>(
+        &mut self,
+        domain: &Domain,
+        gate: &G,
+        life: Life<L>,
+        closing: Option<Closing>,
+    ) -> Result<Exchanged<L>, Stopped>
+        requires domain { IsDomain domain.now }
+        requires life { IsIn domain.now T.shows (doings.Idle life.generation) AwaitsNext 0 life self.old }
+        requires told { IfSome closing (IsToTell domain.now self.old.desk) }
+        ensures goes { Goes domain.now self.old self.new }
+        ensures exchanged { IfOk result (λ exchanged. ExchangedAs domain.now T.shows exchanged self.new) }
+        ensures halted { IfErr result (λ stopped. HasEnded domain.now T.shows (Some stopped) self.new) }
+    {
+        tell_if(domain, &mut self.desk, gate, closing);
+        match life.read_next() {
+            Ok(life) => Ok(Exchanged::Going(life)),
+            Err(over) => Ok(Exchanged::Over(self.died(domain, over)?)),
+        }
+    }
+
+    // Hands the request in hand to the program, and hears what its service returns or forwards.
+    pub(crate) fn exchange<W: Wait, G: Gate>(
+        &mut self,
+        rt: &W,
+        alloc: Global,
+        domain: &Domain,
+        gate: &G,
+        life: Life<L>,
+    ) -> Result<Exchanged<L>, Stopped>
+        requires domain { IsDomain domain.now }
+        requires taken { HasTaken domain.now T.shows life self.old }
+        ensures goes { Goes domain.now self.old self.new }
+        ensures exchanged { IfOk result (λ exchanged. ExchangedAs domain.now T.shows exchanged self.new) }
+        ensures halted { IfErr result (λ stopped. HasEnded domain.now T.shows (Some stopped) self.new) }
+    {
+        let asked = self.served.slot.invocation();
+        let sent = life.send(&asked.service, &asked.routine, &asked.payload);
+        let life = match sent {
+            Ok(life) => life,
+            Err(over) => return Ok(Exchanged::Over(self.died(domain, over)?)),
+        };
+        match life.hear() {
+            Ok(Answered { life, back }) => match back {
+                Finish::Returns(back) => self.returned(alloc, domain, gate, life, back),
+                Finish::Forwards(forwards) => {
+                    self.forwarded(rt, alloc, domain, gate, life, forwards)
+                }
+            },
+            Err(over) => Ok(Exchanged::Over(self.died(domain, over)?)),
+        }
+    }
+
+    // Its program is told to end.
+    pub(crate) fn shut_down(&mut self, domain: &Domain, life: Life<L>) -> Result<Off, Stopped>
+        requires domain { IsDomain domain.now }
+        requires free { IsFree domain.now T.shows life self.old }
+        requires shut { SawAtQueue domain.now self.old.queue.0 self.old.desk (IsShut domain.now.setup self.old.queue.0) }
+        ensures goes { Goes domain.now self.old self.new }
+        ensures off { IfOk result (λ off. OffAs domain.now T.shows off self.new) }
+        ensures halted { IfErr result (λ stopped. HasEnded domain.now T.shows (Some stopped) self.new) }
+    {
+        let over = life.shut_down();
+        if !is_shutdown(over.cause()) {
+            return Ok(Off::Dead(Some(self.died(domain, over)?)));
+        }
+        self.served.keep(over);
+        match self
+            .desk
+            .stop(domain, &mut self.served.slot, StopCause::Shutdown)
+        {
+            Ok(_) => Ok(Off::Shut),
+            Err(worn) => Err(stop_by(worn)),
+        }
+    }
+}

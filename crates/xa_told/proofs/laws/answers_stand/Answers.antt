@@ -1,8 +1,0 @@
-use Rattle.std.proofs.lemmas.List.Elements.{All-push}
-use Rattle.xa_server.specs.xa_stamp.declared.home.Stamped.{Stamped}
-use Rattle.xa_told.specs.Told.{WasTaken}
-use Rattle.xa_told.proofs.Ends.{all_taken}
-use Rattle.xa_told.proofs.laws.answers_stand.Goals as goal
-
-pub returns : goal.returns
-returns c = record { grows = all_taken; more = λ own x v h t. All-push (λ (y : Stamped). WasTaken v y.stamp y.event) own x h t }

@@ -1,5 +1,0 @@
-use Rattle.xa_told.proofs.Takings.{has_taken, all_answers}
-use Rattle.xa_told.proofs.laws.answers_were_taken.Goals as goal
-
-pub returns : goal.returns
-returns c = record { all = all_answers; one = has_taken }

@@ -1,0 +1,10 @@
+pub mod Seen
+pub mod Crew
+pub mod Orders
+pub mod Calls
+pub mod Finishing
+pub mod Ending
+pub mod Entering
+pub mod Work
+pub mod Kept
+pub mod Going

@@ -1,5 +1,0 @@
-use Rattle.xa_workers.specs.Closing.{AreClosed, Closes}
-use Rattle.xa_workers.proofs.closing.close_all.Given as goal
-
-abbrev pub invariant-loop-place : goal.invariant-loop-place
-invariant-loop-place g l = record { closes : Closes l.domain l.fn.closer l.closer; all : AreClosed l.domain l.place l.closer }

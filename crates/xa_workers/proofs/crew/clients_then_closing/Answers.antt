@@ -1,5 +1,0 @@
-use Rattle.xa_workers.proofs.Working.{is_closer}
-use Rattle.xa_workers.proofs.crew.clients_then_closing.Goals as goal
-
-pub close_behind-requires-clause-closer : goal.close_behind-requires-clause-closer
-close_behind-requires-clause-closer g c = is_closer c.args.shared.now.domain.now c.args.side.now.closer c.requires.closer
