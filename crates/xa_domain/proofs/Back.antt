@@ -38,7 +38,7 @@ use Rattle.xa_history.specs.Ended.{ServerEnd, HasMadeAll}
 use Rattle.xa_history.proofs.Listed.{all_mapped, all_numbered, numbered_map}
 use Rattle.xa_domain.specs.Working.{EachDone}
 use Rattle.xa_domain.specs.declared.gathering.Gathered.{Gathered}
-use Rattle.xa_domain.specs.declared.handing.Handed.{Handed}
+use Rattle.xa_domain.specs.declared.handing.Served.{Served}
 use Rattle.xa_domain.specs.Closed.{KnowsHomes, GivesBack}
 use Rattle.xa_domain.specs.Gathered.{IsLeftDesk, home_of_desk, HoldTheirs, IsHaltAmong, IsStopAmong, HasGathered}
 use Rattle.xa_domain.specs.Handed.{halt_of, HandsBack}
@@ -200,7 +200,7 @@ module _ {L T : Type 0} (shows : T → StarterShows) (scripts : List Client) (bo
         answered = gives.answered;
       }
 
-      pub hands_back : (h : Handed L T) → h.halt ≡ halt_of g.stopped → h.homes.homes ≡ homes → h.lives ≡ g.lives → h.cut ≡ g.cut → h.starters ≡ g.starters → HandsBack shows scripts booted h
+      pub hands_back : (h : Served L T) → h.halt ≡ halt_of g.stopped → h.homes.homes ≡ homes → h.lives ≡ g.lives → h.cut ≡ g.cut → h.starters ≡ g.starters → HandsBack shows scripts booted h
       hands_back h halt homes_are lives cut starters = record {
         b = b;
         domain = itself;

@@ -33,7 +33,7 @@ use Rattle.xa_history.proofs.Merged.{merged_run, merged_made}
 use Rattle.xa_history.proofs.History.{ends_history}
 use Rattle.xa_history.proofs.SoFar.{lives_so_far, starters_so_far}
 use Rattle.xa_history.proofs.Lives.{carried}
-use Rattle.xa_domain.specs.declared.handing.Handed.{Handed}
+use Rattle.xa_domain.specs.declared.handing.Served.{Served}
 use Rattle.xa_domain.specs.Gathered.{IsHaltAmong}
 use Rattle.xa_domain.specs.Handed.{HandsBack}
 use Rattle.xa_domain.specs.Joined.{end_of}
@@ -77,7 +77,7 @@ module _ {L T : Type 0} (shows : T → StarterShows) where
   of_starters P n [] each = tt
   of_starters P n (w ∷ workers) each = (each.0, of_starters P (n + 1) workers each.1)
 
-module _ {L T : Type 0} (shows : T → StarterShows) (clients : List Client) (booted : Booted L T) (h : Handed L T) (count : booted.domain.clients ≡ length clients) (back : HandsBack shows clients booted h) where
+module _ {L T : Type 0} (shows : T → StarterShows) (clients : List Client) (booted : Booted L T) (h : Served L T) (count : booted.domain.clients ≡ length clients) (back : HandsBack shows clients booted h) where
   abbrev d : Domain
   d = booted.domain
 

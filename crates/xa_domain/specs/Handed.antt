@@ -17,7 +17,7 @@ use Rattle.xa_boot.specs.xa_desk.Whole.{IsKnown}
 use Rattle.xa_boot.specs.declared.booting.Booted.{Booted}
 use Rattle.xa_history.specs.Joined.{Back, whole_of}
 use Rattle.xa_history.specs.Ended.{Ends, EndsWhole}
-use Rattle.xa_domain.specs.declared.handing.Handed.{Handed}
+use Rattle.xa_domain.specs.declared.handing.Served.{Served}
 use Rattle.xa_domain.specs.Gathered.{IsHaltAmong}
 use Rattle.xa_domain.specs.Stops.{first_among, stops_of}
 use Rattle.xa_domain.specs.Joined.{end_of}
@@ -30,7 +30,7 @@ halt_of (Some Elsewhere) = Some NoMemory
 
 -- all workers left, and these are all homes, lives and starters; where there was no halt the run came to its end, and else the first halt that a worker came
 -- to itself is told
-pub record HandsBack {L T : Type 0} (shows : T → StarterShows) (scripts : List Client) (booted : Booted L T) (h : Handed L T) : Type 0 where
+pub record HandsBack {L T : Type 0} (shows : T → StarterShows) (scripts : List Client) (booted : Booted L T) (h : Served L T) : Type 0 where
   pub b : Back
   pub domain : Working
   pub desks : List Desk

@@ -17,9 +17,10 @@ use xa_boot::pipe::EndedLife;
 use xa_boot::stamp::Record;
 use xa_boot::work::Halt;
 
-/// What is handed back: why the run halted, if it did; the homes of the board, the queues, the clock and the callers, in
-/// this order; and by server its lives, the one that went on at a halt, and its starter.
-pub struct Handed<L: Link, T> {
+/// How a script was served: why the run halted, if it did; the homes of the board, the queues, the clock and the callers,
+/// in this order; and by server its lives that ended, the one that went on at a halt, and its starter. Where memory ran out
+/// before the boot there are no homes, and where it ran out before that no starters.
+pub struct Served<L: Link, T> {
     pub halt: Option<Halt>,
     pub homes: Record,
     pub lives: Vec<Vec<EndedLife<L>>>,
@@ -43,7 +44,7 @@ pub fn hand_back<L: Link, T: Starter<L>>(
     alloc: Global,
     booted: Booted<L, T>,
     room: Room<L, T>,
-) -> Handed<L, T>
+) -> Served<L, T>
     requires room { HasRoom (length booted.domain.setup.queues) booted.domain.clients (length booted.domain.setup.servers) room }
     requires joined { (scripts : List Client) × IsJoined T.shows scripts booted }
     ensures { (scripts : List Client) → IsJoined T.shows scripts booted
@@ -79,7 +80,7 @@ pub fn hand_back<L: Link, T: Starter<L>>(
         cut,
         starters,
     } = gather(&domain, clients, servers, closer, room);
-    Handed {
+    Served {
         halt: halt_of(stopped),
         homes: close_homes(alloc, domain, tokens, homes, callers),
         lives,

@@ -13,7 +13,8 @@ mod room;
 mod serving;
 mod tokens;
 
-pub use serving::{Served, serve};
+pub use handing::Served;
+pub use serving::serve;
 pub use xa_boot::links::CutLife;
 pub use xa_boot::pipe::EndedLife;
 pub use xa_boot::work::Halt;

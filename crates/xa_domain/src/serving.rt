@@ -10,40 +10,27 @@ ghost use Rattle.xa_domain.specs.Room.{HasRoom};
 ghost use Rattle.xa_domain.specs.Serving.{IsBuilt, ServeEnds};
 
 use crate::crew::run_all;
-use crate::handing::{Handed, hand_back};
+use crate::handing::{Served, hand_back};
 use crate::room::Room;
 use std::alloc::Global;
 use std::sync::Wait;
 use std::thread::Threads;
 use xa_boot::link::{Gate, Link, Starter, Yard};
-use xa_boot::links::CutLife;
-use xa_boot::pipe::EndedLife;
 use xa_boot::stamp::Record;
 use xa_boot::types::{Sequence, Setup};
 use xa_boot::work::Halt;
 use xa_boot::{Booted, NotBooted, boot};
 use xa_history::script::{Client, Script};
 
-/// How a script was served: why the run halted, if it did; the homes of the board, the queues, the clock and the callers,
-/// in this order; and by server its lives that ended, the one that went on at a halt, and its starter. Where memory ran out
-/// before the boot there are no homes, and where it ran out before that no starters.
-pub struct Served<Y: Yard> {
-    pub halt: Option<Halt>,
-    pub homes: Record,
-    pub lives: Vec<Vec<EndedLife<Y::Line>>>,
-    pub cut: Vec<Option<CutLife<Y::Line>>>,
-    pub starters: Vec<Y::Start>,
-}
-
 // What there is to hand back where memory ran out before the domain was booted.
-fn none_served<L: Link, T>(alloc: Global, starters: Vec<T>) -> Handed<L, T>
+fn none_served<L: Link, T>(alloc: Global, starters: Vec<T>) -> Served<L, T>
     ensures halt { result.halt ≡ Some Halt.NoMemory }
     ensures homes { result.homes.homes ≡ [] }
     ensures lives { result.lives.items ≡ [] }
     ensures cut { result.cut.items ≡ [] }
     ensures starters { result.starters ≡ starters }
 {
-    Handed {
+    Served {
         halt: Some(Halt::NoMemory),
         homes: Record {
             homes: Sequence::from_vec(Vec::new(alloc)),
@@ -62,7 +49,7 @@ fn serve_by<R: Threads + Wait + Sync, L: Link + Send, T: Starter<L> + Send, G: G
     booted: Booted<L, T>,
     room: Room<L, T>,
     gate: &G,
-) -> Handed<L, T>
+) -> Served<L, T>
     requires built { IsBuilt clients.now }
     requires booted { HasBooted T.shows booted.domain.setup (length clients.now) (map (λ w. w.served.starter) booted.servers.items) booted }
     requires room { HasRoom (length booted.domain.setup.queues) (length clients.now) (length booted.domain.setup.servers) room }
@@ -81,7 +68,7 @@ fn serve_with<R: Threads + Wait + Sync, L: Link + Send, T: Starter<L> + Send, G:
     starters: Vec<T>,
     room: Room<L, T>,
     gate: &G,
-) -> Handed<L, T>
+) -> Served<L, T>
     requires configured { is_configured setup ≡ true }
     requires built { IsBuilt clients.now }
     requires names { map (λ s. (T.shows s).name) starters.items ≡ map (λ server. server.name) setup.servers }
@@ -106,7 +93,7 @@ fn serve_all<R: Threads + Wait + Sync, Y: Yard, G: Gate>(
     clients: &[Client],
     yard: &mut Y,
     gate: &G,
-) -> Handed<Y::Line, Y::Start>
+) -> Served<Y::Line, Y::Start>
     requires configured { is_configured setup ≡ true }
     requires built { IsBuilt clients.now }
     ensures ends { ServeEnds Y.Start.shows setup clients.now result.halt result.homes.homes (map (λ v. v.items) result.lives.items) (map cut_in result.cut.items) result.starters.items }
@@ -133,24 +120,11 @@ pub fn serve<R: Threads + Wait + Sync, Y: Yard, G: Gate>(
     script: &Script,
     yard: &mut Y,
     gate: &G,
-) -> Served<Y>
+) -> Served<Y::Line, Y::Start>
     requires configured { is_configured setup ≡ true }
     requires built { IsBuilt script.now.clients }
     ensures ends { ServeEnds Y.Start.shows setup script.now.clients result.halt result.homes.homes (map (λ v. v.items) result.lives.items) (map cut_in result.cut.items) result.starters.items }
     ensures asked { AsksStarters (Y.asked yard.old) (Y.asked yard.new) setup ⊎ ((result.halt ≡ Some Halt.NoMemory) × (Y.asked yard.new ≡ Y.asked yard.old)) }
 {
-    let Handed {
-        halt,
-        homes,
-        lives,
-        cut,
-        starters,
-    } = serve_all(rt, alloc, setup, script.clients.slice(), yard, gate);
-    Served {
-        halt,
-        homes,
-        lives,
-        cut,
-        starters,
-    }
+    serve_all(rt, alloc, setup, script.clients.slice(), yard, gate)
 }
