@@ -3,9 +3,9 @@ ghost use Rattle.std.specs.Prelude.{◌≡◌, ◌↔◌, ◌⊎◌, false};
 ghost use Rattle.xa_domain.specs.xa_events.declared.event.StopCause.TheVariants.{Shutdown, Exit};
 
 use std::{fmt, io};
+use xa_domain::EndedLife;
 use xa_events::{Event, StopCause, Stopped};
 use xa_link::{Escaped, Link, ProcessEnd};
-use xa_program::EndedLife;
 use xa_types::{Name, ServerId};
 
 // A cause as it stands in a line, with its own values.
