@@ -4,7 +4,7 @@ mod Numbered
 mod Working
 mod Sending
 mod Sharing
-mod Served
+mod ServerSending
 mod Groups
 pub mod Listed
 pub mod Silent

@@ -6,7 +6,7 @@ use Rattle.xa_boot.specs.xa_server.Served.{StarterShows}
 use Rattle.xa_boot.specs.xa_server_worker.Working.{MayServe, HasServed}
 use Rattle.xa_boot.specs.Booting.{IsNewServer}
 use Rattle.xa_domain.specs.Working.{IsOver}
-use Rattle.xa_domain.proofs.Served.{server_worker_sends}
+use Rattle.xa_domain.proofs.ServerSending.{server_worker_sends}
 use Rattle.xa_domain.proofs.Sharing.{shared_syncs}
 use Rattle.xa_domain.proofs.Numbered.{numbered-at, numbered-went, map-went}
 use Rattle.xa_domain.proofs.Working.{is_over}
