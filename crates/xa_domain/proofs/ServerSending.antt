@@ -14,6 +14,7 @@ use Rattle.xa_boot.specs.xa_link.declared.link.Link as Link
 use Rattle.xa_boot.specs.xa_link.declared.source.Source as Source
 use Rattle.xa_boot.specs.xa_link.declared.sink.Sink as Sink
 use Rattle.xa_boot.specs.xa_link.contracts.link.Closed as Closed
+use Rattle.xa_boot.specs.xa_link.contracts.link.ProcessEnd as ProcessEnd
 use Rattle.xa_boot.specs.xa_pipe.contracts.noted.Said as Said
 use Rattle.xa_boot.specs.xa_pipe.contracts.noted.Asked as Asked
 use Rattle.xa_boot.specs.xa_pipe.contracts.over.CutLife as CutLife
@@ -25,6 +26,9 @@ use Rattle.xa_boot.specs.xa_server.contracts.slot.ServerSlot as ServerSlot
 use Rattle.xa_boot.specs.xa_server.contracts.served.Served as Served
 use Rattle.xa_boot.specs.xa_server_worker.contracts.working.ServerWorker as ServerWorker
 use Rattle.xa_domain.proofs.Sending.{cargo_sends, desk_field, stopped_sends}
+
+end_sends : IsSend ProcessEnd.the_row
+end_sends = search (sendable, crosses) depth 40 fits 20000
 
 said_sends : IsSend Said.the_row
 said_sends = search (sendable, crosses, log.the_send) depth 40 fits 20000
@@ -43,7 +47,7 @@ slot_field = search (sendable, crosses, lives_sends, entry_field) depth 40 fits 
 
 module _ (L : RattleType) (link : Link.Ghosts L.Denot) (source : Source.Ghosts L.Denot) (sink : Sink.Ghosts L.Denot) (l : IsSend L) where
   closed_field : IsSend (Closed.the_field L).row
-  closed_field = search (sendable, crosses, l) depth 40 fits 20000
+  closed_field = search (sendable, crosses, l, end_sends) depth 40 fits 20000
 
   pipes_field : IsSend (Pipes.the_field L).row
   pipes_field = enum_send (declared_enum.shape (Pipes.the_type L)) ((l, tt), ((closed_field, tt), ((closed_field, tt), tt)))
