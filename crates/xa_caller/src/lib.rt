@@ -34,13 +34,12 @@ pub mod events {
 
 pub mod held {
     pub use xa_held::{
-        AtBoard, AtQueue, BoardNote, Clearing, Invocation, KeptBoard, KeptQueue, QueueNote,
-        clear_at, close_at, down_at, gone_at, look_up_at, put_at, sweep_at, take_at,
+        AtQueue, BoardNote, Clearing, Invocation, KeptBoard, KeptQueue, QueueNote, close_at,
     };
 }
 
 pub mod lock {
-    pub use xa_lock::{Guarded, LockPass};
+    pub use xa_lock::{Guarded, Held, LockPass};
 }
 
 pub mod queue {

@@ -1,5 +1,5 @@
 -- A queue without servers that goes down, and what still waits there: events of the domain at a queue.
-use Rattle.std.proofs.Common.{◌≡◌, ℕ, true, List, [], ◌∷◌, ◌++◌, map, Some, Ok, refl, sym, ◌∙◌, ap, subst, append-nil, append_assoc, arith}
+use Rattle.std.proofs.Common.{◌≡◌, ℕ, true, List, Option, [], ◌∷◌, ◌++◌, map, Some, Ok, refl, sym, ◌∙◌, ap, subst, append-nil, append_assoc, arith}
 use Rattle.xa_server.proofs.xa_held.Seen.{sees_more, down_left}
 use Rattle.std.specs.Prelude.{IfSome, IsSome}
 use Rattle.std.specs.List.{All, Contains}
@@ -28,11 +28,12 @@ use Rattle.xa_server.specs.xa_queue.Changes.{next_stamp}
 use Rattle.xa_server.specs.xa_queue.Queue.{all_gone}
 use Rattle.xa_server.specs.xa_held.declared.kept_queue.Setting.{Setting}
 use Rattle.xa_server.specs.xa_held.Joins.{SawLeft}
-use Rattle.xa_server.specs.xa_held.Kept.{Kept, IsRight}
+use Rattle.xa_server.specs.xa_held.Kept.{Kept, IsRight, notes_of}
+use Rattle.xa_server.specs.xa_held.declared.kept_queue.QueueNote.{QueueNote}
 use Rattle.xa_server.specs.xa_held.Notes.{gone_in, is_down_in}
 use Rattle.xa_server.specs.xa_held.Steps.{WentDownAs, SweptAs}
 use Rattle.xa_server.specs.xa_held.Visits.{Sees, Visits}
-use Rattle.xa_server.proofs.xa_held.Front.{is_down-whole}
+use Rattle.xa_server.proofs.xa_held.Front.{is_down-whole, all_gone-whole}
 use Rattle.xa_server.specs.xa_worker.Work.{seeing}
 use Rattle.xa_server.specs.xa_caller.Caller.{Standing as Caller}
 use Rattle.xa_server.specs.xa_caller.declared.cargo.Filling.{Filling}
@@ -52,6 +53,9 @@ use Rattle.xa_desk.specs.Serving.{GaveUp, IsDeserted, IsCleared, IsFallen, IsSwe
 use Rattle.xa_desk.proofs.Leading.{gave_more}
 use Rattle.xa_desk.proofs.Ending.{same_opening, not_empty}
 use Rattle.xa_desk.proofs.Showing.{saw_there, down_seen, waits}
+use Rattle.xa_desk.specs.Visit.{IsAt}
+use Rattle.xa_desk.proofs.Entering.{same_here}
+use Rattle.xa_server.specs.xa_lock.declared.pass.Page.{Page}
 use Rattle.xa_desk.proofs.Visiting.{QueuePass, HasPass, Step, its_pass, page_is, now_has, setting_found, later, event_leads}
 
 -- the worker gave up the queue's last server still
@@ -70,6 +74,18 @@ module _ {d : Domain} {queue k : ℕ} {desk : Desk} {p : QueuePass} (is : IsDesk
   fallen_setting fallen =
       let pass = its_pass has is in
       (pass.its, pass.sees, ap (λ n. is_down_in n (page_of p).seen) (pass.is.id ∙ sym has.at) ∙ sym (ap (λ page. is_down_in queue page.seen) (page_is has)) ∙ fallen.down)
+
+-- at the queue that was found there so it is too
+module _ {d : Domain} {queue k : ℕ} {desk : Desk} {there : Kept Filling} {page : Page (QueueNote Filling)} {passes : List (Option QueuePass)} (at : IsAt d queue k desk there page passes) where
+  pub deserted_here : IsDeserted d queue desk → all_gone (gone_in (notes_of there)) there.queue.servers ≡ true
+  deserted_here left =
+      let saw = deserted_setting at.is at.has left in
+      ap (λ (s : Setting Filling). all_gone (gone_in (notes_of there)) s.servers) (same_here at saw.0 saw.1) ∙ all_gone-whole (notes_of there) (page_of at.pass).seen saw.0.servers at.knows.1 saw.2
+
+  pub fallen_here : IsFallen d queue desk → is_down_in there.queue.id.0 (notes_of there) ≡ true
+  fallen_here fallen =
+      let saw = fallen_setting at.is at.has fallen in
+      ap (λ (s : Setting Filling). is_down_in s.id.0 (notes_of there)) (same_here at saw.0 saw.1) ∙ is_down-whole (notes_of there) (page_of at.pass).seen saw.0.id.0 at.knows.1 saw.2
 
 -- a step for the domain at that queue
 module _ {d : Domain} {queue k : ℕ} {desk new : Desk} {p p' : QueuePass} {last : Stamp} (step : Step d queue k desk new p p' last) where

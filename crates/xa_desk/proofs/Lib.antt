@@ -4,7 +4,9 @@ pub mod Leading
 pub mod Leaving
 pub mod Stopping
 pub mod Visiting
+pub mod Entering
 pub mod Boarding
+pub mod BoardEntering
 pub mod Looking
 pub mod Ending
 pub mod Falling

@@ -40,12 +40,11 @@ use Rattle.xa_server.proofs.xa_cell.Lists.{decided}
 use Rattle.xa_server.specs.xa_held.declared.cargo.Invocation.{Invocation}
 use Rattle.xa_server.specs.xa_held.declared.kept_queue.QueueNote.{QueueNote}
 use Rattle.xa_server.specs.xa_held.declared.kept_queue.QueueNote.TheVariants.{By}
-use Rattle.xa_server.specs.xa_held.declared.kept_queue.Setting.{Setting}
 use Rattle.xa_server.specs.xa_held.Joins.{changes_at}
 use Rattle.xa_server.specs.xa_held.Kept.{Kept, IsRight, Brings}
 use Rattle.xa_server.specs.xa_held.Notes.{IsOther}
 use Rattle.xa_server.specs.xa_held.Steps.{PutAs}
-use Rattle.xa_server.specs.xa_held.Visits.{Sees, Visits}
+use Rattle.xa_server.specs.xa_held.Visits.{Visits}
 use Rattle.xa_server.proofs.xa_held.Front.{note}
 use Rattle.xa_server.specs.xa_frame.Spelling.{IsData}
 use Rattle.xa_server.specs.xa_worker.declared.work.Halt.{Halt}
@@ -82,7 +81,10 @@ use Rattle.xa_desk.proofs.Preparing.{passes_found, weaker_front}
 use Rattle.xa_desk.proofs.Staying.{found_stays, itself_stays}
 use Rattle.xa_desk.proofs.Stopping.{same_leads}
 use Rattle.xa_desk.proofs.Taking.{tables_seeing}
-use Rattle.xa_desk.proofs.Visiting.{QueuePass, HasPass, Step, its_pass, now_has, other_there, later, looked_leads, noted_leads}
+use Rattle.xa_desk.specs.Visit.{IsAt}
+use Rattle.xa_desk.proofs.Entering.{setting_here}
+use Rattle.xa_server.specs.xa_lock.declared.pass.Page.{Page}
+use Rattle.xa_desk.proofs.Visiting.{QueuePass, Step, now_has, other_there, later, looked_leads, noted_leads}
 
 -- ---- which way a forward goes
 
@@ -281,13 +283,13 @@ module _ {d : Domain} {queue : ℕ} {entry : Entry Cargo} {event : Event} {slot 
   pub in_range : IsDomain d → (1 ≤ entry.priority) × (entry.priority ≤ 100)
   in_range domain = subst (λ (e : Entry Cargo). (1 ≤ e.priority) × (e.priority ≤ 100)) (sym passing.entry_is) (asked_priority Its.priority old.caller.priority (row_priority d.setup domain.configured passing.service Its its_row))
 
-  -- the pass saw what the queue is, at which the entry may be put
-  pub put_setting : {k : ℕ} {p : QueuePass} → IsDesk d old → HasPass d (forwarded_to event) k old p → (s : Setting Filling) × Sees s (page_of p) × IsEntry s.id entry event × IsRight s.cells entry
-  put_setting is there =
-      let pass = its_pass there is in
+  -- at the queue that was found there the entry may be put
+  pub put_here : {k : ℕ} {there : Kept Filling} {page : Page (QueueNote Filling)} {passes : List (Option QueuePass)} → IsAt d (forwarded_to event) k old there page passes → IsEntry there.queue.id entry event × IsRight there.cells entry
+  put_here {k} {there} at =
+      let here = setting_here at in
       let wrap : ℕ → QueueId = λ n. record { 0 = n } in
-      let id : Its.queue ≡ pass.its.id = ap wrap (sym to_is ∙ there.at ∙ sym pass.is.id) in
-      (pass.its, pass.sees, subst (IsEntry pass.its.id entry) (sym passing.event_is) (refl, id, ap (λ (e : Entry Cargo). e.priority) (sym passing.entry_is)), subst (λ cells. IsRight cells entry) (sym pass.is.cells) passing.serving.hand)
+      let id : Its.queue ≡ there.queue.id = ap wrap (sym to_is ∙ sym here.id) in
+      (subst (IsEntry there.queue.id entry) (sym passing.event_is) (refl, id, ap (λ (e : Entry Cargo). e.priority) (sym passing.entry_is)), subst (λ cells. IsRight cells entry) (sym here.cells) passing.serving.hand)
 
   module _ {k : ℕ} {new : Desk} {p p' : QueuePass} {last : Stamp} (step : Step d (forwarded_to event) k old new p p' last) where
     -- the queue took it

@@ -1,5 +1,5 @@
 -- What a put of a request leaves.
-use Rattle.std.proofs.Common.{◌≡◌, ◌⊎◌, ◌≤◌, ◌<◌, ℕ, ◌+◌, Bool, true, false, List, [], ◌∷◌, ◌++◌, length, Some, Ok, inl, inr, refl, sym, ◌∙◌, ap, subst, arith, eqb-true, leb-true, ◌^◌}
+use Rattle.std.proofs.Common.{◌≡◌, ◌⊎◌, ◌≤◌, ◌<◌, ℕ, ◌+◌, Bool, true, false, List, [], ◌∷◌, ◌++◌, length, Option, Some, Ok, inl, inr, refl, sym, ◌∙◌, ap, subst, arith, eqb-true, leb-true, ◌^◌}
 use Rattle.xa_server.proofs.xa_held.Refusals.{WhyOf, why_refused}
 use Rattle.xa_server.proofs.xa_held.Seen.{knows_still}
 use Rattle.std.specs.Prelude.{nat_le, nat_lt}
@@ -35,10 +35,9 @@ use Rattle.xa_server.specs.xa_queue.declared.queue.Refusal.TheVariants as refusa
 use Rattle.xa_server.specs.xa_queue.Changes.{IsEntry, put_refused, next_stamp, larger}
 use Rattle.xa_server.specs.xa_held.Joins.{events_at}
 use Rattle.xa_server.specs.xa_held.declared.kept_queue.QueueNote.{QueueNote}
-use Rattle.xa_server.specs.xa_held.declared.kept_queue.Setting.{Setting}
 use Rattle.xa_server.specs.xa_held.Kept.{Kept, IsRight, Brings}
 use Rattle.xa_server.specs.xa_held.Steps.{PutAs}
-use Rattle.xa_server.specs.xa_held.Visits.{Sees, Visits}
+use Rattle.xa_server.specs.xa_held.Visits.{Visits}
 use Rattle.xa_server.proofs.xa_held.Front.{knows_events}
 use Rattle.xa_server.specs.xa_worker.Work.{seeing}
 use Rattle.xa_server.specs.xa_caller.declared.cargo.Filling.{Filling}
@@ -62,7 +61,11 @@ use Rattle.xa_desk.proofs.Configured.{has_capacity, row_priority, asked_priority
 use Rattle.xa_desk.proofs.Fitting.{its_events, IsRead, call_over, one_more_fits}
 use Rattle.xa_desk.proofs.Leading.{Grew, grew_one}
 use Rattle.xa_desk.proofs.Showing.{front_there, setting, down_seen, closed_seen, waits, own_seen}
-use Rattle.xa_desk.proofs.Visiting.{QueuePass, HasPass, page_is, Step, its_pass, now_has, later, looked_leads, noted_leads, looked_last}
+use Rattle.xa_desk.specs.Visit.{IsAt}
+use Rattle.xa_desk.proofs.Entering.{setting_here}
+use Rattle.xa_server.specs.xa_lock.declared.pass.Page.{Page}
+use Rattle.xa_server.specs.xa_held.declared.kept_queue.QueueNote.{QueueNote}
+use Rattle.xa_desk.proofs.Visiting.{QueuePass, HasPass, page_is, Step, now_has, later, looked_leads, noted_leads, looked_last}
 
 pub same_draft : (a b : Draft) (phase : Phase) → phase ≡ Prepared a → phase ≡ Prepared b → a ≡ b
 same_draft a b phase is_a is_b = cc (sym is_a ∙ is_b)
@@ -93,13 +96,13 @@ module _ {d : Domain} {found : FoundRows} (ask : Ask) {old : Desk} {entry : Entr
   pub in_range : IsDomain d → (1 ≤ entry.priority) × (entry.priority ≤ 100)
   in_range domain = subst (λ (e : Entry Cargo). (1 ≤ e.priority) × (e.priority ≤ 100)) (sym aimed.entry_is) (asked_priority aimed.row.priority old.caller.priority (row_priority d.setup domain.configured ask.service aimed.row its))
 
-  -- the pass saw what the queue is, at which the entry may be put
-  pub put_setting : {k : ℕ} {p : QueuePass} → IsDesk d old → HasPass d (queue_in event) k old p → (s : Setting Filling) × Sees s (page_of p) × IsEntry s.id entry event × IsRight s.cells entry
-  put_setting is there =
-      let pass = its_pass there is in
+  -- at the queue that was found there the entry may be put
+  pub put_here : {k : ℕ} {there : Kept Filling} {page : Page (QueueNote Filling)} {passes : List (Option QueuePass)} → IsAt d (queue_in event) k old there page passes → IsEntry there.queue.id entry event × IsRight there.cells entry
+  put_here {k} {there} at =
+      let here = setting_here at in
       let wrap : ℕ → QueueId = λ n. record { 0 = n } in
-      let id : aimed.row.queue ≡ pass.its.id = ap wrap (sym queue_is ∙ there.at ∙ sym pass.is.id) in
-      (pass.its, pass.sees, subst (λ (e : Entry Cargo). IsEntry pass.its.id e event) (sym aimed.entry_is) (subst (IsEntry pass.its.id (entry_by aimed.draft.asked.request aimed.row old.caller.priority ask.payload entry.cargo.ticket)) (sym aimed.event_is) (refl, id, refl)), subst (λ cells. IsRight cells entry) (sym pass.is.cells) aimed.right)
+      let id : aimed.row.queue ≡ there.queue.id = ap wrap (sym queue_is ∙ sym here.id) in
+      (subst (λ (e : Entry Cargo). IsEntry there.queue.id e event) (sym aimed.entry_is) (subst (IsEntry there.queue.id (entry_by aimed.draft.asked.request aimed.row old.caller.priority ask.payload entry.cargo.ticket)) (sym aimed.event_is) (refl, id, refl)), subst (λ cells. IsRight cells entry) (sym here.cells) aimed.right)
 
   module _ {k : ℕ} {new : Desk} {p p' : QueuePass} {last : Stamp} (step : Step d (queue_in event) k old new p p' last) (seen : Stamp) (saw : seen ≡ old.caller.work.stamp) (maker : CallerId) where
     -- the queue took it

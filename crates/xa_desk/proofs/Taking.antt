@@ -18,10 +18,13 @@ use Rattle.xa_server.specs.xa_queue.declared.entry.Entry.{Entry}
 use Rattle.xa_server.specs.xa_queue.Queue.{has_server, gives_up}
 use Rattle.xa_server.specs.xa_held.declared.kept_queue.QueueNote.{QueueNote}
 use Rattle.xa_server.specs.xa_held.declared.kept_queue.QueueNote.TheVariants.{By}
-use Rattle.xa_server.specs.xa_held.declared.kept_queue.Setting.{Setting}
-use Rattle.xa_server.specs.xa_held.Notes.{IsOther, told}
-use Rattle.xa_server.specs.xa_held.Kept.{Kept, IsRight}
-use Rattle.xa_server.specs.xa_held.Visits.{Sees, Visits}
+use Rattle.xa_server.specs.xa_held.Notes.{IsOther, told, maker_of}
+use Rattle.xa_server.specs.xa_held.Kept.{Kept, IsRight, notes_of}
+use Rattle.xa_server.specs.xa_lock.declared.pass.Page.{Page}
+use Rattle.xa_server.specs.xa_lock.Pages.{entries_by}
+use Rattle.xa_desk.specs.Visit.{IsAt}
+use Rattle.xa_desk.proofs.Entering.{setting_here}
+use Rattle.xa_server.specs.xa_held.Visits.{Visits}
 use Rattle.xa_server.proofs.xa_held.Front.{note}
 use Rattle.xa_server.specs.xa_worker.Work.{Standing as Working, seeing}
 use Rattle.xa_server.specs.xa_caller.Caller.{Standing as Caller}
@@ -72,19 +75,23 @@ looked_serves d queue slot old new sees queues serving = record {
 }
 
 module _ {d : Domain} {queue k : ℕ} {desk : Desk} {slot : ServerSlot} {p : QueuePass} (is : IsDesk d desk) (serving : IsServing d queue slot desk) (has : HasPass d queue k desk p) where
-  -- the pass saw what the queue is, of which the server is one
-  pub its_setting : (maker : CallerId) (server : ServerId) → maker ≡ desk.caller.work.id → server ≡ slot.server
-      → (s : Setting Filling) × Sees s (page_of p) × (has_server server s.servers ≡ true) × (maker.0 ≡ s.clients + server.0)
-  its_setting maker server makes serves =
-      let its = its_pass has is in
-      let has_it : has_server server its.its.servers ≡ true = sym (its.is.servers server.0) ∙ eq-eqb (queue_of d.setup server.0) (k + 1) (ap (λ s. queue_of d.setup s.0) serves ∙ serving.its ∙ has.at) in
-      let number : maker.0 ≡ its.its.clients + server.0 =
-      ap (λ id. id.0) makes ∙ sym serving.stands.tables.worker.number ∙ ap (λ n. caller_of n slot.server.0) (is.clients ∙ sym its.is.clients) ∙ ap (λ s. caller_of its.its.clients s.0) (sym serves) in
-      (its.its, its.sees, has_it, number)
-
-  -- and hasn't given the server up
+  -- the pass hasn't given the server up
   pub its_left : (server : ServerId) → server ≡ slot.server → slot.gone ≡ false → All (IsOther server) (page_of p).own
   its_left server serves left = subst (λ s. All (IsOther s) (page_of p).own) (sym serves) (subst (λ page. All (IsOther slot.server) page.own) (page_is has) (serving.left left))
+
+-- at the queue that was found, of which the server is one, and where its worker hasn't given it up
+module _ {d : Domain} {queue k : ℕ} {desk : Desk} {slot : ServerSlot} {there : Kept Filling} {page : Page (QueueNote Filling)} {passes : List (Option QueuePass)} (at : IsAt d queue k desk there page passes) (serving : IsServing d queue slot desk)
+    (maker : CallerId) (server : ServerId) (makes : maker ≡ desk.caller.work.id) (serves : server ≡ slot.server) where
+  pub own_here : has_server server there.queue.servers ≡ true
+  own_here = sym ((setting_here at).servers server.0) ∙ eq-eqb (queue_of d.setup server.0) queue (ap (λ s. queue_of d.setup s.0) serves ∙ serving.its)
+
+  pub maker_here : maker.0 ≡ there.clients + server.0
+  maker_here = ap (λ id. id.0) makes ∙ sym serving.stands.tables.worker.number ∙ ap (λ n. caller_of n slot.server.0) (at.is.clients ∙ sym (setting_here at).clients) ∙ ap (λ s. caller_of there.clients s.0) (sym serves)
+
+  pub left_here : slot.gone ≡ false → All (IsOther server) (entries_by maker_of maker.0 (notes_of there))
+  left_here left =
+      let page_maker : maker.0 ≡ (page_of at.pass).maker = ap (λ id. id.0) makes ∙ sym (its_pass at.has at.is).maker in
+      subst (All (IsOther server)) (sym (ap (λ n. entries_by maker_of n (notes_of there)) page_maker ∙ at.knows.0)) (its_left at.is serving at.has server serves left)
 
 -- a step of a server's worker at its queue
 module _ {d : Domain} {queue k : ℕ} {desk new : Desk} {p p' : QueuePass} {last : Stamp} {slot : ServerSlot} (step : Step d queue k desk new p p' last) (serving : IsServing d queue slot desk) where

@@ -5,7 +5,7 @@ use Rattle.std.specs.Prelude.{slice_index_or, slice_set}
 use Rattle.std.specs.List.{All, Contains, filter}
 use Rattle.std.proofs.lemmas.Bool.{ne_eqb}
 use Rattle.std.proofs.Common.{eq-eqb}
-use Rattle.std.proofs.lemmas.List.{set-set, length-set, get_or-set_same, get_or-set_other, get_or_default}
+use Rattle.std.proofs.lemmas.List.{set-set, length-set, get_or-set_same, get_or-set_other}
 use Rattle.std.proofs.lemmas.List.Elements.{All-nil, All-cons, All-weaker, Contains-append_left}
 use Rattle.xa_server.specs.xa_types.declared.stamp.Stamp.{Stamp}
 use Rattle.xa_server.specs.xa_types.declared.ids.CallerId.{CallerId}
@@ -16,9 +16,7 @@ use Rattle.xa_server.specs.xa_events.Board.{published}
 use Rattle.xa_server.specs.xa_stamp.declared.home.Stamped.{Stamped}
 use Rattle.xa_server.specs.xa_stamp.Home.{last_stamp, larger_of}
 use Rattle.xa_server.proofs.xa_stamp.Stamps.{last_stamp-push}
-use Rattle.xa_server.specs.xa_lock.declared.guarded.Guarded.{Guarded}
 use Rattle.xa_server.specs.xa_lock.declared.makers.Made.{Made}
-use Rattle.xa_server.specs.xa_lock.declared.pass.LockPass.{LockPass}
 use Rattle.xa_server.specs.xa_lock.Known.{known as page_of, IsPassOf}
 use Rattle.xa_server.specs.xa_lock.Makers.{noted_in}
 use Rattle.xa_server.specs.xa_lock.Pages.{StartsWith}
@@ -31,8 +29,6 @@ use Rattle.xa_server.proofs.xa_cell.Lists.{decided, below}
 use Rattle.xa_server.specs.xa_queue.Changes.{next_stamp, IsWorn}
 use Rattle.xa_server.specs.xa_types.declared.stamp.Worn.{Worn}
 use Rattle.xa_desk.specs.Serving.{IsAtEnd}
-use Rattle.xa_server.specs.xa_held.declared.kept_queue.KeptQueue.{KeptQueue}
-use Rattle.xa_server.specs.xa_held.declared.kept_queue.QueueNote.{QueueNote}
 use Rattle.xa_server.specs.xa_held.Joins.{changes_at, events_at}
 use Rattle.xa_server.specs.xa_held.Kept.{Kept, setting_of, notes_of}
 use Rattle.xa_server.specs.xa_held.Notes.{one}
@@ -48,6 +44,7 @@ use Rattle.xa_desk.specs.declared.domain.Domain.{Domain}
 use Rattle.xa_desk.specs.declared.desk.Desk.{Desk}
 use Rattle.xa_desk.specs.Whole.{Whole, entries_of, IsKnown}
 use Rattle.xa_desk.specs.Made.{IsMade}
+pub use Rattle.xa_desk.specs.Visit.{QueuePass, QueueLock, HasPass}
 use Rattle.xa_desk.specs.Desks.{IsBoardPass, IsQueuePass, IsSettingOf, IsThere, GoesOn, HasGrounds, IsDesk, Leads, page_in, page_at, board_page, queue_page}
 use Rattle.xa_desk.proofs.Leading.{Grew, grew_one, grew_none, Moves, none_leads, one_leads, starts_same, starts_trans, there, filled_more, among_at, on_home, off_home, board_pass_stays, queue_pass_stays, is_behind}
 use Rattle.xa_desk.proofs.Seating.{TakesOn, takes_same, none_taken}
@@ -81,18 +78,6 @@ at_end : (seen first : Stamp) (last : ℕ) (front : List Stamped) → first.0 �
 at_end seen first last [] low is end = omega (arith, low, is, end)
 at_end seen first last (x ∷ rest) low is end = omega (arith, is, end)
 
-abbrev pub QueuePass : Type 0
-QueuePass = LockPass (QueueNote Filling)
-
-abbrev pub QueueLock : Type 0
-QueueLock = Guarded (KeptQueue Filling) (QueueNote Filling)
-
--- the desk has that pass of the queue with that number, which is the k-th
-pub record HasPass (d : Domain) (queue k : ℕ) (desk : Desk) (pass : QueuePass) : Type 0 where
-  pub at : queue ≡ k + 1
-  pub low : k < length d.queues.items
-  pub there : slice_index_or desk.queues.items k None ≡ Some pass
-
 pub has_at : (d : Domain) (queue place : ℕ) (desk : Desk) (pass : QueuePass) → place ≡ queue → 0 < queue → queue < length d.queues.items + 1 → slice_index_or desk.queues.items (place - 1) None ≡ Some pass → HasPass d queue (place - 1) desk pass
 has_at d queue place desk pass same some least there = record { at = omega (arith, same, some); low = omega (arith, same, some, least); there = there }
 
@@ -119,18 +104,6 @@ pub record Step (d : Domain) (queue k : ℕ) (old new : Desk) (p p' : QueuePass)
   pub board : new.board ≡ old.board
   pub lock : (default : QueueLock) → IsPassOf (slice_index_or d.queues.items k default) p'
   pub reaches : Reaches (page_of p') last
-
--- by what takes the pass, enters the lock that stands there, and puts the pass back
-pub stepped : {d : Domain} {queue place : ℕ} {old : Desk} {p : QueuePass} (new : Desk) (p' : QueuePass) (last : Stamp) → IsDesk d old → place ≡ queue → 0 < queue → queue < length d.queues.items + 1 → slice_index_or old.queues.items (place - 1) None ≡ Some p → (taken : List (Option QueuePass)) → taken ≡ slice_set old.queues.items (place - 1) None → new.queues.items ≡ slice_set taken (place - 1) (Some p') → new.board ≡ old.board
-    → (lock : QueueLock) → lock ≡ slice_index_or d.queues.items (place - 1) lock → IsPassOf lock p' → Reaches (page_of p') last → Step d queue (place - 1) old new p p' last
-stepped {d} {queue} {place} {old} {p} new p' last is same some least there taken took put board lock at of reaches = let has = has_at d queue place old p same some least there in record {
-  is = is;
-  has = has;
-  passes = put ∙ ap (λ (l : List (Option QueuePass)). slice_set l (place - 1) (Some p')) took;
-  board = board;
-  lock = λ default. subst (λ (z : QueueLock). IsPassOf z p') (at ∙ get_or_default d.queues.items (place - 1) lock default has.low) of;
-  reaches = reaches;
-}
 
 -- ---- a visit of a queue
 

@@ -2,6 +2,7 @@ pub mod Whole
 pub mod Made
 pub mod Deserted
 pub mod Desks
+pub mod Visit
 pub mod Halting
 pub mod Found
 pub mod Looks

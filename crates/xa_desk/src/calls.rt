@@ -15,13 +15,13 @@ ghost use Rattle.xa_desk.specs.Found.{HasFound, IsAimed, StillAimed, ShowsWhy, I
 ghost use Rattle.xa_desk.specs.Looks.{SeesWhy};
 ghost use Rattle.xa_desk.specs.Steps.{FitsOn, IsWhy};
 
-use crate::desk::{Desk, put_back, take_from};
+use crate::desk::Desk;
 use crate::domain::Domain;
+use crate::visit::{enter, leave};
 use std::alloc::Global;
 use std::sync::Wait;
 use xa_server::caller::{Aimed, Cargo, Note, Prepared, Step, Stop, Why};
 use xa_server::events::Event;
-use xa_server::held::{AtQueue, put_at};
 use xa_server::queue::{Entry, PutRefused, Refusal};
 use xa_server::types::{Ask, Kind, Name, QueueId};
 
@@ -125,18 +125,11 @@ impl Desk {
     {
         let Prepared { entry, event, note } = prepared;
         let queue = queue_of(&event);
-        let place = usize::from(queue.0) - 1;
-        let pass = take_from(&mut self.queues, place);
-        let AtQueue { pass, last, answer } = put_at(
-            rt,
-            &domain.queues[place],
-            pass,
-            self.caller.stamp(),
-            self.caller.id(),
-            event,
-            entry,
-        );
-        put_back(&mut self.queues, place, pass);
+        let seen = self.caller.stamp();
+        let maker = self.caller.id();
+        let mut visit = enter(rt, domain, &mut self.queues, queue);
+        let answer = visit.queue.value().put(seen, maker, event, entry);
+        let last = leave(domain, &mut self.queues, visit);
         match answer {
             Ok(stamp) => {
                 self.caller.sent(note, stamp);

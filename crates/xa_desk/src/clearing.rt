@@ -4,11 +4,12 @@ ghost use Rattle.xa_server.specs.Told.{HasStamp};
 ghost use Rattle.xa_desk.specs.Desks.{IsDomain, IsDesk, Leads};
 ghost use Rattle.xa_desk.specs.Serving.{IsDeserted, IsCleared, OfDomain, IsHaltNear, halt_by, seen_by};
 
-use crate::desk::{Desk, take_out};
+use crate::desk::Desk;
 use crate::domain::Domain;
+use crate::visit::{enter_board, leave_board};
 use std::sync::Wait;
 use xa_board::BoardRefused;
-use xa_server::held::{AtBoard, Clearing, clear_at};
+use xa_server::held::Clearing;
 use xa_server::stamp::Noted;
 use xa_server::types::{QueueId, Stamp};
 use xa_server::work::Halt;
@@ -48,16 +49,11 @@ impl Desk {
         ensures same { (self.new.queues ≡ self.old.queues) × (self.new.reader ≡ self.old.reader) }
         ensures halted { IfErr result (IsHaltNear self.new) }
     {
-        let pass = take_out(&mut self.board);
-        let AtBoard { pass, last, answer } = clear_at(
-            rt,
-            &domain.board,
-            pass,
-            self.caller.stamp(),
-            self.caller.id(),
-            queue,
-        );
-        self.board = Some(pass);
+        let seen = self.caller.stamp();
+        let maker = self.caller.id();
+        let mut board = enter_board(rt, domain, &mut self.board);
+        let answer = board.value().clear(seen, maker, queue);
+        let last = leave_board(domain, &mut self.board, board);
         match answer {
             Ok(Clearing::Withdrew(noted)) => {
                 let Noted { stamp, event } = noted;

@@ -1,5 +1,5 @@
 // A worker's desk, and its look at the board.
-ghost use Rattle.std.specs.Prelude.{◌≡◌, ◌<◌, ◌≤◌, None, Some, IsSome, length, slice_index_or, slice_set};
+ghost use Rattle.std.specs.Prelude.{◌≡◌};
 ghost use Rattle.xa_server.specs.xa_types.declared.stamp.Stamp.{Stamp};
 ghost use Rattle.xa_server.specs.xa_worker.Work.{seeing};
 ghost use Rattle.xa_desk.specs.Desks.{IsDomain, IsDesk, Leads};
@@ -7,11 +7,11 @@ ghost use Rattle.xa_desk.specs.Found.{HasFound};
 ghost use Rattle.xa_desk.specs.Looks.{LookShowed};
 
 use crate::domain::Domain;
-use std::mem;
+use crate::visit::{enter_board, leave_board};
 use std::sync::Wait;
 use xa_board::Reader;
 use xa_server::caller::{Caller, Filling};
-use xa_server::held::{AtBoard, BoardNote, QueueNote, look_up_at};
+use xa_server::held::{BoardNote, QueueNote};
 use xa_server::lock::LockPass;
 use xa_server::types::Name;
 
@@ -22,33 +22,6 @@ pub struct Desk {
     pub reader: Reader,
     pub board: Option<LockPass<BoardNote>>,
     pub queues: Vec<Option<LockPass<QueueNote<Filling>>>>,
-}
-
-pub(crate) fn take_out<E>(pass: &mut Option<LockPass<E>>) -> LockPass<E>
-    requires { IsSome pass.old }
-    ensures was { pass.old ≡ Some result }
-    ensures now { pass.new ≡ None }
-{
-    match mem::replace(pass, None) {
-        Some(pass) => pass,
-        None => unreachable!(),
-    }
-}
-
-pub(crate) fn take_from<E>(passes: &mut Vec<Option<LockPass<E>>>, queue: usize) -> LockPass<E>
-    requires place { queue < length passes.old.items }
-    requires there { IsSome (slice_index_or passes.old.items queue None) }
-    ensures was { slice_index_or passes.old.items queue None ≡ Some result }
-    ensures rest { passes.new.items ≡ slice_set passes.old.items queue None }
-{
-    take_out(&mut passes[queue])
-}
-
-pub(crate) fn put_back<E>(passes: &mut Vec<Option<LockPass<E>>>, queue: usize, pass: LockPass<E>)
-    requires { queue < length passes.old.items }
-    ensures { passes.new.items ≡ slice_set passes.old.items queue (Some pass) }
-{
-    passes[queue] = Some(pass);
 }
 
 impl Desk {
@@ -63,21 +36,12 @@ impl Desk {
         ensures caller { (seen : Stamp) × (self.new.caller ≡ record self.old.caller { work = seeing seen self.old.caller.work }) }
         ensures queues { self.new.queues ≡ self.old.queues }
     {
-        let pass = take_out(&mut self.board);
-        let AtBoard {
-            pass,
-            last,
-            answer: _,
-        } = look_up_at(
-            rt,
-            &domain.board,
-            pass,
-            self.caller.id(),
-            &mut self.reader,
-            service,
-            false,
-        );
-        self.board = Some(pass);
+        let maker = self.caller.id();
+        let mut board = enter_board(rt, domain, &mut self.board);
+        let _look = board
+            .value()
+            .lookup(maker, &mut self.reader, service, false);
+        let last = leave_board(domain, &mut self.board, board);
         self.caller.saw(last);
     }
 }

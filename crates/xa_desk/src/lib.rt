@@ -14,6 +14,7 @@ mod serving;
 mod setting;
 mod signal;
 mod stopped;
+mod visit;
 
 pub use calls::Unsent;
 pub use departure::Done;

@@ -19,12 +19,12 @@ ghost use Rattle.xa_desk.specs.Desks.{IsDomain, IsDesk, Leads};
 ghost use Rattle.xa_desk.specs.Found.{SawAtQueue};
 ghost use Rattle.xa_desk.specs.Serving.{IsServing, TakesAs, LeavesAs, IsDeserted, IsCleared, IsFallen, OfDomain, IsToTell, SweepsAs, IsAtEnd};
 
-use crate::desk::{Desk, put_back, take_from};
+use crate::desk::Desk;
 use crate::domain::Domain;
+use crate::visit::{enter, leave};
 use std::alloc::Global;
 use std::sync::Wait;
 use xa_server::events::StopCause;
-use xa_server::held::{AtQueue, down_at, gone_at, sweep_at, take_at};
 use xa_server::link::{Link, Starter};
 use xa_server::pipe::{Life, Return};
 use xa_server::queue::{GivenUp, Outgoing, Taken};
@@ -90,18 +90,14 @@ impl Desk {
         ensures taken { TakesAs domain.now queue.0 result slot.old slot.new self.old self.new }
         ensures board { (self.new.board ≡ self.old.board) × (self.new.reader ≡ self.old.reader) }
     {
-        let place = usize::from(queue.0) - 1;
-        let pass = take_from(&mut self.queues, place);
-        let AtQueue { pass, last, answer } = take_at(
-            rt,
-            &domain.queues[place],
-            pass,
-            self.caller.stamp(),
-            self.caller.id(),
-            slot.server(),
-            slot.life(),
-        );
-        put_back(&mut self.queues, place, pass);
+        let seen = self.caller.stamp();
+        let maker = self.caller.id();
+        let mut visit = enter(rt, domain, &mut self.queues, queue);
+        let answer = visit
+            .queue
+            .value()
+            .take(seen, maker, slot.server(), slot.life());
+        let last = leave(domain, &mut self.queues, visit);
         match answer {
             Ok(Taken::Request(out)) => {
                 let Outgoing { entry, noted } = out;
@@ -213,17 +209,11 @@ impl Desk {
         ensures gone { LeavesAs domain.now queue.0 result slot.old slot.new self.old self.new }
         ensures board { (self.new.board ≡ self.old.board) × (self.new.reader ≡ self.old.reader) }
     {
-        let place = usize::from(queue.0) - 1;
-        let pass = take_from(&mut self.queues, place);
-        let AtQueue { pass, last, answer } = gone_at(
-            rt,
-            &domain.queues[place],
-            pass,
-            self.caller.stamp(),
-            self.caller.id(),
-            slot.server(),
-        );
-        put_back(&mut self.queues, place, pass);
+        let seen = self.caller.stamp();
+        let maker = self.caller.id();
+        let mut visit = enter(rt, domain, &mut self.queues, queue);
+        let answer = visit.queue.value().gone(seen, maker, slot.server());
+        let last = leave(domain, &mut self.queues, visit);
         match answer {
             Ok(GivenUp { noted, last }) => {
                 let Noted { stamp, event } = noted;
@@ -254,16 +244,11 @@ impl Desk {
         ensures worn { IfErr result (λ worn. IsAtEnd worn self.old self.new) }
         ensures board { (self.new.board ≡ self.old.board) × (self.new.reader ≡ self.old.reader) }
     {
-        let place = usize::from(queue.0) - 1;
-        let pass = take_from(&mut self.queues, place);
-        let AtQueue { pass, last, answer } = down_at(
-            rt,
-            &domain.queues[place],
-            pass,
-            self.caller.stamp(),
-            self.caller.id(),
-        );
-        put_back(&mut self.queues, place, pass);
+        let seen = self.caller.stamp();
+        let maker = self.caller.id();
+        let mut visit = enter(rt, domain, &mut self.queues, queue);
+        let answer = visit.queue.value().down(seen, maker);
+        let last = leave(domain, &mut self.queues, visit);
         match answer {
             Ok(Some(noted)) => {
                 let Noted { stamp, event } = noted;
@@ -297,16 +282,11 @@ impl Desk {
         ensures fallen { IsFallen domain.now queue.0 self.new }
         ensures board { (self.new.board ≡ self.old.board) × (self.new.reader ≡ self.old.reader) }
     {
-        let place = usize::from(queue.0) - 1;
-        let pass = take_from(&mut self.queues, place);
-        let AtQueue { pass, last, answer } = sweep_at(
-            rt,
-            &domain.queues[place],
-            pass,
-            self.caller.stamp(),
-            self.caller.id(),
-        );
-        put_back(&mut self.queues, place, pass);
+        let seen = self.caller.stamp();
+        let maker = self.caller.id();
+        let mut visit = enter(rt, domain, &mut self.queues, queue);
+        let answer = visit.queue.value().sweep(seen, maker);
+        let last = leave(domain, &mut self.queues, visit);
         match answer {
             Ok(Some(out)) => {
                 let Outgoing { entry, noted } = out;

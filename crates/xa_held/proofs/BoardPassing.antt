@@ -1,31 +1,21 @@
 -- What a pass knows of the board once it has left.
-use Rattle.std.proofs.Common.{◌≡◌, ◌<◌, ◌≤◌, ℕ, zero, suc, arith, inl, inr, List, [], ◌∷◌, ◌++◌, append_assoc, Result, Ok, Err, length, refl, sym, ap, ◌∙◌, subst}
-use Rattle.std.specs.Prelude.{◌⊎◌, Bool}
+use Rattle.std.proofs.Common.{◌≡◌, ◌<◌, ◌≤◌, ℕ, zero, suc, arith, inl, inr, List, [], ◌∷◌, ◌++◌, append_assoc, length, refl, sym, ap, ◌∙◌, subst}
+use Rattle.std.specs.Prelude.{◌⊎◌}
 use Rattle.std.specs.List.{All}
-use Rattle.std.proofs.lemmas.List.Elements.{All-nil, All-cons, All-map, All-weaker}
-use Rattle.xa_types.specs.declared.ids.CallerId.{CallerId}
-use Rattle.xa_types.specs.declared.ids.QueueId.{QueueId}
-use Rattle.xa_types.specs.declared.row.Row.{Row}
+use Rattle.std.proofs.lemmas.List.Elements.{All-nil, All-map, All-weaker}
 use Rattle.xa_types.specs.declared.setup.Setup.{Setup}
 use Rattle.xa_types.specs.declared.stamp.Stamp.{Stamp}
-use Rattle.xa_types.specs.Found.{FoundRows}
 use Rattle.xa_lock.specs.declared.pass.Page.{Page}
 use Rattle.xa_lock.specs.Pages.{StartsWith, GrewBy, Knows, page_seeing, page_leaving}
-use Rattle.xa_board.specs.declared.board.Changed.{Changed}
-use Rattle.xa_board.specs.declared.board.BoardRefused.{BoardRefused}
 use Rattle.xa_board.specs.Board.{ReadsAsNoted, version_of}
 use Rattle.xa_stamp.specs.declared.home.Stamped.{Stamped}
 use Rattle.xa_lock.specs.declared.makers.Made.{Made}
 use Rattle.xa_lock.specs.Makers.{noted_in}
 use Rattle.xa_held.specs.declared.kept_board.BoardNote.{BoardNote}
 use Rattle.xa_held.specs.declared.kept_board.BoardNote.TheVariants.{Opened, By, Looked}
-use Rattle.xa_held.specs.declared.kept_board.Clearing.{Clearing}
-use Rattle.xa_held.specs.declared.kept_board.Look.{Look}
-use Rattle.xa_held.specs.declared.kept_board.Clearing.TheVariants.{Withdrew, Clear}
 use Rattle.xa_held.specs.Board.{Held, IsSoundBoard, Turns, maker_of, made_in, top}
 use Rattle.xa_held.specs.Joins.{changes_at}
 use Rattle.xa_held.proofs.Climbing.{below, topped}
-use Rattle.xa_held.specs.BoardSteps.{AdvertisedAs, WithdrewAs, ClearedAs, LookedUpAs}
 use Rattle.xa_held.specs.BoardVisits.{SeesBoard, BoardVisits, HasStampIn, ReachesBoard}
 use Rattle.xa_held.proofs.Pages.{grown_by, same_maker, own_more}
 
@@ -76,7 +66,7 @@ setup_is p board begins sound s sees = ap (setup_in s) (sym sound.opened.1 ∙ b
 
 -- the pass p entered, was q there, found `old`, and left `new`
 module _ (p q : Page BoardNote) (old new : Held) (found : q ≡ page_seeing p old.notes) (knows : Knows maker_of p old.notes) where
-  grown : (more : List BoardNote) (How : Held → Held → Type 0) → All (λ (z : BoardNote). maker_of z ≡ p.maker) more → Turns old new more How → GrewBy maker_of q.maker q.seen new.notes
+  pub grown : (more : List BoardNote) (How : Held → Held → Type 0) → All (λ (z : BoardNote). maker_of z ≡ p.maker) more → Turns old new more How → GrewBy maker_of q.maker q.seen new.notes
   grown more How ours t = grown_by p q old.notes new.notes more found t.notes maker_of ours
 
   module _ (q' : Page BoardNote) (after : q' ≡ page_leaving q new.notes) (was : IsSoundBoard old) (read : ReadsAsNoted old.board) (sound : IsSoundBoard new) (reads : ReadsAsNoted new.board) where
@@ -98,44 +88,3 @@ module _ (p q : Page BoardNote) (old new : Held) (found : q ≡ page_seeing p ol
       reads = reads;
       how = t.how;
     }
-
-    module _ (seen : Stamp) (maker by : CallerId) (op : ℕ) where
-      pub advertise_visits : (row : Row) (r : Result Changed BoardRefused) → AdvertisedAs (Turns old new) seen maker by op row r → AdvertisedAs (BoardVisits p q') seen maker by op row r
-      advertise_visits row (Ok done) t = visits _ _ t
-      advertise_visits row (Err why) t = visits _ _ t
-
-      pub withdraw_visits : (service : List ℕ) (queue : QueueId) (r : Result Changed BoardRefused) → WithdrewAs (Turns old new) seen maker by op service queue r → WithdrewAs (BoardVisits p q') seen maker by op service queue r
-      withdraw_visits service queue (Ok done) t = visits _ _ t
-      withdraw_visits service queue (Err why) t = visits _ _ t
-
-    pub clear_visits : (seen : Stamp) (maker : CallerId) (queue : QueueId) (r : Result Clearing BoardRefused) → ClearedAs (Turns old new) seen maker queue r → ClearedAs (BoardVisits p q') seen maker queue r
-    clear_visits seen maker queue (Ok (Withdrew noted)) t = visits _ _ t
-    clear_visits seen maker queue (Ok (Clear look)) t = visits _ _ t
-    clear_visits seen maker queue (Err why) t = visits _ _ t
-
-    pub look_visits : (maker : CallerId) (service : List ℕ) (conversational : Bool) (found : FoundRows) (look : Look) → LookedUpAs (Turns old new) maker service conversational found look → LookedUpAs (BoardVisits p q') maker service conversational found look
-    look_visits maker service conversational found look t = visits _ _ t
-
-  -- whose entries these are
-  module _ (seen : Stamp) (maker : CallerId) (ours : p.maker ≡ maker.0) where
-    abbrev Its : BoardNote → Type 0
-    Its z = maker_of z ≡ p.maker
-
-    mine : (z : BoardNote) → maker_of z ≡ maker.0 → All Its (z ∷ [])
-    mine z is = All-cons Its z [] (is ∙ sym ours) (All-nil Its)
-
-    pub advertise_grown : (by : CallerId) (op : ℕ) (row : Row) (r : Result Changed BoardRefused) → AdvertisedAs (Turns old new) seen maker by op row r → GrewBy maker_of q.maker q.seen new.notes
-    advertise_grown by op row (Ok done) t = grown _ _ (mine _ refl) t
-    advertise_grown by op row (Err why) t = grown _ _ (All-nil Its) t
-
-    pub withdraw_grown : (by : CallerId) (op : ℕ) (service : List ℕ) (queue : QueueId) (r : Result Changed BoardRefused) → WithdrewAs (Turns old new) seen maker by op service queue r → GrewBy maker_of q.maker q.seen new.notes
-    withdraw_grown by op service queue (Ok done) t = grown _ _ (mine _ refl) t
-    withdraw_grown by op service queue (Err why) t = grown _ _ (All-nil Its) t
-
-    pub clear_grown : (queue : QueueId) (r : Result Clearing BoardRefused) → ClearedAs (Turns old new) seen maker queue r → GrewBy maker_of q.maker q.seen new.notes
-    clear_grown queue (Ok (Withdrew noted)) t = grown _ _ (mine _ refl) t
-    clear_grown queue (Ok (Clear look)) t = grown _ _ (mine _ (ap (λ (m : CallerId). m.0) t.how.0.its)) t
-    clear_grown queue (Err why) t = grown _ _ (All-nil Its) t
-
-    pub look_grown : (service : List ℕ) (conversational : Bool) (found : FoundRows) (look : Look) → LookedUpAs (Turns old new) maker service conversational found look → GrewBy maker_of q.maker q.seen new.notes
-    look_grown service conversational found look t = grown _ _ (mine _ (ap (λ (m : CallerId). m.0) t.how.0.its)) t

@@ -4,8 +4,6 @@ use Rattle.std.specs.List.{All, flat_map}
 use Rattle.std.proofs.lemmas.List.{map-append}
 use Rattle.std.proofs.lemmas.List.Elements.{All-nil, All-cons, All-head, All-tail}
 use Rattle.xa_types.specs.declared.ids.CallerId.{CallerId}
-use Rattle.xa_types.specs.declared.ids.ServerId.{ServerId}
-use Rattle.xa_types.specs.declared.ids.Generation.{Generation}
 use Rattle.xa_types.specs.declared.stamp.Stamp.{Stamp}
 use Rattle.xa_types.specs.declared.stamp.Worn.{Worn}
 use Rattle.xa_events.specs.declared.event.Event.{Event}
@@ -15,22 +13,15 @@ use Rattle.xa_lock.specs.declared.makers.Made.{Made}
 use Rattle.xa_lock.specs.declared.pass.Page.{Page}
 use Rattle.xa_lock.specs.Makers.{noted_in}
 use Rattle.xa_lock.specs.Pages.{GrewBy, Knows, page_seeing, page_leaving}
-use Rattle.xa_queue.specs.declared.entry.Entry.{Entry}
-use Rattle.xa_queue.specs.declared.told.GivenUp.{GivenUp}
 use Rattle.xa_stamp.specs.declared.told.Noted.{Noted}
-use Rattle.xa_queue.specs.declared.told.Outgoing.{Outgoing}
-use Rattle.xa_queue.specs.declared.queue.PutRefused.{PutRefused}
-use Rattle.xa_queue.specs.declared.queue.Taken.{Taken}
-use Rattle.xa_queue.specs.declared.queue.Taken.TheVariants.{Request, Empty, Closed}
 use Rattle.xa_queue.specs.Queue.{IsSound}
 use Rattle.xa_queue.specs.Reading.{ReadsAsNoted}
-use Rattle.xa_held.specs.declared.cargo.Cargo.{Cargo}
 use Rattle.xa_held.specs.declared.kept_queue.Setting.{Setting}
 use Rattle.xa_held.specs.declared.kept_queue.QueueNote.{QueueNote}
 use Rattle.xa_held.specs.declared.kept_queue.QueueNote.TheVariants.{Opened, By}
 use Rattle.xa_held.specs.Notes.{one, maker_of, made_of}
 use Rattle.xa_held.specs.Kept.{Kept, setting_of, notes_of, Becomes}
-use Rattle.xa_held.specs.Steps.{PutAs, TookAs, GaveUpAs, WentDownAs, SweptAs, ClosedAs}
+use Rattle.xa_held.specs.Steps.{ClosedAs}
 use Rattle.xa_held.specs.Visits.{Sees, Visits, Reaches}
 use Rattle.xa_held.proofs.Pages.{grown_by, same_maker, own_more}
 use Rattle.xa_held.proofs.Front.{note, made_in-notes}
@@ -105,7 +96,7 @@ module _ {A : Type 0} {p q : Page (QueueNote A)} {old : Kept A} (at : Entered p 
     grew more How b =
         ap (λ (s : Setting A). Opened s ∷ map (note {A = A}) new.queue.entries) b.setting ∙ ap (λ (l : List (QueueNote A)). Opened (setting_of old) ∷ l) (ap (map (note {A = A})) b.entries ∙ map-append (note {A = A}) old.queue.entries more)
 
-    grown : (more : List Made) (How : Kept A → Kept A → Type 0) → All (λ (m : Made). m.maker.0 ≡ p.maker) more → Becomes old new more How → GrewBy maker_of q.maker q.seen (notes_of new)
+    pub grown : (more : List Made) (How : Kept A → Kept A → Type 0) → All (λ (m : Made). m.maker.0 ≡ p.maker) more → Becomes old new more How → GrewBy maker_of q.maker q.seen (notes_of new)
     grown more How ours b = grown_by p q (notes_of old) (notes_of new) (map (note {A = A}) more) at.found (grew more How b) maker_of (by_one p.maker more ours)
 
     -- whose events these are
@@ -116,30 +107,6 @@ module _ {A : Type 0} {p q : Page (QueueNote A)} {old : Kept A} (at : Entered p 
       mine : (stamp : Stamp) (event : Event) → All Its (one maker stamp event)
       mine stamp event = All-cons Its (record { maker = maker; noted = record { stamp = stamp; event = event } }) [] (sym ours) (All-nil Its)
 
-      pub put_grown : (event : Event) (entry : Entry (Cargo A)) (r : Result Stamp (PutRefused (Cargo A))) → PutAs (Becomes old new) seen maker event entry r → GrewBy maker_of q.maker q.seen (notes_of new)
-      put_grown event entry (Ok stamp) b = grown _ _ (mine stamp event) b
-      put_grown event entry (Err back) b = grown _ _ (All-nil Its) b.1
-
-      pub take_grown : (server : ServerId) (generation : Generation) (r : Result (Taken (Cargo A)) Worn) → TookAs (Becomes old new) seen maker server generation r → GrewBy maker_of q.maker q.seen (notes_of new)
-      take_grown server generation (Ok (Request out)) b = grown _ _ (mine out.noted.stamp out.noted.event.value) b
-      take_grown server generation (Ok Empty) b = grown _ _ (All-nil Its) b
-      take_grown server generation (Ok Closed) b = grown _ _ (All-nil Its) b
-      take_grown server generation (Err worn) b = grown _ _ (All-nil Its) b
-
-      pub gone_grown : (server : ServerId) (r : Result GivenUp Worn) → GaveUpAs (Becomes old new) seen maker server r → GrewBy maker_of q.maker q.seen (notes_of new)
-      gone_grown server (Ok done) b = grown _ _ (mine done.noted.stamp done.noted.event.value) b
-      gone_grown server (Err worn) b = grown _ _ (All-nil Its) b
-
-      pub down_grown : (r : Result (Option Noted) Worn) → WentDownAs (Becomes old new) seen maker r → GrewBy maker_of q.maker q.seen (notes_of new)
-      down_grown (Ok None) b = grown _ _ (All-nil Its) b
-      down_grown (Ok (Some noted)) b = grown _ _ (mine noted.stamp noted.event.value) b
-      down_grown (Err worn) b = grown _ _ (All-nil Its) b
-
-      pub sweep_grown : (r : Result (Option (Outgoing (Cargo A))) Worn) → SweptAs (Becomes old new) seen maker r → GrewBy maker_of q.maker q.seen (notes_of new)
-      sweep_grown (Ok None) b = grown _ _ (All-nil Its) b
-      sweep_grown (Ok (Some out)) b = grown _ _ (mine out.noted.stamp out.noted.event.value) b
-      sweep_grown (Err worn) b = grown _ _ (All-nil Its) b
-
       pub close_grown : (r : Result (Option Noted) Worn) → ClosedAs (Becomes old new) seen maker r → GrewBy maker_of q.maker q.seen (notes_of new)
       close_grown (Ok None) b = grown _ _ (All-nil Its) b
       close_grown (Ok (Some noted)) b = grown _ _ (mine noted.stamp noted.event.value) b
@@ -147,7 +114,7 @@ module _ {A : Type 0} {p q : Page (QueueNote A)} {old : Kept A} (at : Entered p 
 
   -- it is q' then
   module _ {new : Kept A} {q' : Page (QueueNote A)} (on : Left q q' new) where
-    visits : (more : List Made) (How : Kept A → Kept A → Type 0) → Becomes old new more How → Visits p q' more How
+    pub visits : (more : List Made) (How : Kept A → Kept A → Type 0) → Becomes old new more How → Visits p q' more How
     visits more How b =
         let further : List (QueueNote A) = map (note {A = A}) more in
         record {
@@ -166,30 +133,6 @@ module _ {A : Type 0} {p q : Page (QueueNote A)} {old : Kept A} (at : Entered p 
         }
 
     module _ (seen : Stamp) (maker : CallerId) where
-      pub put_visits : (event : Event) (entry : Entry (Cargo A)) (r : Result Stamp (PutRefused (Cargo A))) → PutAs (Becomes old new) seen maker event entry r → PutAs (Visits p q') seen maker event entry r
-      put_visits event entry (Ok stamp) b = visits _ _ b
-      put_visits event entry (Err back) b = (b.0, visits _ _ b.1)
-
-      pub take_visits : (server : ServerId) (generation : Generation) (r : Result (Taken (Cargo A)) Worn) → TookAs (Becomes old new) seen maker server generation r → TookAs (Visits p q') seen maker server generation r
-      take_visits server generation (Ok (Request out)) b = visits _ _ b
-      take_visits server generation (Ok Empty) b = visits _ _ b
-      take_visits server generation (Ok Closed) b = visits _ _ b
-      take_visits server generation (Err worn) b = visits _ _ b
-
-      pub gone_visits : (server : ServerId) (r : Result GivenUp Worn) → GaveUpAs (Becomes old new) seen maker server r → GaveUpAs (Visits {A = A} p q') seen maker server r
-      gone_visits server (Ok done) b = visits _ _ b
-      gone_visits server (Err worn) b = visits _ _ b
-
-      pub down_visits : (r : Result (Option Noted) Worn) → WentDownAs (Becomes old new) seen maker r → WentDownAs (Visits {A = A} p q') seen maker r
-      down_visits (Ok None) b = visits _ _ b
-      down_visits (Ok (Some noted)) b = visits _ _ b
-      down_visits (Err worn) b = visits _ _ b
-
-      pub sweep_visits : (r : Result (Option (Outgoing (Cargo A))) Worn) → SweptAs (Becomes old new) seen maker r → SweptAs (Visits p q') seen maker r
-      sweep_visits (Ok None) b = visits _ _ b
-      sweep_visits (Ok (Some out)) b = visits _ _ b
-      sweep_visits (Err worn) b = visits _ _ b
-
       pub close_visits : (r : Result (Option Noted) Worn) → ClosedAs (Becomes old new) seen maker r → ClosedAs (Visits {A = A} p q') seen maker r
       close_visits (Ok None) b = visits _ _ b
       close_visits (Ok (Some noted)) b = visits _ _ b

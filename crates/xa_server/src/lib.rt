@@ -35,8 +35,7 @@ pub mod events {
 
 pub mod held {
     pub use xa_caller::held::{
-        AtBoard, AtQueue, BoardNote, Clearing, KeptBoard, KeptQueue, QueueNote, clear_at, close_at,
-        down_at, gone_at, look_up_at, put_at, sweep_at, take_at,
+        AtQueue, BoardNote, Clearing, KeptBoard, KeptQueue, QueueNote, close_at,
     };
 }
 
@@ -45,7 +44,7 @@ pub mod link {
 }
 
 pub mod lock {
-    pub use xa_caller::lock::{Guarded, LockPass};
+    pub use xa_caller::lock::{Guarded, Held, LockPass};
 }
 
 pub mod pipe {

@@ -1,11 +1,10 @@
--- What a client and a server at a locked queue know: at first, behind each step, and of the queue that comes back.
-use Rattle.std.proofs.Common.{◌≡◌, ℕ, ◌<◌, true, List, [], ◌∷◌, ◌++◌, map, reverse, length, Option, Result, Ok, Err, Some, None, IfOk, IfErr, refl, sym, ap, ◌∙◌, subst, append_assoc}
-use Rattle.std.specs.Prelude.{slice_index_or, IfSome}
+-- What a queue is at first and behind each step, and what comes out of it.
+use Rattle.std.proofs.Common.{◌≡◌, ◌==◌, ℕ, true, false, List, [], ◌∷◌, ◌++◌, map, reverse, Option, Result, Ok, Err, Some, None, IfOk, IfErr, refl, sym, ap, ◌∙◌, subst}
+use Rattle.std.specs.Prelude.{IfSome}
 use Rattle.std.specs.List.{All, flat_map}
-use Rattle.std.proofs.Math.Seq.{get_or-append_seam}
-use Rattle.std.proofs.lemmas.List.Elements.{All-nil, All-cons, All-append, All-same}
+use Rattle.std.proofs.lemmas.List.{map-append}
+use Rattle.std.proofs.lemmas.List.Elements.{All-nil, All-cons, All-append, All-same, All-filter}
 use Rattle.xa_types.specs.declared.ids.CallerId.{CallerId}
-use Rattle.xa_types.specs.declared.ids.ServerId.{ServerId}
 use Rattle.xa_types.specs.declared.ids.Generation.{Generation}
 use Rattle.xa_types.specs.declared.stamp.Stamp.{Stamp}
 use Rattle.xa_types.specs.declared.stamp.Worn.{Worn}
@@ -14,166 +13,139 @@ use Rattle.xa_events.specs.Queue.{is_down}
 use Rattle.xa_stamp.specs.declared.home.Stamped.{Stamped}
 use Rattle.xa_stamp.specs.declared.told.Noted.{Noted}
 use Rattle.xa_cell.specs.declared.cells.Cells.{Cells}
-use Rattle.xa_lock.specs.declared.guarded.Guarded.{Guarded}
 use Rattle.xa_lock.specs.declared.makers.Made.{Made}
-use Rattle.xa_lock.specs.declared.pass.LockPass.{LockPass}
-use Rattle.xa_lock.specs.Known.{known, IsPassOf}
 use Rattle.xa_lock.specs.Makers.{noted_in}
-use Rattle.xa_lock.specs.Pages.{StartsWith, Knows, first_page}
+use Rattle.xa_lock.specs.Pages.{entries_by}
 use Rattle.xa_queue.specs.declared.entry.Entry.{Entry}
 use Rattle.xa_queue.specs.declared.told.GivenUp.{GivenUp}
 use Rattle.xa_queue.specs.declared.told.Outgoing.{Outgoing}
 use Rattle.xa_queue.specs.declared.queue.PutRefused.{PutRefused}
 use Rattle.xa_queue.specs.declared.queue.Taken.{Taken}
 use Rattle.xa_queue.specs.declared.queue.Taken.TheVariants.{Request, Empty, Closed}
-use Rattle.xa_queue.specs.Queue.{Standing, gives_up, has_server, all_gone, past_of}
+use Rattle.xa_queue.specs.Queue.{Standing, IsSound, gives_up, has_server, all_gone, past_of}
 use Rattle.xa_queue.specs.Changes.{opened}
 use Rattle.xa_held.specs.declared.cargo.Cargo.{Cargo}
 use Rattle.xa_held.specs.declared.kept_queue.QueueNote.{QueueNote}
 use Rattle.xa_held.specs.declared.kept_queue.QueueNote.TheVariants.{Opened, By}
 use Rattle.xa_held.specs.declared.kept_queue.Setting.{Setting}
-use Rattle.xa_held.specs.Kept.{Kept, IsRight, setting_of, notes_of}
-use Rattle.xa_held.specs.Notes.{IsOther, gone_in, is_down_in, events_in, maker_of}
+use Rattle.xa_held.specs.Kept.{Kept, IsRight, Becomes, setting_of, notes_of}
+use Rattle.xa_held.specs.Notes.{IsOther, gone_in, events_in, told, maker_of}
 use Rattle.xa_held.specs.Steps.{PutAs, TookAs, GaveUpAs, WentDownAs, SweptAs, ClosedAs}
-use Rattle.xa_held.specs.Visits.{Sees, Visits}
 use Rattle.xa_held.proofs.Front.{note, all_gone-whole, is_down-whole}
-use Rattle.xa_trials_objects.specs.Held.{setting, HasTicket, IsFit, HandsOut, Stands, Serves, IsDown}
-
-abbrev Pass : Type 0
-Pass = LockPass (QueueNote ℕ)
-
-abbrev Lock : Type 0
-Lock = Guarded (Kept ℕ) (QueueNote ℕ)
-
--- the server at each queue
-abbrev one : ServerId
-one = record { 0 = 1 }
-
--- the pass that has that place among the first ones
-pub page_at : {E : Type 0} (count n : ℕ) (entries : List E) (passes before behind : List (LockPass E)) (pass : LockPass E) → ((k : ℕ) (d : LockPass E) → k < count → known (slice_index_or passes k d) ≡ first_page k entries)
-    → passes ≡ before ++ pass ∷ behind → n ≡ length before → n < count → known pass ≡ first_page n entries
-page_at count n entries passes before behind pass all is at less =
-    sym (ap known (ap (λ l. slice_index_or l n pass) is ∙ ap (λ m. slice_index_or (before ++ pass ∷ behind) m pass) at ∙ get_or-append_seam before pass behind pass)) ∙ all n pass less
-
-pub first_stands : (queue : Lock) (cells : Cells ℕ) (kept : Kept ℕ) (n maker : ℕ) (pass : Pass) → IsPassOf queue pass → setting_of kept ≡ setting cells n → known pass ≡ first_page maker (notes_of kept) → Stands queue cells n maker pass
-first_stands queue cells kept n maker pass lock is page = record {
-  lock = lock;
-  its = ap (λ p. p.maker) page;
-  sees = record { rest = map By kept.queue.entries; seen = ap (λ p. p.seen) page ∙ ap (λ (s : Setting ℕ). Opened s ∷ map By kept.queue.entries) is };
-}
-
--- the queue as it is made
-pub is_set : (cells : Cells ℕ) (n : ℕ) (queue : Standing (Cargo ℕ)) (kept : Kept ℕ) → queue ≡ opened (record { 0 = n }) 3 (record { 0 = 1 } ∷ []) (record { 0 = 0 }) → kept ≡ record { queue = queue; clients = 1; cells = cells } → setting_of kept ≡ setting cells n
-is_set cells n queue kept made is = ap setting_of is ∙ ap (λ (q : Standing (Cargo ℕ)). setting_of (record { queue = q; clients = 1; cells = cells })) made
-
--- what the queue is, is what was seen first
-pub cells_are : (k : Kept ℕ) (cells : Cells ℕ) (n : ℕ) (pass : Pass) → Knows maker_of (known pass) (notes_of k) → Sees (setting cells n) (known pass) → k.cells ≡ cells
-cells_are k cells n pass knows sees = ap cells_of (knows.1.1 ∙ ap (λ (l : List (QueueNote ℕ)). l ++ knows.1.0) sees.seen)
-  where
-    cells_of : List (QueueNote ℕ) → Cells ℕ
-    cells_of (Opened s ∷ rest) = s.cells
-    cells_of _ = cells
+use Rattle.xa_trials_objects.specs.Held.{one, setting, HasTicket, IsFit, HandsOut, IsOf, Serves, IsDown, Keeps}
 
 events_noted : (entries : List Made) → events_in (map (note {A = ℕ}) entries) ≡ map (λ (noted : Stamped). noted.event) (noted_in entries)
 events_noted [] = refl
 events_noted (m ∷ entries) = ap (λ (l : List Event). m.noted.event ∷ l) (events_noted entries)
 
--- a step at a queue that was seen to be this
-module _ (queue : Lock) (cells : Cells ℕ) (n maker : ℕ) (pass left : Pass) (stands : Stands queue cells n maker pass) (lock : IsPassOf queue left) (seen : Stamp) (by : CallerId) where
-  module _ {more : List Made} {How : Kept ℕ → Kept ℕ → Type 0} (v : Visits (known pass) (known left) more How) where
-    was : setting_of v.old ≡ setting cells n
-    was = v.setting (setting cells n) stands.sees
+-- the queue as it is made
+pub made_serves : (cells : Cells ℕ) (n : ℕ) (queue : Standing (Cargo ℕ)) (kept : Kept ℕ) → queue ≡ opened (record { 0 = n }) 3 (one ∷ []) (record { 0 = 0 }) → kept ≡ record { queue = queue; clients = 1; cells = cells } → Serves cells n kept
+made_serves cells n queue kept made is =
+    let fresh : Standing (Cargo ℕ) → Kept ℕ = λ q. record { queue = q; clients = 1; cells = cells } in
+    subst (Serves cells n) (sym (is ∙ ap fresh made)) (record { is = refl; others = All-cons (IsOther one) (Opened (setting cells n)) [] tt (All-nil (IsOther one)) })
 
-    is : setting_of v.new ≡ setting cells n
-    is = v.same ∙ was
+none : All (IsOther {A = ℕ} one) []
+none = All-nil (IsOther {A = ℕ} one)
 
-    goes_on : Stands queue cells n maker left
-    goes_on = record {
-      lock = lock;
-      its = v.maker ∙ stands.its;
-      sees = record { rest = map By v.new.queue.entries; seen = v.saw ∙ ap (λ (s : Setting ℕ). Opened s ∷ map By v.new.queue.entries) is };
+-- an event that gives no server up
+other : (made : Made) (event : Event) → made.noted.event ≡ event → has_server one (gives_up event) ≡ false → All (IsOther {A = ℕ} one) (note {A = ℕ} made ∷ [])
+other made event its gives = All-cons (IsOther {A = ℕ} one) (By made) [] (ap (λ e. has_server one (gives_up e)) its ∙ gives) none
+
+-- so none of a maker's entries gives it up
+pub none_by : (maker : ℕ) (kept : Kept ℕ) → All (IsOther one) (notes_of kept) → All (IsOther one) (entries_by maker_of maker (notes_of kept))
+none_by maker kept all = All-filter (λ (z : QueueNote ℕ). maker_of z == maker) (IsOther one) (notes_of kept) all
+
+-- a step at that queue
+module _ (cells : Cells ℕ) (n : ℕ) (old new : Kept ℕ) (of : IsOf cells n old) where
+  module _ {more : List Made} {How : Kept ℕ → Kept ℕ → Type 0} (b : Becomes old new more How) where
+    is : IsOf cells n new
+    is = b.setting ∙ of
+
+    grew : notes_of new ≡ notes_of old ++ map (note {A = ℕ}) more
+    grew =
+        ap (λ (s : Setting ℕ). Opened s ∷ map (note {A = ℕ}) new.queue.entries) b.setting
+        ∙ ap (λ (l : List (QueueNote ℕ)). Opened (setting_of old) ∷ l) (ap (map (note {A = ℕ})) b.entries ∙ map-append (note {A = ℕ}) old.queue.entries more)
+
+    keeps : All (IsOther one) (map (note {A = ℕ}) more) → Keeps cells n old new
+    keeps these = record {
+      is = is;
+      up = λ serves. record { is = is; others = All-same (IsOther one) (notes_of new) (notes_of old ++ map (note {A = ℕ}) more) grew (All-append (IsOther one) (notes_of old) (map (note {A = ℕ}) more) serves.others these) };
+      down = λ fallen. record {
+        is = is;
+        deserted = all_gone-whole (notes_of new) (notes_of old) (setting cells n).servers (map (note {A = ℕ}) more, grew) fallen.deserted;
+        down = is_down-whole (notes_of new) (notes_of old) n (map (note {A = ℕ}) more, grew) fallen.down;
+      };
     }
 
-    sees_more : StartsWith (known left).seen (known pass).seen
-    sees_more = (v.knew.1.0 ++ map (note {A = ℕ}) more, v.saw ∙ v.grew ∙ ap (λ l. l ++ map (note {A = ℕ}) more) v.knew.1.1 ∙ append_assoc (known pass).seen v.knew.1.0 (map (note {A = ℕ}) more))
+    events : events_in (notes_of new) ≡ map (λ (noted : Stamped). noted.event) (noted_in new.queue.entries)
+    events = events_noted new.queue.entries
 
-    events : events_in (known left).seen ≡ map (λ (noted : Stamped). noted.event) (noted_in v.new.queue.entries)
-    events = ap events_in v.saw ∙ events_noted v.new.queue.entries
+  has_ticket : (entry : Entry (Cargo ℕ)) → IsRight old.cells entry → HasTicket cells entry
+  has_ticket entry right = right.table ∙ ap (λ (s : Setting ℕ). s.cells.table.shared.table_id) of
 
-    others : All (IsOther one) (known pass).own → All (IsOther one) (map (note {A = ℕ}) more) → All (IsOther one) (known left).own
-    others before these = All-same (IsOther one) (known left).own _ v.own (All-append (IsOther one) _ _ before these)
+  module _ (seen : Stamp) (by : CallerId) where
+    pub put_keeps : (event : Event) (entry : Entry (Cargo ℕ)) (answer : Result Stamp (PutRefused (Cargo ℕ))) → gives_up event ≡ [] → PutAs (Becomes old new) seen by event entry answer → Keeps cells n old new
+    put_keeps event entry (Ok stamp) left b = keeps b (other _ event refl (ap (has_server one) left))
+    put_keeps event entry (Err back) left b = keeps b.1 none
 
-    has_ticket : (entry : Entry (Cargo ℕ)) → IsRight v.old.cells entry → HasTicket cells entry
-    has_ticket entry right = right.table ∙ ap (λ (s : Setting ℕ). s.cells.table.shared.table_id) was
+    pub take_keeps : (generation : Generation) (answer : Result (Taken (Cargo ℕ)) Worn) → TookAs (Becomes old new) seen by one generation answer → Keeps cells n old new
+    take_keeps generation (Ok (Request out)) b = keeps b (other _ _ b.how.0.noted.event_is refl)
+    take_keeps generation (Ok Empty) b = keeps b none
+    take_keeps generation (Ok Closed) b = keeps b none
+    take_keeps generation (Err worn) b = keeps b none
 
-    falls_still : all_gone (gone_in (known pass).seen) (setting cells n).servers ≡ true → is_down_in n (known pass).seen ≡ true → maker ≡ 2 → IsDown queue cells n left
-    falls_still deserted down server = record {
-      stands = subst (λ m. Stands queue cells n m left) server goes_on;
-      deserted = all_gone-whole (known left).seen (known pass).seen (setting cells n).servers sees_more deserted;
-      down = is_down-whole (known left).seen (known pass).seen n sees_more down;
-    }
+    pub close_keeps : (answer : Result (Option Noted) Worn) → ClosedAs (Becomes old new) seen by answer → Keeps cells n old new
+    close_keeps (Ok None) b = keeps b none
+    close_keeps (Ok (Some noted)) b = keeps b (other _ _ b.how.1.event_is refl)
+    close_keeps (Err worn) b = keeps b none
 
-  pub put_stands : (event : Event) (entry : Entry (Cargo ℕ)) (answer : Result Stamp (PutRefused (Cargo ℕ))) → PutAs (Visits (known pass) (known left)) seen by event entry answer → Stands queue cells n maker left
-  put_stands event entry (Ok stamp) v = goes_on v
-  put_stands event entry (Err back) v = goes_on v.1
+    pub sweep_keeps : (answer : Result (Option (Outgoing (Cargo ℕ))) Worn) → SweptAs (Becomes old new) seen by answer → Keeps cells n old new
+    sweep_keeps (Ok None) b = keeps b none
+    sweep_keeps (Ok (Some out)) b = keeps b (other _ _ b.how.0.noted.event_is refl)
+    sweep_keeps (Err worn) b = keeps b none
 
-  pub close_stands : (answer : Result (Option Noted) Worn) → ClosedAs (Visits (known pass) (known left)) seen by answer → Stands queue cells n maker left
-  close_stands (Ok None) v = goes_on v
-  close_stands (Ok (Some noted)) v = goes_on v
-  close_stands (Err worn) v = goes_on v
+    pub down_keeps : (answer : Result (Option Noted) Worn) → WentDownAs (Becomes old new) seen by answer → Keeps cells n old new
+    down_keeps (Ok None) b = keeps b none
+    down_keeps (Ok (Some noted)) b = keeps b (other _ _ b.how.1.event_is refl)
+    down_keeps (Err worn) b = keeps b none
 
-  -- a server that takes doesn't give itself up
-  module _ (server : maker ≡ 2) (before : All (IsOther one) (known pass).own) (generation : Generation) where
-    serves : {more : List Made} {How : Kept ℕ → Kept ℕ → Type 0} → Visits (known pass) (known left) more How → All (IsOther one) (map (note {A = ℕ}) more) → Serves queue cells n left
-    serves v these = record { stands = subst (λ m. Stands queue cells n m left) server (goes_on v); others = others v before these }
+    -- what comes out has a ticket of these cells
+    pub take_hands_out : (generation : Generation) (answer : Result (Taken (Cargo ℕ)) Worn) → TookAs (Becomes old new) seen by one generation answer → IfOk answer (HandsOut cells)
+    take_hands_out generation (Ok (Request out)) b = has_ticket out.entry b.how.1
+    take_hands_out generation (Ok Empty) b = tt
+    take_hands_out generation (Ok Closed) b = tt
+    take_hands_out generation (Err worn) b = tt
 
-    pub take_serves : (answer : Result (Taken (Cargo ℕ)) Worn) → TookAs (Visits (known pass) (known left)) seen by one generation answer → Serves queue cells n left
-    take_serves (Ok (Request out)) v = serves v (All-cons (IsOther one) _ [] (ap (λ e. has_server one (gives_up e)) v.how.0.noted.event_is) (All-nil (IsOther one)))
-    take_serves (Ok Empty) v = serves v (All-nil (IsOther one))
-    take_serves (Ok Closed) v = serves v (All-nil (IsOther one))
-    take_serves (Err worn) v = serves v (All-nil (IsOther one))
+    pub sweep_hands_out : (answer : Result (Option (Outgoing (Cargo ℕ))) Worn) → SweptAs (Becomes old new) seen by answer → IfOk answer (λ swept. IfSome swept (λ (out : Outgoing (Cargo ℕ)). HasTicket cells out.entry))
+    sweep_hands_out (Ok None) b = tt
+    sweep_hands_out (Ok (Some out)) b = has_ticket out.entry b.how.1
+    sweep_hands_out (Err worn) b = tt
 
-  pub take_hands_out : (generation : Generation) (answer : Result (Taken (Cargo ℕ)) Worn) → TookAs (Visits (known pass) (known left)) seen by one generation answer → IfOk answer (HandsOut cells)
-  take_hands_out generation (Ok (Request out)) v = has_ticket v out.entry v.how.1
-  take_hands_out generation (Ok Empty) v = tt
-  take_hands_out generation (Ok Closed) v = tt
-  take_hands_out generation (Err worn) v = tt
+    -- it is the same queue when its server gave itself up, and when it went down
+    pub gone_is : (answer : Result GivenUp Worn) → GaveUpAs (Becomes old new) seen by one answer → IsOf cells n new
+    gone_is (Ok done) b = is b
+    gone_is (Err worn) b = is b
 
-  -- its only server gave itself up
-  pub all_left : (answer : Result GivenUp Worn) (done : GivenUp) → answer ≡ Ok done → done.last ≡ true → GaveUpAs (Visits (known pass) (known left)) seen by one answer
-      → Stands queue cells n maker left × (all_gone (gone_in (known left).seen) (setting cells n).servers ≡ true)
-  all_left answer done ok last gone =
-      let v : GaveUpAs (Visits (known pass) (known left)) seen by one (Ok done) = subst (GaveUpAs (Visits (known pass) (known left)) seen by one) ok gone in (
-        goes_on v,
-        ap (λ l. all_gone (flat_map gives_up l) (setting cells n).servers) (events v) ∙ ap (λ gone. all_gone gone (setting cells n).servers) (sym v.sound.given_up)
-            ∙ ap (λ (s : Setting ℕ). all_gone v.new.queue.gone s.servers) (sym (is v)) ∙ sym v.how.1 ∙ last,
-      )
+    pub down_is : (answer : Result (Option Noted) Worn) → WentDownAs (Becomes old new) seen by answer → IsOf cells n new
+    down_is (Ok None) b = is b
+    down_is (Ok (Some noted)) b = is b
+    down_is (Err worn) b = is b
 
-  -- it went down, where that was seen
-  pub went_down : (answer : Result (Option Noted) Worn) (noted : Noted) → answer ≡ Ok (Some noted) → maker ≡ 2 → all_gone (gone_in (known pass).seen) (setting cells n).servers ≡ true → WentDownAs (Visits (known pass) (known left)) seen by answer → IsDown queue cells n left
-  went_down answer noted ok server deserted down =
-      let v : WentDownAs (Visits (known pass) (known left)) seen by (Ok (Some noted)) = subst (WentDownAs (Visits (known pass) (known left)) seen by) ok down in record {
-        stands = subst (λ m. Stands queue cells n m left) server (goes_on v);
-        deserted = all_gone-whole (known left).seen (known pass).seen (setting cells n).servers (sees_more v) deserted;
-        down = ap (λ l. is_down n (reverse l)) (events v) ∙ ap (λ (s : Setting ℕ). is_down s.id.0 (past_of v.new.queue)) (sym (is v)) ∙ sym v.sound.fallen ∙ ap (λ q. q.down) v.how.1.notes.made;
-      }
+    -- its only server gave itself up
+    pub all_left : (answer : Result GivenUp Worn) (done : GivenUp) → answer ≡ Ok done → done.last ≡ true → IsSound new.queue → GaveUpAs (Becomes old new) seen by one answer → all_gone (gone_in (notes_of new)) (setting cells n).servers ≡ true
+    all_left answer done ok last sound gone =
+        let b : GaveUpAs (Becomes old new) seen by one (Ok done) = subst (GaveUpAs (Becomes old new) seen by one) ok gone in
+        ap (λ l. all_gone (flat_map gives_up l) (setting cells n).servers) (events b) ∙ ap (λ gone. all_gone gone (setting cells n).servers) (sym sound.given_up)
+        ∙ ap (λ (s : Setting ℕ). all_gone new.queue.gone s.servers) (sym (is b)) ∙ sym b.how.1 ∙ last
 
-  -- a queue that was down is down still
-  module _ (server : maker ≡ 2) (deserted : all_gone (gone_in (known pass).seen) (setting cells n).servers ≡ true) (down : is_down_in n (known pass).seen ≡ true) where
-    pub down_still : (answer : Result (Option Noted) Worn) → WentDownAs (Visits (known pass) (known left)) seen by answer → IsDown queue cells n left
-    down_still (Ok None) v = falls_still v deserted down server
-    down_still (Ok (Some noted)) v = falls_still v deserted down server
-    down_still (Err worn) v = falls_still v deserted down server
-
-    pub swept_still : (answer : Result (Option (Outgoing (Cargo ℕ))) Worn) → SweptAs (Visits (known pass) (known left)) seen by answer → IsDown queue cells n left
-    swept_still (Ok None) v = falls_still v deserted down server
-    swept_still (Ok (Some out)) v = falls_still v deserted down server
-    swept_still (Err worn) v = falls_still v deserted down server
-
-  pub sweep_hands_out : (answer : Result (Option (Outgoing (Cargo ℕ))) Worn) → SweptAs (Visits (known pass) (known left)) seen by answer → IfOk answer (λ swept. IfSome swept (λ (out : Outgoing (Cargo ℕ)). HasTicket cells out.entry))
-  sweep_hands_out (Ok None) v = tt
-  sweep_hands_out (Ok (Some out)) v = has_ticket v out.entry v.how.1
-  sweep_hands_out (Err worn) v = tt
+    -- it went down, where all had left
+    pub went_down : (answer : Result (Option Noted) Worn) (noted : Noted) → answer ≡ Ok (Some noted) → all_gone (gone_in (notes_of old)) (setting cells n).servers ≡ true → IsSound new.queue → WentDownAs (Becomes old new) seen by answer → IsDown cells n new
+    went_down answer noted ok deserted sound down =
+        let b : WentDownAs (Becomes old new) seen by (Ok (Some noted)) = subst (WentDownAs (Becomes old new) seen by) ok down in record {
+          is = is b;
+          deserted = all_gone-whole (notes_of new) (notes_of old) (setting cells n).servers (map (note {A = ℕ}) (told by noted), grew b) deserted;
+          down = ap (λ l. is_down n (reverse l)) (events b) ∙ ap (λ (s : Setting ℕ). is_down s.id.0 (past_of new.queue)) (sym (is b)) ∙ sym sound.fallen ∙ ap (λ q. q.down) b.how.1.notes.made;
+        }
 
 -- what is refused comes back as it was
 pub fits_back : (Change : List Made → (Kept ℕ → Kept ℕ → Type 0) → Type 0) (cells : Cells ℕ) (seen : Stamp) (by : CallerId) (event : Event) (entry : Entry (Cargo ℕ)) (answer : Result Stamp (PutRefused (Cargo ℕ))) → PutAs Change seen by event entry answer → IsFit cells entry

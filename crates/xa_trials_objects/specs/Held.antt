@@ -1,31 +1,23 @@
--- A client and a server at a queue under its lock, and a worker at the board under its own.
+-- A client and a server at a queue as a lock guards it.
 use Rattle.std.specs.Prelude.{◌≡◌, ℕ, ◌≤◌, true, [], ◌∷◌}
 use Rattle.std.specs.List.{All}
 use Rattle.xa_types.specs.declared.data.Data.TheVariants.{Absent}
 use Rattle.xa_types.specs.declared.ids.RequestId.{RequestId}
-use Rattle.xa_types.specs.declared.setup.Setup.{Setup}
+use Rattle.xa_types.specs.declared.ids.ServerId.{ServerId}
 use Rattle.xa_cell.specs.declared.cells.Cells.{Cells}
 use Rattle.xa_cell.specs.declared.tokens.Seat.{Seat}
 use Rattle.xa_cell.specs.declared.tokens.Ticket.{Ticket}
 use Rattle.xa_cell.specs.declared.view.Opening.{Opening}
 use Rattle.xa_cell.specs.Known.{named, IsSeatOf, IsTicketOf}
 use Rattle.xa_cell.specs.Places.{IsShut}
-use Rattle.xa_lock.specs.declared.guarded.Guarded.{Guarded}
-use Rattle.xa_lock.specs.declared.pass.LockPass.{LockPass}
-use Rattle.xa_lock.specs.Known.{known, IsPassOf}
 use Rattle.xa_queue.specs.declared.entry.Entry.{Entry}
 use Rattle.xa_queue.specs.declared.queue.Taken.{Taken}
 use Rattle.xa_queue.specs.declared.queue.Taken.TheVariants.{Request, Empty, Closed}
 use Rattle.xa_queue.specs.Queue.{all_gone}
 use Rattle.xa_held.specs.declared.cargo.Cargo.{Cargo}
-use Rattle.xa_held.specs.declared.kept_board.BoardNote.{BoardNote}
-use Rattle.xa_held.specs.declared.kept_queue.QueueNote.{QueueNote}
 use Rattle.xa_held.specs.declared.kept_queue.Setting.{Setting}
-use Rattle.xa_held.specs.Board.{Held}
-use Rattle.xa_held.specs.BoardVisits.{SeesBoard}
-use Rattle.xa_held.specs.Kept.{Kept, IsRight}
+use Rattle.xa_held.specs.Kept.{Kept, IsRight, setting_of, notes_of}
 use Rattle.xa_held.specs.Notes.{IsOther, gone_in, is_down_in}
-use Rattle.xa_held.specs.Visits.{Sees}
 
 -- the seat is of these cells, and has no place open
 abbrev pub Sits : Cells ℕ → Seat ℕ → Type 0
@@ -59,36 +51,27 @@ HandsOut cells Closed = Unit {0}
 abbrev pub setting : Cells ℕ → ℕ → Setting ℕ
 setting cells n = record { id = record { 0 = n }; capacity = 3; servers = record { 0 = 1 } ∷ []; first = record { 0 = 0 }; clients = 1; cells = cells }
 
--- the pass is of that maker, and saw what the queue with that number is
-pub record Stands (queue : Guarded (Kept ℕ) (QueueNote ℕ)) (cells : Cells ℕ) (n maker : ℕ) (pass : LockPass (QueueNote ℕ)) : Type 0 where
-  pub lock : IsPassOf queue pass
-  pub its : (known pass).maker ≡ maker
-  pub sees : Sees (setting cells n) (known pass)
+-- the server at each queue
+abbrev pub one : ServerId
+one = record { 0 = 1 }
 
--- it is the server's, which didn't give itself up there
-pub record Serves (queue : Guarded (Kept ℕ) (QueueNote ℕ)) (cells : Cells ℕ) (n : ℕ) (pass : LockPass (QueueNote ℕ)) : Type 0 where
-  pub stands : Stands queue cells n 2 pass
-  pub others : All (IsOther (record { 0 = 1 })) (known pass).own
+-- it is the queue with that number
+abbrev pub IsOf : Cells ℕ → ℕ → Kept ℕ → Type 0
+IsOf cells n kept = setting_of kept ≡ setting cells n
 
--- it is the server's, which saw the queue without a server, and down
-pub record IsDown (queue : Guarded (Kept ℕ) (QueueNote ℕ)) (cells : Cells ℕ) (n : ℕ) (pass : LockPass (QueueNote ℕ)) : Type 0 where
-  pub stands : Stands queue cells n 2 pass
-  pub deserted : all_gone (gone_in (known pass).seen) (setting cells n).servers ≡ true
-  pub down : is_down_in n (known pass).seen ≡ true
+-- it is, and its server wasn't given up there
+pub record Serves (cells : Cells ℕ) (n : ℕ) (kept : Kept ℕ) : Type 0 where
+  pub is : IsOf cells n kept
+  pub others : All (IsOther one) (notes_of kept)
 
--- the client's pass and the server's, at a queue that has its server, that is down, or either
-module _ (queue : Guarded (Kept ℕ) (QueueNote ℕ)) (cells : Cells ℕ) (n : ℕ) (client server : LockPass (QueueNote ℕ)) where
-  abbrev pub AreUp : Type 0
-  AreUp = Stands queue cells n 1 client × Serves queue cells n server
+-- it is, without a server, and down
+pub record IsDown (cells : Cells ℕ) (n : ℕ) (kept : Kept ℕ) : Type 0 where
+  pub is : IsOf cells n kept
+  pub deserted : all_gone (gone_in (notes_of kept)) (setting cells n).servers ≡ true
+  pub down : is_down_in n (notes_of kept) ≡ true
 
-  abbrev pub AreDown : Type 0
-  AreDown = Stands queue cells n 1 client × IsDown queue cells n server
-
-  abbrev pub AreOf : Type 0
-  AreOf = Stands queue cells n 1 client × IsPassOf queue server
-
--- the pass is of the board's maker 1, and saw by what setup the rows are
-pub record IsOwn (board : Guarded Held BoardNote) (setup : Setup) (pass : LockPass BoardNote) : Type 0 where
-  pub lock : IsPassOf board pass
-  pub its : (known pass).maker ≡ 1
-  pub sees : SeesBoard setup (known pass)
+-- a step leaves the queue what it was: with its server, or down
+pub record Keeps (cells : Cells ℕ) (n : ℕ) (old new : Kept ℕ) : Type 0 where
+  pub is : IsOf cells n new
+  pub up : Serves cells n old → Serves cells n new
+  pub down : IsDown cells n old → IsDown cells n new

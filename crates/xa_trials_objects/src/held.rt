@@ -1,20 +1,16 @@
-//! Two queues under their locks, which one server serves: what it and a client are told there step by step, while both
+//! Two queues as locks guard them, which one server serves: what it and a client are told there step by step, while both
 //! queues have it and once one of them is down, and what stays behind them.
-ghost use Rattle.std.specs.Prelude.{◌≡◌, ◌≤◌, ◌<◌, ◌^◌, length, IfOk, IfErr, vec_capacity};
-ghost use Rattle.std.specs.List.{All};
-ghost use Rattle.xa_lock.specs.Known.{IsPassOf, passes_of};
-ghost use Rattle.xa_trials_objects.specs.Held.{Sits, IsFit, Stands, Serves, IsDown, AreUp, AreDown, AreOf};
+ghost use Rattle.std.specs.Prelude.{◌≡◌, ◌≤◌, ◌<◌, ◌^◌, true};
+ghost use Rattle.xa_trials_objects.specs.Held.{Sits, IsFit, IsOf, Serves, IsDown, Keeps};
 
 use crate::held_steps::{
-    Carried, Lock, Pass, Told, close, down, entry_of, finish, next, put, sweep, take, told_put,
+    Carried, Kept, Told, close, down, entry_of, finish, next, put, sweep, take, told_put,
 };
 use crate::rows::none_fails;
 use std::alloc::Global;
 use std::process::Abort;
-use std::sync::Wait;
 use xa_cell::{Cells, Seat};
-use xa_held::{AtQueue, KeptQueue, down_at, gone_at};
-use xa_lock::Guarded;
+use xa_held::KeptQueue;
 use xa_queue::{PutRefused, Queue, Refusal};
 use xa_types::{CallerId, QueueId, ServerId, Stamp};
 
@@ -138,312 +134,201 @@ static RUNS: [Run; 3] = [
     },
 ];
 
-// The passes of the client and of the server at a queue.
-struct Passes {
-    client: Pass,
-    server: Pass,
-}
-
 // Whether a step at a queue that has its server is told what it should be.
-fn is_told<R: Wait>(
-    rt: &R,
+fn is_told(
     cells: &Cells<u32>,
-    queue: &Lock,
+    queue: &mut Kept,
     id: QueueId,
     seat: &mut Seat<u32>,
-    passes: Passes,
     step: Step,
-) -> (Passes, bool)
+) -> bool
     requires seat { Sits cells.now seat.old }
-    requires up { AreUp queue.now cells.now id.0 passes.client passes.server }
+    requires up { Serves cells.now id.0 queue.old }
     ensures seat { Sits cells.now seat.new }
-    ensures up { AreUp queue.now cells.now id.0 result.0.client result.0.server }
+    ensures up { Serves cells.now id.0 queue.new }
 {
     let (seen, ask, told, last) = step;
     let seen = Stamp(seen.min(END));
-    let Passes { client, server } = passes;
-    match ask {
+    let got = match ask {
         Ask::Put(number, priority) => {
             let Some(entry) = entry_of(cells, seat, number, priority.clamp(1, 100)) else {
-                return (Passes { client, server }, false);
+                return false;
             };
-            let at = put(rt, cells, queue, id, client, seen, entry);
-            let AtQueue {
-                pass: client,
-                answer,
-                last: at,
-            } = at;
-            let got = told_put(cells, seat, answer);
-            (Passes { client, server }, got == told && at.0 == last)
+            let answer = put(cells, queue, id, seen, entry);
+            told_put(cells, seat, answer)
         }
-        Ask::Take => {
-            let (server, got, at) = take(rt, cells, queue, id, seat, server, seen);
-            (Passes { client, server }, got == told && at.0 == last)
-        }
-        Ask::Close => {
-            let (client, got, at) = close(rt, cells, queue, id, client, seen);
-            (Passes { client, server }, got == told && at.0 == last)
-        }
-        Ask::Sweep | Ask::Down => (Passes { client, server }, false),
-    }
+        Ask::Take => take(cells, queue, id, seat, seen),
+        Ask::Close => close(cells, queue, id, seen),
+        Ask::Sweep | Ask::Down => return false,
+    };
+    got == told && queue.stamp().0 == last
 }
 
-fn are_told<R: Wait>(
-    rt: &R,
+fn are_told(
     cells: &Cells<u32>,
-    queue: &Lock,
+    queue: &mut Kept,
     id: QueueId,
     seat: &mut Seat<u32>,
-    mut passes: Passes,
     steps: &[Step],
-) -> (Passes, bool)
+) -> bool
     requires seat { Sits cells.now seat.old }
-    requires up { AreUp queue.now cells.now id.0 passes.client passes.server }
+    requires up { Serves cells.now id.0 queue.old }
     ensures seat { Sits cells.now seat.new }
-    ensures up { AreUp queue.now cells.now id.0 result.0.client result.0.server }
+    ensures up { Serves cells.now id.0 queue.new }
 {
     let mut right = true;
     for step in steps {
-        let (left, told) = is_told(rt, cells, queue, id, seat, passes, *step);
-        passes = left;
-        right &= told;
+        right &= is_told(cells, queue, id, seat, *step);
     }
-    (passes, right)
+    right
 }
 
-// The server gives itself up at a queue, and takes it down. Its pass comes as Ok where both are told these stamps.
-fn falls<R: Wait>(
-    rt: &R,
-    cells: &Cells<u32>,
-    queue: &Lock,
-    id: QueueId,
-    pass: Pass,
-    gone: u64,
-    down: u64,
-) -> Result<Pass, Pass>
-    requires { Serves queue.now cells.now id.0 pass }
-    ensures down { IfOk result (IsDown queue.now cells.now id.0) }
-    ensures up { IfErr result (IsPassOf queue.now) }
+// The server gives itself up at a queue, and takes it down. Whether it did, and each with that stamp.
+fn falls(cells: &Cells<u32>, queue: &mut Kept, id: QueueId, gone: u64, down: u64) -> bool
+    requires { Serves cells.now id.0 queue.old }
+    ensures is { IsOf cells.now id.0 queue.new }
+    ensures down { result ≡ true → IsDown cells.now id.0 queue.new }
 {
     let _ = cells;
     let _ = id;
     let maker = CallerId(2);
-    let at = gone_at(rt, queue, pass, Stamp(0), maker, ServerId(1));
-    let AtQueue {
-        pass,
-        answer,
-        last: _,
-    } = at;
-    let Ok(left) = answer else {
-        return Err(pass);
+    let Ok(left) = queue.gone(Stamp(0), maker, ServerId(1)) else {
+        return false;
     };
-    if !left.last {
-        return Err(pass);
+    let at = queue.stamp();
+    if !left.last || at.0 != gone {
+        return false;
     }
-    let at = down_at(rt, queue, pass, Stamp(0), maker);
-    let AtQueue {
-        pass,
-        answer,
-        last: _,
-    } = at;
-    let Ok(Some(fallen)) = answer else {
-        return Err(pass);
+    let Ok(Some(_)) = queue.down(Stamp(0), maker) else {
+        return false;
     };
-    if left.noted.stamp.0 == gone && fallen.stamp.0 == down {
-        Ok(pass)
-    } else {
-        Err(pass)
-    }
+    let end = queue.stamp();
+    end.0 == down
 }
 
 // Puts a request at the first queue, and where it comes back from there at the other.
-fn put_past<R: Wait>(
-    rt: &R,
+fn put_past(
     cells: &Cells<u32>,
-    first: &Lock,
-    other: &Lock,
+    first: &mut Kept,
+    other: &mut Kept,
     seat: &mut Seat<u32>,
-    passes: (Pass, Pass),
     seen: Stamp,
     entry: Carried,
-) -> ((Pass, Pass), Told, Stamp)
+) -> Told
     requires seat { Sits cells.now seat.old }
-    requires first { Stands first.now cells.now 1 1 passes.0 }
-    requires other { Stands other.now cells.now 2 1 passes.1 }
+    requires first { IsOf cells.now 1 first.old }
+    requires other { IsOf cells.now 2 other.old }
     requires seen { seen.0 ≤ 2 ^ 63 }
     requires fit { IsFit cells.now entry }
     ensures seat { Sits cells.now seat.new }
-    ensures first { Stands first.now cells.now 1 1 result.0.0 }
-    ensures other { Stands other.now cells.now 2 1 result.0.1 }
+    ensures first { Keeps cells.now 1 first.old first.new }
+    ensures other { Keeps cells.now 2 other.old other.new }
 {
-    let (one, two) = passes;
-    let at = put(rt, cells, first, QueueId(1), one, seen, entry);
-    let AtQueue {
-        pass: one,
-        answer,
-        last,
-    } = at;
-    let PutRefused { entry, why } = match answer {
-        Ok(stamp) => return ((one, two), Told::Done(stamp.0), last),
+    let PutRefused { entry, why } = match put(cells, first, QueueId(1), seen, entry) {
+        Ok(stamp) => return Told::Done(stamp.0),
         Err(back) => back,
     };
-    let at = put(rt, cells, other, QueueId(2), two, seen, entry);
-    let AtQueue {
-        pass: two,
-        answer,
-        last: _,
-    } = at;
-    let told = match told_put(cells, seat, answer) {
+    let answer = put(cells, other, QueueId(2), seen, entry);
+    match told_put(cells, seat, answer) {
         Told::Done(stamp) => Told::Past(why, stamp),
         told => told,
-    };
-    ((one, two), told, last)
-}
-
-// Whether a step at a queue that is down is told what it should be.
-fn is_told_down<R: Wait>(
-    rt: &R,
-    cells: &Cells<u32>,
-    queue: &Lock,
-    id: QueueId,
-    seat: &mut Seat<u32>,
-    passes: Passes,
-    step: Step,
-) -> (Passes, bool)
-    requires seat { Sits cells.now seat.old }
-    requires down { AreDown queue.now cells.now id.0 passes.client passes.server }
-    ensures seat { Sits cells.now seat.new }
-    ensures down { AreDown queue.now cells.now id.0 result.0.client result.0.server }
-{
-    let (seen, ask, told, last) = step;
-    let seen = Stamp(seen.min(END));
-    let Passes { client, server } = passes;
-    match ask {
-        Ask::Close => {
-            let (client, got, at) = close(rt, cells, queue, id, client, seen);
-            (Passes { client, server }, got == told && at.0 == last)
-        }
-        Ask::Sweep => {
-            let (server, got, at) = sweep(rt, cells, queue, id, seat, server, seen);
-            (Passes { client, server }, got == told && at.0 == last)
-        }
-        Ask::Down => {
-            let (server, got, at) = down(rt, cells, queue, id, server, seen);
-            (Passes { client, server }, got == told && at.0 == last)
-        }
-        Ask::Put(_, _) | Ask::Take => (Passes { client, server }, false),
     }
 }
 
-// Whether a step at the first queue, which is down, or at the other, which has its server, is told what it should be.
-fn is_told_past<R: Wait>(
-    rt: &R,
+// Whether a step at a queue that is down is told what it should be.
+fn is_told_down(
     cells: &Cells<u32>,
-    first: &Lock,
-    other: &Lock,
+    queue: &mut Kept,
+    id: QueueId,
     seat: &mut Seat<u32>,
-    fallen: Passes,
-    standing: Passes,
     step: Step,
-) -> (Passes, Passes, bool)
+) -> bool
     requires seat { Sits cells.now seat.old }
-    requires first { AreDown first.now cells.now 1 fallen.client fallen.server }
-    requires other { AreUp other.now cells.now 2 standing.client standing.server }
+    requires down { IsDown cells.now id.0 queue.old }
     ensures seat { Sits cells.now seat.new }
-    ensures first { AreDown first.now cells.now 1 result.0.client result.0.server }
-    ensures other { AreUp other.now cells.now 2 result.1.client result.1.server }
+    ensures down { IsDown cells.now id.0 queue.new }
+{
+    let (seen, ask, told, last) = step;
+    let seen = Stamp(seen.min(END));
+    let got = match ask {
+        Ask::Close => close(cells, queue, id, seen),
+        Ask::Sweep => sweep(cells, queue, id, seat, seen),
+        Ask::Down => down(cells, queue, id, seen),
+        Ask::Put(_, _) | Ask::Take => return false,
+    };
+    got == told && queue.stamp().0 == last
+}
+
+// Whether a step at the first queue, which is down, or at the other, which has its server, is told what it should be.
+fn is_told_past(
+    cells: &Cells<u32>,
+    first: &mut Kept,
+    other: &mut Kept,
+    seat: &mut Seat<u32>,
+    step: Step,
+) -> bool
+    requires seat { Sits cells.now seat.old }
+    requires first { IsDown cells.now 1 first.old }
+    requires other { Serves cells.now 2 other.old }
+    ensures seat { Sits cells.now seat.new }
+    ensures first { IsDown cells.now 1 first.new }
+    ensures other { Serves cells.now 2 other.new }
 {
     let (seen, ask, told, last) = step;
     match ask {
         Ask::Put(number, priority) => {
             let Some(entry) = entry_of(cells, seat, number, priority.clamp(1, 100)) else {
-                return (fallen, standing, false);
+                return false;
             };
             let seen = Stamp(seen.min(END));
-            let Passes {
-                client: one,
-                server,
-            } = fallen;
-            let Passes {
-                client: two,
-                server: taker,
-            } = standing;
-            let put = put_past(rt, cells, first, other, seat, (one, two), seen, entry);
-            let ((one, two), got, at) = put;
-            let fallen = Passes {
-                client: one,
-                server,
-            };
-            let standing = Passes {
-                client: two,
-                server: taker,
-            };
-            (fallen, standing, got == told && at.0 == last)
+            let got = put_past(cells, first, other, seat, seen, entry);
+            got == told && first.stamp().0 == last
         }
-        Ask::Take => {
-            let (standing, right) = is_told(rt, cells, other, QueueId(2), seat, standing, step);
-            (fallen, standing, right)
-        }
-        Ask::Close | Ask::Sweep | Ask::Down => {
-            let (fallen, right) = is_told_down(rt, cells, first, QueueId(1), seat, fallen, step);
-            (fallen, standing, right)
-        }
+        Ask::Take => is_told(cells, other, QueueId(2), seat, step),
+        Ask::Close | Ask::Sweep | Ask::Down => is_told_down(cells, first, QueueId(1), seat, step),
     }
 }
 
-fn are_told_past<R: Wait>(
-    rt: &R,
+fn are_told_past(
     cells: &Cells<u32>,
-    first: &Lock,
-    other: &Lock,
+    first: &mut Kept,
+    other: &mut Kept,
     seat: &mut Seat<u32>,
-    mut fallen: Passes,
-    mut standing: Passes,
     steps: &[Step],
-) -> (Passes, Passes, bool)
+) -> bool
     requires seat { Sits cells.now seat.old }
-    requires first { AreDown first.now cells.now 1 fallen.client fallen.server }
-    requires other { AreUp other.now cells.now 2 standing.client standing.server }
+    requires first { IsDown cells.now 1 first.old }
+    requires other { Serves cells.now 2 other.old }
     ensures seat { Sits cells.now seat.new }
-    ensures first { AreDown first.now cells.now 1 result.0.client result.0.server }
-    ensures other { AreUp other.now cells.now 2 result.1.client result.1.server }
+    ensures first { IsDown cells.now 1 first.new }
+    ensures other { Serves cells.now 2 other.new }
 {
     let mut right = true;
     for step in steps {
-        let (one, two, told) = is_told_past(rt, cells, first, other, seat, fallen, standing, *step);
-        fallen = one;
-        standing = two;
-        right &= told;
+        right &= is_told_past(cells, first, other, seat, *step);
     }
-    (fallen, standing, right)
+    right
 }
 
 // Whether the first queue falls, and then all is told what it should be.
-fn goes_past<R: Wait>(
-    rt: &R,
+fn goes_past(
     cells: &Cells<u32>,
-    first: &Lock,
-    other: &Lock,
+    first: &mut Kept,
+    other: &mut Kept,
     seat: &mut Seat<u32>,
-    fallen: Passes,
-    standing: Passes,
     run: Run,
-) -> (Passes, Passes, bool)
+) -> bool
     requires seat { Sits cells.now seat.old }
-    requires first { AreUp first.now cells.now 1 fallen.client fallen.server }
-    requires other { AreUp other.now cells.now 2 standing.client standing.server }
+    requires first { Serves cells.now 1 first.old }
+    requires other { Serves cells.now 2 other.old }
     ensures seat { Sits cells.now seat.new }
-    ensures first { AreOf first.now cells.now 1 result.0.client result.0.server }
-    ensures other { AreOf other.now cells.now 2 result.1.client result.1.server }
+    ensures first { IsOf cells.now 1 first.new }
+    ensures other { IsOf cells.now 2 other.new }
 {
-    let Passes { client, server } = fallen;
-    match falls(rt, cells, first, QueueId(1), server, run.gone, run.down) {
-        Ok(server) => {
-            let fallen = Passes { client, server };
-            are_told_past(rt, cells, first, other, seat, fallen, standing, run.past)
-        }
-        Err(server) => (Passes { client, server }, standing, false),
+    if !falls(cells, first, QueueId(1), run.gone, run.down) {
+        return false;
     }
+    are_told_past(cells, first, other, seat, run.past)
 }
 
 // Whether a queue that is ended has what it should have.
@@ -470,55 +355,18 @@ fn is_left(
     right && place == left.len() && noted == events
 }
 
-// A queue under its lock, with the passes of the client and the server, and that of the domain.
-fn queue_of<R: Abort>(
-    rt: &R,
-    alloc: Global,
-    cells: &Cells<u32>,
-    id: QueueId,
-) -> (Lock, Passes, Vec<Pass>)
+// A queue that three may wait at, of server 1.
+fn queue_of<R: Abort>(rt: &R, alloc: Global, cells: &Cells<u32>, id: QueueId) -> Kept
     requires { 0 < id.0 }
-    ensures up { AreUp result.0 cells.now id.0 result.1.client result.1.server }
-    ensures rest { All (IsPassOf result.0) result.2.items }
-    ensures count { (length result.2.items ≡ 1) × (passes_of result.0 ≡ 3) }
-    ensures room { 3 ≤ vec_capacity result.2 }
+    ensures { Serves cells.now id.0 result }
 {
-    let Ok(queue) = Queue::new(alloc, id, 3, &[ServerId(1)], Stamp(0)) else {
-        panic!(rt; "no memory")
-    };
-    let (lock, mut passes) = match Guarded::try_new(alloc, KeptQueue::of(queue, 1, cells), 3) {
-        Ok(made) => made,
+    match Queue::new(alloc, id, 3, &[ServerId(1)], Stamp(0)) {
+        Ok(queue) => KeptQueue::of(queue, 1, cells),
         Err(_) => panic!(rt; "no memory"),
-    };
-    let server = next(rt, &mut passes);
-    let client = next(rt, &mut passes);
-    (lock, Passes { client, server }, passes)
+    }
 }
 
-// Ends a queue, whether it has what it should have.
-fn is_ended(
-    cells: &Cells<u32>,
-    seat: &mut Seat<u32>,
-    id: QueueId,
-    made: (Lock, Passes, Vec<Pass>),
-    want: (&[u64], usize),
-) -> bool
-    requires seat { Sits cells.now seat.old }
-    requires owned { AreOf made.0 cells.now id.0 made.1.client made.1.server }
-    requires rest { All (IsPassOf made.0) made.2.items }
-    requires count { (length made.2.items ≡ 1) × (passes_of made.0 ≡ 3) }
-    requires room { 3 ≤ vec_capacity made.2 }
-    ensures { Sits cells.now seat.new }
-{
-    let _ = id;
-    let (lock, passes, mut rest) = made;
-    let Passes { client, server } = passes;
-    rest.push_reserved(server);
-    rest.push_reserved(client);
-    is_left(cells, seat, lock.close(rest), want.0, want.1)
-}
-
-fn plays<R: Abort + Wait>(
+fn plays<R: Abort>(
     rt: &R,
     alloc: Global,
     cells: &Cells<u32>,
@@ -528,16 +376,16 @@ fn plays<R: Abort + Wait>(
     requires { Sits cells.now seat.old }
     ensures { Sits cells.now seat.new }
 {
-    let (first, one, ones) = queue_of(rt, alloc, cells, QueueId(1));
-    let (other, two, twos) = queue_of(rt, alloc, cells, QueueId(2));
-    let (one, told) = are_told(rt, cells, &first, QueueId(1), seat, one, run.up);
-    let (one, two, past) = goes_past(rt, cells, &first, &other, seat, one, two, run);
-    let left = is_ended(cells, seat, QueueId(1), (first, one, ones), run.first);
-    let stays = is_ended(cells, seat, QueueId(2), (other, two, twos), run.other);
+    let mut first = queue_of(rt, alloc, cells, QueueId(1));
+    let mut other = queue_of(rt, alloc, cells, QueueId(2));
+    let told = are_told(cells, &mut first, QueueId(1), seat, run.up);
+    let past = goes_past(cells, &mut first, &mut other, seat, run);
+    let left = is_left(cells, seat, first, run.first.0, run.first.1);
+    let stays = is_left(cells, seat, other, run.other.0, run.other.1);
     told && past && left && stays
 }
 
-fn is_right<R: Abort + Wait>(rt: &R, alloc: Global, run: Run) -> bool {
+fn is_right<R: Abort>(rt: &R, alloc: Global, run: Run) -> bool {
     let Ok((cells, mut seats)) = Cells::<u32>::new(alloc, &[20]) else {
         panic!(rt; "no memory")
     };
@@ -548,7 +396,7 @@ fn is_right<R: Abort + Wait>(rt: &R, alloc: Global, run: Run) -> bool {
     right
 }
 
-fn first_not_right<R: Abort + Wait>(rt: &R, alloc: Global) -> Option<usize> {
+fn first_not_right<R: Abort>(rt: &R, alloc: Global) -> Option<usize> {
     for (place, run) in RUNS.iter().enumerate() {
         if !is_right(rt, alloc, *run) {
             return Some(place);

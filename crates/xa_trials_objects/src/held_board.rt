@@ -1,22 +1,14 @@
-//! The board under its lock: what changes, looks and look-ups are told there, step by step.
-ghost use Rattle.std.specs.Prelude.{◌≡◌, ◌+◌, ◌<◌, ◌≤◌, ◌^◌, true, length, IfSome, vec_len, vec_capacity};
-ghost use Rattle.std.specs.List.{All};
+//! The board as a lock guards it: what changes, looks and look-ups are told there, step by step.
+ghost use Rattle.std.specs.Prelude.{◌≡◌, true, IfSome};
 ghost use Rattle.xa_types.specs.Configured.{is_configured};
-ghost use Rattle.xa_lock.specs.Known.{IsPassOf, passes_of};
 ghost use Rattle.xa_held.specs.Board.{IsPlaced};
-ghost use Rattle.xa_trials_objects.specs.Held.{IsOwn};
 
 use crate::board::{Told, are_on, is_done, is_refused};
-use crate::held_steps::next;
 use crate::rows::none_fails;
 use std::alloc::Global;
 use std::process::Abort;
-use std::sync::Wait;
 use xa_board::{Board, BoardRefused, Reader};
-use xa_held::{
-    AtBoard, BoardNote, Clearing, KeptBoard, advertise_at, clear_at, look_up_at, withdraw_at,
-};
-use xa_lock::{Guarded, LockPass};
+use xa_held::{Clearing, KeptBoard};
 use xa_route::row_for;
 use xa_types::{CallerId, Name, QueueId, Row, Setup, Stamp};
 
@@ -24,10 +16,6 @@ const SETUP: &[u8] = b"queue = [{ name = 'Q' }, { name = 'R' }, { name = 'S' }]
 server = [{ name = 'A', queue = 'Q' }, { name = 'B', queue = 'R' }, { name = 'C', queue = 'S' }]";
 
 const END: u64 = 1 << 63;
-
-type Lock = Guarded<KeptBoard>;
-
-type Pass = LockPass<BoardNote>;
 
 // What a worker asks of the board for a service and a queue: that its row stands there with a routine, that this is
 // withdrawn, that the first row of the queue is, or which queues have the service.
@@ -92,28 +80,6 @@ fn has_found(version: u64, rows: &[Row], told: Told) -> bool {
     matches!(told, Told::FoundAt(want, queues) if version == want && are_on(rows, queues))
 }
 
-// Advertises the service with a routine, on a queue that the setup has.
-fn put<R: Wait>(
-    rt: &R,
-    board: &Lock,
-    setup: &Setup,
-    pass: Pass,
-    seen: Stamp,
-    row: Row,
-    told: Told,
-) -> (Pass, bool, Stamp)
-    requires own { IsOwn board.now setup.now pass }
-    requires seen { seen.0 ≤ 2 ^ 63 }
-    requires placed { IsPlaced setup.now row }
-    ensures { IsOwn board.now setup.now result.0 }
-{
-    let _ = setup;
-    let maker = CallerId(1);
-    let at = advertise_at(rt, board, pass, seen, maker, maker, 1, row);
-    let AtBoard { pass, last, answer } = at;
-    (pass, is_done(answer, told), last)
-}
-
 // The row of the service on a queue of the setup, with that routine.
 fn row_on(setup: &Setup, queue: QueueId, service: Name, routine: &[u8]) -> Option<Row>
     requires { is_configured setup.now ≡ true }
@@ -127,122 +93,76 @@ fn row_on(setup: &Setup, queue: QueueId, service: Name, routine: &[u8]) -> Optio
 }
 
 // Whether a step for the service is told what it should be.
-fn is_told<R: Wait>(
-    rt: &R,
-    board: &Lock,
+fn is_told(
+    board: &mut KeptBoard,
     setup: &Setup,
-    pass: Pass,
     reader: &mut Reader,
     service: Name,
     step: Step,
-) -> (Pass, bool)
-    requires own { IsOwn board.now setup.now pass }
+) -> bool
+    requires setup { board.old.setup ≡ setup.now }
     requires configured { is_configured setup.now ≡ true }
-    ensures { IsOwn board.now setup.now result.0 }
+    ensures { board.new.setup ≡ setup.now }
 {
     let (seen, ask, queue, told, want) = step;
     let seen = Stamp(seen.min(END));
     let queue = QueueId(queue);
     let maker = CallerId(1);
-    match ask {
+    let right = match ask {
         Ask::Put(routine) => {
             let Some(row) = row_on(setup, queue, service, routine) else {
-                return (pass, false);
+                return false;
             };
-            let (pass, right, last) = put(rt, board, setup, pass, seen, row, told);
-            (pass, right && last.0 == want)
+            is_done(board.advertise(seen, maker, maker, 1, row), told)
         }
-        Ask::Out => {
-            let at = withdraw_at(rt, board, pass, seen, maker, maker, 1, &service, queue);
-            let AtBoard { pass, last, answer } = at;
-            (pass, is_done(answer, told) && last.0 == want)
-        }
-        Ask::Clear => {
-            let at = clear_at(rt, board, pass, seen, maker, queue);
-            let AtBoard { pass, last, answer } = at;
-            (pass, is_cleared(answer, told) && last.0 == want)
-        }
+        Ask::Out => is_done(board.withdraw(seen, maker, maker, 1, &service, queue), told),
+        Ask::Clear => is_cleared(board.clear(seen, maker, queue), told),
         Ask::Find => {
-            let at = look_up_at(rt, board, pass, maker, reader, &service, false);
-            let AtBoard {
-                pass,
-                last,
-                answer: _,
-            } = at;
+            board.lookup(maker, reader, &service, false);
             let found = reader.found();
-            let right = has_found(found.version, &found.rows, told);
-            (pass, right && last.0 == want)
+            has_found(found.version, &found.rows, told)
         }
-    }
+    };
+    right && board.stamp().0 == want
 }
 
-fn are_told<R: Wait>(
-    rt: &R,
-    board: &Lock,
+fn are_told(
+    board: &mut KeptBoard,
     setup: &Setup,
-    mut pass: Pass,
     reader: &mut Reader,
     service: Name,
     steps: &[Step],
-) -> (Pass, bool)
-    requires own { IsOwn board.now setup.now pass }
+) -> bool
+    requires setup { board.old.setup ≡ setup.now }
     requires configured { is_configured setup.now ≡ true }
-    ensures { IsOwn board.now setup.now result.0 }
 {
     let mut right = true;
     for step in steps {
-        let (next, told) = is_told(rt, board, setup, pass, reader, service, *step);
-        pass = next;
-        right &= told;
+        right &= is_told(board, setup, reader, service, *step);
     }
-    (pass, right)
-}
-
-// A board under its lock, its reader, the pass of maker 0 and that of maker 1.
-fn open<R: Abort>(rt: &R, alloc: Global, setup: &Setup) -> (Lock, Reader, Vec<Pass>, Pass)
-    ensures own { IsOwn result.0 setup.now result.3 }
-    ensures other { All (IsPassOf result.0) result.2.items }
-    ensures count { length result.2.items + 1 ≡ passes_of result.0 }
-    ensures room { vec_len result.2 < vec_capacity result.2 }
-{
-    let Ok(board) = Board::new(alloc, Stamp(0)) else {
-        panic!(rt; "no memory")
-    };
-    let Ok(reader) = board.reader(alloc) else {
-        panic!(rt; "no memory")
-    };
-    let kept = KeptBoard::of(board, setup);
-    let Ok((lock, mut passes)) = Guarded::new(alloc, kept, 2) else {
-        panic!(rt; "no memory")
-    };
-    let pass = next(rt, &mut passes);
-    (lock, reader, passes, pass)
-}
-
-// How many changes were noted at a board by the time that all left it.
-fn noted_at(lock: Lock, passes: Vec<Pass>) -> usize
-    requires lock { All (IsPassOf lock) passes.items }
-    requires all { length passes.items ≡ passes_of lock }
-{
-    lock.close(passes).home().entries().len()
+    right
 }
 
 // Whether the steps at a board are told what they should be, of which so many are changes.
-fn is_right<R: Abort + Wait>(rt: &R, alloc: Global, steps: &[Step], changes: usize) -> bool {
+fn is_right<R: Abort>(rt: &R, alloc: Global, steps: &[Step], changes: usize) -> bool {
     let Ok(service) = Name::read(b"A") else {
         panic!(rt; "no name")
     };
     let Ok(setup) = xa_config::read(alloc, SETUP) else {
         panic!(rt; "no setup")
     };
-    let (lock, mut reader, mut passes, pass) = open(rt, alloc, &setup);
-    let (pass, right) = are_told(rt, &lock, &setup, pass, &mut reader, service, steps);
-    passes.push_reserved(pass);
-    let noted = noted_at(lock, passes);
-    right && noted == changes
+    let Ok(board) = Board::new(alloc, Stamp(0)) else {
+        panic!(rt; "no memory")
+    };
+    let Ok(mut reader) = board.reader(alloc) else {
+        panic!(rt; "no memory")
+    };
+    let mut board = KeptBoard::of(board, &setup);
+    let right = are_told(&mut board, &setup, &mut reader, service, steps);
+    right && board.home().entries().len() == changes
 }
 
-fn first_not_right<R: Abort + Wait>(rt: &R, alloc: Global) -> Option<usize> {
+fn first_not_right<R: Abort>(rt: &R, alloc: Global) -> Option<usize> {
     for (place, (steps, changes)) in BOARDS.iter().enumerate() {
         if !is_right(rt, alloc, steps, *changes) {
             return Some(place);

@@ -1,27 +1,22 @@
-//! One step at a queue under its lock, by a client or by its only server, and what is told of it.
+//! One step at a queue as a lock guards it, by a client or by its only server, and what is told of it.
 ghost use Rattle.std.specs.Prelude.{◌≡◌, ◌≤◌, ◌^◌, ◌++◌, [], ◌∷◌, IfSome, IfOk, IfErr, vec_capacity};
 ghost use Rattle.xa_types.specs.declared.data.Data.TheVariants.{Absent};
+ghost use Rattle.xa_queue.specs.Queue.{gives_up};
 ghost use Rattle.xa_queue.specs.Changes.{IsEntry};
 ghost use Rattle.xa_held.specs.Kept.{Brings};
-ghost use Rattle.xa_trials_objects.specs.Held.{Sits, IsFor, HasTicket, IsFit, HandsOut, Stands, Serves, IsDown};
+ghost use Rattle.xa_trials_objects.specs.Held.{Sits, IsFor, HasTicket, IsFit, HandsOut, IsOf, Serves, IsDown, Keeps};
 
 use std::process::Abort;
-use std::sync::Wait;
 use xa_cell::{Cells, Seat, Ticket};
 use xa_events::{Accepted, Event};
-use xa_held::{
-    AtQueue, Cargo, Invocation, KeptQueue, QueueNote, close_at, down_at, put_at, sweep_at, take_at,
-};
-use xa_lock::{Guarded, LockPass};
+use xa_held::{Cargo, Invocation, KeptQueue};
 use xa_queue::{Entry, Outgoing, PutRefused, Refusal, Taken};
 use xa_stamp::Noted;
 use xa_types::{CallerId, Data, Generation, Mode, Name, QueueId, RequestId, ServerId, Stamp, Worn};
 
 pub type Carried = Entry<Cargo<u32>>;
 
-pub type Lock = Guarded<KeptQueue<u32>>;
-
-pub type Pass = LockPass<QueueNote<u32>>;
+pub type Kept = KeptQueue<u32>;
 
 /// What is told: the stamp of what was noted, and the number of the request that came out; why a request came back,
 /// and the stamp with which it was put at the other queue; or how else it ends.
@@ -43,6 +38,7 @@ fn event_of(id: QueueId, entry: &Carried) -> Event
     requires first { entry.now.cargo.invocation.hop ≡ 0 }
     ensures entry { IsEntry id entry.now result }
     ensures brings { Brings entry.now.request entry.now.cargo.invocation result }
+    ensures left { gives_up result ≡ [] }
 {
     let asked = &entry.cargo.invocation;
     Event::Accept(Accepted {
@@ -187,106 +183,85 @@ fn told_ended(answer: Result<Option<Noted>, Worn>, before: Told) -> Told {
     }
 }
 
-pub fn put<R: Wait>(
-    rt: &R,
+/// The client puts an entry.
+pub fn put(
     cells: &Cells<u32>,
-    queue: &Lock,
+    queue: &mut Kept,
     id: QueueId,
-    pass: Pass,
     seen: Stamp,
     entry: Carried,
-) -> AtQueue<u32, Result<Stamp, PutRefused<Cargo<u32>>>>
-    requires stands { Stands queue.now cells.now id.0 1 pass }
+) -> Result<Stamp, PutRefused<Cargo<u32>>>
+    requires is { IsOf cells.now id.0 queue.old }
     requires seen { seen.0 ≤ 2 ^ 63 }
     requires fit { IsFit cells.now entry }
-    ensures stands { Stands queue.now cells.now id.0 1 result.pass }
-    ensures back { IfErr result.answer (λ back. IsFit cells.now back.entry) }
+    ensures keeps { Keeps cells.now id.0 queue.old queue.new }
+    ensures back { IfErr result (λ back. IsFit cells.now back.entry) }
 {
     let _ = cells;
     let event = event_of(id, &entry);
-    put_at(rt, queue, pass, seen, CallerId(1), event, entry)
+    queue.put(seen, CallerId(1), event, entry)
 }
 
-pub fn take<R: Wait>(
-    rt: &R,
+/// The server takes.
+pub fn take(
     cells: &Cells<u32>,
-    queue: &Lock,
+    queue: &mut Kept,
     id: QueueId,
     seat: &mut Seat<u32>,
-    pass: Pass,
     seen: Stamp,
-) -> (Pass, Told, Stamp)
+) -> Told
     requires seat { Sits cells.now seat.old }
-    requires serves { Serves queue.now cells.now id.0 pass }
+    requires serves { Serves cells.now id.0 queue.old }
     requires seen { seen.0 ≤ 2 ^ 63 }
     ensures seat { Sits cells.now seat.new }
-    ensures serves { Serves queue.now cells.now id.0 result.0 }
+    ensures keeps { Keeps cells.now id.0 queue.old queue.new }
 {
     let _ = id;
-    let maker = CallerId(2);
-    let at = take_at(rt, queue, pass, seen, maker, ServerId(1), Generation(1));
-    let AtQueue { pass, answer, last } = at;
-    (pass, told_taken(cells, seat, answer), last)
+    let answer = queue.take(seen, CallerId(2), ServerId(1), Generation(1));
+    told_taken(cells, seat, answer)
 }
 
-pub fn close<R: Wait>(
-    rt: &R,
-    cells: &Cells<u32>,
-    queue: &Lock,
-    id: QueueId,
-    pass: Pass,
-    seen: Stamp,
-) -> (Pass, Told, Stamp)
-    requires stands { Stands queue.now cells.now id.0 1 pass }
+/// The client closes the queue.
+pub fn close(cells: &Cells<u32>, queue: &mut Kept, id: QueueId, seen: Stamp) -> Told
+    requires is { IsOf cells.now id.0 queue.old }
     requires seen { seen.0 ≤ 2 ^ 63 }
-    ensures { Stands queue.now cells.now id.0 1 result.0 }
+    ensures { Keeps cells.now id.0 queue.old queue.new }
 {
     let _ = cells;
     let _ = id;
-    let at = close_at(rt, queue, pass, seen, CallerId(1));
-    let AtQueue { pass, answer, last } = at;
-    (pass, told_ended(answer, Told::Closed), last)
+    let answer = queue.close(seen, CallerId(1));
+    told_ended(answer, Told::Closed)
 }
 
-pub fn sweep<R: Wait>(
-    rt: &R,
+/// The server sweeps a queue that is down.
+pub fn sweep(
     cells: &Cells<u32>,
-    queue: &Lock,
+    queue: &mut Kept,
     id: QueueId,
     seat: &mut Seat<u32>,
-    pass: Pass,
     seen: Stamp,
-) -> (Pass, Told, Stamp)
+) -> Told
     requires seat { Sits cells.now seat.old }
-    requires down { IsDown queue.now cells.now id.0 pass }
+    requires down { IsDown cells.now id.0 queue.old }
     requires seen { seen.0 ≤ 2 ^ 63 }
     ensures seat { Sits cells.now seat.new }
-    ensures down { IsDown queue.now cells.now id.0 result.0 }
+    ensures keeps { Keeps cells.now id.0 queue.old queue.new }
 {
     let _ = id;
-    let at = sweep_at(rt, queue, pass, seen, CallerId(2));
-    let AtQueue { pass, answer, last } = at;
-    (pass, told_swept(cells, seat, answer), last)
+    let answer = queue.sweep(seen, CallerId(2));
+    told_swept(cells, seat, answer)
 }
 
 /// Takes a queue down that is down.
-pub fn down<R: Wait>(
-    rt: &R,
-    cells: &Cells<u32>,
-    queue: &Lock,
-    id: QueueId,
-    pass: Pass,
-    seen: Stamp,
-) -> (Pass, Told, Stamp)
-    requires down { IsDown queue.now cells.now id.0 pass }
+pub fn down(cells: &Cells<u32>, queue: &mut Kept, id: QueueId, seen: Stamp) -> Told
+    requires down { IsDown cells.now id.0 queue.old }
     requires seen { seen.0 ≤ 2 ^ 63 }
-    ensures { IsDown queue.now cells.now id.0 result.0 }
+    ensures { Keeps cells.now id.0 queue.old queue.new }
 {
     let _ = cells;
     let _ = id;
-    let at = down_at(rt, queue, pass, seen, CallerId(2));
-    let AtQueue { pass, answer, last } = at;
-    (pass, told_ended(answer, Told::Down), last)
+    let answer = queue.down(seen, CallerId(2));
+    told_ended(answer, Told::Down)
 }
 
 /// The last of these, which there is.

@@ -1,8 +1,8 @@
-use Rattle.xa_trials_objects.specs.Held.{Sits, AreUp}
+use Rattle.xa_trials_objects.specs.Held.{Sits, Serves}
 use Rattle.xa_trials_objects.proofs.held.are_told.Given as goal
 
 abbrev pub invariant-loop-step : goal.invariant-loop-step
-invariant-loop-step g l = record {
+invariant-loop-step l = record {
   seat : Sits l.cells l.seat;
-  up : AreUp l.queue l.cells l.id.0 l.passes.client l.passes.server;
+  up : Serves l.cells l.id.0 l.queue;
 }

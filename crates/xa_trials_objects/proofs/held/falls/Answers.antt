@@ -1,19 +1,15 @@
-use Rattle.std.proofs.Common.{◌≡◌, true, rules, refl, ap, ◌∙◌, Ok}
-use Rattle.xa_trials_objects.specs.Held.{setting}
-use Rattle.xa_trials_objects.proofs.Working.{all_left, went_down}
+use Rattle.std.proofs.Common.{◌≡◌, true, rules, ap, ◌∙◌, Ok}
+use Rattle.xa_trials_objects.proofs.Working.{none_by, gone_is, all_left, went_down}
 use Rattle.xa_trials_objects.proofs.held.falls.Goals as goal
 
-pub down_at-at-requires-clause-deserted : goal.down_at-at-requires-clause-deserted
-down_at-at-requires-clause-deserted g c =
-    let last : c.in-Ok.left.last ≡ true = search rules in
-    let left = all_left c.args.queue.now c.args.cells.now c.args.id.0 2 c.args.pass c.gone_at-at.result.pass c.requires.stands c.gone_at-at.ensures.lock _ _ c.gone_at-at.result.answer c.in-Ok.left c.in-Ok.is last c.gone_at-at.ensures.gone in
-    (setting c.args.cells.now c.args.id.0, left.0.sees, left.1)
+pub gone-requires-clause-left : goal.gone-requires-clause-left
+gone-requires-clause-left c = none_by 2 c.args.queue.now c.requires.others
 
-pub returns-then-fallen-down-clause-down : goal.returns-then-fallen-down-clause-down
-returns-then-fallen-down-clause-down g c =
-    let queue = c.args.queue.now in
+pub returns-clause-down : goal.returns-clause-down
+returns-clause-down c so =
     let cells = c.args.cells.now in
     let n = c.args.id.0 in
+    let left = c.gone.new.self in
     let last : c.in-Ok.left.last ≡ true = search rules in
-    let left = all_left queue cells n 2 c.args.pass c.gone_at-at.result.pass c.requires.stands c.gone_at-at.ensures.lock _ _ c.gone_at-at.result.answer c.in-Ok.left c.in-Ok.is last c.gone_at-at.ensures.gone in
-    went_down queue cells n 2 c.gone_at-at.result.pass c.down_at-at.result.pass left.0 c.down_at-at.ensures.lock _ _ c.down_at-at.result.answer c.in-Ok-Some.fallen (c.in-Ok-Some.is ∙ ap Ok c.in-Ok-Some.field-0-is) refl left.1 c.down_at-at.ensures.down
+    let deserted = all_left cells n c.args.queue.now left c.requires.is _ _ c.gone.result c.in-Ok.left c.in-Ok.is last c.stamp-at.ensures.sound c.gone.ensures in
+    went_down cells n left c.down.new.self (gone_is cells n c.args.queue.now left c.requires.is _ _ c.gone.result c.gone.ensures) _ _ c.down.result c.in-Ok-Some.field-0-0 (c.in-Ok-Some.is ∙ ap Ok c.in-Ok-Some.field-0-is) deserted c.stamp-end.ensures.sound c.down.ensures

@@ -1,5 +1,5 @@
-use Rattle.xa_trials_objects.specs.Held.{IsOwn}
+use Rattle.std.proofs.Common.{◌≡◌}
 use Rattle.xa_trials_objects.proofs.held_board.are_told.Given as goal
 
 abbrev pub invariant-loop-step : goal.invariant-loop-step
-invariant-loop-step g l = IsOwn l.board l.setup l.pass
+invariant-loop-step l = l.board.setup ≡ l.setup

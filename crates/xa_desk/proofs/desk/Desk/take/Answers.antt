@@ -1,51 +1,55 @@
 use Rattle.std.proofs.Common.{Ok, refl, ◌∙◌, ap, subst}
-use Rattle.xa_server.specs.xa_lock.Known.{known as page_of}
-use Rattle.xa_server.specs.xa_held.Kept.{Kept}
+use Rattle.xa_server.specs.xa_held.Kept.{Kept, Becomes}
 use Rattle.xa_server.specs.xa_held.Steps.{TookAs}
-use Rattle.xa_server.specs.xa_held.Visits.{Visits}
 use Rattle.xa_server.specs.xa_worker.Work.{Standing as Working}
 use Rattle.xa_server.specs.xa_caller.declared.cargo.Filling.{Filling}
 use Rattle.xa_desk.specs.declared.desk.Desk.{Desk}
 use Rattle.xa_desk.proofs.Requests.{took_goes}
-use Rattle.xa_desk.proofs.Taking.{its_setting, its_left, looks_serve, looks_shut, looks_empty}
-use Rattle.xa_desk.proofs.Visiting.{has_at, stepped, looked_leads, looked_last}
+use Rattle.xa_desk.proofs.Taking.{own_here, maker_here, left_here, looks_serve, looks_shut, looks_empty}
+use Rattle.xa_desk.proofs.Visiting.{looked_leads, looked_last}
+use Rattle.xa_desk.proofs.Entering.{lent, may_leave, visited, none_ours, one_ours, take_adds}
 use Rattle.xa_desk.proofs.desk.Desk.take.Goals as goal
 
-pub take_at-pass-requires-clause-setting : goal.take_at-pass-requires-clause-setting
-take_at-pass-requires-clause-setting g c =
-    let has = has_at c.args.domain.now c.args.queue.0 c.from-place.result c.args.self.now c.take_from-pass.result c.from-place.ensures c.requires.serving.some c.requires.serving.least c.take_from-pass.ensures.was in
-    its_setting c.requires.desk c.requires.serving has c.id.result c.server.result c.id.ensures.value c.server.ensures
+pub take-answer-requires-clause-own : goal.take-answer-requires-clause-own
+take-answer-requires-clause-own g c =
+    let at = lent (c.enter-visit.ensures.at c.args.self.now c.requires.desk refl) refl c.value.ensures.value in
+    own_here at c.requires.serving c.id-maker.result c.server.result c.id-maker.ensures.value c.server.ensures
 
-pub take_at-pass-requires-clause-left : goal.take_at-pass-requires-clause-left
-take_at-pass-requires-clause-left g c =
-    let has = has_at c.args.domain.now c.args.queue.0 c.from-place.result c.args.self.now c.take_from-pass.result c.from-place.ensures c.requires.serving.some c.requires.serving.least c.take_from-pass.ensures.was in
-    its_left c.requires.desk c.requires.serving has c.server.result c.server.ensures c.requires.left
+pub take-answer-requires-clause-maker : goal.take-answer-requires-clause-maker
+take-answer-requires-clause-maker g c =
+    let at = lent (c.enter-visit.ensures.at c.args.self.now c.requires.desk refl) refl c.value.ensures.value in
+    maker_here at c.requires.serving c.id-maker.result c.server.result c.id-maker.ensures.value c.server.ensures
+
+pub take-answer-requires-clause-left : goal.take-answer-requires-clause-left
+take-answer-requires-clause-left g c =
+    let at = lent (c.enter-visit.ensures.at c.args.self.now c.requires.desk refl) refl c.value.ensures.value in
+    left_here at c.requires.serving c.id-maker.result c.server.result c.id-maker.ensures.value c.server.ensures c.requires.left
+
+pub leave-last-requires-clause-at : goal.leave-last-requires-clause-at
+leave-last-requires-clause-at g c = may_leave (c.enter-visit.ensures.at c.args.self.now c.requires.desk refl) refl c.value.ensures.value (take_adds c.args.self.now c.stamp-seen.result c.id-maker.result c.id-maker.ensures.value c.server.result c.life.result c.take-answer.result c.take-answer.ensures)
 
 pub returns-in-Ok-Empty : goal.returns-in-Ok-Empty
 returns-in-Ok-Empty g c =
-    let new : Desk = record c.args.self.now { caller = c.saw.new.self; queues = c.put_back.new.passes } in
-    let step = stepped new c.take_at-pass.result.pass c.take_at-pass.result.last c.requires.desk c.from-place.ensures c.requires.serving.some c.requires.serving.least c.take_from-pass.ensures.was _ c.take_from-pass.ensures.rest c.put_back.ensures refl c.index.result.now c.index.ensures c.take_at-pass.ensures.lock c.take_at-pass.ensures.reached in
-    let took = subst (TookAs (Visits (page_of c.take_from-pass.result) (page_of c.take_at-pass.result.pass)) c.stamp.result c.id.result c.server.result c.life.result) (c.in-Ok-Empty.is ∙ ap Ok c.in-Ok-Empty.field-0-is) c.take_at-pass.ensures.taken in
-    let nothing = looks_empty step c.requires.serving took c.saw.ensures (ap (λ (kept : Kept Filling). kept.queue.waiting) took.how.0 ∙ took.how.1.0) (ap (λ (kept : Kept Filling). kept.queue.closed) took.how.0 ∙ took.how.1.1) in
-    record { leads = looked_leads step took c.saw.ensures; serving = looks_serve step c.requires.serving took c.saw.ensures; taken = (refl, (c.take_at-pass.result.last, c.saw.ensures), nothing); board = (refl, refl) }
+    let new : Desk = record c.args.self.now { caller = c.saw.new.self; queues = c.leave-last.new.passes } in
+    let v = visited (c.enter-visit.ensures.at c.args.self.now c.requires.desk refl) refl c.value.ensures.value c.leave-last.ensures.left new refl refl (none_ours c.args.self.now) (subst (TookAs (Becomes c.value.result.now c.take-answer.new.self) c.stamp-seen.result c.id-maker.result c.server.result c.life.result) (c.in-Ok-Empty.is ∙ ap Ok c.in-Ok-Empty.field-0-is) c.take-answer.ensures) in
+    let nothing = looks_empty v.step c.requires.serving v.came c.saw.ensures (ap (λ (kept : Kept Filling). kept.queue.waiting) v.came.how.0 ∙ v.came.how.1.0) (ap (λ (kept : Kept Filling). kept.queue.closed) v.came.how.0 ∙ v.came.how.1.1) in
+    record { leads = looked_leads v.step v.came c.saw.ensures; serving = looks_serve v.step c.requires.serving v.came c.saw.ensures; taken = (refl, (c.leave-last.result, c.saw.ensures), nothing); board = (refl, refl) }
 
 pub returns-in-Ok-Closed : goal.returns-in-Ok-Closed
 returns-in-Ok-Closed g c =
-    let new : Desk = record c.args.self.now { caller = c.saw-in-Ok-Closed.new.self; queues = c.put_back.new.passes } in
-    let step = stepped new c.take_at-pass.result.pass c.take_at-pass.result.last c.requires.desk c.from-place.ensures c.requires.serving.some c.requires.serving.least c.take_from-pass.ensures.was _ c.take_from-pass.ensures.rest c.put_back.ensures refl c.index.result.now c.index.ensures c.take_at-pass.ensures.lock c.take_at-pass.ensures.reached in
-    let took = subst (TookAs (Visits (page_of c.take_from-pass.result) (page_of c.take_at-pass.result.pass)) c.stamp.result c.id.result c.server.result c.life.result) (c.in-Ok-Closed.is ∙ ap Ok c.in-Ok-Closed.field-0-is) c.take_at-pass.ensures.taken in
-    let shut = looks_shut step c.requires.serving took c.saw-in-Ok-Closed.ensures (ap (λ (kept : Kept Filling). kept.queue.waiting) took.how.0 ∙ took.how.1.0) (ap (λ (kept : Kept Filling). kept.queue.closed) took.how.0 ∙ took.how.1.1) in
-    record { leads = looked_leads step took c.saw-in-Ok-Closed.ensures; serving = looks_serve step c.requires.serving took c.saw-in-Ok-Closed.ensures; taken = (refl, (c.take_at-pass.result.last, c.saw-in-Ok-Closed.ensures), shut); board = (refl, refl) }
+    let new : Desk = record c.args.self.now { caller = c.saw-in-Ok-Closed.new.self; queues = c.leave-last.new.passes } in
+    let v = visited (c.enter-visit.ensures.at c.args.self.now c.requires.desk refl) refl c.value.ensures.value c.leave-last.ensures.left new refl refl (none_ours c.args.self.now) (subst (TookAs (Becomes c.value.result.now c.take-answer.new.self) c.stamp-seen.result c.id-maker.result c.server.result c.life.result) (c.in-Ok-Closed.is ∙ ap Ok c.in-Ok-Closed.field-0-is) c.take-answer.ensures) in
+    let shut = looks_shut v.step c.requires.serving v.came c.saw-in-Ok-Closed.ensures (ap (λ (kept : Kept Filling). kept.queue.waiting) v.came.how.0 ∙ v.came.how.1.0) (ap (λ (kept : Kept Filling). kept.queue.closed) v.came.how.0 ∙ v.came.how.1.1) in
+    record { leads = looked_leads v.step v.came c.saw-in-Ok-Closed.ensures; serving = looks_serve v.step c.requires.serving v.came c.saw-in-Ok-Closed.ensures; taken = (refl, (c.leave-last.result, c.saw-in-Ok-Closed.ensures), shut); board = (refl, refl) }
 
 pub returns-in-Err : goal.returns-in-Err
 returns-in-Err g c =
-    let new : Desk = record c.args.self.now { caller = c.saw-in-Err.new.self; queues = c.put_back.new.passes } in
-    let step = stepped new c.take_at-pass.result.pass c.take_at-pass.result.last c.requires.desk c.from-place.ensures c.requires.serving.some c.requires.serving.least c.take_from-pass.ensures.was _ c.take_from-pass.ensures.rest c.put_back.ensures refl c.index.result.now c.index.ensures c.take_at-pass.ensures.lock c.take_at-pass.ensures.reached in
-    let took = subst (TookAs (Visits (page_of c.take_from-pass.result) (page_of c.take_at-pass.result.pass)) c.stamp.result c.id.result c.server.result c.life.result) c.in-Err.is c.take_at-pass.ensures.taken in
+    let new : Desk = record c.args.self.now { caller = c.saw-in-Err.new.self; queues = c.leave-last.new.passes } in
+    let v = visited (c.enter-visit.ensures.at c.args.self.now c.requires.desk refl) refl c.value.ensures.value c.leave-last.ensures.left new refl refl (none_ours c.args.self.now) (subst (TookAs (Becomes c.value.result.now c.take-answer.new.self) c.stamp-seen.result c.id-maker.result c.server.result c.life.result) c.in-Err.is c.take-answer.ensures) in
     record {
-      leads = looked_leads step took c.saw-in-Err.ensures;
-      serving = looks_serve step c.requires.serving took c.saw-in-Err.ensures;
-      taken = (refl, looked_last step took c.saw-in-Err.ensures c.stamp.result c.in-Err.worn c.stamp.ensures.value took.how.1.0);
+      leads = looked_leads v.step v.came c.saw-in-Err.ensures;
+      serving = looks_serve v.step c.requires.serving v.came c.saw-in-Err.ensures;
+      taken = (refl, looked_last v.step v.came c.saw-in-Err.ensures c.stamp-seen.result c.in-Err.worn c.stamp-seen.ensures.value v.came.how.1.0);
       board = (refl, refl);
     }
 
@@ -53,9 +57,8 @@ pub returns-in-Ok-Request : goal.returns-in-Ok-Request
 returns-in-Ok-Request g c =
     let old = c.args.self.now.caller in
     let out = c.in-Ok-Request.out in
-    let new : Desk = record c.args.self.now { caller = c.begin.new.caller; queues = c.put_back.new.passes } in
-    let step = stepped new c.take_at-pass.result.pass c.take_at-pass.result.last c.requires.desk c.from-place.ensures c.requires.serving.some c.requires.serving.least c.take_from-pass.ensures.was _ c.take_from-pass.ensures.rest c.put_back.ensures refl c.index.result.now c.index.ensures c.take_at-pass.ensures.lock c.take_at-pass.ensures.reached in
-    let took = subst (TookAs (Visits (page_of c.take_from-pass.result) (page_of c.take_at-pass.result.pass)) c.stamp.result c.id.result c.server.result c.life.result) (c.in-Ok-Request.is ∙ ap Ok c.in-Ok-Request.field-0-is) c.take_at-pass.ensures.taken in
+    let new : Desk = record c.args.self.now { caller = c.begin.new.caller; queues = c.leave-last.new.passes } in
+    let v = visited (c.enter-visit.ensures.at c.args.self.now c.requires.desk refl) refl c.value.ensures.value c.leave-last.ensures.left new refl refl (one_ours c.args.self.now c.id-maker.result out.noted.stamp out.noted.event.value c.id-maker.ensures.value) (subst (TookAs (Becomes c.value.result.now c.take-answer.new.self) c.stamp-seen.result c.id-maker.result c.server.result c.life.result) (c.in-Ok-Request.is ∙ ap Ok c.in-Ok-Request.field-0-is) c.take-answer.ensures) in
     let caller = c.begin.ensures.rest ∙ ap (λ (w : Working). record old { work = w }) c.begin.ensures.noted in
-    let goes = took_goes step c.requires.serving c.stamp.result c.id.result c.server.result c.life.result out c.stamp.ensures.value c.id.ensures.value c.server.ensures took caller c.life.ensures c.begin.new.self c.begin.ensures.stands c.begin.ensures.slot in
+    let goes = took_goes v.step c.requires.serving c.stamp-seen.result c.id-maker.result c.server.result c.life.result out c.stamp-seen.ensures.value c.id-maker.ensures.value c.server.ensures v.came caller c.life.ensures c.begin.new.self c.begin.ensures.stands c.begin.ensures.slot in
     record { leads = goes.0; serving = goes.1; taken = goes.2; board = (refl, refl) }
